@@ -1,14 +1,16 @@
 -- An act of a worker by which a swap takes effect.
-use Rattle.std.proofs.Common.{◌≡◌, ◌⊎◌, ℕ, ◌<◌, ◌∷◌, length, sym, ap, subst, ◌∙◌, inl, inr, Some, None}
+use Rattle.std.proofs.Common.{◌≡◌, ◌⊎◌, ℕ, ◌/◌, ◌<◌, ◌∷◌, length, sym, ap, subst, ◌∙◌, inl, inr, Some, None}
 use Rattle.std.specs.Prelude.{get_or}
 use Rattle.std.proofs.lemmas.Bool.{cases_eq}
 use Rattle.bz_acts.specs.declared.acted.Act.{Act}
+use Rattle.bz_acts.specs.declared.acted.Act.TheVariants.{Store, Flush}
 use Rattle.bz_machine.specs.declared.done.Done.{Done}
 use Rattle.bz_machine.specs.declared.done.Done.TheVariants.{Busy}
+use Rattle.bz_layout.specs.Addresses.{swap_address}
 use Rattle.bz_rivals.specs.Wins.{OwnSwapsWin}
 use Rattle.bz_sight.specs.Acts.{EffectStepsTakePlace}
 use Rattle.bz_sound.specs.Memory.Moments.{IsAfterFlush, map_at_start}
-use Rattle.bz_swap.specs.EffectPlaces.{EffectsStayInside}
+use Rattle.bz_swap.specs.EffectPlaces.{EffectsByFlush, EffectsStayInside}
 use Rattle.bz_swap.specs.Steps.{doing_after}
 use Rattle.bz_swap.specs.SwapMemory.{doing_of}
 use Rattle.bz_swap.specs.TakenStatuses.{TakenStatusesStay}
@@ -39,9 +41,9 @@ act-strikes place inside taken begun wins rivals old new w s x made done k is-wo
   takes = place old.config (k.story.at (length old.journal.past)) old.access new.access w made done s k.living.seen a.step a.held;
   work = record { doing = doing; taken = a.step.one.others.taken; size = a.step.one.others.size };
   tabled = act-tabled old new w made done (Some s) k.tabled a room;
-  taken = act-taken taken begun old new w made done (Some s) k.taken (held old.access k.living.seen.phase k.living.seen.holds) k.living.seen.swaps a (some-worker old k w x is-worker) (pending-begun old k);
+  taken = act-taken taken begun old new w made done (Some s) k.taken (held old.access k.living.seen.phase k.living.seen.holds) k.living.seen.swaps a (some-worker old k w x is-worker) (pending-begun old k) (λ d v is from. absurd (let never : Store d v ≡ Flush (swap_address s / 8) = sym is ∙ flushed.act in cc never));
   marked = act-marked w old.access new.access old.journal made k.living.words a.step.one.act;
-  flush = subst (λ (z : Act). IsAfterFlush (mark_of w z ∷ old.journal.past)) (sym (inside.step old.access new.access w made done s (held old.access k.living.seen.phase k.living.seen.holds).memory a.step).act) tt;
+  flush = subst (λ (z : Act). IsAfterFlush (mark_of w z ∷ old.journal.past)) (sym flushed.act) tt;
   follows = act-follows _ (map_at_start old.config old.journal.start) old.journal.past w made (may-act old.at_start old.journal.past w (some-worker old k w x is-worker) (call-is-open old k w x is-worker));
   unnoted = λ t well. wins.unnoted old.access new.access w made done (Some s) t a.step well;
   stepped = λ v steps. subst (λ u. StepsAt old.access new.access u s) (sym (who-steps v w (stepper (mark_of w made ∷ old.journal.past)) (act-steps w made old.journal.past) steps))
@@ -49,6 +51,9 @@ act-strikes place inside taken begun wins rivals old new w s x made done k is-wo
   rest = a.rest;
 }
   where
+    flushed : EffectsByFlush old.access new.access made s
+    flushed = inside.step old.access new.access w made done s (held old.access k.living.seen.phase k.living.seen.holds).memory a.step
+
     doing : (v : ℕ) → doing_of new.access v ≡ doing_of old.access v
     doing v = elim (cases_eq v w) [
       | inl e ↦ subst (λ u. doing_of new.access u ≡ doing_of old.access u) (sym e) (a.step.one.doing ∙ ap (doing_after (doing_of old.access w)) (busy-by done s a.step.later))

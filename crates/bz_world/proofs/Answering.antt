@@ -47,7 +47,7 @@ between-pages p w x pairs b = record {
   on = b.on;
   story = b.story;
   tabled = tabled-beside (record { workers = refl; owners = refl; crew = refl; steps = refl; rest = refl }) b.tabled;
-  taken = let t = b.taken in record { shown = t.shown; held = t.held; few = t.few; notes = t.notes; unused = t.unused };
+  taken = let t = b.taken in record { shown = t.shown; held = t.held; few = t.few; notes = t.notes; unused = t.unused; only = t.only; unstored = t.unstored };
   living = b.living;
   sound = b.sound;
   leaves = b.leaves;

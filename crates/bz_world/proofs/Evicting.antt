@@ -70,6 +70,8 @@ module _ (old new : Parts) (a : ℕ) (told : Option ℕ) (k : IsAwake old) (e : 
       noted = begun.noted.eviction old.access new.access a told e.eviction k.taken.notes.noted;
     };
     unused = λ s l. unused-by old.access new.access told (pending-begun old k) k.taken.unused (effect-in old.access.phase old.access new.access told k.living.seen.phase e.eviction.effect) s (omega (arith, l, evict-works.taken));
+    only = λ s l seen. omega (arith, evict-works.taken, k.taken.only s l seen);
+    unstored = k.taken.unstored;
   })
 
 -- it gives a swap its effect

@@ -13,6 +13,10 @@ mod Marking
 mod LeavesKept
 mod Powered
 mod Idling
+mod ToldActs
+mod ToldOff
+mod ToldShown
+mod ToldEnds
 mod Stepped
 mod Quiet
 mod Lonely

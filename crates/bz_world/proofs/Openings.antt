@@ -20,7 +20,8 @@ use Rattle.bz_mark.specs.Log.{Log, count_begins, count_page_calls}
 use Rattle.bz_sound.specs.Calls.{open_call, begun_calls, map_after}
 use Rattle.bz_sound.specs.Memory.Moments.{map_at_start, HoldsMap}
 use Rattle.bz_sound.specs.Power.Growth.{FreshJournalsAreSound}
-use Rattle.bz_sound.specs.Power.Times.{power_of, image_at_on}
+use Rattle.bz_sound.specs.Memory.Spent.{is_taken, is_stored_into}
+use Rattle.bz_sound.specs.Power.Times.{power_of, since_on, image_at_on}
 use Rattle.bz_sound.specs.declared.power.Power.{Power}
 use Rattle.bz_sound.specs.declared.power.Power.TheVariants as power
 use Rattle.bz_sound.specs.Power.Sound.{IsSound}
@@ -141,6 +142,8 @@ taken b p made = record {
     noted = b.begun.noted.opening made.opened.phase (fresh_words p.config) p.config.swaps p.config.workers;
   });
   unused = λ s l. ap (λ (m : SwapMemory). has_effect m s) made.opened.is ∙ no-effect b p.config made.config s (nat_lt s p.config.swaps);
+  only = λ s l seen. absurd (true≢false (sym seen ∙ ap (λ (j : Log). is_taken s (since_on j.past)) made.journal));
+  unstored = λ k free. ap (λ (j : Log). is_stored_into p.config k (since_on j.past)) made.journal;
 }
 
 kept-open : Laws → (p : Parts) → IsMadeOver (fresh_words p.config) power.On p → p.slots ≡ fresh_slots p.config → IsAwake p

@@ -50,6 +50,7 @@ use Rattle.bz_world.specs.Inside.Laws.{StepLaws}
 use Rattle.bz_world.specs.Leaves.{LeavesFollow}
 use Rattle.bz_world.proofs.Stepped.{act-tabled, act-taken, act-sound, held}
 use Rattle.bz_world.proofs.Staying.{SameFor, Pays, slot-stays, told-stays, wanted-stays, Takes, none-takes-well}
+use Rattle.bz_world.proofs.ToldActs.{act-avoids, own-avoids}
 
 -- the call of a worker that serves one is open, so it is one of the workers
 module _ (p : Parts) (k : IsAwake p) (w : ℕ) (x : OpenCall) (is-worker : get_or p.workers.items w None ≡ Some x) where
@@ -210,6 +211,7 @@ module _ (b : StepLaws) (old new : Parts) (w : ℕ) (x : OpenCall) (made : Act) 
 
   pub taken : AreTaken new
   taken = act-taken b.taken b.begun old new w made done None k.taken (held old.access k.living.seen.phase k.living.seen.holds) k.living.seen.swaps a (some-worker old k w x is-worker) (pending-begun old k)
+      (act-avoids old.config old.access w made old.slots.free a.step.writes k.living.seen.swaps (λ d u storing. own-avoids old k w s.call_open.look.since s.opened d (own d u storing).mine))
 
   -- the world goes on
   pub goes-on : (after : Story) → length old.journal.past < old.config.marks → IsLiving old.config new.access (with_mark old.journal (mark_of w made)) after

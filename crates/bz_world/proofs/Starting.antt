@@ -148,7 +148,7 @@ module _ (lone : AloneLaws) (starts : StartsAreSeen) (begun : BegunLaws) (alone 
     on = between.on;
     story = between.story;
     tabled = tabled-beside (record { workers = refl; owners = refl; crew = length-set p.access.workers w (record { doing = doing; flush_next = begins_by_flush doing }); steps = refl; rest = refl }) between.tabled;
-    taken = let t = between.taken in record { shown = t.shown; held = begun.taken.start p.access w doing between.idle t.held; few = t.few; notes = notes; unused = t.unused };
+    taken = let t = between.taken in record { shown = t.shown; held = begun.taken.start p.access w doing between.idle t.held; few = t.few; notes = notes; unused = t.unused; only = t.only; unstored = t.unstored };
     living = living;
     sound = between.sound;
     leaves = between.leaves;

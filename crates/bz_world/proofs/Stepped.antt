@@ -16,7 +16,7 @@ use Rattle.bz_sound.specs.Memory.Moments.{image_after, IsAfterFlush}
 use Rattle.bz_sound.specs.Power.Calls.{MayAct}
 use Rattle.bz_sound.specs.Power.Sound.{IsSound}
 use Rattle.bz_sound.specs.Power.Times.{since_on}
-use Rattle.bz_sound.specs.Memory.Spent.{is_taken}
+use Rattle.bz_sound.specs.Memory.Spent.{is_taken, is_stored_into}
 use Rattle.bz_story.specs.Living.{IsLiving}
 use Rattle.bz_story.specs.Story.{Story}
 use Rattle.bz_swap.specs.Held.{IsHeld, Holds, HoldsIn}
@@ -35,6 +35,7 @@ use Rattle.bz_story.proofs.Powered.{since-more}
 use Rattle.bz_world.proofs.Powered.{leaves-power}
 use Rattle.bz_world.proofs.Marking.{act-marked, act-found, act-follows}
 use Rattle.bz_world.proofs.Tabled.{tabled-acted}
+use Rattle.bz_world.proofs.ToldActs.{Avoids, only-acts, unstored-acts}
 
 -- the tables
 pub act-tabled : (old new : Parts) (w : ℕ) (made : Act) (done : Done) (told : Option ℕ) → IsTabled old → IsActed old w made done told new → length old.journal.past < old.config.marks → IsTabled new
@@ -65,8 +66,8 @@ unused-by old new None pending unused e s l = e.swaps s ∙ unused s l
 unused-by old new (Some t) pending unused e s l = e.other_swaps s (λ same. absurd (omega (arith, same, l, pending e.worker t e.pending))) ∙ unused s l
 
 pub act-taken : TakenStatusesStay → BegunLaws → (old new : Parts) (w : ℕ) (made : Act) (done : Done) (told : Option ℕ) → AreTaken old → IsHeld old.access → old.access.swaps ≡ old.config.swaps → IsActed old w made done told new → 0 < w
-    → ((v s : ℕ) → doing_of old.access v ≡ Swapping s → s < old.access.taken) → AreTaken new
-act-taken stay begun old new w made done told t held swaps a some pending = subst AreTaken (sym a.rest) (record {
+    → ((v s : ℕ) → doing_of old.access v ≡ Swapping s → s < old.access.taken) → Avoids old.config old.slots.free made → AreTaken new
+act-taken stay begun old new w made done told t held swaps a some pending avoids = subst AreTaken (sym a.rest) (record {
   shown = λ s l h. shown s l h (slice_index old.access.cached (swap_address s)) refl;
   held = after;
   few = omega (arith, a.step.one.others.taken, t.few);
@@ -75,8 +76,13 @@ act-taken stay begun old new w made done told t held swaps a some pending = subs
     noted = begun.noted.step old.access new.access w made done told a.step t.notes.noted;
   };
   unused = λ s l. unused-by old.access new.access told pending t.unused a.step.effect s (omega (arith, l, a.step.one.others.taken));
+  only = λ s l seen. omega (arith, a.step.one.others.taken, only-acts old.access w made (since_on old.journal.past) a.step.writes (λ j few. t.only j (omega (arith, few, swaps))) s (omega (arith, l, swaps)) (subst (λ (marks : List Mark). is_taken s marks ≡ true) more seen));
+  unstored = λ k free. ap (is_stored_into old.config k) more ∙ unstored-acts old.config w made (since_on old.journal.past) old.slots.free avoids t.unstored k free;
 })
   where
+    more : since_on (mark_of w made ∷ old.journal.past) ≡ mark_of w made ∷ since_on old.journal.past
+    more = since-more old.journal.past (mark_of w made) (leaves-power w old.journal.past made)
+
     after : BegunAreTaken new.access
     after = begun.taken.step old.access new.access w made done told held a.step t.held
 

@@ -246,6 +246,8 @@ module _ (lone : AloneLaws) (starts : StartsAreSeen) (scenes : ScenesAreSeen) (b
       few = omega (arith, room);
       notes = record { zero = begun.zero.swap p.access w entries was.worker t.notes.zero; noted = begun.noted.swap p.access w entries t.notes.noted };
       unused = λ s l. t.unused s (omega (arith, l));
+      only = λ s l seen. omega (arith, t.only s l seen);
+      unstored = t.unstored;
     };
     living = living;
     sound = was.sound;

@@ -59,7 +59,7 @@ use Rattle.bz_world.proofs.Meant.{call-meant-told}
 use Rattle.bz_world.proofs.PaidSteps.{heard-in}
 use Rattle.bz_world.proofs.Powered.{begun-in}
 use Rattle.bz_world.proofs.Staying.{covered-stays, slot-scenes}
-use Rattle.bz_world.proofs.Takings.{covered-taken, may-take, no-more-free, still-free}
+use Rattle.bz_world.proofs.Takings.{covered-taken, may-take, no-more-free, still-free, was-free}
 use Rattle.bz_world.proofs.Tabled.{tabled-beside}
 use Rattle.bz_task.specs.declared.todo.Todo.TheVariants.{Finish}
 
@@ -241,7 +241,7 @@ module _ (scenes : ScenesAreSeen) (slots : SlotsAreTaken) (laws : LonelyLaws) (l
         on = told.between.on;
         story = after;
         tabled = tabled-beside (record { workers = size; owners = refl; crew = refl; steps = refl; rest = refl }) told.between.tabled;
-        taken = assumption told.between.taken;
+        taken = let t = told.between.taken in record { shown = t.shown; held = t.held; few = t.few; notes = t.notes; unused = t.unused; only = t.only; unstored = λ k free. t.unstored k (was-free (needs_of x.task) (needs_of y.task) p.slots left h.heard.slots k free) };
         living = living;
         sound = told.between.sound;
         leaves = told.between.leaves;

@@ -16,7 +16,7 @@ use Rattle.bz_sound.specs.declared.power.Power.TheVariants as power
 use Rattle.bz_shape.specs.Walk.{form, is_among}
 use Rattle.bz_sound.specs.Memory.Moments.{map_at_start}
 use Rattle.bz_sound.specs.Memory.Spent.{is_reached_in}
-use Rattle.bz_sound.specs.Power.Times.{image_at_on}
+use Rattle.bz_sound.specs.Power.Times.{since_on, image_at_on}
 use Rattle.bz_sound.specs.Power.Laws.{OnsFollow, ReadysFollow, PowerTellsWhatFollows}
 use Rattle.bz_story.specs.Recovering as recovery
 use Rattle.bz_story.specs.RecoveryLaws.{RecoveriesGoOn}
@@ -44,6 +44,7 @@ use Rattle.bz_world.proofs.Contained.{among-contains, contains-among}
 use Rattle.bz_world.proofs.LeavesKept.{same-leaves}
 use Rattle.bz_world.proofs.LeftSlots.{count-left}
 use Rattle.bz_world.proofs.Tabled.{tabled-plain}
+use Rattle.bz_world.proofs.ToldOff.{ShowsNothing, shows-nothing}
 
 -- the laws of a beginning
 pub record Begins : Type 0 where
@@ -83,6 +84,7 @@ is-below n j l = grind (arith, nat_tests)
 -- the laws of an end
 pub record Ends : Type 0 where
   pub follow : ReadysFollow
+  pub tells : PowerTellsWhatFollows
   pub revive : RecoveriesGiveLife
   pub end : WalksEnd
   pub begun : BegunLaws
@@ -121,6 +123,11 @@ module _ (b : Ends) (p : Parts) (k : MustWake p) (order : IsInOrder p.slots) (ho
       by true e = ap (λ b. nat_lt j p.config.nodes && b) e ∙ rw (is-below p.config.nodes j l) refl
       by false e = absurd (true≢false (sym (contains-among p.slots.free j ((reached.free j l).1 e)) ∙ f))
 
+  -- worker 0 alone has acted since the power came on
+  nothing : ShowsNothing (since_on p.journal.past)
+  nothing = shows-nothing b.tells p.at_start (map_at_start p.config p.journal.start) p.journal.past k.recovering.dark.sound.once
+      ((b.tells p.at_start (map_at_start p.config p.journal.start) p.journal.past k.recovering.dark.sound.once).ends_recovery k.after)
+
   pub woken : IsAwake (record p { access = renewed p.access; journal = with_mark p.journal Ready; power = power.On })
   woken = record {
     on = refl;
@@ -132,6 +139,8 @@ module _ (b : Ends) (p : Parts) (k : MustWake p) (order : IsInOrder p.slots) (ho
       few = omega arith;
       notes = record { zero = b.begun.zero.renewal p.access reborn.revived.may_renew; noted = b.begun.noted.renewal p.access };
       unused = λ s l. reborn.revived.unused s;
+      only = λ s l seen. absurd (true≢false (sym seen ∙ nothing.begun s));
+      unstored = λ j f. nothing.stored p.config j;
     };
     living = reborn.living holds;
     sound = b.follow p.config p.at_start p.journal k.recovering.dark.sound k.after;

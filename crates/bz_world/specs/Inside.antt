@@ -15,3 +15,4 @@ pub mod Going
 pub mod Beginning
 pub mod Powering
 pub mod Room
+pub mod Told

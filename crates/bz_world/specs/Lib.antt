@@ -2,4 +2,6 @@ pub mod WorldView
 pub mod Solo
 pub mod Leaves
 pub mod Roomy
+pub mod Taken
+pub mod Numbers
 pub mod Inside

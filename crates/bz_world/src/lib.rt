@@ -24,6 +24,7 @@ mod settle;
 mod start;
 mod step;
 mod tell;
+mod told;
 mod world;
 
 pub use answers::{Applied, Begun, BootError, Event, LimitKind, OpenError};

@@ -75,6 +75,7 @@ fn wake(parts: &mut Parts)
     ensures { Wakes parts.old parts.new }
 {
     sound::readys_follow();
+    sound::power_tells_what_follows();
     story::recoveries_give_life();
     story::walks_end();
     begun_laws();

@@ -14,13 +14,9 @@ ghost use Rattle.bz_sound.specs.Memory.Sound as before;
 ghost use Rattle.bz_world.specs.declared.answers.Applied.TheVariants as applied;
 
 use crate::answers::{Applied, Begun, BootError, Event, OpenError};
-use crate::begin::begin;
-use crate::boot::boot_parts;
-use crate::open::open_parts;
 use crate::parts::Parts;
-use crate::power::{cut, power_on};
 use crate::replies::{number_of, reply_in};
-use crate::step::{evict, step};
+use crate::told::{apply_event, begin_call, boot_world, open_world, supply_is_shown};
 use bz_call::{Call, Reply};
 use bz_layout::Config;
 use bz_mark::Journal;
@@ -45,18 +41,19 @@ pub struct World {
 impl Model for World {
     ghost use Rattle.bz_world.specs.Inside.Beginning.{world_view};
     ghost use Rattle.bz_world.specs.WorldView.{WorldView};
-    ghost use Rattle.bz_world.specs.Inside.Kept.{IsKept};
+    ghost use Rattle.bz_world.specs.Inside.Told.{IsWorld};
 
     ghost Value = { WorldView };
 
     ghost view = { λ w. world_view w.parts };
 
-    ghost invariant = { λ w. IsKept w.parts };
+    ghost invariant = { λ w. IsWorld w.parts };
 }
 
 impl World {
     ghost use Rattle.bz_world.specs.WorldView.{WorldView, IsWorker, new_view, image_view, IsOpenFault, IsBootFault, power_in, begin_answer, after_begin, flush_of, open_number, reply_of, pairs_in, recovery_acts, recovery_most, AreFinishing, IsApplied, KeepsApart, count_in};
-    ghost use Rattle.bz_world.specs.Leaves.{AreLeavesKept};
+    ghost use Rattle.bz_world.specs.Numbers.{AreNumbersKept};
+    ghost use Rattle.bz_world.specs.Taken.{TellsAsShown};
     ghost use Rattle.bz_world.specs.Solo.{RunsAlone};
 
     /// A world over fresh memory, in which nothing has happened.
@@ -68,7 +65,7 @@ impl World {
         ensures err { IfErr result (IsOpenFault config.now) }
     {
         bz_content::laws::fresh_memory_reaches_slot_zero();
-        let parts = open_parts(alloc, config)?;
+        let parts = open_world(alloc, config)?;
         Ok(World { parts })
     }
 
@@ -81,7 +78,7 @@ impl World {
         ensures form { OnOk result (image_fault config.now (slice_index image.now) ≡ None) }
         ensures err { IfErr result (IsBootFault config.now image.now) }
     {
-        let parts = boot_parts(alloc, config, image)?;
+        let parts = boot_world(alloc, config, image)?;
         Ok(World { parts })
     }
 
@@ -90,19 +87,14 @@ impl World {
         ensures answer { result ≡ begin_answer self.old w call }
         ensures after { self.new ≡ after_begin self.old w call result }
     {
-        begin(&mut self.parts, w, call)
+        begin_call(&mut self.parts, w, call)
     }
 
     /// Makes an event happen.
     pub fn apply(&mut self, event: Event) -> Applied
         ensures { IsApplied self.old event result self.new }
     {
-        match event {
-            Event::Step(w) => step(&mut self.parts, w),
-            Event::Evict(a) => evict(&mut self.parts, a),
-            Event::Cut => cut(&mut self.parts),
-            Event::On => power_on(&mut self.parts),
-        }
+        apply_event(&mut self.parts, event)
     }
 
     /// Makes steps of a worker until its call has ended, and answers that; or until another answer comes. A worker that has an open call, with
@@ -122,8 +114,11 @@ impl World {
     pub fn journal(&self) -> &Journal
         ensures journal { result.now ≡ self.now.log }
         ensures sound { IsSound self.now.config self.now.at_start self.now.log }
-        // the tree has a leaf more only by the split of one, and one less only by a merge
-        ensures leaves { AreLeavesKept self.now.config self.now.at_start self.now.log }
+        // while no call is open it shows what is taken and left
+        ensures shown { TellsAsShown self.now }
+        // the tree has a leaf more only by the split of one, and one less only by a merge; and what a call took beside which no other was open is what
+        // its reply tells
+        ensures numbers { AreNumbersKept self.now.config self.now.at_start self.now.log }
         // a recovery is bounded
         ensures bounded { power_in self.now ≡ Recovering → recovery_acts self.now < recovery_most self.now.config }
         ensures unbroken { self.now.at_start ≡ On → IsUnbroken self.now.log.past → before.IsSound self.now.config self.now.log }
@@ -132,6 +127,7 @@ impl World {
         ensures workers { (w : ℕ) → (IsWorker self.now.config w → ⊥) → open_call w self.now.log.past ≡ None }
     {
         bz_sound::power_laws::sound_as_before();
+        supply_is_shown(&self.parts);
         &self.parts.journal
     }
 

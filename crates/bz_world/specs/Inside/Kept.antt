@@ -15,7 +15,7 @@ use Rattle.bz_sound.specs.declared.power.Power.{Power}
 use Rattle.bz_sound.specs.declared.power.Power.TheVariants as power
 use Rattle.bz_sound.specs.Power.Sound.{IsSound}
 use Rattle.bz_shape.specs.Walk.{is_among}
-use Rattle.bz_sound.specs.Memory.Spent.{is_taken, is_reached_in}
+use Rattle.bz_sound.specs.Memory.Spent.{is_taken, is_reached_in, is_stored_into}
 use Rattle.bz_sound.specs.Power.Times.{power_of, since_on, image_at_on}
 use Rattle.bz_story.specs.Living.{IsLiving}
 use Rattle.bz_story.specs.Recovering as recovery
@@ -67,6 +67,9 @@ pub record AreTaken (p : Parts) : Type 0 where
   pub notes : KeepsNotes p.access
   -- no other has had an effect
   pub unused : (s : ℕ) → p.access.taken ≤ s → has_effect p.access s ≡ false
+  -- and the journal shows no other begun since power on, nor a store into a free slot
+  pub only : (s : ℕ) → s < p.config.swaps → is_taken s (since_on p.journal.past) ≡ true → s < p.access.taken
+  pub unstored : (k : ℕ) → is_among p.slots.free k ≡ true → is_stored_into p.config k (since_on p.journal.past) ≡ false
 
 -- a free slot is one of the memory, which was not reached in the image at power on and which nobody took since; each other one
 -- was reached or taken

@@ -5,5 +5,5 @@ pub renew-requires : goal.renew-requires
 renew-requires c = may-renew c.recoveries_give_life.ensures c.args.parts.now c.requires.wakes
 
 pub returns : goal.returns
-returns c = wakes (record { follow = c.readys_follow.ensures; revive = c.recoveries_give_life.ensures; end = c.walks_end.ensures; begun = c.begun_laws.ensures }) c.args.parts.now c.requires.wakes c.left.ensures.ordered c.requires.room
+returns c = wakes (record { follow = c.readys_follow.ensures; tells = c.power_tells_what_follows.ensures; revive = c.recoveries_give_life.ensures; end = c.walks_end.ensures; begun = c.begun_laws.ensures }) c.args.parts.now c.requires.wakes c.left.ensures.ordered c.requires.room
     c.renew.new.self c.push.new.self c.renew.ensures.renewed c.renew.ensures.held c.push.ensures

@@ -6,4 +6,4 @@ use Rattle.bz_world.proofs.world.World.flush_next.Goals as goal
 
 pub returns-clause-idle : goal.returns-clause-idle
 returns-clause-idle c = subst (λ (l : WorldView). (MayAct l.at_start l.log.past c.args.w → ⊥) → c.flush_next.result ≡ false) c.self.view_is
-    (λ none. c.flush_next.ensures.idle (does-nothing c.self.inside.parts c.args.w c.self.invariant none))
+    (λ none. c.flush_next.ensures.idle (does-nothing c.self.inside.parts c.args.w c.self.invariant.kept none))

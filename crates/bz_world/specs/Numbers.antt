@@ -1,0 +1,11 @@
+-- What the journal tells of the numbers of a memory: of the leaves of its tree, and of its descriptors and slots.
+use Rattle.bz_layout.specs.declared.config.Config.{Config}
+use Rattle.bz_mark.specs.Log.{Log}
+use Rattle.bz_sound.specs.declared.power.Power.{Power}
+use Rattle.bz_world.specs.Leaves.{AreLeavesKept}
+use Rattle.bz_world.specs.Taken.{AreEndsTold}
+
+-- leaves come only by splits and go only by merges; and what each call took beside which no other was open is what its reply tells
+pub record AreNumbersKept (c : Config) (at_start : Power) (log : Log) : Type 0 where
+  pub leaves : AreLeavesKept c at_start log
+  pub taken : AreEndsTold c log.start log.past
