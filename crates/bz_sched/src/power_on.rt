@@ -1,6 +1,7 @@
 //! Power on.
 ghost use Rattle.std.specs.Prelude.{IsTrue, ◌↔◌, ◌≡◌, ◌≢◌, ◌<◌, ◌≤◌, true, false, None, Some};
 ghost use Rattle.bz_sound.specs.declared.power.Power.TheVariants.{Off, Recovering};
+ghost use Rattle.bz_world.specs.Numbers.{AreNumbersKept};
 ghost use Rattle.bz_world.specs.WorldView.{power_in, recovery_acts};
 ghost use Rattle.bz_sched.specs.Cutting.{HasNoPlace};
 ghost use Rattle.bz_sched.specs.Enough.{IsFew, ComesOn};
@@ -135,11 +136,8 @@ fn power_armed(world: &mut World, cut: CutPlan) -> RunEnd
     }
 }
 
-/// Turns the power on and lets worker 0 recover to the end. Where the power is on it is cut before, without evictions, and the
-/// calls that wait stay. Where a cut is armed, the power is cut again before that flush of the recovery is made: the caller
-/// then drops the calls that wait. A recovery that ends before it makes no cut. With no cut armed the power comes on where the
-/// journal has room for the acts of a recovery and `MARKS_PER_POWER_ON` marks more.
-pub fn power(world: &mut World, cut: Option<CutPlan>) -> RunEnd
+// Turns the power on with the cut that is armed, if one is.
+fn power_by(world: &mut World, cut: Option<CutPlan>) -> RunEnd
     requires steady { power_in world.old ≢ Recovering }
     requires cut { IsCutPlan cut }
     ensures ends { HasPower cut world.old result world.new }
@@ -149,4 +147,21 @@ pub fn power(world: &mut World, cut: Option<CutPlan>) -> RunEnd
         None => power_unarmed(world),
         Some(cut) => power_armed(world, cut),
     }
+}
+
+/// Turns the power on and lets worker 0 recover to the end. Where the power is on it is cut before, without evictions, and the
+/// calls that wait stay. Where a cut is armed, the power is cut again before that flush of the recovery is made: the caller
+/// then drops the calls that wait. A recovery that ends before it makes no cut. With no cut armed the power comes on where the
+/// journal has room for the acts of a recovery and `MARKS_PER_POWER_ON` marks more.
+pub fn power(world: &mut World, cut: Option<CutPlan>) -> RunEnd
+    requires steady { power_in world.old ≢ Recovering }
+    requires cut { IsCutPlan cut }
+    ensures ends { HasPower cut world.old result world.new }
+    ensures enough { ComesOn cut world.old result world.new }
+    // the leaves come and go as they may, and what a call took beside which no other was open is what its reply tells
+    ensures numbers { AreNumbersKept world.new.config world.new.at_start world.new.log }
+{
+    let end = power_by(world, cut);
+    world.journal();
+    end
 }

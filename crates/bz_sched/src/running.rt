@@ -4,6 +4,7 @@ ghost use Rattle.bz_layout.specs.Addresses.{words_of};
 ghost use Rattle.bz_script.specs.RunLaws.{IsPlan};
 ghost use Rattle.bz_script.specs.declared.item.Plan.TheVariants.{Alone};
 ghost use Rattle.bz_sound.specs.declared.power.Power.TheVariants.{Off, On};
+ghost use Rattle.bz_world.specs.Numbers.{AreNumbersKept};
 ghost use Rattle.bz_world.specs.WorldView.{power_in};
 ghost use Rattle.bz_sched.specs.Cutting.{IsCutRun};
 ghost use Rattle.bz_sched.specs.Enough.{Bounds, IsBetweenCalls, ServesAll};
@@ -91,6 +92,20 @@ fn run_armed(world: &mut World, queue: &mut Queue, plan: &Plan, cut: CutPlan) ->
     }
 }
 
+// Runs with the cut that is armed, if one is.
+fn run_by(world: &mut World, queue: &mut Queue, plan: &Plan, cut: Option<CutPlan>) -> RunEnd
+    requires plan { IsPlan plan.now × IsOfTurns plan.now }
+    requires ready { IsReady world.old }
+    requires cut { IsCutPlan cut }
+    ensures ends { HasRun cut plan.now world.old queue.old result world.new queue.new }
+    ensures enough { ServesAll cut plan.now world.old queue.old result world.new queue.new }
+{
+    match cut {
+        None => run_unarmed(world, queue, plan),
+        Some(cut) => run_armed(world, queue, plan, cut),
+    }
+}
+
 /// Runs the calls that wait, and those that are open, by a plan. Where a cut is armed, the power is cut before that flush of the
 /// run is made, and the calls that wait are dropped; a run that ends before it makes no cut. A run of one worker after the other
 /// meets no limit, with no cut armed, where no call is open and the journal has room for all that wait: `MARKS_PER_CALL` marks each.
@@ -101,9 +116,10 @@ pub fn run(world: &mut World, queue: &mut Queue, plan: &Plan, cut: Option<CutPla
     requires cut { IsCutPlan cut }
     ensures ends { HasRun cut plan.now world.old queue.old result world.new queue.new }
     ensures enough { ServesAll cut plan.now world.old queue.old result world.new queue.new }
+    // the leaves come and go as they may, and what a call took beside which no other was open is what its reply tells
+    ensures numbers { AreNumbersKept world.new.config world.new.at_start world.new.log }
 {
-    match cut {
-        None => run_unarmed(world, queue, plan),
-        Some(cut) => run_armed(world, queue, plan, cut),
-    }
+    let end = run_by(world, queue, plan, cut);
+    world.journal();
+    end
 }

@@ -10,6 +10,7 @@ use Rattle.bz_sched.specs.Sums.{calls_in, sum_of, SufficesFor, HasStockFor}
 use Rattle.bz_sound.specs.Power.Sound.{IsSound}
 use Rattle.bz_sound.specs.declared.power.Power.{Power as State}
 use Rattle.bz_words.specs.declared.command.Command.{Command}
+use Rattle.bz_sched.specs.FromWorld.Numbers.{AreNumbersKept}
 use Rattle.bz_sched.specs.FromWorld.WorldView.{WorldView}
 use Rattle.bz_sched.specs.FromWorld.LimitKind.{LimitKind}
 use Rattle.bz_top.specs.Bases.{Base}
@@ -21,11 +22,11 @@ use Rattle.bz_top.specs.declared.items.ItemsEnd.TheVariants.{Finished, Limit, Me
 use Rattle.bz_top.proofs.BaseLemmas.{made_still}
 use Rattle.bz_top.proofs.SumLemmas.{lacks_still, served_still}
 
-module _ (marks : ℕ) (base : Base) (job : Job) (old new : WorldView) (made : IsMadeFor marks base job old) (sound : IsSound new.config new.at_start new.log) where
+module _ (marks : ℕ) (base : Base) (job : Job) (old new : WorldView) (made : IsMadeFor marks base job old) (sound : IsSound new.config new.at_start new.log) (numbers : AreNumbersKept new.config new.at_start new.log) where
   pub ran-finished : (command : Command) (k : Sunk) (status : ℕ) (lab : Option WorldView) → ItemsRan old job.items Finished new → (SufficesFor old.config old.log.limits (items_from old.at_start job.items) → HasStockFor old.config old.log.start (sum_of calls_in (items_from old.at_start job.items)) → count_wanting new.log.past ≡ 0) → lab ≡ Some new
       → SaysOrWants k 0 (printed command new) status → RanWorld command marks base job k status lab
   ran-finished command k status lab ran served is says =
-      let right : IsLab marks base job new = record { made = made_still marks base job old new made ran.on; sound = sound } in
+      let right : IsLab marks base job new = record { made = made_still marks base job old new made ran.on; sound = sound; numbers = numbers } in
       let finished : IsFinished marks base job new = record {
         right = right;
         follows = subst (λ (s : State). LeadsTo s new.log.start (words_of new.config) None at_first (items_from s job.items) new.log.past) (sym ran.on.at_start)
@@ -41,7 +42,7 @@ module _ (marks : ℕ) (base : Base) (job : Job) (old new : WorldView) (made : I
   pub ran-limited : (command : Command) (k : Sunk) (status : ℕ) (lab : Option WorldView) (which : LimitKind) → ItemsRan old job.items (Limit which) new → (SufficesFor old.config old.log.limits (items_from old.at_start job.items) → ⊥) → lab ≡ Some new → SaysOrWants k 5 (printed_before command new ++ fault_line (limit_text which)) status
       → RanWorld command marks base job k status lab
   ran-limited command k status lab which ran lacks is says =
-      let right : IsLab marks base job new = record { made = made_still marks base job old new made ran.on; sound = sound } in
+      let right : IsLab marks base job new = record { made = made_still marks base job old new made ran.on; sound = sound; numbers = numbers } in
       let cut_short : IsCutShort marks base job new which = record {
         right = right;
         follows = subst (λ (s : State). LeadsToInPart which s new.log.start (words_of new.config) None at_first (items_from s job.items) new.log.past) (sym ran.on.at_start)
@@ -58,7 +59,7 @@ module _ (marks : ℕ) (base : Base) (job : Job) (old new : WorldView) (made : I
   -- memory was wanting for threads
   pub ran-held : (command : Command) (k : Sunk) (status : ℕ) (lab : Option WorldView) → ItemsRan old job.items Memory new → lab ≡ Some new → Says k 7 (fault_line (codes "memory")) status → RanWorld command marks base job k status lab
   ran-held command k status lab ran is said =
-      let right : IsLab marks base job new = record { made = made_still marks base job old new made ran.on; sound = sound } in
+      let right : IsLab marks base job new = record { made = made_still marks base job old new made ran.on; sound = sound; numbers = numbers } in
       let held : IsHeldUp marks base job new = record {
         right = right;
         follows = subst (λ (s : State). LeadsToWant s new.log.start (words_of new.config) None at_first (items_from s job.items) new.log.past) (sym ran.on.at_start)

@@ -20,6 +20,7 @@ use Rattle.bz_script.specs.declared.item.Item.{Item}
 use Rattle.bz_script.specs.declared.item.Item.TheVariants.{Power}
 use Rattle.bz_script.specs.declared.read.TheConstants.{SCRIPT_BYTES}
 use Rattle.bz_sched.specs.Enough.{count_wanting}
+use Rattle.bz_sched.specs.FromWorld.Numbers.{AreNumbersKept}
 use Rattle.bz_sched.specs.FromWorld.WorldView.{WorldView}
 use Rattle.bz_sched.specs.FromWorld.LimitKind.{LimitKind}
 use Rattle.bz_sched.specs.Runs.{IsAtLimit}
@@ -108,10 +109,11 @@ pub record IsMadeFor (marks : ℕ) (base : Base) (script : Job) (world : WorldVi
   pub start : world.log.start ≡ words_over world.config base
   pub limits : world.log.limits ≡ record { marks = world.config.marks; calls = world.config.calls; pages = world.config.pages }
 
--- the lab is such a world, and its journal is sound
+-- the lab is such a world, and its journal is sound; and the leaves of its tree, and the descriptors and slots that its calls took, are as many as they may be
 pub record IsLab (marks : ℕ) (base : Base) (script : Job) (world : WorldView) : Type 0 where
   pub made : IsMadeFor marks base script world
   pub sound : IsSound world.config world.at_start world.log
+  pub numbers : AreNumbersKept world.config world.at_start world.log
 
 -- the point at which nothing has happened and no call waits
 abbrev pub at_first : Point

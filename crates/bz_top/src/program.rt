@@ -84,6 +84,7 @@ fn run_world<R: Threads + Wait + Sync, K: Sink, G: Gate + Sync>(
         result.status result.lab }
 {
     let (world, end) = run_items(rt, alloc, world, &mut queue, script.items.items(), gate);
+    world.journal();
     match end {
         ItemsEnd::Finished => print(alloc, line.command, world, sink),
         ItemsEnd::Limit(which) => print_limit(alloc, line.command, world, which, sink),
