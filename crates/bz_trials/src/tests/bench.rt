@@ -4,7 +4,7 @@ use bz_call::{Call, Reply, Spent};
 use bz_key::{Key, Payload};
 use bz_layout::Config;
 use bz_mark::Mark;
-use bz_world::{Applied, Begun, Event, OpenError, World};
+use bz_world::{Applied, Begun, Event, OpenError, Power, World};
 use std::alloc::Global;
 use std::process::Abort;
 
@@ -133,6 +133,26 @@ pub(crate) fn steps(world: &mut World, w: u8, most: u32) -> (u32, Option<Answer>
 /// Begins a call; whether it has begun.
 pub(crate) fn begin(world: &mut World, w: u8, call: Call) -> bool {
     matches!(world.begin(w, call), Begun::Begun(_))
+}
+
+/// An event is answered so.
+pub(crate) fn applies(rt: &impl Abort, world: &mut World, event: Event, applied: Applied) {
+    assert_eq!(rt; world.apply(event), applied, "{event:?}");
+}
+
+/// What the power of a world is.
+pub(crate) fn has_power(rt: &impl Abort, world: &World, power: Power) {
+    assert_eq!(rt; world.power(), power);
+}
+
+/// How many pairs a world has.
+pub(crate) fn has_pairs(rt: &impl Abort, world: &World, pairs: u64) {
+    assert_eq!(rt; world.pairs(), pairs);
+}
+
+/// How many marks a journal has.
+pub(crate) fn marks(world: &World) -> u32 {
+    world.journal().length()
 }
 
 /// Makes a whole call, if it takes no more than 4,000 steps.

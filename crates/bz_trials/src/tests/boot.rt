@@ -3,7 +3,9 @@
 ghost use Rattle.std.specs.Prelude.{◌≡◌, length};
 ghost use Rattle.bz_layout.specs.Addresses.{words_of};
 
-use super::bench::{Answer, begin, numbered, open, payload, steps, whole};
+use super::bench::{
+    Answer, applies, begin, has_pairs, has_power, numbered, open, payload, steps, whole,
+};
 use super::decode::decode;
 use super::map::{Map, count};
 use super::random::{Random, act};
@@ -28,13 +30,13 @@ fn copy_durable(world: &World, words: &mut Vec<u64>)
 
 /// The power comes on, and the recovery goes to its end.
 pub(super) fn come_on(rt: &impl Abort, world: &mut World) {
-    assert_eq!(rt; world.apply(Event::On), Applied::On);
+    applies(rt, world, Event::On, Applied::On);
     for _ in 0..10_000 {
         if world.apply(Event::Step(0)) != Applied::Stepped {
             break;
         }
     }
-    assert_eq!(rt; world.power(), Power::On);
+    has_power(rt, world, Power::On);
 }
 
 // What both keys have.
@@ -66,14 +68,19 @@ fn booted(rt: &impl Abort, alloc: Global, world: &World) -> World {
     World::boot(alloc, &config, &words).expect(rt, "a world")
 }
 
+// Its power is off, and it begins no call.
+fn is_off(rt: &impl Abort, image: &mut World) {
+    has_power(rt, image, Power::Off);
+    assert_eq!(rt; image.begin(1, inserting(rt)), Begun::Off);
+}
+
 // Both go on alike.
 fn goes_on(rt: &impl Abort, alloc: Global, acts: u32) {
     let mut world = stopped(rt, alloc, acts);
     let mut image = booted(rt, alloc, &world);
-    assert_eq!(rt; image.power(), Power::Off);
-    assert_eq!(rt; image.begin(1, inserting(rt)), Begun::Off);
+    is_off(rt, &mut image);
     come_on(rt, &mut image);
-    assert_eq!(rt; world.apply(Event::Cut), Applied::Cut);
+    applies(rt, &mut world, Event::Cut, Applied::Cut);
     come_on(rt, &mut world);
     assert_eq!(rt; answers(&mut image, rt), answers(&mut world, rt));
 }
@@ -107,18 +114,28 @@ fn an_image_that_breaks_a_rule_is_refused(rt: HostRuntime) -> Result<(), Fail> {
     Ok(())
 }
 
+// The reader explains the marks that it has not read yet.
+fn explains(rt: &impl Abort, reader: &mut Reader, world: &World) {
+    assert!(rt; reader.read_on(world).expect(rt, "room for the maps"));
+}
+
+// The memory itself has this map.
+fn has(rt: &impl Abort, world: &World, map: Map) {
+    assert_eq!(rt; decode(world), Some(map));
+}
+
 // What a power cut would leave of a world with this map goes on for so many events, which the reader explains.
 fn goes_on_from(rt: &impl Abort, alloc: Global, world: &World, map: Map, mut random: Random) {
     let mut image = booted(rt, alloc, world);
-    assert_eq!(rt; image.pairs(), u64::from(count(&map)));
-    assert_eq!(rt; decode(&image), Some(map));
+    has_pairs(rt, &image, u64::from(count(&map)));
+    has(rt, &image, map);
     come_on(rt, &mut image);
     let mut reader = Reader::over(alloc, map).expect(rt, "a reader");
     for _ in 0..500 {
         act(rt, &mut image, &mut random);
     }
-    assert!(rt; reader.read_on(&image).expect(rt, "room for the maps"));
-    assert_eq!(rt; decode(&image), Some(reader.map()));
+    explains(rt, &mut reader, &image);
+    has(rt, &image, reader.map());
 }
 
 #[test]
@@ -130,7 +147,7 @@ fn a_schedule_goes_on_from_every_tenth_event(rt: HostRuntime) {
         for _ in 0..10 {
             act(&rt, &mut world, &mut random);
         }
-        assert!(rt; reader.read_on(&world).expect(&rt, "room for the maps"));
+        explains(&rt, &mut reader, &world);
         let other = Random { state: event };
         goes_on_from(&rt, rt.alloc(), &world, reader.map(), other);
     }

@@ -42,27 +42,42 @@ fn is_missing(rt: &impl Abort, world: &mut World, k: Key) {
     answers(rt, world, Call::Delete(k), Answer::Missing);
 }
 
+// The first key into an empty world, with each length of another payload.
+fn first_comes(rt: &impl Abort, world: &mut World, b: Key, old: Payload) {
+    is_missing(rt, world, b);
+    shows(rt, world, 0, key(rt, b"a"), &[]);
+    answers(rt, world, Call::Insert(b, old), Answer::Inserted);
+    for other in [0, 7, 8, 28] {
+        exchange(rt, world, b, old, filled(rt, b'n', other));
+    }
+}
+
+// Two more.
+fn others_come(rt: &impl Abort, world: &mut World, (a, b, c): (Key, Key, Key), old: Payload) {
+    answers(rt, world, Call::Upsert(c, old), Answer::Inserted);
+    answers(rt, world, Call::Insert(a, old), Answer::Inserted);
+    shows(rt, world, 1, a, &[(a, old), (b, old), (c, old)]);
+    shows(rt, world, 2, key(rt, b"aa"), &[(b, old), (c, old)]);
+}
+
+// The first key goes, and comes again.
+fn first_goes(rt: &impl Abort, world: &mut World, b: Key, c: Key, old: Payload) {
+    answers(rt, world, Call::Delete(b), Answer::Deleted(old));
+    is_missing(rt, world, b);
+    shows(rt, world, 3, b, &[(c, old)]);
+    answers(rt, world, Call::Insert(b, old), Answer::Inserted);
+    shows(rt, world, 4, c, &[(c, old)]);
+}
+
 #[test]
 fn calls_answer_as_a_map_does(rt: HostRuntime) -> Result<(), Fail> {
     let (a, b, c) = (key(&rt, b"a"), key(&rt, b"b"), key(&rt, &[b'c'; 28]));
     for length in [0, 7, 8, 28] {
         let old = filled(&rt, b'o', length);
         let mut world = open(rt.alloc(), 16, 128, 1)?;
-        is_missing(&rt, &mut world, b);
-        shows(&rt, &mut world, 0, a, &[]);
-        answers(&rt, &mut world, Call::Insert(b, old), Answer::Inserted);
-        for other in [0, 7, 8, 28] {
-            exchange(&rt, &mut world, b, old, filled(&rt, b'n', other));
-        }
-        answers(&rt, &mut world, Call::Upsert(c, old), Answer::Inserted);
-        answers(&rt, &mut world, Call::Insert(a, old), Answer::Inserted);
-        shows(&rt, &mut world, 1, a, &[(a, old), (b, old), (c, old)]);
-        shows(&rt, &mut world, 2, key(&rt, b"aa"), &[(b, old), (c, old)]);
-        answers(&rt, &mut world, Call::Delete(b), Answer::Deleted(old));
-        is_missing(&rt, &mut world, b);
-        shows(&rt, &mut world, 3, b, &[(c, old)]);
-        answers(&rt, &mut world, Call::Insert(b, old), Answer::Inserted);
-        shows(&rt, &mut world, 4, c, &[(c, old)]);
+        first_comes(&rt, &mut world, b, old);
+        others_come(&rt, &mut world, (a, b, c), old);
+        first_goes(&rt, &mut world, b, c, old);
     }
     Ok(())
 }

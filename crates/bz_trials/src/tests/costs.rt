@@ -2,6 +2,7 @@
 
 use super::bench::{Answer, begin, key, mark, open, payload, steps};
 use bz_call::Call;
+use bz_key::{Key, Payload};
 use bz_mark::Mark;
 use bz_world::World;
 use std::process::Abort;
@@ -58,40 +59,66 @@ fn costs_at_most(rt: &impl Abort, world: &mut World, call: Call, answer: Answer,
     assert!(rt; costs.flushes <= most.flushes, "{answer:?}: {costs:?}");
 }
 
+const INSERT: Costs = Costs {
+    stores: 18,
+    swaps: 20,
+    flushes: 15,
+};
+
+const UPDATE: Costs = Costs {
+    stores: 15,
+    swaps: 16,
+    flushes: 13,
+};
+
+const DELETE: Costs = Costs {
+    stores: 8,
+    swaps: 10,
+    flushes: 7,
+};
+
+// Two keys come, of which one is updated.
+fn comes(rt: &impl Abort, world: &mut World, (a, b): (Key, Key), (one, two): (Payload, Payload)) {
+    costs_at_most(rt, world, Call::Insert(a, one), Answer::Inserted, INSERT);
+    costs_at_most(
+        rt,
+        world,
+        Call::Update(a, two),
+        Answer::Updated(one),
+        UPDATE,
+    );
+    costs_at_most(
+        rt,
+        world,
+        Call::Upsert(a, one),
+        Answer::Updated(two),
+        UPDATE,
+    );
+    costs_at_most(rt, world, Call::Upsert(b, one), Answer::Inserted, INSERT);
+}
+
+// Calls that change nothing.
+fn stays(rt: &impl Abort, world: &mut World, a: Key, (one, two): (Payload, Payload)) {
+    costs_at_most(rt, world, Call::Get(a), Answer::Value(one), NONE);
+    costs_at_most(rt, world, Call::Insert(a, two), Answer::Exists, NONE);
+    costs_at_most(rt, world, Call::Page(a), Answer::Page(0, false), NONE);
+}
+
+// A key goes, and is missing.
+fn goes(rt: &impl Abort, world: &mut World, b: Key, one: Payload) {
+    costs_at_most(rt, world, Call::Delete(b), Answer::Deleted(one), DELETE);
+    costs_at_most(rt, world, Call::Delete(b), Answer::Missing, NONE);
+    costs_at_most(rt, world, Call::Update(b, one), Answer::Missing, NONE);
+    costs_at_most(rt, world, Call::Get(b), Answer::Missing, NONE);
+}
+
 #[test]
 fn changes_cost_no_more_than_two_swaps_and_their_record(rt: HostRuntime) -> Result<(), Fail> {
-    let insert = Costs {
-        stores: 18,
-        swaps: 20,
-        flushes: 15,
-    };
-    let update = Costs {
-        stores: 15,
-        swaps: 16,
-        flushes: 13,
-    };
-    let delete = Costs {
-        stores: 8,
-        swaps: 10,
-        flushes: 7,
-    };
     let (a, b) = (key(&rt, b"a"), key(&rt, b"b"));
     let (one, two) = (payload(&rt, b"1"), payload(&rt, b"2"));
     let mut world = open(rt.alloc(), 16, 64, 1)?;
-    for (call, answer, most) in [
-        (Call::Insert(a, one), Answer::Inserted, insert),
-        (Call::Update(a, two), Answer::Updated(one), update),
-        (Call::Upsert(a, one), Answer::Updated(two), update),
-        (Call::Upsert(b, one), Answer::Inserted, insert),
-        (Call::Get(a), Answer::Value(one), NONE),
-        (Call::Insert(a, two), Answer::Exists, NONE),
-        (Call::Page(a), Answer::Page(0, false), NONE),
-        (Call::Delete(b), Answer::Deleted(one), delete),
-        (Call::Delete(b), Answer::Missing, NONE),
-        (Call::Update(b, one), Answer::Missing, NONE),
-        (Call::Get(b), Answer::Missing, NONE),
-    ] {
-        costs_at_most(&rt, &mut world, call, answer, most);
-    }
+    comes(&rt, &mut world, (a, b), (one, two));
+    stays(&rt, &mut world, a, (one, two));
+    goes(&rt, &mut world, b, one);
     Ok(())
 }

@@ -5,7 +5,7 @@ ghost use Rattle.std.specs.Prelude.{◌≡◌, length};
 ghost use Rattle.bz_layout.specs.Addresses.{words_of};
 ghost use Rattle.bz_layout.specs.Config.{IsConfig};
 
-use super::bench::{Answer, key, open, payload, whole};
+use super::bench::{Answer, has_pairs, key, open, payload, whole};
 use super::boot::come_on;
 use bz_call::Call;
 use bz_layout::Config;
@@ -143,33 +143,32 @@ fn booted(rt: &impl Abort, alloc: Global, state: State) -> World {
     World::boot(alloc, &config, &words).expect(rt, "a world")
 }
 
+// How many pairs there are where `a` is one or not, and what a get of it answers, and then an insert.
+fn answers_of(rt: &impl Abort, is_there: bool) -> (u64, Answer, Answer) {
+    if is_there {
+        (2, Answer::Value(payload(rt, b"1")), Answer::Exists)
+    } else {
+        (1, Answer::Missing, Answer::Inserted)
+    }
+}
+
+// A call of a worker is answered so.
+fn answers(rt: &impl Abort, world: &mut World, w: u8, call: Call, answer: Answer, state: &State) {
+    assert_eq!(rt; whole(world, w, call), Some(answer), "{state:?}");
+}
+
 // It boots, recovers and is read; and an insert finds both descriptors free.
 fn is_read(rt: &impl Abort, alloc: Global, state: State) {
-    let (a, one) = (key(rt, b"a"), payload(rt, b"1"));
+    let (a, z) = (key(rt, b"a"), key(rt, b"z"));
+    let (one, two) = (payload(rt, b"1"), payload(rt, b"2"));
+    let (pairs, got, put) = answers_of(rt, state.3);
     let mut world = booted(rt, alloc, state);
-    assert_eq!(rt; world.pairs(), if state.3 { 2 } else { 1 });
+    has_pairs(rt, &world, pairs);
     come_on(rt, &mut world);
-    let got = whole(&mut world, 1, Call::Get(a));
-    let value = Some(Answer::Value(one));
-    assert_eq!(rt;
-        got,
-        if state.3 {
-            value
-        } else {
-            Some(Answer::Missing)
-        },
-        "{state:?}"
-    );
-    let put = whole(&mut world, 2, Call::Insert(a, one));
-    let new = Some(Answer::Inserted);
-    assert_eq!(rt;
-        put,
-        if state.3 { Some(Answer::Exists) } else { new },
-        "{state:?}"
-    );
-    let other = whole(&mut world, 1, Call::Get(key(rt, b"z")));
-    assert_eq!(rt; other, Some(Answer::Value(payload(rt, b"2"))));
-    assert_eq!(rt; world.pairs(), 2);
+    answers(rt, &mut world, 1, Call::Get(a), got, &state);
+    answers(rt, &mut world, 2, Call::Insert(a, one), put, &state);
+    answers(rt, &mut world, 1, Call::Get(z), Answer::Value(two), &state);
+    has_pairs(rt, &world, 2);
 }
 
 #[test]

@@ -1,6 +1,6 @@
 //! What a world refuses.
 
-use super::bench::{begin, key, payload, steps};
+use super::bench::{applies, begin, key, marks, payload, steps};
 use bz_call::Call;
 use bz_layout::{Config, ConfigError};
 use bz_world::{Applied, Begun, Event, LimitKind, OpenError, World};
@@ -25,20 +25,11 @@ const NO_NODES: Config = Config {
     pages: 1,
 };
 
-// Each event is answered so, one after the other.
-fn applies(rt: &impl Abort, world: &mut World, rows: &[(Event, Applied)]) {
-    for (event, applied) in rows {
-        assert_eq!(rt; world.apply(*event), *applied, "{event:?}");
-    }
-}
-
-// Begins of these workers are answered so, one after the other: of pages, or of gets.
-fn begins(rt: &impl Abort, world: &mut World, rows: &[(u8, bool, Begun)]) {
+// A begin of a worker is answered so: of a page, or of a get.
+fn begins(rt: &impl Abort, world: &mut World, w: u8, page: bool, begun: Begun) {
     let k = key(rt, b"a");
-    for (w, page, begun) in rows {
-        let call = if *page { Call::Page(k) } else { Call::Get(k) };
-        assert_eq!(rt; world.begin(*w, call), *begun, "{w}");
-    }
+    let call = if page { Call::Page(k) } else { Call::Get(k) };
+    assert_eq!(rt; world.begin(w, call), begun, "{w}");
 }
 
 #[test]
@@ -49,60 +40,73 @@ fn a_world_of_no_nodes_is_not_opened(rt: HostRuntime) {
     }
 }
 
+// Events that a world without a call refuses, and an eviction of its last word.
+fn names_events(rt: &impl Abort, world: &mut World) {
+    applies(rt, world, Event::Step(5), Applied::NoWorker);
+    applies(rt, world, Event::Step(2), Applied::Idle);
+    applies(rt, world, Event::Step(0), Applied::Idle);
+    applies(rt, world, Event::Evict(272), Applied::NoWord);
+    applies(rt, world, Event::Evict(271), Applied::Evicted);
+}
+
+// Begins that it refuses, among others.
+fn names_begins(rt: &impl Abort, world: &mut World) {
+    begins(rt, world, 0, false, Begun::NoWorker);
+    begins(rt, world, 5, false, Begun::NoWorker);
+    begins(rt, world, 2, true, Begun::Begun(1));
+    begins(rt, world, 2, false, Begun::Busy);
+    begins(rt, world, 1, true, Begun::Limit(LimitKind::Pages));
+}
+
+// Each other worker may begin a call.
+fn others_begin(rt: &impl Abort, world: &mut World) {
+    begins(rt, world, 1, false, Begun::Begun(1));
+    begins(rt, world, 3, false, Begun::Begun(1));
+    begins(rt, world, 4, false, Begun::Begun(1));
+}
+
 #[test]
 fn a_world_names_what_it_refuses(rt: HostRuntime) -> Result<(), Fail> {
     let mut world = World::open(rt.alloc(), &SMALL)?;
-    let events = [
-        (Event::Step(5), Applied::NoWorker),
-        (Event::Step(2), Applied::Idle),
-        (Event::Step(0), Applied::Idle),
-        (Event::Evict(272), Applied::NoWord),
-        (Event::Evict(271), Applied::Evicted),
-    ];
-    applies(&rt, &mut world, &events);
-    let rows = [
-        (0, false, Begun::NoWorker),
-        (5, false, Begun::NoWorker),
-        (2, true, Begun::Begun(1)),
-        (2, false, Begun::Busy),
-        (1, true, Begun::Limit(LimitKind::Pages)),
-        (1, false, Begun::Begun(1)),
-        (3, false, Begun::Begun(1)),
-        (4, false, Begun::Begun(1)),
-    ];
-    begins(&rt, &mut world, &rows);
+    names_events(&rt, &mut world);
+    names_begins(&rt, &mut world);
+    others_begin(&rt, &mut world);
     Ok(())
+}
+
+// Four inserts of worker 1, one after the other.
+fn inserts(rt: &impl Abort, world: &mut World) {
+    for _ in 0..4 {
+        let call = Call::Insert(key(rt, b"a"), payload(rt, b"1"));
+        begin(world, 1, call);
+        steps(world, 1, 100);
+    }
+}
+
+// Evictions until the journal has no room for them.
+fn fills(world: &mut World) {
+    for _ in 0..1_024 {
+        world.apply(Event::Evict(0));
+    }
+}
+
+// What a world answers whose journal has no more room.
+fn is_full(rt: &impl Abort, world: &mut World) {
+    applies(rt, world, Event::Step(1), Applied::Limit);
+    applies(rt, world, Event::Step(5), Applied::NoWorker);
+    applies(rt, world, Event::Evict(0), Applied::Limit);
+    applies(rt, world, Event::Evict(272), Applied::NoWord);
+    begins(rt, world, 2, false, Begun::Limit(LimitKind::Marks));
 }
 
 #[test]
 fn a_journal_that_is_full_ends_the_world(rt: HostRuntime) -> Result<(), Fail> {
     let mut world = World::open(rt.alloc(), &SMALL)?;
-    for _ in 0..4 {
-        let call = Call::Insert(key(&rt, b"a"), payload(&rt, b"1"));
-        begin(&mut world, 1, call);
-        steps(&mut world, 1, 100);
-    }
-    begins(
-        &rt,
-        &mut world,
-        &[(2, false, Begun::Limit(LimitKind::Calls))],
-    );
-    for _ in 0..1_024 {
-        world.apply(Event::Evict(0));
-    }
+    inserts(&rt, &mut world);
+    begins(&rt, &mut world, 2, false, Begun::Limit(LimitKind::Calls));
+    fills(&mut world);
     // an act, an effect and an end have no more room
-    assert_eq!(rt; world.journal().length(), 1_022);
-    let events = [
-        (Event::Step(1), Applied::Limit),
-        (Event::Step(5), Applied::NoWorker),
-        (Event::Evict(0), Applied::Limit),
-        (Event::Evict(272), Applied::NoWord),
-    ];
-    applies(&rt, &mut world, &events);
-    begins(
-        &rt,
-        &mut world,
-        &[(2, false, Begun::Limit(LimitKind::Marks))],
-    );
+    assert_eq!(rt; marks(&world), 1_022);
+    is_full(&rt, &mut world);
     Ok(())
 }

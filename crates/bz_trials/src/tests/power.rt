@@ -1,6 +1,8 @@
 //! Power cuts, after every number of acts of a call, recoveries that are cut again, and the slots that are free afterwards.
 
-use super::bench::{Answer, answered, begin, numbered, open, payload, steps, whole};
+use super::bench::{
+    Answer, answered, applies, begin, has_pairs, has_power, numbered, open, payload, steps, whole,
+};
 use super::decode::decode;
 use super::map::count;
 use super::reader::Reader;
@@ -29,10 +31,10 @@ fn evict_all(world: &mut World) {
 
 // The power fails, and comes on again.
 fn restart(rt: &impl Abort, world: &mut World) {
-    assert_eq!(rt; world.apply(Event::Cut), Applied::Cut);
-    assert_eq!(rt; world.power(), Power::Off);
-    assert_eq!(rt; world.apply(Event::On), Applied::On);
-    assert_eq!(rt; world.power(), Power::Recovering);
+    applies(rt, world, Event::Cut, Applied::Cut);
+    has_power(rt, world, Power::Off);
+    applies(rt, world, Event::On, Applied::On);
+    has_power(rt, world, Power::Recovering);
 }
 
 // At most so many steps of the recovery; whether it has ended.
@@ -52,7 +54,7 @@ fn agrees(rt: &impl Abort, alloc: Global, world: &World) {
     let mut reader = Reader::open(alloc).expect(rt, "a reader");
     assert!(rt; reader.read_on(world).expect(rt, "room for the maps"));
     assert_eq!(rt; decode(world), Some(reader.map()));
-    assert_eq!(rt; world.pairs(), u64::from(count(&reader.map())));
+    has_pairs(rt, world, u64::from(count(&reader.map())));
 }
 
 // A world with one key, and so many acts of a call of this kind. Whether the call has ended.
@@ -65,6 +67,21 @@ fn begun(rt: &impl Abort, alloc: Global, kind: u32, acts: u32) -> (World, bool) 
     (world, answer.is_some())
 }
 
+// The recovery goes to its end, and agrees.
+fn recovers(rt: &impl Abort, alloc: Global, world: &mut World) {
+    assert!(rt; recover(world, 4_000));
+    has_power(rt, world, Power::On);
+    agrees(rt, alloc, world);
+}
+
+// Worker 1 makes its second call; the first one has a reply where it had ended.
+fn gets_then(rt: &impl Abort, world: &mut World, ended: bool) {
+    let got = whole(world, 1, Call::Get(numbered(rt, 1)));
+    assert!(rt; got.is_some());
+    assert_eq!(rt; answered(world, 1, 2), got);
+    assert_eq!(rt; answered(world, 1, 1).is_some(), ended);
+}
+
 // A call of this kind is cut after so many acts. Whether it had ended.
 fn cut_after(rt: &impl Abort, alloc: Global, kind: u32, acts: u32, evicts: bool) -> bool {
     let (mut world, ended) = begun(rt, alloc, kind, acts);
@@ -73,13 +90,8 @@ fn cut_after(rt: &impl Abort, alloc: Global, kind: u32, acts: u32, evicts: bool)
     }
     restart(rt, &mut world);
     agrees(rt, alloc, &world);
-    assert!(rt; recover(&mut world, 4_000));
-    assert_eq!(rt; world.power(), Power::On);
-    agrees(rt, alloc, &world);
-    let got = whole(&mut world, 1, Call::Get(numbered(rt, 1)));
-    assert!(rt; got.is_some());
-    assert_eq!(rt; answered(&world, 1, 2), got);
-    assert_eq!(rt; answered(&world, 1, 1).is_some(), ended);
+    recovers(rt, alloc, &mut world);
+    gets_then(rt, &mut world, ended);
     agrees(rt, alloc, &world);
     ended
 }
@@ -202,24 +214,38 @@ fn an_open_call_has_its_number_until_a_cut(rt: HostRuntime) {
     assert_eq!(rt; world.open_call(1), None);
 }
 
+// A begin of worker 1 is answered so.
+fn begins(rt: &impl Abort, world: &mut World, begun: Begun) {
+    assert_eq!(rt; world.begin(1, Call::Get(numbered(rt, 0))), begun);
+}
+
+// While the power is off nothing happens, until it comes on.
+fn refuses_off(rt: &impl Abort, world: &mut World) {
+    begins(rt, world, Begun::Off);
+    applies(rt, world, Event::Step(1), Applied::Off);
+    applies(rt, world, Event::Evict(0), Applied::Off);
+    applies(rt, world, Event::Cut, Applied::Off);
+    applies(rt, world, Event::On, Applied::On);
+}
+
+// While it recovers only worker 0 steps.
+fn refuses_recovering(rt: &impl Abort, world: &mut World) {
+    applies(rt, world, Event::On, Applied::Powered);
+    begins(rt, world, Begun::Recovering);
+    applies(rt, world, Event::Step(1), Applied::Recovering);
+    applies(rt, world, Event::Evict(0), Applied::Evicted);
+}
+
 #[test]
 fn the_power_is_told_in_each_refusal(rt: HostRuntime) -> Result<(), Fail> {
-    let k = numbered(&rt, 0);
     let mut world = open(rt.alloc(), 4, 16, 2)?;
-    assert_eq!(rt; world.apply(Event::On), Applied::Powered);
-    assert_eq!(rt; world.begin(1, Call::Get(k)), Begun::Begun(1));
-    assert_eq!(rt; world.apply(Event::Cut), Applied::Cut);
-    assert_eq!(rt; world.begin(1, Call::Get(k)), Begun::Off);
-    assert_eq!(rt; world.apply(Event::Step(1)), Applied::Off);
-    assert_eq!(rt; world.apply(Event::Evict(0)), Applied::Off);
-    assert_eq!(rt; world.apply(Event::Cut), Applied::Off);
-    assert_eq!(rt; world.apply(Event::On), Applied::On);
-    assert_eq!(rt; world.apply(Event::On), Applied::Powered);
-    assert_eq!(rt; world.begin(1, Call::Get(k)), Begun::Recovering);
-    assert_eq!(rt; world.apply(Event::Step(1)), Applied::Recovering);
-    assert_eq!(rt; world.apply(Event::Evict(0)), Applied::Evicted);
+    applies(&rt, &mut world, Event::On, Applied::Powered);
+    begins(&rt, &mut world, Begun::Begun(1));
+    applies(&rt, &mut world, Event::Cut, Applied::Cut);
+    refuses_off(&rt, &mut world);
+    refuses_recovering(&rt, &mut world);
     assert!(rt; recover(&mut world, 4_000));
-    assert_eq!(rt; world.apply(Event::Step(1)), Applied::Idle);
-    assert_eq!(rt; world.begin(1, Call::Get(k)), Begun::Begun(2));
+    applies(&rt, &mut world, Event::Step(1), Applied::Idle);
+    begins(&rt, &mut world, Begun::Begun(2));
     Ok(())
 }

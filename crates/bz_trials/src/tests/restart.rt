@@ -37,11 +37,9 @@ fn first_page<'a>(rt: &impl Abort, world: &'a World) -> &'a [(Key, Payload)] {
     journal.page(0)
 }
 
-// Makes these calls of worker 1 whole.
-fn makes(rt: &impl Abort, world: &mut World, rows: &[(Call, Answer)]) {
-    for (call, answer) in rows {
-        assert_eq!(rt; whole(world, 1, *call), Some(*answer));
-    }
+// Makes a call of worker 1 whole, which is answered so.
+fn makes(rt: &impl Abort, world: &mut World, call: Call, answer: Answer) {
+    assert_eq!(rt; whole(world, 1, call), Some(answer));
 }
 
 // The first page has these pairs, and the reader explains it.
@@ -51,30 +49,37 @@ fn shows(rt: &impl Abort, alloc: Global, world: &World, pairs: &[(Key, Payload)]
     assert!(rt; reader.read_on(world).expect(rt, "room for the maps"));
 }
 
+// A world with one key, and so many acts of a page from it on. Whether the page has ended.
+fn stopped(rt: &impl Abort, alloc: Global, acts: u32) -> (World, bool) {
+    let (k, old) = (numbered(rt, 0), payload(rt, b"oo"));
+    let mut world = open(alloc, 16, 64, 2).expect(rt, "a world");
+    makes(rt, &mut world, Call::Insert(k, old), Answer::Inserted);
+    assert!(rt; begin(&mut world, 2, Call::Page(k)));
+    let (_, ended) = steps(&mut world, 2, acts);
+    (world, ended.is_some())
+}
+
+// The rest of a page that had loaded the status so often: where its second load found another one, it began again.
+fn goes_on(rt: &impl Abort, world: &mut World, loads: u32) {
+    steps(world, 2, 1_000);
+    assert_eq!(rt; status_loads(world), if loads == 1 { 4 } else { 2 });
+}
+
 // A page of which so many acts come before an insert and an update: whether these came between its two loads of the
 // status.
 fn beside(rt: &impl Abort, alloc: Global, acts: u32) -> bool {
     let (k, l) = (numbered(rt, 0), numbered(rt, 1));
     let (old, new) = (payload(rt, b"oo"), payload(rt, b"nn"));
-    let mut world = open(alloc, 16, 64, 2).expect(rt, "a world");
-    makes(rt, &mut world, &[(Call::Insert(k, old), Answer::Inserted)]);
-    assert!(rt; begin(&mut world, 2, Call::Page(k)));
-    let (_, ended) = steps(&mut world, 2, acts);
+    let (mut world, ended) = stopped(rt, alloc, acts);
     let loads = status_loads(&world);
-    makes(rt, &mut world, &[(Call::Insert(l, old), Answer::Inserted)]);
-    makes(
-        rt,
-        &mut world,
-        &[(Call::Update(k, new), Answer::Updated(old))],
-    );
-    if ended.is_some() {
+    makes(rt, &mut world, Call::Insert(l, old), Answer::Inserted);
+    makes(rt, &mut world, Call::Update(k, new), Answer::Updated(old));
+    if ended {
         shows(rt, alloc, &world, &[(k, old)]);
         return false;
     }
-    steps(&mut world, 2, 1_000);
+    goes_on(rt, &mut world, loads);
     shows(rt, alloc, &world, &[(k, new), (l, old)]);
-    // where its second load found another status, it began again
-    assert_eq!(rt; status_loads(&world), if loads == 1 { 4 } else { 2 });
     loads == 1
 }
 

@@ -1,6 +1,6 @@
 //! Calls that are ended by a worker alone, in worlds of 64 workers of which others have stopped in the middle of an insert.
 
-use super::bench::{Answer, answered, begin, numbered, payload, steps, whole};
+use super::bench::{Answer, answered, begin, has_pairs, marks, numbered, payload, steps, whole};
 use super::reader::Reader;
 use bz_call::Call;
 use bz_key::Key;
@@ -39,12 +39,16 @@ fn crowded(rt: &impl Abort, alloc: Global) -> World {
 
 // A worker's open call ends while it steps alone, within as many marks as the numbers of the world allow.
 fn ends_alone(rt: &impl Abort, world: &mut World, w: u8) {
-    let before = world.journal().length();
-    let workers = world.config().workers;
+    let before = marks(world);
     assert!(rt; matches!(world.solo(w), Applied::Ended(_)), "worker {w}");
-    let marks = world.journal().length().saturating_sub(before);
-    assert!(rt; marks <= MARKS_PER_CALL.saturating_mul(workers.saturating_add(2)));
+    let made = marks(world).saturating_sub(before);
+    assert!(rt; made <= most_alone(world));
     assert!(rt; world.open_call(w).is_none());
+}
+
+// How many marks the numbers of a world allow to a call that is ended alone.
+fn most_alone(world: &World) -> u32 {
+    MARKS_PER_CALL.saturating_mul(world.config().workers.saturating_add(2))
 }
 
 // A plain map explains each reply.
@@ -62,15 +66,15 @@ fn get_beside(rt: &impl Abort, alloc: Global, world: &mut World, acts: u32) -> b
     assert!(rt; begin(world, 2, Call::Get(k)));
     ends_alone(rt, world, 2);
     explained(rt, alloc, world);
-    let found = answered(world, 2, 1);
-    assert!(rt;
-        found == Some(Answer::Value(new)) || ended.is_none() && found == Some(Answer::Missing)
-    );
+    let found = answered(world, 2, 1) == Some(Answer::Value(new));
     if ended.is_none() {
+        assert!(rt; found || answered(world, 2, 1) == Some(Answer::Missing));
         ends_alone(rt, world, 1);
         explained(rt, alloc, world);
+    } else {
+        assert!(rt; found);
     }
-    found != Some(Answer::Missing)
+    found
 }
 
 // How many of so many gets found the key, one after each number of acts of the insert, in steps of so many.
@@ -123,7 +127,7 @@ fn each_of_sixty_four_workers_ends_alone(rt: HostRuntime) {
                 }
             }
             explained(&rt, rt.alloc(), &world);
-            assert_eq!(rt; world.pairs(), 1);
+            has_pairs(&rt, &world, 1);
         }
     }
 }

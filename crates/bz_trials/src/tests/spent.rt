@@ -1,16 +1,24 @@
 //! Nodes and swaps that run out.
 
-use super::bench::{Answer, begin, key, last_answer, numbered, open, payload, whole};
+use super::bench::{Answer, applies, begin, key, last_answer, numbered, open, payload, whole};
 use bz_call::Call;
 use bz_world::{Applied, Event, World};
 use std::process::Abort;
 use std::test::Fail;
 
-// Each call of worker 1 is answered so, one after the other.
-fn answers(rt: &impl Abort, world: &mut World, rows: &[(Call, Answer)]) {
-    for (call, answer) in rows {
-        assert_eq!(rt; whole(world, 1, *call), Some(*answer));
-    }
+// A call of worker 1 is answered so.
+fn answers(rt: &impl Abort, world: &mut World, call: Call, answer: Answer) {
+    assert_eq!(rt; whole(world, 1, call), Some(answer));
+}
+
+// So many descriptors are taken.
+fn has_taken(rt: &impl Abort, world: &World, taken: u32) {
+    assert_eq!(rt; world.taken(), taken);
+}
+
+// So many slots are left.
+fn has_left(rt: &impl Abort, world: &World, left: u32) {
+    assert_eq!(rt; world.left(), left);
 }
 
 #[test]
@@ -18,20 +26,17 @@ fn a_leaf_has_room_for_thirty_nine_small_records(rt: HostRuntime) -> Result<(), 
     let v = payload(&rt, b"v");
     let mut world = open(rt.alloc(), 1, 128, 1)?;
     for number in 1..40 {
-        let row = (Call::Insert(numbered(&rt, number), v), Answer::Inserted);
-        answers(&rt, &mut world, &[row]);
+        let insert = Call::Insert(numbered(&rt, number), v);
+        answers(&rt, &mut world, insert, Answer::Inserted);
     }
     let (first, past) = (numbered(&rt, 1), numbered(&rt, 40));
-    let rows = [
-        (Call::Insert(past, v), Answer::FullNodes),
-        (Call::Get(first), Answer::Value(v)),
-        (Call::Insert(first, v), Answer::Exists),
-        (Call::Update(first, v), Answer::FullNodes),
-        (Call::Upsert(past, v), Answer::FullNodes),
-        (Call::Delete(past), Answer::Missing),
-        (Call::Page(first), Answer::Page(0, false)),
-    ];
-    answers(&rt, &mut world, &rows);
+    answers(&rt, &mut world, Call::Insert(past, v), Answer::FullNodes);
+    answers(&rt, &mut world, Call::Get(first), Answer::Value(v));
+    answers(&rt, &mut world, Call::Insert(first, v), Answer::Exists);
+    answers(&rt, &mut world, Call::Update(first, v), Answer::FullNodes);
+    answers(&rt, &mut world, Call::Upsert(past, v), Answer::FullNodes);
+    answers(&rt, &mut world, Call::Delete(past), Answer::Missing);
+    answers(&rt, &mut world, Call::Page(first), Answer::Page(0, false));
     assert_eq!(rt; page_length(&world), 39);
     Ok(())
 }
@@ -40,18 +45,15 @@ fn a_leaf_has_room_for_thirty_nine_small_records(rt: HostRuntime) -> Result<(), 
 fn each_slot_takes_fifty_seven_updates_of_a_small_record(rt: HostRuntime) -> Result<(), Fail> {
     let (k, v) = (key(&rt, b"a"), payload(&rt, b"v"));
     let mut world = open(rt.alloc(), 4, 512, 1)?;
-    answers(&rt, &mut world, &[(Call::Insert(k, v), Answer::Inserted)]);
+    answers(&rt, &mut world, Call::Insert(k, v), Answer::Inserted);
     for _ in 0..228 {
-        answers(&rt, &mut world, &[(Call::Update(k, v), Answer::Updated(v))]);
+        answers(&rt, &mut world, Call::Update(k, v), Answer::Updated(v));
     }
-    let rows = [
-        (Call::Update(k, v), Answer::FullNodes),
-        (Call::Get(k), Answer::Value(v)),
-        (Call::Delete(k), Answer::FullNodes),
-        (Call::Page(k), Answer::Page(0, false)),
-    ];
-    answers(&rt, &mut world, &rows);
-    assert_eq!(rt; world.left(), 0);
+    answers(&rt, &mut world, Call::Update(k, v), Answer::FullNodes);
+    answers(&rt, &mut world, Call::Get(k), Answer::Value(v));
+    answers(&rt, &mut world, Call::Delete(k), Answer::FullNodes);
+    answers(&rt, &mut world, Call::Page(k), Answer::Page(0, false));
+    has_left(&rt, &world, 0);
     Ok(())
 }
 
@@ -60,20 +62,17 @@ fn two_descriptors_are_one_insert(rt: HostRuntime) -> Result<(), Fail> {
     let (a, b) = (key(&rt, b"a"), key(&rt, b"b"));
     let one = payload(&rt, b"1");
     let mut world = open(rt.alloc(), 16, 2, 1)?;
-    assert_eq!(rt; world.taken(), 0);
-    let rows = [
-        (Call::Insert(a, one), Answer::Inserted),
-        (Call::Insert(b, one), Answer::FullSwaps),
-        (Call::Insert(a, one), Answer::Exists),
-        (Call::Update(a, one), Answer::FullSwaps),
-        (Call::Delete(a), Answer::FullSwaps),
-        (Call::Get(a), Answer::Value(one)),
-    ];
-    answers(&rt, &mut world, &rows);
-    assert_eq!(rt; world.taken(), 2);
-    assert_eq!(rt; world.left(), 15);
-    assert_eq!(rt; world.apply(Event::Cut), Applied::Cut);
-    assert_eq!(rt; world.taken(), 0);
+    has_taken(&rt, &world, 0);
+    answers(&rt, &mut world, Call::Insert(a, one), Answer::Inserted);
+    answers(&rt, &mut world, Call::Insert(b, one), Answer::FullSwaps);
+    answers(&rt, &mut world, Call::Insert(a, one), Answer::Exists);
+    answers(&rt, &mut world, Call::Update(a, one), Answer::FullSwaps);
+    answers(&rt, &mut world, Call::Delete(a), Answer::FullSwaps);
+    answers(&rt, &mut world, Call::Get(a), Answer::Value(one));
+    has_taken(&rt, &world, 2);
+    has_left(&rt, &world, 15);
+    applies(&rt, &mut world, Event::Cut, Applied::Cut);
+    has_taken(&rt, &world, 0);
     Ok(())
 }
 
@@ -116,8 +115,8 @@ fn sixty_four_workers_use_up_the_swaps(rt: HostRuntime) -> Result<(), Fail> {
         assert!(rt; begin(&mut world, w, Call::Insert(numbered(&rt, w), v)));
     }
     let inserted = crowd(&rt, &mut world);
-    let page = (Call::Page(numbered(&rt, 0)), Answer::Page(0, false));
-    answers(&rt, &mut world, &[page]);
+    let page = Call::Page(numbered(&rt, 0));
+    answers(&rt, &mut world, page, Answer::Page(0, false));
     assert_eq!(rt; page_length(&world), inserted as usize);
     assert!(rt; inserted >= 1 && inserted <= 50, "{inserted}");
     Ok(())
