@@ -1,6 +1,6 @@
 //! Leaves below a parent that are split, and trees of two levels.
 
-use super::bench::{Answer, begin, key, open, payload, steps, whole};
+use super::bench::{Answer, begin, finish, key, open, payload, steps, whole};
 use super::pages::read_page;
 use bz_call::Call;
 use bz_key::Key;
@@ -105,10 +105,8 @@ fn keys_shuffled(rt: HostRuntime) {
     assert_eq!(rt; count_pairs(&rt, &mut world), 99);
 }
 
-// The right one of two leaves is full. Worker 1 stops after so many acts of an insert that splits it; worker 2 makes its own, into the
-// left half, the right half or the other leaf; and then worker 1 makes the rest.
-fn beside(rt: &impl Abort, alloc: Global, acts: u32, other: u32) {
-    let v = payload(rt, b"v");
+// Two leaves, of which the right one is full.
+fn right_full(rt: &impl Abort, alloc: Global) -> World {
     let mut world = open(alloc, 16, 256, 2).expect(rt, "a world");
     for number in 1..61 {
         if number != 10 && number != 30 {
@@ -116,16 +114,32 @@ fn beside(rt: &impl Abort, alloc: Global, acts: u32, other: u32) {
         }
     }
     inserts(rt, &mut world, 61);
-    assert!(rt; begin(&mut world, 1, Call::Insert(numbered(rt, 62), v)));
-    let mut ended = steps(&mut world, 1, acts).1;
-    assert!(rt; begin(&mut world, 2, Call::Insert(numbered(rt, other), v)));
-    let second = steps(&mut world, 2, MOST).1;
-    assert_eq!(rt; second, Some(Answer::Inserted), "{acts} {other}");
-    if ended.is_none() {
-        ended = steps(&mut world, 1, MOST).1;
-    }
-    assert_eq!(rt; ended, Some(Answer::Inserted), "{acts} {other}");
-    assert_eq!(rt; count_pairs(rt, &mut world), 61);
+    world
+}
+
+// A worker begins to insert the key with this number.
+fn begins(rt: &impl Abort, world: &mut World, w: u8, number: u32) {
+    let call = Call::Insert(numbered(rt, number), payload(rt, b"v"));
+    assert!(rt; begin(world, w, call));
+}
+
+// An insert has ended, and its key was new.
+fn is_inserted(rt: &impl Abort, ended: Option<Answer>, acts: u32) {
+    assert_eq!(rt; ended, Some(Answer::Inserted), "{acts}");
+}
+
+// The right one of two leaves is full. Worker 1 stops after so many acts of an insert that splits it; worker 2 makes its own, into the
+// left half, the right half or the other leaf; and then worker 1 makes the rest.
+fn beside(rt: &impl Abort, alloc: Global, acts: u32, other: u32) {
+    let mut world = right_full(rt, alloc);
+    begins(rt, &mut world, 1, 62);
+    let (_, first) = steps(&mut world, 1, acts);
+    begins(rt, &mut world, 2, other);
+    let (_, second) = steps(&mut world, 2, MOST);
+    is_inserted(rt, second, acts);
+    let first = finish(&mut world, 1, first, MOST);
+    is_inserted(rt, first, acts);
+    assert_eq!(rt; count_pairs(rt, &mut world), 61, "{other}");
 }
 
 #[test]
@@ -137,32 +151,33 @@ fn a_stopped_split_holds_nobody_up(rt: HostRuntime) {
     }
 }
 
+// Two full leaves below one parent.
+fn both_full(rt: &impl Abort, alloc: Global) -> World {
+    let mut world = open(alloc, 10, 400, 2).expect(rt, "a world");
+    for number in 1..41 {
+        inserts(rt, &mut world, 2 * number);
+    }
+    for number in 1..20 {
+        inserts(rt, &mut world, 2 * number + 1);
+        inserts(rt, &mut world, 2 * number + 41);
+    }
+    world
+}
+
 // Two full leaves below one parent, which are split at once: one of the swaps comes first, and the other call begins again. It has
 // waited and taken no slots for nothing: there are just enough for the first leaf and three splits.
 #[test]
 fn two_splits_below_one_parent(rt: HostRuntime) {
-    let v = payload(&rt, b"v");
-    let mut world = open(rt.alloc(), 10, 400, 2).expect(&rt, "a world");
-    for number in 1..41 {
-        inserts(&rt, &mut world, 2 * number);
-    }
-    for number in 1..20 {
-        inserts(&rt, &mut world, 2 * number + 1);
-        inserts(&rt, &mut world, 2 * number + 41);
-    }
-    assert!(rt; begin(&mut world, 1, Call::Insert(numbered(&rt, 1), v)));
-    assert!(rt; begin(&mut world, 2, Call::Insert(numbered(&rt, 90), v)));
+    let mut world = both_full(&rt, rt.alloc());
+    begins(&rt, &mut world, 1, 1);
+    begins(&rt, &mut world, 2, 90);
     let mut first = None;
     let mut second = None;
     for _ in 0..MOST {
-        if first.is_none() {
-            first = steps(&mut world, 1, 1).1;
-        }
-        if second.is_none() {
-            second = steps(&mut world, 2, 1).1;
-        }
+        first = finish(&mut world, 1, first, 1);
+        second = finish(&mut world, 2, second, 1);
     }
-    assert_eq!(rt; first, Some(Answer::Inserted));
-    assert_eq!(rt; second, Some(Answer::Inserted));
+    is_inserted(&rt, first, MOST);
+    is_inserted(&rt, second, MOST);
     assert_eq!(rt; count_pairs(&rt, &mut world), 80);
 }

@@ -127,6 +127,34 @@ pub(crate) fn whole(world: &mut World, w: u8, call: Call) -> Option<Answer> {
     answer
 }
 
+/// The rest of a call of a worker that may have ended, and what it answered.
+pub(crate) fn finish(world: &mut World, w: u8, ended: Option<Answer>, most: u32) -> Option<Answer> {
+    if ended.is_some() {
+        return ended;
+    }
+    steps(world, w, most).1
+}
+
+/// An event is answered so.
+pub(crate) fn applies(rt: &impl Abort, world: &mut World, event: Event, applied: Applied) {
+    assert_eq!(rt; world.apply(event), applied, "{event:?}");
+}
+
+/// What the power of a world is.
+pub(crate) fn has_power(rt: &impl Abort, world: &World, power: Power) {
+    assert_eq!(rt; world.power(), power);
+}
+
+/// How many pairs a world has.
+pub(crate) fn has_pairs(rt: &impl Abort, world: &World, pairs: u64) {
+    assert_eq!(rt; world.pairs(), pairs);
+}
+
+/// How many marks a journal has.
+pub(crate) fn marks(world: &World) -> u32 {
+    world.journal().length()
+}
+
 /// Each word becomes durable by itself.
 pub(crate) fn evict_all(world: &mut World) {
     for a in 0..world.config().words() {
@@ -136,10 +164,10 @@ pub(crate) fn evict_all(world: &mut World) {
 
 /// The power fails, and comes on again.
 pub(crate) fn restart(rt: &impl Abort, world: &mut World) {
-    assert_eq!(rt; world.apply(Event::Cut), Applied::Cut);
-    assert_eq!(rt; world.power(), Power::Off);
-    assert_eq!(rt; world.apply(Event::On), Applied::On);
-    assert_eq!(rt; world.power(), Power::Recovering);
+    applies(rt, world, Event::Cut, Applied::Cut);
+    has_power(rt, world, Power::Off);
+    applies(rt, world, Event::On, Applied::On);
+    has_power(rt, world, Power::Recovering);
 }
 
 /// At most so many steps of the recovery; whether it has ended.

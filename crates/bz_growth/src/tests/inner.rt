@@ -1,7 +1,7 @@
 //! Inner nodes that are split, and trees of three levels.
 
 use super::below::digit;
-use super::bench::{Answer, begin, key, payload, steps};
+use super::bench::{Answer, begin, finish, key, payload, steps};
 use super::decode::decode_root;
 use super::pages::read_page;
 use bz_call::Call;
@@ -100,6 +100,16 @@ fn long_keys_shuffled(rt: HostRuntime) {
     is_tall(&rt, &mut world);
 }
 
+// A world of two workers with rising keys up to this one.
+fn risen(rt: &impl Abort, alloc: Global, last: u32) -> World {
+    let mut world = open(rt, alloc, 2);
+    for number in 1..last {
+        inserts(rt, &mut world, 1, number);
+    }
+    inserts(rt, &mut world, 1, last);
+    world
+}
+
 // Rising keys up to this one; the insert of the next splits an inner node. Worker 1 stops after so many acts of it; worker 2 makes an
 // insert of its own; and then worker 1 makes the rest. The root is told before and after.
 fn beside(
@@ -109,18 +119,12 @@ fn beside(
     acts: u32,
     other: u32,
 ) -> [Option<(u32, u32)>; 2] {
-    let mut world = open(rt, alloc, 2);
-    for number in 1..last {
-        inserts(rt, &mut world, 1, number);
-    }
-    inserts(rt, &mut world, 1, last);
+    let mut world = risen(rt, alloc, last);
     let before = decode_root(&world);
     assert!(rt; begin(&mut world, 1, insert(rt, last.saturating_add(1))));
-    let mut ended = steps(&mut world, 1, acts).1;
+    let (_, ended) = steps(&mut world, 1, acts);
     inserts(rt, &mut world, 2, other);
-    if ended.is_none() {
-        ended = steps(&mut world, 1, MOST).1;
-    }
+    let ended = finish(&mut world, 1, ended, MOST);
     assert_eq!(rt; ended, Some(Answer::Inserted), "{acts} {other}");
     let first = if other == 0 { 0 } else { 1 };
     assert_eq!(rt;

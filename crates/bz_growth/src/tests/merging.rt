@@ -1,7 +1,9 @@
 //! Leaves with few live words, which are merged with a neighbour.
 
 use super::below::numbered;
-use super::bench::{Answer, begin, evict_all, open, payload, recover, restart, steps, whole};
+use super::bench::{
+    Answer, begin, evict_all, finish, has_pairs, open, payload, recover, restart, steps, whole,
+};
 use super::decode::decode_root;
 use super::pages::last_page;
 use bz_call::Call;
@@ -57,6 +59,15 @@ fn lengths(rt: &impl Abort, world: &mut World) -> [usize; 4] {
     lengths
 }
 
+// How many pairs the pages have together.
+fn count_pairs(rt: &impl Abort, world: &mut World) -> u64 {
+    let mut count = 0u64;
+    for length in &lengths(rt, world) {
+        count = count.saturating_add(*length as u64);
+    }
+    count
+}
+
 // Of three leaves of twenty keys, the last of which has so many more, these keys are deleted. How long the leaves are then.
 fn after(rt: &impl Abort, alloc: Global, last: u32, first: u32, end: u32) -> [usize; 4] {
     let mut world = grown(rt, alloc, 32, 400, last);
@@ -65,7 +76,7 @@ fn after(rt: &impl Abort, alloc: Global, last: u32, first: u32, end: u32) -> [us
     let count = children.iter().filter(|length| **length > 0).count() as u32;
     assert_eq!(rt; decode_root(&world), Some((1, count)));
     let gone = end.saturating_add(1).saturating_sub(first);
-    assert_eq!(rt; world.pairs(), u64::from(last.saturating_sub(gone)));
+    has_pairs(rt, &world, u64::from(last.saturating_sub(gone)));
     children
 }
 
@@ -147,17 +158,12 @@ fn beside(rt: &impl Abort, alloc: Global, acts: u32, call: Call) {
     let answer = answer_of(rt, &call);
     let mut world = ready(rt, alloc);
     assert!(rt; begin(&mut world, 1, delete(rt, 10)));
-    let (_, mut ended) = steps(&mut world, 1, acts);
+    let (_, ended) = steps(&mut world, 1, acts);
     assert_eq!(rt; whole(&mut world, 2, call), answer, "{acts}");
-    if ended.is_none() {
-        ended = steps(&mut world, 1, MOST).1;
-    }
+    let ended = finish(&mut world, 1, ended, MOST);
     assert_eq!(rt; ended, gone, "{acts}");
-    let mut count = 0usize;
-    for length in &lengths(rt, &mut world) {
-        count = count.saturating_add(*length);
-    }
-    assert_eq!(rt; world.pairs(), count as u64, "{acts}");
+    let count = count_pairs(rt, &mut world);
+    has_pairs(rt, &world, count);
 }
 
 // Another worker changes either leaf while it is stopped.
@@ -189,16 +195,19 @@ fn merge_at_once(rt: &impl Abort, alloc: Global, acts: u32) {
     let gone = Some(Answer::Deleted(payload(rt, b"v")));
     let mut world = three_small(rt, alloc);
     assert!(rt; begin(&mut world, 1, delete(rt, 1)));
-    let mut ended = steps(&mut world, 1, acts).1;
+    let (_, ended) = steps(&mut world, 1, acts);
     assert_eq!(rt; whole(&mut world, 2, delete(rt, 41)), gone, "{acts}");
-    if ended.is_none() {
-        ended = steps(&mut world, 1, MOST).1;
-    }
+    let ended = finish(&mut world, 1, ended, MOST);
     assert_eq!(rt; ended, gone, "{acts}");
-    let found = lengths(rt, &mut world);
+    is_one_merge(rt, &mut world, acts);
+}
+
+// The middle leaf is merged with one of the others.
+fn is_one_merge(rt: &impl Abort, world: &mut World, acts: u32) {
+    let found = lengths(rt, world);
     let right = found == [10, 21, 0, 0];
     assert!(rt; right || found == [21, 10, 0, 0], "{acts} {found:?}");
-    assert_eq!(rt; world.pairs(), 31, "{acts}");
+    has_pairs(rt, world, 31);
 }
 
 #[test]
@@ -218,18 +227,19 @@ fn cut_after(rt: &impl Abort, alloc: Global, acts: u32) -> bool {
     }
     restart(rt, &mut world);
     assert!(rt; recover(&mut world, MOST));
-    let mut count = 0u64;
-    for length in &lengths(rt, &mut world) {
-        count = count.saturating_add(*length as u64);
-    }
-    assert_eq!(rt; world.pairs(), count, "{acts}");
+    let count = count_pairs(rt, &mut world);
+    has_pairs(rt, &world, count);
     assert!(rt; count == 20 || !ended && count == 21, "{acts}");
-    // both leaves are merged, or may be still
-    whole(&mut world, 1, delete(rt, 10));
-    let gone = Some(Answer::Deleted(payload(rt, b"v")));
-    assert_eq!(rt; whole(&mut world, 1, delete(rt, 30)), gone, "{acts}");
-    assert_eq!(rt; decode_root(&world), Some((1, 1)), "{acts}");
+    merges_at_last(rt, &mut world, acts);
     ended
+}
+
+// Both leaves are merged, or may be still.
+fn merges_at_last(rt: &impl Abort, world: &mut World, acts: u32) {
+    whole(world, 1, delete(rt, 10));
+    let gone = Some(Answer::Deleted(payload(rt, b"v")));
+    assert_eq!(rt; whole(world, 1, delete(rt, 30)), gone, "{acts}");
+    assert_eq!(rt; decode_root(world), Some((1, 1)), "{acts}");
 }
 
 #[test]

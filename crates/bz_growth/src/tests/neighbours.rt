@@ -1,6 +1,6 @@
 //! Two neighbours below the root, both full, that are split at once.
 
-use super::bench::{Answer, begin, mark, steps};
+use super::bench::{Answer, begin, mark, marks, steps};
 use super::decode::{child_of, decode_root, resolve, root};
 use super::inner::{MOST, count_pairs, insert, inserts, open};
 use bz_mark::Mark;
@@ -33,7 +33,7 @@ fn widths(world: &World) -> Option<[u32; 2]> {
 
 /// What the last act has written becomes durable by itself.
 pub(super) fn evict_written(world: &mut World) {
-    let last = world.journal().length().saturating_sub(1);
+    let last = marks(world).saturating_sub(1);
     if let Some(Mark::Store { a, .. } | Mark::Cas { a, .. }) = mark(world, last) {
         world.apply(Event::Evict(a));
     }

@@ -1,7 +1,7 @@
 //! Calls of eight workers over trees whose nodes are split and merged, stopped anywhere: each that is open is then ended by its worker alone,
 //! one after the other.
 
-use super::bench::{begin, mark, payload};
+use super::bench::{begin, mark, marks, payload};
 use super::decode::{child_of, decode_root, resolve, root};
 use super::inner::{inserts, long};
 use super::levels::Effects;
@@ -69,12 +69,16 @@ fn act(rt: &impl Abort, world: &mut World, random: &mut Random, plan: Plan) {
 
 // A worker's open call ends while it steps alone, within as many marks as the numbers of the world allow.
 fn ends_alone(rt: &impl Abort, world: &mut World, w: u8) {
-    let before = world.journal().length();
-    let workers = world.config().workers;
+    let before = marks(world);
     assert!(rt; matches!(world.solo(w), Applied::Ended(_)), "worker {w}");
-    let marks = world.journal().length().saturating_sub(before);
-    assert!(rt; marks <= MARKS_PER_CALL.saturating_mul(workers.saturating_add(2)));
+    let made = marks(world).saturating_sub(before);
+    assert!(rt; made <= most_alone(world));
     assert!(rt; world.open_call(w).is_none());
+}
+
+// How many marks the numbers of a world allow to a call that is ended alone.
+fn most_alone(world: &World) -> u32 {
+    MARKS_PER_CALL.saturating_mul(world.config().workers.saturating_add(2))
 }
 
 // So do all that are open, from a random worker on. How many there were.

@@ -1,6 +1,6 @@
 //! A root leaf that is split, and a tree of two levels.
 
-use super::bench::{Answer, begin, numbered, open, payload, steps, whole};
+use super::bench::{Answer, begin, finish, numbered, open, payload, steps, whole};
 use super::decode::decode_keys;
 use super::pages::read_page;
 use bz_call::Call;
@@ -13,18 +13,16 @@ use std::test::Fail;
 // More acts than any of these calls makes.
 const MOST: u32 = 4_000;
 
-// Each call of worker 1 is answered so, one after the other.
-fn answers(rt: &impl Abort, world: &mut World, rows: &[(Call, Answer)]) {
-    for (call, answer) in rows {
-        assert_eq!(rt; whole(world, 1, *call), Some(*answer));
-    }
+// A call of worker 1 is answered so.
+fn answers(rt: &impl Abort, world: &mut World, call: Call, answer: Answer) {
+    assert_eq!(rt; whole(world, 1, call), Some(answer));
 }
 
 // Inserts the keys with these numbers, each of them new.
 fn inserts(rt: &impl Abort, world: &mut World, numbers: &[u8]) {
     for number in numbers {
         let call = Call::Insert(numbered(rt, *number), payload(rt, b"v"));
-        answers(rt, world, &[(call, Answer::Inserted)]);
+        answers(rt, world, call, Answer::Inserted);
     }
 }
 
@@ -59,7 +57,7 @@ fn rising() -> [u8; 41] {
 fn finds(rt: &impl Abort, world: &mut World, numbers: &[u8]) {
     for number in numbers {
         let call = Call::Get(numbered(rt, *number));
-        answers(rt, world, &[(call, Answer::Value(payload(rt, b"v")))]);
+        answers(rt, world, call, Answer::Value(payload(rt, b"v")));
     }
 }
 
@@ -91,13 +89,10 @@ fn lacks_nodes(rt: &impl Abort, alloc: Global, nodes: u32) {
     let mut world = open(alloc, nodes, 128, 1).expect(rt, "a world");
     inserts(rt, &mut world, rising().get(..39).unwrap_or(&[]));
     let (first, last) = (numbered(rt, 1), numbered(rt, 40));
-    let rows = [
-        (Call::Insert(last, v), Answer::FullNodes),
-        (Call::Insert(first, v), Answer::Exists),
-        (Call::Get(last), Answer::Missing),
-        (Call::Delete(first), Answer::FullNodes),
-    ];
-    answers(rt, &mut world, &rows);
+    answers(rt, &mut world, Call::Insert(last, v), Answer::FullNodes);
+    answers(rt, &mut world, Call::Insert(first, v), Answer::Exists);
+    answers(rt, &mut world, Call::Get(last), Answer::Missing);
+    answers(rt, &mut world, Call::Delete(first), Answer::FullNodes);
     holds_up_to(rt, &world, 39);
 }
 
@@ -112,7 +107,7 @@ fn a_split_takes_three_slots(rt: HostRuntime) {
 fn updates(rt: &impl Abort, world: &mut World, key: &Key) {
     for _ in 0..40 {
         let v = payload(rt, b"v");
-        answers(rt, world, &[(Call::Update(*key, v), Answer::Updated(v))]);
+        answers(rt, world, Call::Update(*key, v), Answer::Updated(v));
     }
 }
 
@@ -123,14 +118,16 @@ fn leaves_below_a_parent_change_and_are_copied(rt: HostRuntime) -> Result<(), Fa
     let mut world = open(rt.alloc(), 6, 400, 1)?;
     inserts(&rt, &mut world, rising().get(..40).unwrap_or(&[]));
     updates(&rt, &mut world, &first);
-    let rows = [
-        (Call::Update(first, two), Answer::Updated(v)),
-        (Call::Delete(first), Answer::Deleted(two)),
-        (Call::Get(first), Answer::Missing),
-        (Call::Insert(first, two), Answer::Inserted),
-        (Call::Get(first), Answer::Value(two)),
-    ];
-    answers(&rt, &mut world, &rows);
+    answers(
+        &rt,
+        &mut world,
+        Call::Update(first, two),
+        Answer::Updated(v),
+    );
+    answers(&rt, &mut world, Call::Delete(first), Answer::Deleted(two));
+    answers(&rt, &mut world, Call::Get(first), Answer::Missing);
+    answers(&rt, &mut world, Call::Insert(first, two), Answer::Inserted);
+    answers(&rt, &mut world, Call::Get(first), Answer::Value(two));
     holds_up_to(&rt, &world, 40);
     Ok(())
 }
@@ -139,25 +136,33 @@ fn leaves_below_a_parent_change_and_are_copied(rt: HostRuntime) -> Result<(), Fa
 fn fills(rt: &impl Abort, world: &mut World) {
     for number in rising().get(1..20).unwrap_or(&[]) {
         let call = Call::Insert(numbered(rt, *number), payload(rt, &[b'v'; 28]));
-        answers(rt, world, &[(call, Answer::Inserted)]);
+        answers(rt, world, call, Answer::Inserted);
     }
+}
+
+// A worker begins to insert the key with this number, with a record of six words.
+fn begins(rt: &impl Abort, world: &mut World, w: u8, number: u8) {
+    let call = Call::Insert(numbered(rt, number), payload(rt, &[b'v'; 28]));
+    assert!(rt; begin(world, w, call));
+}
+
+// An insert has ended, and its key was new.
+fn is_inserted(rt: &impl Abort, ended: Option<Answer>, acts: u32) {
+    assert_eq!(rt; ended, Some(Answer::Inserted), "{acts}");
 }
 
 // Over such a leaf worker 1 stops after so many acts of an insert that
 // splits it; worker 2 makes its own, and then worker 1 the rest.
 fn beside(rt: &impl Abort, alloc: Global, acts: u32, first: u8, second: u8) {
-    let long = payload(rt, &[b'v'; 28]);
     let mut world = open(alloc, 16, 256, 2).expect(rt, "a world");
     fills(rt, &mut world);
-    assert!(rt; begin(&mut world, 1, Call::Insert(numbered(rt, first), long)));
-    let mut ended = steps(&mut world, 1, acts).1;
-    assert!(rt; begin(&mut world, 2, Call::Insert(numbered(rt, second), long)));
-    let other = steps(&mut world, 2, MOST).1;
-    assert_eq!(rt; other, Some(Answer::Inserted), "{acts}");
-    if ended.is_none() {
-        ended = steps(&mut world, 1, MOST).1;
-    }
-    assert_eq!(rt; ended, Some(Answer::Inserted), "{acts}");
+    begins(rt, &mut world, 1, first);
+    let (_, ended) = steps(&mut world, 1, acts);
+    begins(rt, &mut world, 2, second);
+    let (_, other) = steps(&mut world, 2, MOST);
+    is_inserted(rt, other, acts);
+    let ended = finish(&mut world, 1, ended, MOST);
+    is_inserted(rt, ended, acts);
     holds_up_to(rt, &world, 21);
 }
 

@@ -8,7 +8,7 @@
 ghost use Rattle.std.specs.Prelude.{◌≡◌, length};
 ghost use Rattle.bz_layout.specs.Addresses.{words_of};
 
-use super::bench::{Answer, begin, key, payload, steps};
+use super::bench::{Answer, applies, begin, has_pairs, key, payload, steps};
 use bz_call::Call;
 use bz_layout::{Config, MAX_LEVELS, NODE_WORDS, SPLIT_SLOTS};
 use bz_world::{Applied, Event, World};
@@ -224,7 +224,7 @@ fn tall(rt: &impl Abort, alloc: Global, nodes: u32, top: u32) -> World {
     let mut words = bz_layout::fresh(alloc, &config).expect(rt, "the words");
     put_tree(&mut words, &config, top);
     let mut world = World::boot(alloc, &config, &words).expect(rt, "a world");
-    assert_eq!(rt; world.apply(Event::On), Applied::On);
+    applies(rt, &mut world, Event::On, Applied::On);
     while_recovering(rt, &mut world);
     world
 }
@@ -242,16 +242,25 @@ fn while_recovering(rt: &impl Abort, world: &mut World) {
     }
 }
 
+// An insert into the full leaf is answered so, within so many acts.
+fn inserts(rt: &impl Abort, world: &mut World, most: u32, answer: Answer) {
+    let insert = Call::Insert(key(rt, b"a40"), payload(rt, b"v"));
+    assert!(rt; begin(world, 1, insert));
+    assert_eq!(rt; steps(world, 1, most).1, Some(answer));
+}
+
+// How many descriptors are taken, and how many slots are left.
+fn supply(world: &World) -> (u32, u32) {
+    (world.taken(), world.left())
+}
+
 #[test]
 fn a_tree_of_the_greatest_height_takes_no_more_leaves(rt: HostRuntime) {
     // also where no slot is left
     for nodes in [2_048, 1_266] {
         let mut world = tall(&rt, rt.alloc(), nodes, MAX_LEVELS - 1);
-        assert_eq!(rt; world.pairs(), 39);
-        let insert = Call::Insert(key(&rt, b"a40"), payload(&rt, b"v"));
-        assert!(rt; begin(&mut world, 1, insert));
-        let (_, answer) = steps(&mut world, 1, 40_000);
-        assert_eq!(rt; answer, Some(Answer::FullHeight));
+        has_pairs(&rt, &world, 39);
+        inserts(&rt, &mut world, 40_000, Answer::FullHeight);
     }
 }
 
@@ -261,16 +270,14 @@ const WORST: u32 = 12_490;
 #[test]
 fn the_worst_insert_alone_takes_no_more_than_its_numbers(rt: HostRuntime) {
     let mut world = tall(&rt, rt.alloc(), 2_048, MAX_LEVELS - 2);
-    let (taken, left) = (world.taken(), world.left());
-    let insert = Call::Insert(key(&rt, b"a40"), payload(&rt, b"v"));
-    assert!(rt; begin(&mut world, 1, insert));
-    let (_, answer) = steps(&mut world, 1, WORST);
-    assert_eq!(rt; answer, Some(Answer::Inserted));
+    let (taken, left) = supply(&world);
+    inserts(&rt, &mut world, WORST, Answer::Inserted);
     // the leaf is frozen, it and each node above it are split, and the record is put there by two swaps
-    assert_eq!(rt; world.taken(), taken.saturating_add(MAX_LEVELS - 1 + 3));
+    let (now_taken, now_left) = supply(&world);
+    assert_eq!(rt; now_taken, taken.saturating_add(MAX_LEVELS - 1 + 3));
     assert_eq!(rt;
         left,
-        world.left().saturating_add(SPLIT_SLOTS * (MAX_LEVELS - 1))
+        now_left.saturating_add(SPLIT_SLOTS * (MAX_LEVELS - 1))
     );
-    assert_eq!(rt; world.pairs(), 40);
+    has_pairs(&rt, &world, 40);
 }
