@@ -3,7 +3,7 @@ use super::{
     FetchFault, Image, ImageFault, fetch_image, image_bytes, read_front, read_head, read_image,
     write_image,
 };
-use bz_io::{FailSink, FailSource, Failed, MemSink, MemSource};
+use bz_io::{FailSink, FailSource, Failed, MemSink, MemSource, Sink};
 use bz_layout::Config;
 use bz_world::World;
 use std::alloc::Global;
@@ -67,18 +67,43 @@ fn fault_of<T: Drop, E>(answer: Result<T, E>) -> Option<E> {
     }
 }
 
+// The calls under test, of which the tests know only what they answer.
+fn written<K: Sink>(world: &World, sink: &mut K) -> Result<(), Failed> {
+    write_image(world, sink)
+}
+
+fn read(alloc: Global, bytes: &[u8]) -> Result<Image, ImageFault> {
+    read_image(alloc, bytes)
+}
+
+// What is said of bytes: of their head alone, of their front, and of all of them.
+fn told_of(alloc: Global, bytes: &[u8]) -> [Option<ImageFault>; 3] {
+    let head = fault_of(read_head(bytes));
+    let front = fault_of(read_front(alloc, bytes));
+    [head, front, fault_of(read(alloc, bytes))]
+}
+
+// An image has these words.
+fn has_words(rt: &impl Abort, image: &Image, words: &[u64; COUNT]) {
+    assert_eq!(rt; image.words.words(), words.as_slice());
+}
+
 #[test]
-fn the_smallest_file_is_written_and_read(rt: HostRuntime) -> Result<(), Fail> {
-    let file = smallest();
+fn each_image_has_its_length(rt: HostRuntime) {
     assert_eq!(rt; image_bytes(1, 1), SIZE);
     assert_eq!(rt; image_bytes(16, 64), 24_724);
     assert_eq!(rt; image_bytes(16_384, 65_536), 25_165_972);
+}
+
+#[test]
+fn the_smallest_file_is_written_and_read(rt: HostRuntime) -> Result<(), Fail> {
+    let file = smallest();
     let mut sink = MemSink::open(rt.alloc(), SIZE)?;
-    assert_eq!(rt; write_image(&world(&rt, rt.alloc()), &mut sink), Ok(()));
+    assert_eq!(rt; written(&world(&rt, rt.alloc()), &mut sink), Ok(()));
     assert_eq!(rt; sink.bytes(), file.as_slice());
-    let image: Image = read_image(rt.alloc(), &file)?;
+    let image = read(rt.alloc(), &file)?;
     assert_eq!(rt; (image.nodes, image.swaps), (1, 1));
-    assert_eq!(rt; image.words.words(), fresh().as_slice());
+    has_words(&rt, &image, &fresh());
     Ok(())
 }
 
@@ -87,9 +112,22 @@ fn each_byte_of_a_word_has_its_place(rt: HostRuntime) -> Result<(), Fail> {
     let file = with_word_seven([8, 7, 6, 5, 4, 3, 2, 0xF1]);
     let mut words = fresh();
     words[7] = 0xF102_0304_0506_0708;
-    let image = read_image(rt.alloc(), &file)?;
-    assert_eq!(rt; image.words.words(), words.as_slice());
+    has_words(&rt, &read(rt.alloc(), &file)?, &words);
     Ok(())
+}
+
+// What is said of the smallest file cut off at this length, or with a byte more.
+fn wanted_of(length: usize) -> [Option<ImageFault>; 3] {
+    let short = Some(ImageFault::Short);
+    if length < 20 {
+        [short; 3]
+    } else if length < SIZE {
+        [None, short, short]
+    } else if length == SIZE {
+        [None; 3]
+    } else {
+        [None, None, Some(ImageFault::Long)]
+    }
 }
 
 #[test]
@@ -98,24 +136,7 @@ fn each_length_has_its_answer(rt: HostRuntime) {
     file[..SIZE].copy_from_slice(&smallest());
     for length in 0..SIZE + 2 {
         let bytes = &file[..length.min(SIZE + 1)];
-        let head = if length < 20 {
-            Some(ImageFault::Short)
-        } else {
-            None
-        };
-        let front = if length < SIZE {
-            Some(ImageFault::Short)
-        } else {
-            None
-        };
-        let whole = if length > SIZE {
-            Some(ImageFault::Long)
-        } else {
-            front
-        };
-        assert_eq!(rt; fault_of(read_head(bytes)), head, "{length}");
-        assert_eq!(rt; fault_of(read_front(rt.alloc(), bytes)), front, "{length}");
-        assert_eq!(rt; fault_of(read_image(rt.alloc(), bytes)), whole, "{length}");
+        assert_eq!(rt; told_of(rt.alloc(), bytes), wanted_of(length), "{length}");
     }
 }
 
@@ -125,7 +146,7 @@ fn the_front_has_its_length(rt: HostRuntime) -> Result<(), Fail> {
     file[..SIZE].copy_from_slice(&smallest());
     let (image, length) = read_front(rt.alloc(), &file)?;
     assert_eq!(rt; length, SIZE);
-    assert_eq!(rt; image.words.words(), fresh().as_slice());
+    has_words(&rt, &image, &fresh());
     Ok(())
 }
 
@@ -146,30 +167,46 @@ fn turned(place: usize, lowest: bool) -> Option<ImageFault> {
     }
 }
 
-#[test]
-fn each_byte_that_is_changed_is_told(rt: HostRuntime) -> Result<(), Fail> {
-    for lowest in [true, false] {
-        let mask = if lowest { 1u8 } else { 128 };
-        for place in 0..SIZE {
-            let mut file = smallest();
-            file[place] ^= mask;
-            let answer = read_image(rt.alloc(), &file);
-            let want = turned(place, lowest);
-            match answer {
-                Ok(image) => {
-                    let mut words = fresh();
-                    if place >= 20 {
-                        let byte = place - 20;
-                        words[byte / 8] ^= u64::from(mask) << (8 * (byte % 8));
-                    }
-                    assert_eq!(rt; None, want, "{place}");
-                    assert_eq!(rt; image.words.words(), words.as_slice(), "{place}");
-                }
-                Err(fault) => assert_eq!(rt; Some(fault), want, "{place}"),
-            }
+// The smallest file with a bit of byte `place` turned, and its words.
+fn file_with(place: usize, mask: u8) -> [u8; SIZE] {
+    let mut file = smallest();
+    if let Some(byte) = file.get_mut(place) {
+        *byte ^= mask;
+    }
+    file
+}
+
+fn words_with(place: usize, mask: u8) -> [u64; COUNT] {
+    let mut words = fresh();
+    if place >= 20 {
+        let byte = place - 20;
+        if let Some(word) = words.get_mut(byte / 8) {
+            *word ^= u64::from(mask) << (8 * (byte % 8));
         }
     }
-    Ok(())
+    words
+}
+
+// A file with such a bit turned is told so, or read.
+fn is_told(rt: &impl Abort, alloc: Global, place: usize, lowest: bool) {
+    let mask = if lowest { 1u8 } else { 128 };
+    let want = turned(place, lowest);
+    match read(alloc, &file_with(place, mask)) {
+        Ok(image) => {
+            assert_eq!(rt; None, want, "{place}");
+            has_words(rt, &image, &words_with(place, mask));
+        }
+        Err(fault) => assert_eq!(rt; Some(fault), want, "{place}"),
+    }
+}
+
+#[test]
+fn each_byte_that_is_changed_is_told(rt: HostRuntime) {
+    for lowest in [true, false] {
+        for place in 0..SIZE {
+            is_told(&rt, rt.alloc(), place, lowest);
+        }
+    }
 }
 
 #[test]
@@ -189,41 +226,47 @@ fn the_first_fault_is_told(rt: HostRuntime) {
     ] {
         let end = end.min(20);
         file[..end].copy_from_slice(&right[..end]);
-        let bytes = &file[..length.min(SIZE)];
-        assert_eq!(rt;
-            fault_of(read_image(rt.alloc(), bytes)),
-            Some(want),
-            "{end}"
-        );
-        assert_eq!(rt;
-            fault_of(read_front(rt.alloc(), bytes)),
-            Some(want),
-            "{end}"
-        );
+        let [_, front, whole] = told_of(rt.alloc(), &file[..length.min(SIZE)]);
+        assert_eq!(rt; (front, whole), (Some(want), Some(want)), "{end}");
     }
+}
+
+// What a sink has taken of a file that fails at this call: the head takes one call, and 64 bytes of the words one each.
+fn taken_before(file: &[u8], call: u64) -> &[u8] {
+    let length = match call {
+        1 => 0,
+        2..22 => (20 + 64 * (call - 2)) as usize,
+        _ => file.len(),
+    };
+    &file[..length.min(file.len())]
+}
+
+// A sink that fails at this call has what came before.
+fn fails_at(rt: &impl Abort, alloc: Global, world: &World, call: u64) -> Result<(), Fail> {
+    let want = if call == 22 { Ok(()) } else { Err(Failed) };
+    let mut sink = FailSink::open(alloc, SIZE, 64, &[call])?;
+    assert_eq!(rt; written(world, &mut sink), want, "{call}");
+    assert_eq!(rt; sink.bytes(), taken_before(&smallest(), call), "{call}");
+    Ok(())
+}
+
+// A sink that has too little room is full.
+fn lacks_room(rt: &impl Abort, alloc: Global, world: &World, room: usize) -> Result<(), Fail> {
+    let file = smallest();
+    let mut sink = MemSink::open(alloc, room)?;
+    assert_eq!(rt; written(world, &mut sink), Err(Failed), "{room}");
+    assert_eq!(rt; sink.bytes(), &file[..room.min(SIZE)], "{room}");
+    Ok(())
 }
 
 #[test]
 fn a_sink_that_fails_has_a_front_part(rt: HostRuntime) -> Result<(), Fail> {
-    let file = smallest();
     let world = world(&rt, rt.alloc());
-    // the head takes one call, and 64 bytes of the words one each
     for call in 1..23u64 {
-        let mut sink = FailSink::open(rt.alloc(), SIZE, 64, &[call])?;
-        let answer = write_image(&world, &mut sink);
-        let whole = call == 22;
-        let length = match call {
-            1 => 0,
-            22 => SIZE,
-            _ => (20 + 64 * (call - 2)) as usize,
-        };
-        assert_eq!(rt; answer, if whole { Ok(()) } else { Err(Failed) }, "{call}");
-        assert_eq!(rt; sink.bytes(), &file[..length.min(SIZE)], "{call}");
+        fails_at(&rt, rt.alloc(), &world, call)?;
     }
     for room in 0..SIZE {
-        let mut sink = MemSink::open(rt.alloc(), room)?;
-        assert_eq!(rt; write_image(&world, &mut sink), Err(Failed), "{room}");
-        assert_eq!(rt; sink.bytes(), &file[..room], "{room}");
+        lacks_room(&rt, rt.alloc(), &world, room)?;
     }
     Ok(())
 }
@@ -237,7 +280,7 @@ fn a_source_that_fails_gives_no_image(rt: HostRuntime) -> Result<(), Fail> {
         match fetch_image(rt.alloc(), &mut source) {
             Ok(image) => {
                 assert!(rt; call == 22, "{call}");
-                assert_eq!(rt; image.words.words(), fresh().as_slice());
+                has_words(&rt, &image, &fresh());
             }
             Err(fault) => assert!(rt; call < 22 && fault == FetchFault::Read, "{call}"),
         }
