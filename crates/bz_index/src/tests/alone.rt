@@ -1,6 +1,6 @@
 //! An index on one thread, from its opening to its close.
 ghost use Rattle.std.specs.Prelude.{◌≡◌, ◌<◌};
-ghost use Rattle.bz_index.specs.Passes.{worker_of, IsPassOf};
+ghost use Rattle.bz_index.specs.Passes.{worker_of, IsEventOfFirst, IsPassOf};
 
 use super::bench::{Said, close, join_back, key, open, payload, recover, short, split_off};
 use crate::{Gate, Index, IndexPass, NoGate};
@@ -9,6 +9,7 @@ use bz_key::PageBuf;
 use bz_layout::Config;
 use bz_mark::Mark;
 use bz_world::{Applied, Event, World};
+use std::process::Abort;
 use std::sync::Wait;
 use std::sync::atomic::{AtomicU32, Ordering};
 use std::test::*;
@@ -22,19 +23,35 @@ const TWO_WORKERS: Config = Config {
     pages: 2,
 };
 
-// What the pass's worker is answered to a call.
-fn answer_to<R: Wait>(
+// A call of the pass's worker is answered so.
+fn answers<R: Abort + Wait>(
     rt: &R,
     index: &Index,
     pass: &mut IndexPass,
     page: &mut PageBuf,
     call: Call,
-) -> Said
+    said: Said,
+)
     requires { IsPassOf index.now pass.old × (0 < worker_of pass.old) }
     ensures { IsPassOf index.now pass.new × (worker_of pass.new ≡ worker_of pass.old) }
 {
     let answer = index.call(rt, pass, call, page, &NoGate);
-    short(&answer)
+    assert_eq!(rt; short(&answer), said);
+}
+
+// An event is answered so.
+fn applies<R: Abort + Wait>(
+    rt: &R,
+    index: &Index,
+    first: &mut IndexPass,
+    event: Event,
+    applied: Applied,
+)
+    requires pass { IsPassOf index.now first.old × (worker_of first.old ≡ 0) }
+    requires event { IsEventOfFirst event }
+    ensures { IsPassOf index.now first.new × (worker_of first.new ≡ 0) }
+{
+    assert_eq!(rt; index.apply(rt, first, event), applied);
 }
 
 // How many marks of a world are Begins, and how many Ends.
@@ -59,16 +76,27 @@ fn calls_of_two_workers_are_answered_by_one_map(rt: HostRuntime) -> Result<(), F
     let (x, y) = (payload(&rt, b"x"), payload(&rt, b"y"));
     let mut one = split_off(&rt, &index, &mut first, 1);
     let mut two = split_off(&rt, &index, &mut first, 2);
-    let answer = answer_to(&rt, &index, &mut one, &mut page, Call::Insert(a, x));
-    assert_eq!(rt; answer, Said::Inserted);
-    let answer = answer_to(&rt, &index, &mut two, &mut page, Call::Insert(a, y));
-    assert_eq!(rt; answer, Said::Exists);
-    let answer = answer_to(&rt, &index, &mut two, &mut page, Call::Insert(b, y));
-    assert_eq!(rt; answer, Said::Inserted);
-    let answer = answer_to(&rt, &index, &mut one, &mut page, Call::Get(b));
-    assert_eq!(rt; answer, Said::Value(y));
-    let answer = answer_to(&rt, &index, &mut one, &mut page, Call::Page(a));
-    assert_eq!(rt; answer, Said::Page(0));
+    let (insert, other) = (Call::Insert(a, x), Call::Insert(b, y));
+    answers(&rt, &index, &mut one, &mut page, insert, Said::Inserted);
+    let again = Call::Insert(a, y);
+    answers(&rt, &index, &mut two, &mut page, again, Said::Exists);
+    answers(&rt, &index, &mut two, &mut page, other, Said::Inserted);
+    answers(
+        &rt,
+        &index,
+        &mut one,
+        &mut page,
+        Call::Get(b),
+        Said::Value(y),
+    );
+    answers(
+        &rt,
+        &index,
+        &mut one,
+        &mut page,
+        Call::Page(a),
+        Said::Page(0),
+    );
     assert_eq!(rt; page.pairs(), &[(a, x), (b, y)][..]);
     join_back(&rt, &index, &mut first, two);
     join_back(&rt, &index, &mut first, one);
@@ -85,17 +113,28 @@ fn a_call_is_answered_off_after_a_cut_and_again_after_a_recovery(
     let mut page = PageBuf::open(rt.alloc())?;
     let (a, x) = (key(&rt, b"a"), payload(&rt, b"x"));
     let mut one = split_off(&rt, &index, &mut first, 1);
-    let answer = answer_to(&rt, &index, &mut one, &mut page, Call::Insert(a, x));
-    assert_eq!(rt; answer, Said::Inserted);
-    assert_eq!(rt; index.apply(&rt, &mut first, Event::Cut), Applied::Cut);
-    let answer = answer_to(&rt, &index, &mut one, &mut page, Call::Get(a));
-    assert_eq!(rt; answer, Said::Off);
-    assert_eq!(rt; index.apply(&rt, &mut first, Event::On), Applied::On);
-    let answer = answer_to(&rt, &index, &mut one, &mut page, Call::Get(a));
-    assert_eq!(rt; answer, Said::Recovering);
+    let insert = Call::Insert(a, x);
+    answers(&rt, &index, &mut one, &mut page, insert, Said::Inserted);
+    applies(&rt, &index, &mut first, Event::Cut, Applied::Cut);
+    answers(&rt, &index, &mut one, &mut page, Call::Get(a), Said::Off);
+    applies(&rt, &index, &mut first, Event::On, Applied::On);
+    answers(
+        &rt,
+        &index,
+        &mut one,
+        &mut page,
+        Call::Get(a),
+        Said::Recovering,
+    );
     recover(&rt, &index, &mut first);
-    let answer = answer_to(&rt, &index, &mut one, &mut page, Call::Get(a));
-    assert_eq!(rt; answer, Said::Value(x));
+    answers(
+        &rt,
+        &index,
+        &mut one,
+        &mut page,
+        Call::Get(a),
+        Said::Value(x),
+    );
     join_back(&rt, &index, &mut first, one);
     let world = close(&rt, index, first);
     assert_eq!(rt; calls_of(&world), (2, 2));
