@@ -1,5 +1,5 @@
 //! A source and a sink that fail at each of their calls, over forty keys rising.
-use crate::{NoGate, top};
+use super::bench::status;
 use bz_io::{FailSink, FailSource, MemSink, MemSource};
 use std::alloc::Global;
 use std::process::Abort;
@@ -32,10 +32,19 @@ fn expect_read_fault<R: Threads + Wait + Abort + Sync>(
 ) -> Result<(), Fail> {
     let mut source = FailSource::of(alloc, input, PIECE, &[call])?;
     let mut sink = MemSink::open(alloc, 100)?;
-    let outcome = top(rt, alloc, &["run"], &mut source, &mut sink, &NoGate);
-    assert_eq!(rt; outcome.status, 1, "{call}");
+    let got = status(rt, alloc, &["run"], &mut source, &mut sink);
+    assert_eq!(rt; got, 1, "{call}");
     assert_eq!(rt; sink.bytes(), b"fault: read\n".as_slice(), "{call}");
     Ok(())
+}
+
+// What a sink has taken of an output that fails at this call.
+fn taken_before(output: &[u8], call: u64) -> &[u8] {
+    let taken = match call {
+        1..20 => (64 * (call - 1)) as usize,
+        _ => output.len(),
+    };
+    &output[..taken.min(output.len())]
 }
 
 // The sink fails at this call, and has what it took before.
@@ -48,13 +57,9 @@ fn expect_write_fault<R: Threads + Wait + Abort + Sync>(
 ) -> Result<(), Fail> {
     let mut source = MemSource::of(alloc, input)?;
     let mut sink = FailSink::open(alloc, 4_096, PIECE, &[call])?;
-    let outcome = top(rt, alloc, &["run"], &mut source, &mut sink, &NoGate);
-    let taken = match call {
-        1..20 => (64 * (call - 1)) as usize,
-        _ => output.len(),
-    };
-    assert_eq!(rt; outcome.status, 4, "{call}");
-    assert_eq!(rt; sink.bytes(), &output[..taken.min(output.len())], "{call}");
+    let got = status(rt, alloc, &["run"], &mut source, &mut sink);
+    assert_eq!(rt; got, 4, "{call}");
+    assert_eq!(rt; sink.bytes(), taken_before(output, call), "{call}");
     Ok(())
 }
 

@@ -1,4 +1,5 @@
 //! `dump` and `load`: the smallest image byte for byte, and every refusal.
+use super::bench::{expect_run, status};
 use crate::{NoGate, top};
 use bz_image::write_image;
 use bz_io::{FailSink, FailSource, MemSink, MemSource};
@@ -31,23 +32,6 @@ const ASKING: &[u8] = b"memory 1 1\nw 1 get a\nrun alone\n";
 
 /// What it prints over an image without pairs.
 const ASKED: &str = "power on 0 pairs\nw1.1 get a = missing\n";
-
-// A run on these words and an input prints an output and ends with a status.
-fn expect_run<R: Threads + Wait + Abort + Sync>(
-    rt: &R,
-    alloc: Global,
-    words: &[&str],
-    input: &[u8],
-    output: &[u8],
-    want: u8,
-) -> Result<(), Fail> {
-    let mut source = MemSource::of(alloc, input)?;
-    let mut sink = MemSink::open(alloc, 65536)?;
-    let outcome = top(rt, alloc, words, &mut source, &mut sink, &NoGate);
-    assert_eq!(rt; outcome.status, want);
-    assert_eq!(rt; sink.bytes(), output);
-    Ok(())
-}
 
 // `load` of an image and then a script.
 fn expect_load<R: Threads + Wait + Abort + Sync>(
@@ -167,14 +151,18 @@ fn failing_load<R: Threads + Wait + Abort + Sync>(
     input.extend_from_slice(ASKING)?;
     let mut source = FailSource::of(alloc, &input, 64, &[call])?;
     let mut sink = MemSink::open(alloc, 100)?;
-    let outcome = top(rt, alloc, &["load"], &mut source, &mut sink, &NoGate);
-    let want: &[u8] = if outcome.status == 0 {
+    let got = status(rt, alloc, &["load"], &mut source, &mut sink);
+    assert_eq!(rt; sink.bytes(), loaded_with(got));
+    Ok(got)
+}
+
+// What `load` of the smallest image prints that ends with this status.
+fn loaded_with(status: u8) -> &'static [u8] {
+    if status == 0 {
         ASKED.as_bytes()
     } else {
         b"fault: read\n"
-    };
-    assert_eq!(rt; sink.bytes(), want);
-    Ok(outcome.status)
+    }
 }
 
 // The status of `dump` of the smallest memory, where the sink takes 64 bytes a call and fails at this one.
@@ -185,14 +173,20 @@ fn failing_dump<R: Threads + Wait + Abort + Sync>(
 ) -> Result<u8, Fail> {
     let mut source = MemSource::of(alloc, b"memory 1 1\n")?;
     let mut sink = FailSink::open(alloc, SIZE, 64, &[call])?;
-    let outcome = top(rt, alloc, &["dump"], &mut source, &mut sink, &NoGate);
-    let length = match call {
+    let got = status(rt, alloc, &["dump"], &mut source, &mut sink);
+    let file = smallest();
+    assert_eq!(rt; sink.bytes(), taken_before(&file, call));
+    Ok(got)
+}
+
+// What a sink has taken of an image that fails at this call.
+fn taken_before(file: &[u8], call: u64) -> &[u8] {
+    let taken = match call {
         1 => 0,
         2..22 => (20 + 64 * (call - 2)) as usize,
-        _ => SIZE,
+        _ => file.len(),
     };
-    assert_eq!(rt; sink.bytes(), &smallest()[..length.min(SIZE)]);
-    Ok(outcome.status)
+    &file[..taken.min(file.len())]
 }
 
 #[test]
@@ -233,6 +227,19 @@ fn recovered<R: Threads + Wait + Abort + Sync>(
     left_by(alloc, outcome.lab)
 }
 
+// The image that `dump` of a script writes.
+fn dumped<R: Threads + Wait + Abort + Sync>(
+    rt: &R,
+    alloc: Global,
+    script: &str,
+) -> Result<Vec<u8>, Fail> {
+    let mut source = MemSource::of(alloc, script.as_bytes())?;
+    let mut sink = MemSink::open(alloc, 24_724)?;
+    let got = status(rt, alloc, &["dump"], &mut source, &mut sink);
+    assert_eq!(rt; got, 0);
+    Ok(Vec::from_slice(alloc, sink.bytes())?)
+}
+
 #[test]
 fn what_has_recovered_loads_as_it_is(rt: HostRuntime) -> Result<(), Fail> {
     // worker 1 is stopped after each number of acts of its second insert
@@ -241,11 +248,8 @@ fn what_has_recovered_loads_as_it_is(rt: HostRuntime) -> Result<(), Fail> {
             "memory 16 64\nw 1 insert a 1\nrun alone\nw 1 insert b 2\nrun list 1*{}\n",
             acts + 1
         )?;
-        let mut source = MemSource::of(rt.alloc(), script.as_bytes())?;
-        let mut sink = MemSink::open(rt.alloc(), 24_724)?;
-        let outcome = top(&rt, rt.alloc(), &["dump"], &mut source, &mut sink, &NoGate);
-        assert_eq!(rt; outcome.status, 0);
-        let once = recovered(&rt, rt.alloc(), sink.bytes())?;
+        let image = dumped(&rt, rt.alloc(), &script)?;
+        let once = recovered(&rt, rt.alloc(), &image)?;
         let twice = recovered(&rt, rt.alloc(), &once)?;
         assert_eq!(rt; once.as_slice(), twice.as_slice(), "{acts}");
     }

@@ -12,6 +12,8 @@ pub use bz_threads::{Gate, NoGate};
 pub use program::{Outcome, top};
 
 #[cfg(test)]
+mod bench;
+#[cfg(test)]
 mod failing_tests;
 #[cfg(test)]
 mod image_tests;

@@ -1,5 +1,5 @@
 //! Scripts that cut the power, and turn it on again.
-use crate::{NoGate, top};
+use super::bench::status;
 use bz_io::{MemSink, MemSource};
 use std::alloc::Global;
 use std::process::Abort;
@@ -15,8 +15,8 @@ fn report<R: Threads + Wait + Abort + Sync>(
     sink: &mut MemSink,
 ) -> Result<(), Fail> {
     let mut source = MemSource::of(alloc, script.as_bytes())?;
-    let outcome = top(rt, alloc, &["run"], &mut source, sink, &NoGate);
-    assert_eq!(rt; outcome.status, 0);
+    let got = status(rt, alloc, &["run"], &mut source, sink);
+    assert_eq!(rt; got, 0);
     Ok(())
 }
 

@@ -1,23 +1,12 @@
 //! Runs of the program over sources and sinks in memory.
-use crate::{NoGate, top};
-use bz_io::{FailSink, FailSource, MemSink, MemSource, Sink, Source};
+use super::bench;
+use super::bench::status;
+use bz_io::{FailSink, FailSource, MemSink, MemSource};
 use std::alloc::Global;
 use std::process::Abort;
 use std::sync::Wait;
 use std::test::Fail;
 use std::thread::Threads;
-
-// The status of a run of `bz` on these words.
-fn status<R: Threads + Wait + Sync, S: Source, K: Sink>(
-    rt: &R,
-    alloc: Global,
-    words: &[&str],
-    source: &mut S,
-    sink: &mut K,
-) -> u8 {
-    let outcome = top(rt, alloc, words, source, sink, &NoGate);
-    outcome.status
-}
 
 // A run on an input prints an output and ends with a status.
 fn expect_run<R: Threads + Wait + Abort + Sync>(
@@ -28,12 +17,7 @@ fn expect_run<R: Threads + Wait + Abort + Sync>(
     output: &str,
     want: u8,
 ) -> Result<(), Fail> {
-    let mut source = MemSource::of(alloc, input)?;
-    let mut sink = MemSink::open(alloc, 65536)?;
-    let got = status(rt, alloc, words, &mut source, &mut sink);
-    assert_eq!(rt; got, want);
-    assert_eq!(rt; sink.bytes(), output.as_bytes());
-    Ok(())
+    bench::expect_run(rt, alloc, words, input, output.as_bytes(), want)
 }
 
 const MIXED: &str =
@@ -390,14 +374,20 @@ fn more_calls_than_may_begin_meet_the_limit(rt: HostRuntime) -> Result<(), Fail>
     expect_limit(&rt, rt.alloc(), "w 1 page a\n", 4_097, 105408, page_end)
 }
 
-// A full leaf, gets of its first key, and what they print if there are marks enough.
-fn many_gets(alloc: Global, gets: u32) -> Result<(String, String), Fail> {
+// The inserts of a full leaf, and what they print.
+fn full_leaf(alloc: Global) -> Result<(String, String), Fail> {
     let mut input = format!(in alloc; "memory 1 128\n")?;
     let mut output = String::new(alloc);
     for number in 1..40u32 {
         input.push_str(&format!(in alloc; "w 1 insert k{number:02} v\n")?)?;
         output.push_str(&format!(in alloc; "w1.{number} insert k{number:02} v = inserted\n")?)?;
     }
+    Ok((input, output))
+}
+
+// A full leaf, gets of its first key, and what they print if there are marks enough.
+fn many_gets(alloc: Global, gets: u32) -> Result<(String, String), Fail> {
+    let (mut input, mut output) = full_leaf(alloc)?;
     for number in 1..gets {
         input.push_str("w 2 get k01\n")?;
         output.push_str(&format!(in alloc; "w2.{number} get k01 = value v\n")?)?;
@@ -406,41 +396,39 @@ fn many_gets(alloc: Global, gets: u32) -> Result<(String, String), Fail> {
     Ok((input, output))
 }
 
-#[test]
-fn more_marks_than_fit_meet_the_limit(rt: HostRuntime) -> Result<(), Fail> {
-    let alloc = rt.alloc();
-    let (input, output) = many_gets(alloc, 50_000)?;
-    let mut source = MemSource::of(alloc, input.as_bytes())?;
-    let mut sink = MemSink::open(alloc, 2_000_000)?;
-    let got = status(&rt, alloc, &["run"], &mut source, &mut sink);
-    assert_eq!(rt; got, 5);
-    let held = sink.bytes();
+// What a run that met the limit on marks has printed is whole lines at the start of what the whole run prints, and then the
+// fault line. How many bytes these lines have.
+fn expect_start(rt: &impl Abort, held: &[u8], whole: &[u8]) -> usize {
     let end = b"\nfault: limit marks\n".as_slice();
     assert!(rt; held.ends_with(end));
-    // whole lines of what the whole run prints, and at least all of the inserts
     let lines = &held[..held.len().saturating_sub(19)];
-    assert!(rt; lines.len() < output.len() && output.as_bytes().starts_with(lines));
-    assert!(rt; lines.len() > 39 * 27);
-    Ok(())
+    assert!(rt; lines.len() < whole.len() && whole.starts_with(lines));
+    lines.len()
 }
 
-// With this limit on marks the gets of a full leaf meet it: the report is the first lines of the whole one.
+// With this limit on marks the gets of a full leaf meet it: the report is the first lines of the whole one. How many bytes these
+// lines have.
 fn expect_start_of_report<R: Threads + Wait + Abort + Sync>(
     rt: &R,
     alloc: Global,
     words: &[&str],
     input: &str,
     whole: &str,
-) -> Result<(), Fail> {
+) -> Result<usize, Fail> {
     let mut source = MemSource::of(alloc, input.as_bytes())?;
-    let mut sink = MemSink::open(alloc, 65536)?;
+    let mut sink = MemSink::open(alloc, 2_000_000)?;
     let got = status(rt, alloc, words, &mut source, &mut sink);
     assert_eq!(rt; got, 5);
-    let held = sink.bytes();
-    let end = b"\nfault: limit marks\n".as_slice();
-    assert!(rt; held.ends_with(end));
-    let lines = &held[..held.len().saturating_sub(19)];
-    assert!(rt; lines.len() < whole.len() && whole.as_bytes().starts_with(lines));
+    Ok(expect_start(rt, sink.bytes(), whole.as_bytes()))
+}
+
+#[test]
+fn more_marks_than_fit_meet_the_limit(rt: HostRuntime) -> Result<(), Fail> {
+    let alloc = rt.alloc();
+    let (input, output) = many_gets(alloc, 50_000)?;
+    let length = expect_start_of_report(&rt, alloc, &["run"], &input, &output)?;
+    // at least all of the inserts
+    assert!(rt; length > 39 * 27);
     Ok(())
 }
 
@@ -538,7 +526,7 @@ fn a_sink_without_room_holds_the_first_bytes(rt: HostRuntime) -> Result<(), Fail
 }
 
 // A sink that takes one byte a call and fails at this call.
-fn expect_start<R: Threads + Wait + Abort + Sync>(
+fn expect_start_by<R: Threads + Wait + Abort + Sync>(
     rt: &R,
     alloc: Global,
     call: u64,
@@ -562,7 +550,7 @@ fn expect_start<R: Threads + Wait + Abort + Sync>(
 #[test]
 fn a_failing_sink_holds_a_start_of_the_report(rt: HostRuntime) -> Result<(), Fail> {
     for call in 1..60u64 {
-        expect_start(&rt, rt.alloc(), call)?;
+        expect_start_by(&rt, rt.alloc(), call)?;
     }
     Ok(())
 }

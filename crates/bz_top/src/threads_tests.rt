@@ -1,5 +1,6 @@
 //! Scripts that run on threads.
-use crate::{Gate, NoGate, top};
+use super::bench::{gated, status};
+use crate::{Gate, NoGate};
 use bz_io::{MemSink, MemSource};
 use std::alloc::Global;
 use std::process::Abort;
@@ -16,14 +17,14 @@ fn report<R: Threads + Wait + Abort + Sync, G: Gate + Sync>(
     rt: &R,
     alloc: Global,
     script: &str,
-    status: u8,
+    want: u8,
     gate: &G,
 ) -> Result<String, Fail> {
     let mut source = MemSource::of(alloc, script.as_bytes())?;
     let mut sink = MemSink::open(alloc, 400_000)?;
     let words = ["run", "--marks=4000000"];
-    let outcome = top(rt, alloc, words.as_slice(), &mut source, &mut sink, gate);
-    assert_eq!(rt; outcome.status, status, "by {script}");
+    let got = gated(rt, alloc, words.as_slice(), &mut source, &mut sink, gate);
+    assert_eq!(rt; got, want, "by {script}");
     Ok(std::str::from_utf8(sink.bytes())?.to_string(alloc)?)
 }
 
@@ -114,10 +115,10 @@ fn expect_one_of<R: Threads + Wait + Abort + Sync>(
     rt: &R,
     alloc: Global,
     script: &str,
-    status: u8,
+    want: u8,
     reports: &[&str],
 ) -> Result<(), Fail> {
-    let text = report(rt, alloc, script, status, &NoGate)?;
+    let text = report(rt, alloc, script, want, &NoGate)?;
     let mut found = false;
     for one in reports {
         if text.as_bytes() == one.as_bytes() {
@@ -130,7 +131,7 @@ fn expect_one_of<R: Threads + Wait + Abort + Sync>(
 
 #[test]
 fn threads_come_after_other_runs_and_before_them(rt: HostRuntime) -> Result<(), Fail> {
-    for (script, status, reports) in [
+    for (script, want, reports) in [
         // the calls that a list left open are ended first, the lower worker's before the other's
         (
             "memory 16 64\nw 1 insert a 1\nw 2 insert b 2\nrun list 2*3 1*5\nw 1 get b\nw 2 get a\nrun threads\n",
@@ -167,7 +168,7 @@ fn threads_come_after_other_runs_and_before_them(rt: HostRuntime) -> Result<(), 
             ["fault: line 2: wrong number of words\n", ""],
         ),
     ] {
-        expect_one_of(&rt, rt.alloc(), script, status, reports.as_slice())?;
+        expect_one_of(&rt, rt.alloc(), script, want, reports.as_slice())?;
     }
     Ok(())
 }
@@ -181,8 +182,8 @@ fn written<R: Threads + Wait + Sync + Abort>(
 ) -> Result<Vec<u8>, Fail> {
     let mut source = MemSource::of(alloc, input)?;
     let mut sink = MemSink::open(alloc, 24_724)?;
-    let outcome = top(rt, alloc, &[word], &mut source, &mut sink, &NoGate);
-    assert_eq!(rt; outcome.status, 0, "{word}");
+    let got = status(rt, alloc, &[word], &mut source, &mut sink);
+    assert_eq!(rt; got, 0, "{word}");
     Ok(Vec::from_slice(alloc, sink.bytes())?)
 }
 

@@ -1,5 +1,5 @@
 //! Workloads: their summaries, and the reports of their scripts.
-use crate::{NoGate, top};
+use super::bench::status;
 use bz_call::Call;
 use bz_gen::{MOST_CALLS, generate};
 use bz_io::{MemSink, MemSource};
@@ -21,9 +21,9 @@ fn run<R: Threads + Wait + Sync>(
 ) -> Result<(String, u8), Fail> {
     let mut source = MemSource::of(alloc, input)?;
     let mut sink = MemSink::open(alloc, 1_000_000)?;
-    let outcome = top(rt, alloc, words, &mut source, &mut sink, &NoGate);
+    let got = status(rt, alloc, words, &mut source, &mut sink);
     let text = std::str::from_utf8(sink.bytes())?.to_string(alloc)?;
-    Ok((text, outcome.status))
+    Ok((text, got))
 }
 
 // A call on a key alone, as its words.
@@ -95,13 +95,38 @@ fn counts_of(alloc: Global, report: &str) -> Result<String, Fail> {
 fn a_workload_prints_the_same_summary_twice(rt: HostRuntime) -> Result<(), Fail> {
     let alloc = rt.alloc();
     for words in [["work", "1", "20", "2"], ["work", "7", "2000", "8"]] {
-        let (first, status) = run(&rt, alloc, words.as_slice(), b"")?;
-        assert_eq!(rt; status, 0);
-        let (again, status) = run(&rt, alloc, words.as_slice(), b"not read")?;
-        assert_eq!(rt; status, 0);
+        let first = printed(&rt, alloc, words.as_slice(), b"")?;
+        let again = printed(&rt, alloc, words.as_slice(), b"not read")?;
         assert_eq!(rt; first.as_str(), again.as_str());
     }
     Ok(())
+}
+
+// The third line of the summary: each insert adds a pair, and each delete takes one out.
+fn pairs_of(alloc: Global, report: &str) -> Result<String, Fail> {
+    let left = count(report, " = inserted").saturating_sub(count(report, " = deleted"));
+    Ok(format!(in alloc; "pairs {left}")?)
+}
+
+// What a run prints that ends with status 0.
+fn printed<R: Threads + Wait + Abort + Sync>(
+    rt: &R,
+    alloc: Global,
+    words: &[&str],
+    input: &[u8],
+) -> Result<String, Fail> {
+    let (text, status) = run(rt, alloc, words, input)?;
+    assert_eq!(rt; status, 0);
+    Ok(text)
+}
+
+// A summary has these lines, and no more.
+fn has_lines(rt: &impl Abort, summary: &str, wanted: &[&str]) {
+    let mut lines = summary.lines();
+    for line in wanted {
+        assert_eq!(rt; lines.next(), Some(*line));
+    }
+    assert_eq!(rt; lines.next(), None);
 }
 
 #[test]
@@ -109,19 +134,15 @@ fn a_summary_counts_the_lines_of_the_report(rt: HostRuntime) -> Result<(), Fail>
     let alloc = rt.alloc();
     let script = script_of(&rt, alloc, 7, 2000, 8)?;
     let words = ["run", "--marks", "33554432"];
-    let (report, status) = run(&rt, alloc, words.as_slice(), script.as_bytes())?;
-    assert_eq!(rt; status, 0);
-    let (summary, status) = run(&rt, alloc, ["work", "7", "2000", "8"].as_slice(), b"")?;
-    assert_eq!(rt; status, 0);
-    let mut lines = summary.lines();
-    assert_eq!(rt; lines.next(), Some("work 2000 calls 8 workers"));
-    let counts = counts_of(alloc, &report)?;
-    assert_eq!(rt; lines.next(), Some(counts.trim_end()));
-    // each insert adds a pair, and each delete takes one out
-    let left = count(&report, " = inserted").saturating_sub(count(&report, " = deleted"));
-    let pairs = format!(in alloc; "pairs {left}")?;
-    assert_eq!(rt; lines.next(), Some(pairs.as_str()));
-    assert_eq!(rt; lines.next(), None);
+    let report = printed(&rt, alloc, words.as_slice(), script.as_bytes())?;
+    let summary = printed(&rt, alloc, ["work", "7", "2000", "8"].as_slice(), b"")?;
+    let (counts, pairs) = (counts_of(alloc, &report)?, pairs_of(alloc, &report)?);
+    let wanted = [
+        "work 2000 calls 8 workers",
+        counts.trim_end(),
+        pairs.as_str(),
+    ];
+    has_lines(&rt, &summary, wanted.as_slice());
     Ok(())
 }
 
