@@ -13,7 +13,7 @@ use Rattle.bz_mutate.specs.Viewed.{HasViewed, IsVisible, IsFound}
 use Rattle.bz_mutate.specs.DeleteFacts.{CanRemove, IsRemovable, IsFirst, IsReady, delete_asks, delete_facts}
 use Rattle.bz_mutate.specs.declared.delete_phase.DeletePhase.{DeletePhase}
 use Rattle.bz_mutate.specs.declared.delete_phase.DeletePhase.TheVariants.{Fresh, Remove, Done, Restart, NeedsRoom, Full}
-use Rattle.bz_mutate.proofs.Finding.{Laws, says, visible-found, was, place, found, started}
+use Rattle.bz_mutate.proofs.Finding.{Laws, says, visible-found, was, place, size, found, started}
 
 module _ (b : Laws) (key : List ℕ) (v : KeyView) (s : Scene) (good : IsScene s) (h : HasViewed key v s) where
   can-remove : (f : FoundRecord) → IsFound v f → (status v.status).frozen ≡ false → CanRemove key v f s
@@ -21,6 +21,7 @@ module _ (b : Laws) (key : List ℕ) (v : KeyView) (s : Scene) (good : IsScene s
     payload = (says key v s h).0;
     said = (says key v s h).1;
     was = was b key v s good h f c;
+    size = size b key v s good h f c;
     thawed = t;
     going = h.going;
   }

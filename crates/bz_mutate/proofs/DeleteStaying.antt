@@ -22,7 +22,7 @@ module _ (views : KeyViewsStay) (were : RecordsWere) (key : List ℕ) (v : KeyVi
 
   learnt : (phase : DeletePhase) (stage : Stage) → delete_learnt key v phase stage s → delete_learnt key v phase stage after
   learnt Fresh Waiting k = record { view = views key v s.past after.past k.view l.continues; present = k.present; going = l.effected ∙ k.going }
-  learnt (Remove f) Waiting k = record { payload = k.payload; said = k.said; was = were.found key k.payload v.slot v.status f.place f.extent s.past after.past k.was l.continues; thawed = k.thawed; going = l.effected ∙ k.going }
+  learnt (Remove f) Waiting k = record { payload = k.payload; said = k.said; was = were.found key k.payload v.slot v.status f.place f.extent s.past after.past k.was l.continues; size = k.size; thawed = k.thawed; going = l.effected ∙ k.going }
   learnt (Remove f) Took k = removed k
   learnt Done Waiting k = removed k
   learnt Restart Waiting k = k

@@ -1,8 +1,9 @@
 -- What a delete knows, and what it asks for.
-use Rattle.std.specs.Prelude.{◌≡◌, ℕ, ◌^◌, ◌<◌, ◌≤◌, Bool, true, false, List, Option, Some, None}
+use Rattle.std.specs.Prelude.{◌≡◌, ℕ, ◌-◌, ◌^◌, ◌<◌, ◌≤◌, ◌&&◌, nat_lt, Bool, true, false, List, Option, Some, None}
 use Rattle.bz_call.specs.declared.replies.Spent.TheVariants.{Swaps}
 use Rattle.bz_layout.specs.declared.config.Config.{Config}
 use Rattle.bz_layout.specs.declared.sizes.TheConstants.{SHARED_WORDS}
+use Rattle.bz_layout.specs.declared.thresholds.TheConstants.{MERGE_BELOW}
 use Rattle.bz_node.specs.Reading.{extent_words}
 use Rattle.bz_word.specs.Metas.{IsExtent}
 use Rattle.bz_word.specs.Statuses.{status}
@@ -14,6 +15,7 @@ use Rattle.bz_task.specs.declared.todo.Outcome.TheVariants.{Done as IsDone, Rest
 use Rattle.bz_task.specs.declared.todo.Todo.{Todo}
 use Rattle.bz_task.specs.declared.todo.Todo.TheVariants.{Swap as Swaps_for, Finish}
 use Rattle.bz_task.specs.declared.view.KeyView.{KeyView}
+use Rattle.bz_record.specs.Records.{words_for}
 use Rattle.bz_record.specs.Replacing.{removal, WasRecord}
 use Rattle.bz_record.specs.Swaps.{entries_of}
 use Rattle.bz_record.specs.declared.found_record.FoundRecord.{FoundRecord}
@@ -52,11 +54,12 @@ delete_publishes phase = false
 abbrev pub deletion : List ℕ → KeyView → Change
 deletion key v = record { key = key; old = payload_of v.found; new = None }
 
--- its record was found, in a leaf that was not frozen
+-- its record was found, which has the words of the key and of the payload, in a leaf that was not frozen
 pub record CanRemove (key : List ℕ) (v : KeyView) (f : FoundRecord) (s : Scene) : Type 0 where
   pub payload : List ℕ
   pub said : payload_of v.found ≡ Some payload
   pub was : WasRecord key payload v.slot v.status f.place f.extent s.past
+  pub size : words_for key payload ≡ extent_words f.extent
   pub thawed : (status v.status).frozen ≡ false
   pub going : s.effected ≡ false
 
@@ -79,6 +82,12 @@ delete_learnt key v phase Took s = ⊥
 abbrev pub delete_facts : List ℕ → KeyView → DeletePhase → Stage → Scene → Type 0
 delete_facts key v Fresh stage s = delete_learnt key v Fresh stage s
 delete_facts key v phase stage s = HasFilled s × delete_learnt key v phase stage s
+
+-- of the block of a leaf with this status fewer words are live, once the record of a key is gone that had this payload, than a leaf needs to
+-- stand alone
+abbrev pub leaves_few_without : ℕ → List ℕ → Option (List ℕ) → Bool
+leaves_few_without st key None = false
+leaves_few_without st key (Some payload) = nat_lt st (2 ^ 61) && nat_lt ((status st).block - (status st).dead - words_for key payload) MERGE_BELOW
 
 -- it ends for want of room exactly where the viewed leaf is frozen
 abbrev pub delete_means : KeyView → Outcome → Scene → Type 0

@@ -3,7 +3,6 @@
 ghost use Rattle.std.specs.Prelude.{◌≡◌, ◌≢◌, ◌↔◌, ◌+◌, ◌≤◌, ◌<◌, ◌^◌, Some, None, true, false};
 ghost use Rattle.bz_layout.specs.Config.{IsConfig};
 ghost use Rattle.bz_word.specs.Statuses.{status};
-ghost use Rattle.bz_task.specs.Basis.{no_basis};
 ghost use Rattle.bz_task.specs.Outcomes.{IsKeyView, payload_of};
 ghost use Rattle.bz_task.specs.Requests.{Hears, Tells, IsKnown, swaps_in, effects_in};
 ghost use Rattle.bz_task.specs.Scene.{Scene, Stage, Waiting, IsScene};
@@ -11,7 +10,7 @@ ghost use Rattle.bz_layout.specs.declared.swaps.TheConstants.{DELETE_SWAPS};
 ghost use Rattle.bz_task.specs.declared.todo.Seen.TheVariants.{Start, Swapped, NoSwap};
 ghost use Rattle.bz_record.specs.declared.found_record.FoundRecord.{FoundRecord};
 ghost use Rattle.bz_mutate.specs.Viewed.{IsVisible, IsFound};
-ghost use Rattle.bz_mutate.specs.DeleteDuties.{config_of, asks_of, end_of, left_of, swaps_of, change_of, publishing_of, facts_of, means_of};
+ghost use Rattle.bz_mutate.specs.DeleteDuties.{config_of, asks_of, basis_of, end_of, left_of, swaps_of, change_of, publishing_of, facts_of, means_of, leaves_few_of};
 ghost use Rattle.bz_mutate.specs.DeleteFacts.{IsEndOfDelete, delete_asks, delete_end, delete_left, delete_swaps, delete_publishes, delete_facts, IsFirst, IsReady};
 
 use crate::delete_phase::DeletePhase;
@@ -62,7 +61,10 @@ impl Delete {
 
     /// Whether fewer words of the leaf's block are live, once the record is gone, than a leaf needs to stand alone. Each live record has
     /// a metadata word besides, so where this is false the leaf has enough.
-    pub fn leaves_few(&self) -> bool {
+    pub fn leaves_few(&self) -> bool
+        ensures { result ≡ leaves_few_of self.now }
+    {
+        bz_word::laws::statuses();
         let Some(found) = &self.view.found else {
             return false;
         };
@@ -181,7 +183,7 @@ impl Task for Delete {
 
     ghost change = { change_of };
 
-    ghost basis = { λ t. no_basis };
+    ghost basis = { basis_of };
 
     ghost publishing = { publishing_of };
 
