@@ -17,6 +17,9 @@ use Rattle.bz_merge.specs.Duties as merge
 use Rattle.bz_merge.specs.FromSplit.Duties as split
 use Rattle.bz_merge.specs.FromSplit.SplitRoot.{SplitRoot}
 use Rattle.bz_merge.specs.declared.merge.Merge.{Merge}
+use Rattle.bz_mutate.specs.DeleteDuties as delete
+use Rattle.bz_mutate.specs.DeleteFacts.{leaves_few_without}
+use Rattle.bz_mutate.specs.declared.delete.Delete.{Delete}
 use Rattle.bz_task.specs.Basis.{Basis}
 use Rattle.bz_task.specs.FromContent.Content.{leaf_in}
 use Rattle.bz_task.specs.Instant.{words as words_at, page_at}
@@ -94,6 +97,12 @@ KeptSmall t u = (key : List ℕ) (p : Past) → IsSmallMerge t key p → IsSmall
 pub small-kept : (t u : Merge) → merge.basis_of u ≡ merge.basis_of t → KeptSmall (Merging t) (Merging u)
 unfolding IsSmallMerge
 small-kept t u e key p m = subst (λ (k : ℕ). WasSmallLeafOf key k p) (sym (ap (λ (b : Basis). b.slot) e)) m
+
+-- a delete tells of its leaf what it told
+pub few-kept : (t u : Delete) → delete.change_of u ≡ delete.change_of t → delete.basis_of u ≡ delete.basis_of t → delete.leaves_few_of u ≡ delete.leaves_few_of t
+few-kept t u change basis =
+    let viewed : u.view.status ≡ t.view.status = same-status u.view.status t.view.status (ap (λ (b : Basis). b.nodes) basis) in
+    λ i. leaves_few_without (viewed i) (change i).key (change i).old
 
 -- the leaf that was viewed, and lacked the words and the metadata word of a record
 pub lacked-viewed : (key : List ℕ) (view : LeafView) (slot words : ℕ) (p : Past) → IsView key view p → slot ≡ view.slot → SHARED_WORDS < (status view.status).count + 1 + (status view.status).block + words → LackedWords key (words + 1) slot p

@@ -199,7 +199,7 @@ basis_of (Finding t) = no_basis
 basis_of (Reading t) = no_basis
 basis_of (Inserting t) = no_basis
 basis_of (Updating t) = no_basis
-basis_of (Deleting t) = no_basis
+basis_of (Deleting t) = delete.basis_of t
 basis_of (Freezing t) = freeze_basis t.slot
 basis_of (Consolidating t) = consol.basis_of t
 basis_of (Splitting t) = split.basis_of t
@@ -222,6 +222,22 @@ publishing_of (SplittingBelow t a) = false
 publishing_of (SplittingInner t a) = false
 publishing_of (SplittingInnerRoot t a) = false
 publishing_of (Merging t) = false
+
+-- it is a delete, without whose record so few words of its leaf's block are live, as the leaf was viewed, that the leaf may be too small
+unfoldable pub leaves_few_of : AnyTask → Bool
+leaves_few_of (Seeking t) = false
+leaves_few_of (Finding t) = false
+leaves_few_of (Reading t) = false
+leaves_few_of (Inserting t) = false
+leaves_few_of (Updating t) = false
+leaves_few_of (Deleting t) = delete.leaves_few_of t
+leaves_few_of (Freezing t) = false
+leaves_few_of (Consolidating t) = false
+leaves_few_of (Splitting t) = false
+leaves_few_of (SplittingBelow t a) = false
+leaves_few_of (SplittingInner t a) = false
+leaves_few_of (SplittingInnerRoot t a) = false
+leaves_few_of (Merging t) = false
 
 -- what the end of a split on the way up means
 abbrev pub means_below : SplitBelow → Outcome → Scene → Type 0

@@ -16,7 +16,7 @@ use Rattle.bz_task.specs.declared.todo.Todo.{Todo}
 use Rattle.bz_task.specs.declared.todo.Todo.TheVariants.{Finish}
 use Rattle.bz_task.specs.declared.view.KeyView.{KeyView}
 use Rattle.bz_task.specs.declared.view.LeafView.{LeafView}
-use Rattle.bz_running.specs.Duties.{config_of, asks_of, end_of, left_of, swaps_of, made_of, change_swaps, needs_of, wants_of, change_of, publishing_of, ascent_of, facts_of, means_of, differs_of, makes_no_change}
+use Rattle.bz_running.specs.Duties.{config_of, asks_of, end_of, left_of, swaps_of, made_of, change_swaps, needs_of, wants_of, change_of, publishing_of, ascent_of, facts_of, means_of, differs_of, makes_no_change, leaves_few_of}
 use Rattle.bz_running.specs.Kinds.{Find, kind_of}
 use Rattle.bz_running.specs.MadeFor.{IsMadeFor, IsMergeFor, IsSmallMerge}
 use Rattle.bz_running.specs.declared.running.AnyTask.{AnyTask}
@@ -48,6 +48,7 @@ pub record HasHeard (old : AnyTask) (seen : Seen) (moment : ℕ) (free : FreeSlo
   pub made_for : (key : List ℕ) (words : ℕ) (p : Past) → IsMadeFor old key words p → IsMadeFor new key words p
   pub merge_for : (key : List ℕ) (p : Past) → IsMergeFor old key p → IsMergeFor new key p
   pub small_for : (key : List ℕ) (p : Past) → IsSmallMerge old key p → IsSmallMerge new key p
+  pub few : leaves_few_of new ≡ leaves_few_of old
   pub meant : (o : Outcome) (s : Scene) → means_of new o s → means_of old o s
   pub slots : AreTakenFrom (needs_of old) (needs_of new) free left
   -- told to begin it goes on, where it makes no change and is no look-up in a leaf

@@ -29,7 +29,7 @@ ghost use Rattle.bz_task.specs.declared.todo.Todo.TheVariants.{Read};
 ghost use Rattle.bz_running.specs.Hearing.{IsLookup, HasHeard};
 ghost use Rattle.bz_running.specs.Kinds as kind;
 ghost use Rattle.bz_running.specs.Kinds.{kind_of, IsLeafSplit};
-ghost use Rattle.bz_running.specs.Duties.{config_of, asks_of, basis_of, end_of, left_of, swaps_of, made_of, change_swaps, needs_of, wants_of, change_of, ascent_of, publishing_of, facts_of, means_of, differs_of, makes_no_change};
+ghost use Rattle.bz_running.specs.Duties.{config_of, asks_of, basis_of, end_of, left_of, swaps_of, made_of, change_swaps, needs_of, wants_of, change_of, ascent_of, publishing_of, facts_of, means_of, differs_of, makes_no_change, leaves_few_of};
 ghost use Rattle.bz_running.specs.Laws.{AreLaws};
 ghost use Rattle.bz_running.specs.MadeFor.{IsMadeFor, IsMergeFor, IsSmallMerge};
 ghost use Rattle.bz_running.specs.LookingUp.{ForWay, ForKey, look_of, reads_asked, HasCounted, LooksUpBriefly};
@@ -363,9 +363,10 @@ impl AnyTask {
     }
 
     /// Whether it is a delete that leaves so little in its leaf that this may be merged.
-    #[tactic(auto, unfolding(crate::specs::Kinds::kind_of))]
+    #[tactic(auto, unfolding(crate::specs::Duties::leaves_few_of, crate::specs::Kinds::kind_of))]
     pub fn leaves_few(&self) -> bool
-        ensures { result ≡ true → kind_of self.now ≡ kind.Delete }
+        ensures tells { result ≡ leaves_few_of self.now }
+        ensures kind { result ≡ true → kind_of self.now ≡ kind.Delete }
     {
         match self {
             AnyTask::Deleting(task) => task.leaves_few(),

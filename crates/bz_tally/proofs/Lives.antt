@@ -3,7 +3,7 @@ use Rattle.std.proofs.Common.{◌≡◌, ◌≢◌, ℕ, zero, suc, ◌+◌, ◌
 use Rattle.std.proofs.lemmas.Bool.{cases_eq}
 use Rattle.bz_layout.specs.declared.thresholds.TheConstants.{LEAF_RECORD_WORDS}
 use Rattle.bz_slotted.specs.Page.{visible}
-use Rattle.bz_slotted.specs.Records.{weight, live_to}
+use Rattle.bz_slotted.specs.Records.{weight, live_block, live_to}
 use Rattle.bz_slotted.specs.Whole.{IsLeafRecord}
 use Rattle.bz_word.specs.declared.meta.Meta.{Meta}
 
@@ -37,3 +37,13 @@ live-put f g j (suc n) most h l = elim (cases_eq j n) [
 -- a record of a leaf has no more words than this
 pub record-fits : (m : Meta) → IsLeafRecord m → 1 + weight m ≤ LEAF_RECORD_WORDS
 record-fits m l = omega (arith, l.short, l.payload)
+
+-- with their metadata words they are no fewer than without
+pub block-live : (f : ℕ → Meta) (n : ℕ) → live_block f n ≤ live_to f n
+unfolding live_to live_block
+block-live f zero = omega arith
+block-live f (suc n) = go (visible (f n)) (block-live f n)
+  where
+    go : (t : Bool) → live_block f n ≤ live_to f n → live_block f n + (if t then weight (f n) else 0) ≤ live_to f n + (if t then 1 + weight (f n) else 0)
+    go true h = omega (arith, h)
+    go false h = omega (arith, h)

@@ -1,5 +1,5 @@
 -- The removal of a record from the leaf of its key: the tree stands as it stood, and of the leaf one metadata word says something else.
-use Rattle.std.proofs.Common.{◌≡◌, ◌≢◌, ℕ, ◌+◌, ◌<◌, ◌≤◌, ◌==◌, true, false, List, [], ◌∷◌, arith, refl, sym, ap, subst, ◌∙◌, inl, inr}
+use Rattle.std.proofs.Common.{◌≡◌, ◌≢◌, ℕ, ◌+◌, ◌-◌, ◌<◌, ◌≤◌, ◌==◌, true, false, List, [], ◌∷◌, arith, refl, sym, ap, subst, ◌∙◌, inl, inr}
 use Rattle.std.proofs.lemmas.Bool.{cases_lt}
 use Rattle.std.proofs.lemmas.Bool.Decides.{nat_tests}
 use Rattle.bz_layout.specs.Addresses.{node_address}
@@ -21,7 +21,7 @@ use Rattle.bz_shape.specs.TreeLaws.{LeavesTileTheKeys}
 use Rattle.bz_shape.specs.Walk.{IsTree}
 use Rattle.bz_slotted.specs.Laws.{LeafRulesAreFacts}
 use Rattle.bz_slotted.specs.Page.{page, meta_of}
-use Rattle.bz_slotted.specs.Records.{live_to, live_words}
+use Rattle.bz_slotted.specs.Records.{live_block, live_to, live_words}
 use Rattle.bz_slotted.specs.Whole.{Whole}
 use Rattle.bz_word.specs.Statements.{IsCodec}
 use Rattle.bz_word.specs.Statuses.{IsStatus, IsStatusWord, status, status_word}
@@ -33,13 +33,13 @@ use Rattle.bz_content.specs.Image.{node}
 use Rattle.bz_content.specs.Resolving.{resolve}
 use Rattle.bz_task.specs.Good.{IsGood}
 use Rattle.bz_task.specs.Instant.{Instant, words, durable, form_at}
-use Rattle.bz_task.specs.Laws.{SlotWords, SwapsShowInSlots}
+use Rattle.bz_task.specs.Laws.{LeavesAreInTrees, SlotWords, SwapsShowInSlots}
 use Rattle.bz_task.specs.Scene.{Scene, IsScene, here}
 use Rattle.bz_task.specs.Steps.{next_stamp}
 use Rattle.bz_task.specs.Swaps.{Stand, SwapsTo, swapped}
 use Rattle.bz_tally.proofs.LeafWords.{Laws as Words, kept, names-record}
-use Rattle.bz_tally.proofs.Lives.{live-put, record-fits}
-use Rattle.bz_tally.specs.Deletes.{LosesOneRecord}
+use Rattle.bz_tally.proofs.Lives.{block-live, live-put, record-fits}
+use Rattle.bz_tally.specs.Deletes.{LosesOneRecord, live_of_key}
 
 -- the laws on which it rests
 pub record Laws : Type 0 where
@@ -49,6 +49,7 @@ pub record Laws : Type 0 where
   pub slots : SwapsShowInSlots
   pub rules : LeafRulesAreFacts
   pub tiles : LeavesTileTheKeys
+  pub trees : LeavesAreInTrees
   pub statuses : IsCodec Status IsStatus IsStatusWord status_word status
 
 -- what the first of two entries sets, and what both leave
@@ -100,8 +101,11 @@ module _ (b : Laws) (s : Scene) (y : Instant) (key payload : List ℕ) (k st pla
   lawful : IsStatus (record (status st) { dead = (status st).dead + extent_words e; stamp = next_stamp (status st).stamp })
   lawful = let z : IsStatus (status st) = b.statuses.range st w.leaf.leaf.plain in record { count = z.count; block = z.block; dead = omega (arith, w.small, w.dead); stamp = omega arith }
 
+  reads : status (durable s.past.config y k STATUS_AT) ≡ record (status st) { dead = (status st).dead + extent_words e; stamp = next_stamp (status st).stamp }
+  reads = ap status status-after ∙ b.statuses.value _ lawful
+
   count-after : (page (durable s.past.config y k)).count ≡ (page (durable s.past.config (here s) k)).count
-  count-after = ap (λ z. (status z).count) status-after ∙ (ap (λ (z : Status). z.count) (b.statuses.value _ lawful) ∙ sym count-is)
+  count-after = ap (λ (z : Status). z.count) reads ∙ sym count-is
 
   others : (i : ℕ) → i ≢ STATUS_AT → i ≢ META_AT + place → durable s.past.config y k i ≡ durable s.past.config (here s) k i
   others i n m = elim (cases_lt i NODE_WORDS) [
@@ -142,8 +146,14 @@ module _ (b : Laws) (s : Scene) (y : Instant) (key payload : List ℕ) (k st pla
   pub leaf-is : leaf_in s.past.config (here s).image key ≡ k
   leaf-is = leaf-of (here s) now holds
 
+  after : IsGood s.past.config y
+  after = (b.good s y key payload k st place e good w thawed stand swaps).good
+
+  holds-after : Holds (form_at s.past.config y) key k
+  holds-after = subst (λ (f : Form). Holds f key k) (sym stays.form) holds
+
   pub leaf-after : leaf_in s.past.config y.image key ≡ k
-  leaf-after = leaf-of y (b.good s y key payload k st place e good w thawed stand swaps).good (subst (λ (f : Form). Holds f key k) (sym stays.form) holds)
+  leaf-after = leaf-of y after holds-after
 
   pub loses : LosesOneRecord key s y
   loses = record {
@@ -151,3 +161,12 @@ module _ (b : Laws) (s : Scene) (y : Instant) (key payload : List ℕ) (k st pla
     height = stays.height;
     live = omega (arith, live, ap (λ j. live_words (page (durable c (here s) j))) leaf-is, ap (λ j. live_words (page (durable c y j))) leaf-after);
   }
+
+  -- of the block all words but the dead ones are live, and those of the record are dead now
+  whole-after : Whole (node s.past.config y.image k) (page (durable s.past.config y k)) ((form_at s.past.config y).low k) ((form_at s.past.config y).high k)
+  whole-after = (b.rules c.nodes (node c y.image k) (durable c y k) _ _).0 (b.trees c y k after w.leaf.leaf.slot holds-after.inside holds-after.leaf).whole
+
+  pub left : (status st).block - (status st).dead - extent_words e ≤ live_of_key s.past.config y key
+  left =
+      let live : live_block (page (durable c y k)).meta (page (durable c y k)).count ≤ live_words (page (durable c y k)) = block-live (page (durable c y k)).meta (page (durable c y k)).count in
+      omega (arith, live, whole-after.filled.dead, ap (λ (z : Status). z.block) reads, ap (λ (z : Status). z.dead) reads, ap (λ j. live_words (page (durable c y j))) leaf-after)

@@ -1,8 +1,8 @@
 -- What the swap of a delete leaves in the leaf of its key.
-use Rattle.std.specs.Prelude.{◌≡◌, ℕ, ◌+◌, ◌≤◌, List}
+use Rattle.std.specs.Prelude.{◌≡◌, ℕ, ◌+◌, ◌<◌, ◌≤◌, true, List}
 use Rattle.bz_layout.specs.declared.config.Config.{Config}
-use Rattle.bz_layout.specs.declared.thresholds.TheConstants.{LEAF_RECORD_WORDS}
-use Rattle.bz_running.specs.Duties.{config_of, asks_of, facts_of, change_of}
+use Rattle.bz_layout.specs.declared.thresholds.TheConstants.{LEAF_RECORD_WORDS, MERGE_BELOW}
+use Rattle.bz_running.specs.Duties.{config_of, asks_of, facts_of, change_of, leaves_few_of}
 use Rattle.bz_running.specs.Kinds.{kind_of}
 use Rattle.bz_running.specs.Kinds as kinds
 use Rattle.bz_running.specs.declared.running.AnyTask.{AnyTask}
@@ -28,3 +28,9 @@ pub record LosesOneRecord (key : List ℕ) (s : Scene) (y : Instant) : Type 0 wh
 abbrev pub DeletesTakeOneRecord : Type 0
 DeletesTakeOneRecord =
     (t : AnyTask) (entries : List Entry) (s : Scene) (y : Instant) → IsOwnSwap (config_of t) (asks_of t) (facts_of t) entries s y → kind_of t ≡ kinds.Delete → LosesOneRecord (change_of t).key s y
+
+-- and where it leaves fewer live words than a leaf needs to stand alone, the delete tells so
+abbrev pub DeletesTellFew : Type 0
+DeletesTellFew =
+    (t : AnyTask) (entries : List Entry) (s : Scene) (y : Instant) → IsOwnSwap (config_of t) (asks_of t) (facts_of t) entries s y → kind_of t ≡ kinds.Delete →
+    live_of_key s.past.config y (change_of t).key < MERGE_BELOW → leaves_few_of t ≡ true

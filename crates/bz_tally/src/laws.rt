@@ -1,7 +1,7 @@
 //! Laws of what the swaps of tasks make of the number of leaves. Each function does nothing but call the laws that it follows from: its
 //! contract is the law.
 
-ghost use Rattle.bz_tally.specs.Deletes.{DeletesTakeOneRecord};
+ghost use Rattle.bz_tally.specs.Deletes.{DeletesTakeOneRecord, DeletesTellFew};
 ghost use Rattle.bz_tally.specs.Laws.{ChangesKeepTheLeaves, CopiesKeepTheLeaves, LeafSplitsCount, InnerSplitsKeepTheLeaves, RootLeafSplitsCount, InnerRootSplitsKeepTheLeaves, MergesCount, SwapsCount, LeavesComeAndGo, MergesCountAtLast};
 
 use bz_content::laws as content;
@@ -163,6 +163,24 @@ pub fn deletes_take_one_record()
     record::leaves_stay();
     record::removals_are_good();
     slotted::leaf_rules_are_facts();
+    task::leaves_are_in_trees();
+    task::ranges_stay();
+    task::swaps_show_in_slots();
+}
+
+/// Where it leaves fewer live words than a leaf needs to stand alone, the delete tells so.
+pub fn deletes_tell_few()
+    ensures { DeletesTellFew }
+{
+    leaves::words_of_leaves_do_not_count();
+    bz_layout::slots_apart();
+    bz_shape::laws::leaves_tile_the_keys();
+    bz_word::laws::statuses();
+    content::well_formed_images_have_no_fault();
+    record::leaves_stay();
+    record::removals_are_good();
+    slotted::leaf_rules_are_facts();
+    task::leaves_are_in_trees();
     task::ranges_stay();
     task::swaps_show_in_slots();
 }

@@ -14,5 +14,6 @@ returns c = deletes-take-one (record {
   slots = c.swaps_show_in_slots.ensures;
   rules = c.leaf_rules_are_facts.ensures;
   tiles = c.leaves_tile_the_keys.ensures;
+  trees = c.leaves_are_in_trees.ensures;
   statuses = c.statuses.ensures;
 })

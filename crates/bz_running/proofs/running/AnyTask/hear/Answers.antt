@@ -1,5 +1,5 @@
 use Rattle.std.proofs.Common.{sym, subst, refl, ap}
-use Rattle.bz_running.specs.Duties.{config_of, asks_of, end_of, left_of, swaps_of, made_of, change_swaps, needs_of, wants_of, change_of, publishing_of, facts_of, means_of, ascent_of, differs_of, makes_no_change}
+use Rattle.bz_running.specs.Duties.{config_of, asks_of, end_of, left_of, swaps_of, made_of, change_swaps, needs_of, wants_of, change_of, publishing_of, facts_of, means_of, ascent_of, differs_of, makes_no_change, leaves_few_of}
 use Rattle.bz_running.specs.Hearing.{HasHeard}
 use Rattle.bz_running.specs.Kinds.{kind_of}
 use Rattle.bz_running.specs.LookingUp.{look_of, reads_asked, HasCounted}
@@ -8,11 +8,11 @@ use Rattle.bz_running.specs.declared.running.AnyTask.TheVariants.{Seeking, Findi
 use Rattle.bz_running.proofs.Ascending.{meant-so}
 use Rattle.bz_running.proofs.Beginning.{hears-start, copy-begins, split-begins, below-begins, fork-begins, crown-begins, merge-begins, seek-begins, leaf-begins, freeze-begins}
 use Rattle.bz_running.proofs.Counting.{seek-counts, find-counts, none-counts}
-use Rattle.bz_running.proofs.Made.{freeze-kept, copy-kept, split-kept, below-kept, fork-kept, crown-kept, merge-kept, small-kept}
+use Rattle.bz_running.proofs.Made.{freeze-kept, copy-kept, split-kept, below-kept, fork-kept, crown-kept, merge-kept, small-kept, few-kept}
 use Rattle.bz_running.proofs.running.AnyTask.hear.Goals as goal
 
 pub returns-in-Inserting : goal.returns-in-Inserting
-unfolding config_of asks_of end_of left_of swaps_of made_of change_swaps needs_of wants_of change_of publishing_of facts_of means_of ascent_of differs_of makes_no_change look_of kind_of IsMadeFor IsMergeFor IsSmallMerge
+unfolding config_of asks_of end_of left_of swaps_of made_of change_swaps needs_of wants_of change_of publishing_of facts_of means_of ascent_of differs_of makes_no_change leaves_few_of look_of kind_of IsMadeFor IsMergeFor IsSmallMerge
 returns-in-Inserting c = record {
   heard = subst (λ t. HasHeard t c.args.seen c.args.moment c.args.slots.now c.next-in-Inserting.result (Inserting c.next-in-Inserting.new.self) c.next-in-Inserting.new.slots) (sym c.in-Inserting.is) (let e = c.next-in-Inserting.ensures in record {
     asked = e.asked;
@@ -29,6 +29,7 @@ returns-in-Inserting c = record {
     made_for = λ key words p m. absurd m;
     merge_for = λ key p m. absurd m;
     small_for = λ key p m. absurd m;
+    few = refl;
     meant = e.meant;
     slots = e.slots;
     begins = λ start silent other. absurd (cc);
@@ -46,7 +47,7 @@ returns-in-Inserting c = record {
 }
 
 pub returns-in-Updating : goal.returns-in-Updating
-unfolding config_of asks_of end_of left_of swaps_of made_of change_swaps needs_of wants_of change_of publishing_of facts_of means_of ascent_of differs_of makes_no_change look_of kind_of IsMadeFor IsMergeFor IsSmallMerge
+unfolding config_of asks_of end_of left_of swaps_of made_of change_swaps needs_of wants_of change_of publishing_of facts_of means_of ascent_of differs_of makes_no_change leaves_few_of look_of kind_of IsMadeFor IsMergeFor IsSmallMerge
 returns-in-Updating c = record {
   heard = subst (λ t. HasHeard t c.args.seen c.args.moment c.args.slots.now c.next-in-Updating.result (Updating c.next-in-Updating.new.self) c.next-in-Updating.new.slots) (sym c.in-Updating.is) (let e = c.next-in-Updating.ensures in record {
     asked = e.asked;
@@ -63,6 +64,7 @@ returns-in-Updating c = record {
     made_for = λ key words p m. absurd m;
     merge_for = λ key p m. absurd m;
     small_for = λ key p m. absurd m;
+    few = refl;
     meant = e.meant;
     slots = e.slots;
     begins = λ start silent other. absurd (cc);
@@ -80,7 +82,7 @@ returns-in-Updating c = record {
 }
 
 pub returns-in-Consolidating : goal.returns-in-Consolidating
-unfolding config_of asks_of end_of left_of swaps_of made_of change_swaps needs_of wants_of change_of publishing_of facts_of means_of ascent_of differs_of makes_no_change look_of kind_of IsMadeFor IsMergeFor IsSmallMerge
+unfolding config_of asks_of end_of left_of swaps_of made_of change_swaps needs_of wants_of change_of publishing_of facts_of means_of ascent_of differs_of makes_no_change leaves_few_of look_of kind_of IsMadeFor IsMergeFor IsSmallMerge
 returns-in-Consolidating c = record {
   heard = subst (λ t. HasHeard t c.args.seen c.args.moment c.args.slots.now c.next-in-Consolidating.result (Consolidating c.next-in-Consolidating.new.self) c.next-in-Consolidating.new.slots) (sym c.in-Consolidating.is) (let e = c.next-in-Consolidating.ensures in record {
     asked = e.asked;
@@ -97,6 +99,7 @@ returns-in-Consolidating c = record {
     made_for = copy-kept c.in-Consolidating.task c.next-in-Consolidating.new.self e.basis;
     merge_for = λ key p m. absurd m;
     small_for = λ key p m. absurd m;
+    few = refl;
     meant = e.meant;
     slots = e.slots;
     begins = λ start silent other. copy-begins c.in-Consolidating.task c.next-in-Consolidating.new.self (hears-start c.args.self.now (Consolidating c.in-Consolidating.task) c.args.seen c.in-Consolidating.is start c.requires.hears) (λ o. e.begins o start);
@@ -114,7 +117,7 @@ returns-in-Consolidating c = record {
 }
 
 pub returns-in-Splitting : goal.returns-in-Splitting
-unfolding config_of asks_of end_of left_of swaps_of made_of change_swaps needs_of wants_of change_of publishing_of facts_of means_of ascent_of differs_of makes_no_change look_of kind_of IsMadeFor IsMergeFor IsSmallMerge
+unfolding config_of asks_of end_of left_of swaps_of made_of change_swaps needs_of wants_of change_of publishing_of facts_of means_of ascent_of differs_of makes_no_change leaves_few_of look_of kind_of IsMadeFor IsMergeFor IsSmallMerge
 returns-in-Splitting c = record {
   heard = subst (λ t. HasHeard t c.args.seen c.args.moment c.args.slots.now c.next-in-Splitting.result (Splitting c.next-in-Splitting.new.self) c.next-in-Splitting.new.slots) (sym c.in-Splitting.is) (let e = c.next-in-Splitting.ensures in record {
     asked = e.asked;
@@ -131,6 +134,7 @@ returns-in-Splitting c = record {
     made_for = split-kept c.in-Splitting.task c.next-in-Splitting.new.self e.basis;
     merge_for = λ key p m. absurd m;
     small_for = λ key p m. absurd m;
+    few = refl;
     meant = e.meant;
     slots = e.slots;
     begins = λ start silent other. split-begins c.in-Splitting.task c.next-in-Splitting.new.self (hears-start c.args.self.now (Splitting c.in-Splitting.task) c.args.seen c.in-Splitting.is start c.requires.hears) (λ o. e.begins o start);
@@ -148,7 +152,7 @@ returns-in-Splitting c = record {
 }
 
 pub returns-in-SplittingBelow : goal.returns-in-SplittingBelow
-unfolding config_of asks_of end_of left_of swaps_of made_of change_swaps needs_of wants_of change_of publishing_of facts_of means_of ascent_of differs_of makes_no_change look_of kind_of IsMadeFor IsMergeFor IsSmallMerge
+unfolding config_of asks_of end_of left_of swaps_of made_of change_swaps needs_of wants_of change_of publishing_of facts_of means_of ascent_of differs_of makes_no_change leaves_few_of look_of kind_of IsMadeFor IsMergeFor IsSmallMerge
 returns-in-SplittingBelow c = record {
   heard = subst (λ t. HasHeard t c.args.seen c.args.moment c.args.slots.now c.next-in-SplittingBelow.result (SplittingBelow c.next-in-SplittingBelow.new.self c.in-SplittingBelow.field-1) c.next-in-SplittingBelow.new.slots) (sym c.in-SplittingBelow.is) (let e = c.next-in-SplittingBelow.ensures in record {
     asked = e.asked;
@@ -165,6 +169,7 @@ returns-in-SplittingBelow c = record {
     made_for = below-kept c.in-SplittingBelow.task c.next-in-SplittingBelow.new.self c.in-SplittingBelow.field-1 e.basis;
     merge_for = λ key p m. absurd m;
     small_for = λ key p m. absurd m;
+    few = refl;
     meant = e.meant;
     slots = e.slots;
     begins = λ start silent other. below-begins c.in-SplittingBelow.task c.next-in-SplittingBelow.new.self (hears-start c.args.self.now (SplittingBelow c.in-SplittingBelow.task c.in-SplittingBelow.field-1) c.args.seen c.in-SplittingBelow.is start c.requires.hears) (λ o. e.begins o start);
@@ -182,7 +187,7 @@ returns-in-SplittingBelow c = record {
 }
 
 pub returns-in-SplittingInner : goal.returns-in-SplittingInner
-unfolding config_of asks_of end_of left_of swaps_of made_of change_swaps needs_of wants_of change_of publishing_of facts_of means_of ascent_of differs_of makes_no_change look_of kind_of IsMadeFor IsMergeFor IsSmallMerge
+unfolding config_of asks_of end_of left_of swaps_of made_of change_swaps needs_of wants_of change_of publishing_of facts_of means_of ascent_of differs_of makes_no_change leaves_few_of look_of kind_of IsMadeFor IsMergeFor IsSmallMerge
 returns-in-SplittingInner c = record {
   heard = subst (λ t. HasHeard t c.args.seen c.args.moment c.args.slots.now c.next-in-SplittingInner.result (SplittingInner c.next-in-SplittingInner.new.self c.in-SplittingInner.field-1) c.next-in-SplittingInner.new.slots) (sym c.in-SplittingInner.is) (let e = c.next-in-SplittingInner.ensures in record {
     asked = e.asked;
@@ -199,6 +204,7 @@ returns-in-SplittingInner c = record {
     made_for = fork-kept c.in-SplittingInner.task c.next-in-SplittingInner.new.self c.in-SplittingInner.field-1 e.basis;
     merge_for = λ key p m. absurd m;
     small_for = λ key p m. absurd m;
+    few = refl;
     meant = e.meant;
     slots = e.slots;
     begins = λ start silent other. fork-begins c.in-SplittingInner.task c.next-in-SplittingInner.new.self (hears-start c.args.self.now (SplittingInner c.in-SplittingInner.task c.in-SplittingInner.field-1) c.args.seen c.in-SplittingInner.is start c.requires.hears) (λ o. e.begins o start);
@@ -216,7 +222,7 @@ returns-in-SplittingInner c = record {
 }
 
 pub returns-in-SplittingInnerRoot : goal.returns-in-SplittingInnerRoot
-unfolding config_of asks_of end_of left_of swaps_of made_of change_swaps needs_of wants_of change_of publishing_of facts_of means_of ascent_of differs_of makes_no_change look_of kind_of IsMadeFor IsMergeFor IsSmallMerge
+unfolding config_of asks_of end_of left_of swaps_of made_of change_swaps needs_of wants_of change_of publishing_of facts_of means_of ascent_of differs_of makes_no_change leaves_few_of look_of kind_of IsMadeFor IsMergeFor IsSmallMerge
 returns-in-SplittingInnerRoot c = record {
   heard = subst (λ t. HasHeard t c.args.seen c.args.moment c.args.slots.now c.next-in-SplittingInnerRoot.result (SplittingInnerRoot c.next-in-SplittingInnerRoot.new.self c.in-SplittingInnerRoot.field-1) c.next-in-SplittingInnerRoot.new.slots) (sym c.in-SplittingInnerRoot.is) (let e = c.next-in-SplittingInnerRoot.ensures in record {
     asked = e.asked;
@@ -233,6 +239,7 @@ returns-in-SplittingInnerRoot c = record {
     made_for = crown-kept c.in-SplittingInnerRoot.task c.next-in-SplittingInnerRoot.new.self c.in-SplittingInnerRoot.field-1 e.basis;
     merge_for = λ key p m. absurd m;
     small_for = λ key p m. absurd m;
+    few = refl;
     meant = e.meant;
     slots = e.slots;
     begins = λ start silent other. crown-begins c.in-SplittingInnerRoot.task c.next-in-SplittingInnerRoot.new.self (hears-start c.args.self.now (SplittingInnerRoot c.in-SplittingInnerRoot.task c.in-SplittingInnerRoot.field-1) c.args.seen c.in-SplittingInnerRoot.is start c.requires.hears) (λ o. e.begins o start);
@@ -250,7 +257,7 @@ returns-in-SplittingInnerRoot c = record {
 }
 
 pub returns-in-Merging : goal.returns-in-Merging
-unfolding config_of asks_of end_of left_of swaps_of made_of change_swaps needs_of wants_of change_of publishing_of facts_of means_of ascent_of differs_of makes_no_change look_of kind_of IsMadeFor IsMergeFor IsSmallMerge
+unfolding config_of asks_of end_of left_of swaps_of made_of change_swaps needs_of wants_of change_of publishing_of facts_of means_of ascent_of differs_of makes_no_change leaves_few_of look_of kind_of IsMadeFor IsMergeFor IsSmallMerge
 returns-in-Merging c = record {
   heard = subst (λ t. HasHeard t c.args.seen c.args.moment c.args.slots.now c.next-in-Merging.result (Merging c.next-in-Merging.new.self) c.next-in-Merging.new.slots) (sym c.in-Merging.is) (let e = c.next-in-Merging.ensures in record {
     asked = e.asked;
@@ -267,6 +274,7 @@ returns-in-Merging c = record {
     made_for = λ key words p m. absurd m;
     merge_for = merge-kept c.in-Merging.task c.next-in-Merging.new.self e.basis;
     small_for = small-kept c.in-Merging.task c.next-in-Merging.new.self e.basis;
+    few = refl;
     meant = e.meant;
     slots = e.slots;
     begins = λ start silent other. merge-begins c.in-Merging.task c.next-in-Merging.new.self (hears-start c.args.self.now (Merging c.in-Merging.task) c.args.seen c.in-Merging.is start c.requires.hears) (λ o. e.begins o start);
@@ -284,7 +292,7 @@ returns-in-Merging c = record {
 }
 
 pub returns-in-Seeking-clause-heard : goal.returns-in-Seeking-clause-heard
-unfolding config_of asks_of end_of left_of swaps_of made_of change_swaps needs_of wants_of change_of publishing_of facts_of means_of ascent_of differs_of makes_no_change kind_of IsMadeFor IsMergeFor IsSmallMerge
+unfolding config_of asks_of end_of left_of swaps_of made_of change_swaps needs_of wants_of change_of publishing_of facts_of means_of ascent_of differs_of makes_no_change leaves_few_of kind_of IsMadeFor IsMergeFor IsSmallMerge
 returns-in-Seeking-clause-heard c = subst (λ t. HasHeard t c.args.seen c.args.moment c.args.slots.now c.next.result (Seeking c.next.new.self) c.next.new.slots) (sym c.in-Seeking.is) (let e = c.next.ensures in record {
   asked = e.asked;
   nearer = e.nearer;
@@ -300,6 +308,7 @@ returns-in-Seeking-clause-heard c = subst (λ t. HasHeard t c.args.seen c.args.m
   made_for = λ key words p m. absurd m;
   merge_for = λ key p m. absurd m;
   small_for = λ key p m. absurd m;
+  few = refl;
   meant = e.meant;
   slots = e.slots;
   begins = λ start silent other. seek-begins c.next.new.self (λ o. e.begins o start);
@@ -315,7 +324,7 @@ returns-in-Seeking-clause-heard c = subst (λ t. HasHeard t c.args.seen c.args.m
 })
 
 pub returns-in-Finding-clause-heard : goal.returns-in-Finding-clause-heard
-unfolding config_of asks_of end_of left_of swaps_of made_of change_swaps needs_of wants_of change_of publishing_of facts_of means_of ascent_of differs_of makes_no_change kind_of IsMadeFor IsMergeFor IsSmallMerge
+unfolding config_of asks_of end_of left_of swaps_of made_of change_swaps needs_of wants_of change_of publishing_of facts_of means_of ascent_of differs_of makes_no_change leaves_few_of kind_of IsMadeFor IsMergeFor IsSmallMerge
 returns-in-Finding-clause-heard c = subst (λ t. HasHeard t c.args.seen c.args.moment c.args.slots.now c.next-in-Finding.result (Finding c.next-in-Finding.new.self) c.next-in-Finding.new.slots) (sym c.in-Finding.is) (let e = c.next-in-Finding.ensures in record {
   asked = e.asked;
   nearer = e.nearer;
@@ -331,6 +340,7 @@ returns-in-Finding-clause-heard c = subst (λ t. HasHeard t c.args.seen c.args.m
   made_for = λ key words p m. absurd m;
   merge_for = λ key p m. absurd m;
   small_for = λ key p m. absurd m;
+  few = refl;
   meant = e.meant;
   slots = e.slots;
   begins = λ start silent other. absurd (other refl);
@@ -346,7 +356,7 @@ returns-in-Finding-clause-heard c = subst (λ t. HasHeard t c.args.seen c.args.m
 })
 
 pub returns-in-Reading-clause-heard : goal.returns-in-Reading-clause-heard
-unfolding config_of asks_of end_of left_of swaps_of made_of change_swaps needs_of wants_of change_of publishing_of facts_of means_of ascent_of differs_of makes_no_change kind_of IsMadeFor IsMergeFor IsSmallMerge
+unfolding config_of asks_of end_of left_of swaps_of made_of change_swaps needs_of wants_of change_of publishing_of facts_of means_of ascent_of differs_of makes_no_change leaves_few_of kind_of IsMadeFor IsMergeFor IsSmallMerge
 returns-in-Reading-clause-heard c = subst (λ t. HasHeard t c.args.seen c.args.moment c.args.slots.now c.next-in-Reading.result (Reading c.next-in-Reading.new.self) c.next-in-Reading.new.slots) (sym c.in-Reading.is) (let e = c.next-in-Reading.ensures in record {
   asked = e.asked;
   nearer = e.nearer;
@@ -362,6 +372,7 @@ returns-in-Reading-clause-heard c = subst (λ t. HasHeard t c.args.seen c.args.m
   made_for = λ key words p m. absurd m;
   merge_for = λ key p m. absurd m;
   small_for = λ key p m. absurd m;
+  few = refl;
   meant = e.meant;
   slots = e.slots;
   begins = λ start silent other. leaf-begins c.next-in-Reading.new.self (λ o. e.begins o start);
@@ -377,7 +388,7 @@ returns-in-Reading-clause-heard c = subst (λ t. HasHeard t c.args.seen c.args.m
 })
 
 pub returns-in-Deleting-clause-heard : goal.returns-in-Deleting-clause-heard
-unfolding config_of asks_of end_of left_of swaps_of made_of change_swaps needs_of wants_of change_of publishing_of facts_of means_of ascent_of differs_of makes_no_change kind_of IsMadeFor IsMergeFor IsSmallMerge
+unfolding config_of asks_of end_of left_of swaps_of made_of change_swaps needs_of wants_of change_of publishing_of facts_of means_of ascent_of differs_of makes_no_change leaves_few_of kind_of IsMadeFor IsMergeFor IsSmallMerge
 returns-in-Deleting-clause-heard c = subst (λ t. HasHeard t c.args.seen c.args.moment c.args.slots.now c.next-in-Deleting.result (Deleting c.next-in-Deleting.new.self) c.next-in-Deleting.new.slots) (sym c.in-Deleting.is) (let e = c.next-in-Deleting.ensures in record {
   asked = e.asked;
   nearer = e.nearer;
@@ -393,6 +404,7 @@ returns-in-Deleting-clause-heard c = subst (λ t. HasHeard t c.args.seen c.args.
   made_for = λ key words p m. absurd m;
   merge_for = λ key p m. absurd m;
   small_for = λ key p m. absurd m;
+  few = few-kept c.in-Deleting.task c.next-in-Deleting.new.self e.change e.basis;
   meant = e.meant;
   slots = e.slots;
   begins = λ start silent other. absurd (cc);
@@ -408,7 +420,7 @@ returns-in-Deleting-clause-heard c = subst (λ t. HasHeard t c.args.seen c.args.
 })
 
 pub returns-in-Freezing-clause-heard : goal.returns-in-Freezing-clause-heard
-unfolding config_of asks_of end_of left_of swaps_of made_of change_swaps needs_of wants_of change_of publishing_of facts_of means_of ascent_of differs_of makes_no_change kind_of IsMadeFor IsMergeFor IsSmallMerge
+unfolding config_of asks_of end_of left_of swaps_of made_of change_swaps needs_of wants_of change_of publishing_of facts_of means_of ascent_of differs_of makes_no_change leaves_few_of kind_of IsMadeFor IsMergeFor IsSmallMerge
 returns-in-Freezing-clause-heard c = subst (λ t. HasHeard t c.args.seen c.args.moment c.args.slots.now c.next-in-Freezing.result (Freezing c.next-in-Freezing.new.self) c.next-in-Freezing.new.slots) (sym c.in-Freezing.is) (let e = c.next-in-Freezing.ensures in record {
   asked = e.asked;
   nearer = e.nearer;
@@ -424,6 +436,7 @@ returns-in-Freezing-clause-heard c = subst (λ t. HasHeard t c.args.seen c.args.
   made_for = freeze-kept c.in-Freezing.task c.next-in-Freezing.new.self e.basis;
   merge_for = λ key p m. absurd m;
   small_for = λ key p m. absurd m;
+  few = refl;
   meant = e.meant;
   slots = e.slots;
   begins = λ start silent other. freeze-begins c.next-in-Freezing.new.self.phase (λ o. e.begins o start);
