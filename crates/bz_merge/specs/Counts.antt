@@ -4,10 +4,11 @@ use Rattle.bz_layout.specs.declared.sizes.TheConstants.{STATUS_AT}
 use Rattle.bz_word.specs.Statuses.{status}
 use Rattle.bz_merge.specs.Plans.{Merging}
 use Rattle.bz_merge.specs.declared.phase.Phase.{Phase}
-use Rattle.bz_merge.specs.declared.phase.Phase.TheVariants.{FreezeBeside, Guard, Store, Flush, Swap, Done, Restart, NoNeighbour, NoSlot, NoSwap}
+use Rattle.bz_merge.specs.declared.phase.Phase.TheVariants.{FreezeBeside, Guard, Store, Flush, Swap, Done, Restart, NoSlot, NoSwap}
 
--- the freeze of the viewed leaf, that of the neighbour, and the swap of the link to the parent: all three up to the first, and none once
--- it has ended. A leaf that was frozen when it was read is passed over
+-- the freeze of the viewed leaf, that of the neighbour, and the swap of the link to the parent: all three up to the first, also where it ends
+-- because no neighbour has room, which is told before any freeze; and none once it has ended in another way. A leaf that was frozen when it
+-- was read is passed over
 abbrev pub merge_swaps : Phase → ℕ
 merge_swaps FreezeBeside = 2
 merge_swaps Guard = 1
@@ -16,7 +17,6 @@ merge_swaps (Flush j) = 1
 merge_swaps Swap = 1
 merge_swaps Done = 0
 merge_swaps Restart = 0
-merge_swaps NoNeighbour = 0
 merge_swaps NoSlot = 0
 merge_swaps NoSwap = 0
 merge_swaps phase = 3

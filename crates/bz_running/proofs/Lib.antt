@@ -6,5 +6,6 @@ mod Counting
 mod LookingUp
 mod Made
 mod Beginning
+mod Lacking
 mod Ends
 mod Going

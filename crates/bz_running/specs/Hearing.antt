@@ -17,7 +17,7 @@ use Rattle.bz_task.specs.declared.todo.Todo.TheVariants.{Finish}
 use Rattle.bz_task.specs.declared.view.KeyView.{KeyView}
 use Rattle.bz_task.specs.declared.view.LeafView.{LeafView}
 use Rattle.bz_running.specs.Duties.{config_of, asks_of, end_of, left_of, swaps_of, made_of, change_swaps, needs_of, wants_of, change_of, publishing_of, ascent_of, facts_of, means_of, differs_of, makes_no_change, leaves_few_of}
-use Rattle.bz_running.specs.Kinds.{Find, kind_of}
+use Rattle.bz_running.specs.Kinds.{Find, Merge, kind_of}
 use Rattle.bz_running.specs.MadeFor.{IsMadeFor, IsMergeFor, IsSmallMerge}
 use Rattle.bz_running.specs.declared.running.AnyTask.{AnyTask}
 
@@ -63,4 +63,6 @@ pub record HasHeard (old : AnyTask) (seen : Seen) (moment : ℕ) (free : FreeSlo
   pub no_swap : seen ≡ NoSwap → end_of new ≡ Some (outcome.Full Swaps)
   pub full_swaps : end_of new ≡ Some (outcome.Full Swaps) → seen ≡ NoSwap
   pub full_nodes : end_of new ≡ Some (outcome.Full Nodes) → length free.free < needs_of old
+  -- a merge that ends because no neighbour has room has frozen nothing: none of its swaps has taken effect
+  pub no_neighbour : kind_of old ≡ Merge → end_of new ≡ Some outcome.NeedsRoom → made_of old + effects_in seen ≡ 0
   pub learns : (stage : Stage) (s : Scene) → s.past.now ≡ moment → s.past.config ≡ config_of old → IsScene s → (0 < needs_of old → AreUnreached s free) → facts_of old stage s → Tells (asks_of old) stage seen s → facts_of new Waiting (gained s free left)

@@ -1,4 +1,5 @@
 use Rattle.std.proofs.Common.{sym, subst, refl, ap}
+use Rattle.bz_task.specs.Requests.{Hears}
 use Rattle.bz_running.specs.Duties.{config_of, asks_of, end_of, left_of, swaps_of, made_of, change_swaps, needs_of, wants_of, change_of, publishing_of, facts_of, means_of, ascent_of, differs_of, makes_no_change, leaves_few_of}
 use Rattle.bz_running.specs.Hearing.{HasHeard}
 use Rattle.bz_running.specs.Kinds.{kind_of}
@@ -8,6 +9,7 @@ use Rattle.bz_running.specs.declared.running.AnyTask.TheVariants.{Seeking, Findi
 use Rattle.bz_running.proofs.Ascending.{meant-so}
 use Rattle.bz_running.proofs.Beginning.{hears-start, copy-begins, split-begins, below-begins, fork-begins, crown-begins, merge-begins, seek-begins, leaf-begins, freeze-begins}
 use Rattle.bz_running.proofs.Counting.{seek-counts, find-counts, none-counts}
+use Rattle.bz_running.proofs.Lacking.{merge-lacks}
 use Rattle.bz_running.proofs.Made.{freeze-kept, copy-kept, split-kept, below-kept, fork-kept, crown-kept, merge-kept, small-kept, few-kept}
 use Rattle.bz_running.proofs.running.AnyTask.hear.Goals as goal
 
@@ -41,6 +43,7 @@ returns-in-Inserting c = record {
     no_swap = e.no_swap;
     full_swaps = e.full_swaps;
     full_nodes = e.full_nodes;
+    no_neighbour = λ is lacks. absurd (cc);
     learns = e.learns;
   });
   counts = none-counts c.args.self.now (Inserting c.next-in-Inserting.new.self) c.next-in-Inserting.result (ap look_of c.in-Inserting.is) refl;
@@ -76,6 +79,7 @@ returns-in-Updating c = record {
     no_swap = e.no_swap;
     full_swaps = e.full_swaps;
     full_nodes = e.full_nodes;
+    no_neighbour = λ is lacks. absurd (cc);
     learns = e.learns;
   });
   counts = none-counts c.args.self.now (Updating c.next-in-Updating.new.self) c.next-in-Updating.result (ap look_of c.in-Updating.is) refl;
@@ -111,6 +115,7 @@ returns-in-Consolidating c = record {
     no_swap = e.no_swap;
     full_swaps = e.full_swaps;
     full_nodes = e.full_nodes;
+    no_neighbour = λ is lacks. absurd (cc);
     learns = e.learns;
   });
   counts = none-counts c.args.self.now (Consolidating c.next-in-Consolidating.new.self) c.next-in-Consolidating.result (ap look_of c.in-Consolidating.is) refl;
@@ -146,6 +151,7 @@ returns-in-Splitting c = record {
     no_swap = e.no_swap;
     full_swaps = e.full_swaps;
     full_nodes = e.full_nodes;
+    no_neighbour = λ is lacks. absurd (cc);
     learns = e.learns;
   });
   counts = none-counts c.args.self.now (Splitting c.next-in-Splitting.new.self) c.next-in-Splitting.result (ap look_of c.in-Splitting.is) refl;
@@ -181,6 +187,7 @@ returns-in-SplittingBelow c = record {
     no_swap = e.no_swap;
     full_swaps = e.full_swaps;
     full_nodes = e.full_nodes;
+    no_neighbour = λ is lacks. absurd (cc);
     learns = λ stage s now same good free f tells. (e.learns stage s now same good free f.0 tells, meant-so _ _ _ s e.meant f.1);
   });
   counts = none-counts c.args.self.now (SplittingBelow c.next-in-SplittingBelow.new.self c.in-SplittingBelow.field-1) c.next-in-SplittingBelow.result (ap look_of c.in-SplittingBelow.is) refl;
@@ -216,6 +223,7 @@ returns-in-SplittingInner c = record {
     no_swap = e.no_swap;
     full_swaps = e.full_swaps;
     full_nodes = e.full_nodes;
+    no_neighbour = λ is lacks. absurd (cc);
     learns = λ stage s now same good free f tells. (e.learns stage s now same good free f.0 tells, meant-so _ _ _ s e.meant f.1);
   });
   counts = none-counts c.args.self.now (SplittingInner c.next-in-SplittingInner.new.self c.in-SplittingInner.field-1) c.next-in-SplittingInner.result (ap look_of c.in-SplittingInner.is) refl;
@@ -251,6 +259,7 @@ returns-in-SplittingInnerRoot c = record {
     no_swap = e.no_swap;
     full_swaps = e.full_swaps;
     full_nodes = e.full_nodes;
+    no_neighbour = λ is lacks. absurd (cc);
     learns = λ stage s now same good free f tells. (e.learns stage s now same good free f.0 tells, meant-so _ _ _ s e.meant f.1);
   });
   counts = none-counts c.args.self.now (SplittingInnerRoot c.next-in-SplittingInnerRoot.new.self c.in-SplittingInnerRoot.field-1) c.next-in-SplittingInnerRoot.result (ap look_of c.in-SplittingInnerRoot.is) refl;
@@ -286,6 +295,7 @@ returns-in-Merging c = record {
     no_swap = e.no_swap;
     full_swaps = e.full_swaps;
     full_nodes = e.full_nodes;
+    no_neighbour = λ is lacks. merge-lacks c.in-Merging.task c.next-in-Merging.new.self c.args.seen e.fewer (subst (λ z. Hears (asks_of z) c.args.seen) c.in-Merging.is c.requires.hears) lacks;
     learns = e.learns;
   });
   counts = none-counts c.args.self.now (Merging c.next-in-Merging.new.self) c.next-in-Merging.result (ap look_of c.in-Merging.is) refl;
@@ -320,6 +330,7 @@ returns-in-Seeking-clause-heard c = subst (λ t. HasHeard t c.args.seen c.args.m
   no_swap = e.no_swap;
   full_swaps = e.full_swaps;
   full_nodes = e.full_nodes;
+  no_neighbour = λ is lacks. absurd (cc);
   learns = e.learns;
 })
 
@@ -352,6 +363,7 @@ returns-in-Finding-clause-heard c = subst (λ t. HasHeard t c.args.seen c.args.m
   no_swap = e.no_swap;
   full_swaps = e.full_swaps;
   full_nodes = e.full_nodes;
+  no_neighbour = λ is lacks. absurd (cc);
   learns = e.learns;
 })
 
@@ -384,6 +396,7 @@ returns-in-Reading-clause-heard c = subst (λ t. HasHeard t c.args.seen c.args.m
   no_swap = e.no_swap;
   full_swaps = e.full_swaps;
   full_nodes = e.full_nodes;
+  no_neighbour = λ is lacks. absurd (cc);
   learns = e.learns;
 })
 
@@ -416,6 +429,7 @@ returns-in-Deleting-clause-heard c = subst (λ t. HasHeard t c.args.seen c.args.
   no_swap = e.no_swap;
   full_swaps = e.full_swaps;
   full_nodes = e.full_nodes;
+  no_neighbour = λ is lacks. absurd (cc);
   learns = e.learns;
 })
 
@@ -448,6 +462,7 @@ returns-in-Freezing-clause-heard c = subst (λ t. HasHeard t c.args.seen c.args.
   no_swap = e.no_swap;
   full_swaps = e.full_swaps;
   full_nodes = e.full_nodes;
+  no_neighbour = λ is lacks. absurd (cc);
   learns = e.learns;
 })
 
