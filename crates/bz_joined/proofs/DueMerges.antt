@@ -6,8 +6,10 @@ use Rattle.std.proofs.lemmas.Bool.Decides.{nat_tests}
 use Rattle.bz_layout.specs.declared.config.Config.{Config}
 use Rattle.bz_layout.specs.declared.sizes.TheConstants.{ROOT_AT}
 use Rattle.bz_page.specs.Laws.{IsSaidBy, ViewsSayWhatImagesSay}
-use Rattle.bz_shape.specs.Form.{Fits, Form}
+use Rattle.bz_shape.specs.Form.{Fits, Form, Holds, Stands}
+use Rattle.bz_shape.specs.TreeLaws.{LeavesTileTheKeys}
 use Rattle.bz_shape.specs.View.{View}
+use Rattle.bz_shape.specs.Walk.{IsTree}
 use Rattle.bz_slotted.specs.Page.{page}
 use Rattle.bz_slotted.specs.Readers.{child_of}
 use Rattle.bz_slotted.specs.Records.{live_words}
@@ -78,8 +80,11 @@ module _ (b : Laws) (key : List ℕ) (path : Path) (link : Link) (s : Scene) (go
   good-now : IsGood s.past.config (here s)
   good-now = good.history.good s.past.now good.begun (omega arith)
 
+  tree-now : IsTree (view_in s.past.config (here s).image)
+  tree-now = ((b.formed c (here s).image).0 good-now.form).tree
+
   fits-now : Fits (view_in s.past.config (here s).image) (form_at s.past.config (here s))
-  fits-now = fits v ((b.formed c (here s).image).0 good-now.form).tree
+  fits-now = fits v tree-now
 
   pointer-now : (here s).value ROOT_AT ≡ link.slot + 1
   pointer-now =
@@ -114,6 +119,13 @@ module _ (b : Laws) (key : List ℕ) (path : Path) (link : Link) (s : Scene) (go
     | inl after ↦ absurd (omega (arith, after, place-now, m.within, ap v.count up-now, fits-now.top_one))
     | inr before ↦ absurd (omega (arith, before, place-now))
   ]
+
+  -- and is a leaf
+  pub height-one : LeavesTileTheKeys → (view_in s.past.config (here s).image).height ≡ 1
+  height-one tiles =
+      let h : Holds (form_at s.past.config (here s)) key link.slot = (tiles v tree-now key link.slot).1 leaf-now in
+      let one-down : Stands v fm c.nodes 0 (v.child c.nodes 0) = fits-now.down c.nodes 0 fits-now.top high within in
+      omega (arith, one-down.level, ap fm.level child-now, h.leaf, fits-now.height)
 
 pub roots-have-none : Laws → LoneRootLeavesHaveNoNeighbour
 roots-have-none b key path link s good alone p last one m = no-neighbour b key path link s good alone p last one m

@@ -25,7 +25,9 @@ use Rattle.bz_alone.specs.FromRunning.Duties.{end_of, facts_of, means_of}
 use Rattle.bz_alone.specs.FromRunning.Kinds as kinds
 use Rattle.bz_alone.specs.FromRunning.Kinds.{kind_of}
 use Rattle.bz_alone.specs.FromRunning.MadeFor.{WasLeafOf, WasSmallLeafOf, IsSmallMerge}
-use Rattle.bz_joined.specs.Neighbours.{WasReadBelow, KnowsItsLeaf, LoneMergesTryTheirNeighbours, LoneNeighboursLackRoom, LoneTasksTryTheirNeighbours, MergesKnowTheirLeaf, KnownLeavesStay}
+use Rattle.bz_alone.specs.Alone.{IsAlone}
+use Rattle.bz_alone.specs.Quiet.{IsIn, LonelyTimesAreQuiet}
+use Rattle.bz_joined.specs.Neighbours.{WasReadBelow, KnowsItsLeaf, LoneMergesTryTheirNeighbours, LoneNeighboursLackRoom, LoneTasksTryTheirNeighbours, LoneMergesDoNotLackRoom, MergesKnowTheirLeaf, KnownLeavesStay, NeighboursStand}
 
 -- while it goes on it knows the leaf as it was viewed
 viewed : (r : Plan) (phase : Phase) (s : Scene) → merge_facts r phase Waiting s → merge_end phase ≡ None → IsViewed r.upper r.lower (viewed_leaf r) s.past
@@ -185,3 +187,10 @@ means-so (SplittingInnerRoot t a) s f is e = absurd (cc)
 
 pub tasks-try : LoneNeighboursLackRoom → LoneTasksTryTheirNeighbours
 tasks-try law t key s good f is e alone k m = law key k.upper k.lower k.leaf s good alone k.was k.read (k.means s (means-so t s f is e)) m
+
+-- such a merge had frozen nothing
+pub do-not-lack : LoneTasksTryTheirNeighbours → NeighboursStand → KnownLeavesStay → LonelyTimesAreQuiet → LoneMergesDoNotLackRoom
+do-not-lack try stand stay lonely old new seen moment free left todo key i s h kind good facts alone knows then-it may lacks =
+    let first : IsAlone 0 s.past = subst (λ n. IsAlone n s.past) (h.no_neighbour kind lacks) alone in
+    let now : IsIn s.past.since s.past s.past.now = record { from = good.begun; to = omega arith } in
+    try new key s good facts (h.kind ∙ kind) lacks first (stay.heard old new key s.past knows h.meant) (stand s s.past.since i s.past.now key good (lonely.whole s good first) then-it now may)

@@ -9,5 +9,6 @@ mod Merges
 mod Quiet
 mod Roomy
 mod Single
+mod SmallLeaves
 mod Standing
 mod Swapped

@@ -1,5 +1,6 @@
 -- A leaf that could be merged with a neighbour; and what a merge that ends for want of one tells of that.
 use Rattle.std.specs.Prelude.{◌≡◌, ◌⊎◌, ℕ, ◌+◌, ◌<◌, ◌≤◌, List, Option, Some, None}
+use Rattle.bz_layout.specs.Slots.{FreeSlots}
 use Rattle.bz_layout.specs.declared.config.Config.{Config}
 use Rattle.bz_layout.specs.declared.thresholds.TheConstants.{MERGE_BELOW, SPLIT_ABOVE}
 use Rattle.bz_merge.specs.Duties.{facts_of}
@@ -13,14 +14,18 @@ use Rattle.bz_slotted.specs.Records.{live_words}
 use Rattle.bz_content.specs.Content.{image_of, leaf_in, view_in}
 use Rattle.bz_content.specs.Image.{node}
 use Rattle.bz_content.specs.Resolving.{resolve}
+use Rattle.bz_task.specs.Requests.{effects_in}
 use Rattle.bz_task.specs.Scene.{Past, Scene, Waiting, Continues, IsScene, here}
 use Rattle.bz_task.specs.declared.path.Link.{Link}
 use Rattle.bz_task.specs.declared.todo.Outcome.{Outcome}
 use Rattle.bz_task.specs.declared.todo.Outcome.TheVariants.{NeedsRoom}
+use Rattle.bz_task.specs.declared.todo.Seen.{Seen}
+use Rattle.bz_task.specs.declared.todo.Todo.{Todo}
 use Rattle.bz_stage.specs.Stages.{leaf_page}
 use Rattle.bz_alone.specs.Alone.{IsAlone}
 use Rattle.bz_alone.specs.FromRunning.AnyTask.{AnyTask}
 use Rattle.bz_alone.specs.FromRunning.Duties as any
+use Rattle.bz_alone.specs.FromRunning.Hearing.{HasHeard}
 use Rattle.bz_alone.specs.FromRunning.Kinds as kinds
 use Rattle.bz_alone.specs.FromRunning.MadeFor.{WasLeafOf, IsSmallMerge}
 use Rattle.bz_alone.specs.Quiet.{IsQuietSince, IsIn}
@@ -100,3 +105,11 @@ abbrev pub LoneTasksTryTheirNeighbours : Type 0
 LoneTasksTryTheirNeighbours =
     (t : AnyTask) (key : List ℕ) (s : Scene) → IsScene s → any.facts_of t Waiting s → kinds.kind_of t ≡ kinds.Merge → any.end_of t ≡ Some NeedsRoom → IsAlone 0 s.past →
     KnowsItsLeaf t key s.past → MayBeMerged s.past.config (here s).image key → ⊥
+
+-- and as such a merge has frozen nothing, it does not end so where the key's leaf may be merged, at whichever moment since the look-up began,
+-- and no swap took effect since then but those of the task
+abbrev pub LoneMergesDoNotLackRoom : Type 0
+LoneMergesDoNotLackRoom =
+    (old new : AnyTask) (seen : Seen) (moment : ℕ) (free left : FreeSlots) (todo : Todo) (key : List ℕ) (i : ℕ) (s : Scene) → HasHeard old seen moment free todo new left → kinds.kind_of old ≡ kinds.Merge →
+    IsScene s → any.facts_of new Waiting s → IsAlone (any.made_of old + effects_in seen) s.past → KnowsItsLeaf old key s.past → IsIn s.past.since s.past i → MayBeMerged s.past.config (s.past.at i).image key →
+    any.end_of new ≡ Some NeedsRoom → ⊥

@@ -3,7 +3,8 @@
 ghost use Rattle.bz_joined.specs.Laws.{FreezesBesideKeepTheStage, FreezesBesideKeepTheLeaf, FrozenLeavesAreTheKeys, SmallFreezesLeaveACopy, MergesGiveRoom};
 ghost use Rattle.bz_joined.specs.Lone.{LoneFreezesBesideKeepTheStage, LoneFreezesBesideKeepTheLeaf, LoneOwnFreezesLeaveACopy, MergeSwapsGiveRoom, LoneFreezesFreezeTheLeaf};
 ghost use Rattle.bz_joined.specs.DueMerges.{LoneViewsTellTheLiveWords, LoneRootLeavesHaveNoNeighbour, LoneMergesAreDue};
-ghost use Rattle.bz_joined.specs.Neighbours.{NeighboursStand, LoneNeighboursLackRoom, LoneMergesTryTheirNeighbours, MergesKnowTheirLeaf, KnownLeavesStay, LoneTasksTryTheirNeighbours};
+ghost use Rattle.bz_joined.specs.Neighbours.{NeighboursStand, LoneNeighboursLackRoom, LoneMergesTryTheirNeighbours, MergesKnowTheirLeaf, KnownLeavesStay, LoneTasksTryTheirNeighbours, LoneMergesDoNotLackRoom};
+ghost use Rattle.bz_joined.specs.SmallLeaves.{DeletesTellOfMerges, MergeableLeavesStandBelow, LoneRootLeavesAreTheTree, LoneDeletesTellOfMerges};
 
 use bz_alone::laws as alone;
 pub use bz_alone::laws::{
@@ -21,7 +22,10 @@ pub use bz_rounds::laws::{
 use bz_shape::laws as shape;
 use bz_slotted::laws as slotted;
 use bz_stage::laws as stage;
-pub use bz_tally::laws::leaves_come_and_go;
+use bz_tally::laws as tally;
+pub use bz_tally::laws::{
+    deletes_take_one_record, deletes_tell_few, leaves_come_and_go, merges_count_at_last,
+};
 use bz_task::laws as task;
 
 /// The freeze of a neighbour leaves the stage.
@@ -202,6 +206,16 @@ pub fn lone_tasks_try_their_neighbours()
     lone_neighbours_lack_room();
 }
 
+/// So a merge of a leaf that may be merged does not end for want of a neighbour while its worker is alone.
+pub fn lone_merges_do_not_lack_room()
+    ensures { LoneMergesDoNotLackRoom }
+{
+    lone_tasks_try_their_neighbours();
+    neighbours_stand();
+    known_leaves_stay();
+    alone::lonely_times_are_quiet();
+}
+
 /// A leaf that was viewed has the live words of the view.
 pub fn lone_views_tell_the_live_words()
     ensures { LoneViewsTellTheLiveWords }
@@ -231,4 +245,40 @@ pub fn lone_merges_are_due()
     lone_leaves_are_due();
     lone_views_tell_the_live_words();
     lone_root_leaves_have_no_neighbour();
+}
+
+/// A delete that leaves a leaf which may be merged tells that it leaves little.
+pub fn deletes_tell_of_merges()
+    ensures { DeletesTellOfMerges }
+{
+    tally::deletes_tell_few();
+}
+
+/// A leaf that may be merged is not the root.
+pub fn mergeable_leaves_stand_below()
+    ensures { MergeableLeavesStandBelow }
+{
+    shape::leaves_tile_the_keys();
+}
+
+/// A leaf to which one link leads is the whole tree.
+pub fn lone_root_leaves_are_the_tree()
+    ensures { LoneRootLeavesAreTheTree }
+{
+    alone::read_values_stand();
+    alone::lonely_times_are_quiet();
+    alone::paths_lead_to_leaves();
+    content::well_formed_images_have_no_fault();
+    shape::leaves_tile_the_keys();
+}
+
+/// So a delete that leaves a leaf which may be merged tells that it leaves little, in a leaf below another node.
+pub fn lone_deletes_tell_of_merges()
+    ensures { LoneDeletesTellOfMerges }
+{
+    deletes_tell_of_merges();
+    mergeable_leaves_stand_below();
+    lone_root_leaves_are_the_tree();
+    tally::deletes_take_one_record();
+    content::well_formed_images_have_no_fault();
 }

@@ -9,12 +9,15 @@ use bz_costs::laws as costs;
 pub use bz_costs::laws::{asked_swaps_are_counted, lone_calls_are_affordable};
 use bz_joined::laws as joined;
 pub use bz_joined::laws::{
-    brief_look_ups_go_on, effects_never_fall, gets_are_brief, known_leaves_stay,
-    leaves_come_and_go, lone_ascents_are_below_the_stage, lone_ascents_are_due,
+    brief_look_ups_go_on, deletes_take_one_record, deletes_tell_few, deletes_tell_of_merges,
+    effects_never_fall, gets_are_brief, known_leaves_stay, leaves_come_and_go,
+    lone_ascents_are_below_the_stage, lone_ascents_are_due, lone_deletes_tell_of_merges,
     lone_key_views_tell_the_stage, lone_leaves_are_due, lone_merges_are_due,
-    lone_restarts_are_refusals, lone_tasks_try_their_neighbours, lone_views_tell_the_leaf,
-    lone_views_tell_the_live_words, lone_views_tell_the_stage, loners_go_on, look_ups_are_brief,
-    merges_know_their_leaf, neighbours_stand, own_swaps_are_counted, stages_stand, ways_are_brief,
+    lone_merges_do_not_lack_room, lone_restarts_are_refusals, lone_root_leaves_are_the_tree,
+    lone_tasks_try_their_neighbours, lone_views_tell_the_leaf, lone_views_tell_the_live_words,
+    lone_views_tell_the_stage, loners_go_on, look_ups_are_brief, mergeable_leaves_stand_below,
+    merges_count_at_last, merges_know_their_leaf, neighbours_stand, own_swaps_are_counted,
+    stages_stand, ways_are_brief,
 };
 use bz_rivals::laws as rivals;
 use bz_swap::laws as swap;
