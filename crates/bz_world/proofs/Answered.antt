@@ -54,7 +54,7 @@ use Rattle.bz_world.proofs.LonelyActs.{own-acted, all-acted, reads-now}
 use Rattle.bz_world.proofs.Meant.{call-meant-on}
 use Rattle.bz_world.proofs.Powered.{begun-in, leaves-power}
 use Rattle.bz_world.proofs.Staying.{SameFor, Pays, Takes}
-use Rattle.bz_world.proofs.Quiet.{serves, sees, askable, goes, same-other, same-own, stays, goes-on, answered, quiet-paid, none-pays, none-takes, own-exactly, own-takes}
+use Rattle.bz_world.proofs.Quiet.{serves, sees, askable, goes, same-other, same-own, stays, goes-on, answered, quiet-paid, none-pays, none-takes, own-duly, own-exactly, own-takes}
 
 -- the world with an act made
 abbrev pub acted : Parts → Parts → ℕ → Act → Parts
@@ -121,7 +121,7 @@ module _ (b : StepLaws) (old new : Parts) (w : ℕ) (x : OpenCall) (made : Act) 
         (subst (Pays old.config old.access old.journal (mark_of w made) k.story after old.owners.items (stock_of old) (stock_of old) new.access) (sym same)
         (λ y t steps. subst (λ u. IsPaidIn old.config new.access (mark_of w made ∷ old.journal.past) (stock_of old) w (errand_of y) y.task u no_extra (scene old.config (mark_of w made ∷ old.journal.past) after w t.call_open.look.since t.opened).past)
         (sym (let own : SameFor old.access new.access w = same-own b old new w x made answer k is-worker a e in ap (untold new.access) own.doing ∙ untold-by old.access new.access (doing_of old.access w) own.effects)) (its-paid y t)))
-        (subst (Takes old.config old.access old.journal (mark_of w made) k.story after old.owners.items (stock_of old) (stock_of old) new.access) (sym same) (own-takes b old new w x made answer k is-worker a after refl (same-own b old new w x made answer k is-worker a e)))
+        (subst (Takes old.config old.access old.journal (mark_of w made) k.story after old.owners.items (stock_of old) (stock_of old) new.access) (sym same) (own-takes b old new w x made answer k is-worker a after refl (same-own b old new w x made answer k is-worker a e) (λ y t. (lawful w t.call_open.look.since t.opened (begun-in k.living t.call_open)).continues)))
     | inr ne ↦ others v ne
   ]) (all-acted b old new w x made answer k is-worker a k.story.filled)
 
@@ -150,6 +150,7 @@ module _ (b : StepLaws) (old new : Parts) (w : ℕ) (x : OpenCall) (made : Act) 
     meant = call-meant-on x before.past later.past its.tasked.laws (lawful w its.call_open.look.since its.opened (begun-in k.living its.call_open)).continues its.meant;
     paid = subst (λ u. IsPaidIn old.config new.access (mark_of w made ∷ old.journal.past) (stock_of old) w (errand_of x) x.task u no_extra later.past) effects (its-paid x its);
     exact = own-exactly b old new w x made answer k is-worker a after refl (effects_in what) (answered_in what) effects way x its;
+    merges = own-duly b old new w x made answer k is-worker a after refl (effects_in what) (answered_in what) effects way x its (lawful w its.call_open.look.since its.opened (begun-in k.living its.call_open)).continues;
   })
 
   -- a read answers what the address holds

@@ -69,6 +69,7 @@ takes b p w had task m = record {
   paid = task-paid b p w m.reads.on task m.reads.on.serving.path had (kind_of task) refl m.tasked.laws m.asks m.made (change-meant p w had task m) (λ quiet merge. absurd (no-merge (kind_of task) m.kind merge)) (change-spares b p w had task m);
   due = λ quiet lonely. inl (m.due lonely);
   exact = m.exact;
+  merges = m.merges;
 }
 
 -- told to begin, it ends in no other way

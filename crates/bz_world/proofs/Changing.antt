@@ -1,5 +1,5 @@
 -- A call that makes its change, in the leaf that was looked into, or has it made anew.
-use Rattle.std.proofs.Common.{◌≡◌, ◌≢◌, ℕ, ◌+◌, ◌<◌, ◌≤◌, true, false, List, arith, refl, sym, ap, subst, ◌∙◌, inl, inr, Option, Some, None}
+use Rattle.std.proofs.Common.{◌≡◌, ◌≢◌, ℕ, ◌+◌, ◌<◌, ◌≤◌, true, false, List, arith, refl, sym, ap, subst, ◌∙◌, inl, inr, Option, Some, None, length}
 use Rattle.std.specs.FinMap.{get}
 use Rattle.std.specs.Prelude.{is_some}
 use Rattle.bz_call.specs.Map.{key_of, Map, apply, apply_at, IsChange}
@@ -7,7 +7,7 @@ use Rattle.bz_call.specs.declared.calls.Call.{Call}
 use Rattle.bz_call.specs.declared.calls.Call.TheVariants as call
 use Rattle.bz_call.specs.declared.replies.Reply.{Reply}
 use Rattle.bz_call.specs.declared.replies.Reply.TheVariants as reply
-use Rattle.bz_content.specs.Content.{content_in}
+use Rattle.bz_content.specs.Content.{content_in, view_in}
 use Rattle.bz_lone.specs.Errands.{is_read}
 use Rattle.bz_lone.specs.FromAlone.Counts.{HasOthers}
 use Rattle.bz_layout.specs.declared.sizes.TheConstants.{STATUS_AT}
@@ -18,7 +18,8 @@ use Rattle.bz_record.specs.Laws.{IsViewed}
 use Rattle.bz_record.specs.Records.{words_for, LacksRoom}
 use Rattle.bz_running.specs.Duties.{config_of, asks_of, end_of, made_of, swaps_of, change_swaps, wants_of, change_of, facts_of, means_of, makes_no_change}
 use Rattle.bz_running.specs.Hearing.{IsLookup}
-use Rattle.bz_running.specs.Kinds.{kind_of}
+use Rattle.bz_running.specs.Kinds as kinds
+use Rattle.bz_running.specs.Kinds.{kind_of, Kind}
 use Rattle.bz_running.specs.Laws.{AreLaws}
 use Rattle.bz_running.specs.declared.running.AnyTask.{AnyTask}
 use Rattle.bz_running.specs.declared.running.AnyTask.TheVariants.{Inserting, Updating, Deleting}
@@ -35,7 +36,7 @@ use Rattle.bz_sound.specs.Power.Growth.{LoadsAreSettled}
 use Rattle.bz_story.specs.Laws.{ScenesAreSeen}
 use Rattle.bz_task.specs.Good.{IsGood}
 use Rattle.bz_task.specs.Instant.{durable}
-use Rattle.bz_task.specs.Outcomes.{payload_of, IsView, IsKeyView}
+use Rattle.bz_task.specs.Outcomes.{payload_of, IsView, IsKeyView, IsPath}
 use Rattle.bz_task.specs.Scene.{Scene, IsScene, Waiting}
 use Rattle.bz_task.specs.Swaps.{Change}
 use Rattle.bz_task.specs.declared.path.Path.{Path}
@@ -47,9 +48,9 @@ use Rattle.bz_task.specs.declared.view.KeyView.{KeyView}
 use Rattle.bz_task.specs.declared.view.LeafView.{LeafView}
 use Rattle.bz_word.specs.Statuses.{status}
 use Rattle.bz_world.specs.Inside.Due.{IsDue}
-use Rattle.bz_world.specs.Inside.Exact.{puts, reach_idle}
+use Rattle.bz_world.specs.Inside.Exact.{puts, reach_idle, seeks}
 use Rattle.bz_world.specs.Inside.Going.{MustGoOn, MustAnswer, MustAnswerKey, MustChange, IsChangeKind, MayInsert, MayUpdate, known}
-use Rattle.bz_world.specs.Inside.Laws.{AloneLaws, AnswerLaws}
+use Rattle.bz_world.specs.Inside.Laws.{AloneLaws, AnswerLaws, HasEnd}
 use Rattle.bz_world.specs.Inside.Room.{LacksRoomFor}
 use Rattle.bz_world.specs.Inside.Paid.{stock_of}
 use Rattle.bz_world.specs.Inside.Serving.{IsChangeFor, IsToldBy, NeedsAtLeast, effect_reply, tells_of}
@@ -64,6 +65,8 @@ use Rattle.bz_world.proofs.SlotsFor.{least-slots, merge-slots, split-slots}
 use Rattle.bz_world.proofs.Endings.{is_change, changes}
 use Rattle.bz_world.proofs.Spared.{lacks-stage}
 use Rattle.bz_world.proofs.TakingOn.{known-scene}
+use Rattle.bz_world.proofs.StruckEnough.{delete-swaps}
+use Rattle.std.proofs.lemmas.Bool.{true≢false}
 
 abbrev quiet-by : (o : Option ℕ) → o ≡ None → is_some o ≡ false
 quiet-by o e = ap is_some e
@@ -216,7 +219,7 @@ module _ (settled : LoadsAreSettled) (alone : LonelyCallsAreAlone) (p : Parts) (
   change-due had new found change = subst (λ (map : Map). IsChange (apply map m.on.serving.call).reply) still-so (subst (λ (o : Option (List ℕ)). IsChange (apply_at o map_then m.on.serving.call).reply) (sym (gets-what-was-found ∙ found)) (changes-map m.on.serving.call had new map_then change))
 
 -- a task that was not begun yet has not ended
-fresh-goes : (task : AnyTask) → AreLaws task → asks_of task ≡ None → end_of task ≡ None
+pub fresh-goes : (task : AnyTask) → AreLaws task → asks_of task ≡ None → end_of task ≡ None
 fresh-goes task laws asks = none-ended (end_of task) (λ some. let both : None ≡ Some Finish = sym asks ∙ laws.only some in cc both)
 
 -- what makes the change, by as many swaps as the reply will tell
@@ -225,12 +228,28 @@ pub record IsPutBy (task : AnyTask) (told : Reply) : Type 0 where
   pub tells : change_swaps task ≡ swaps_told told
   pub few : swaps_of task ≤ change_swaps task
 
+-- what makes a change looks nothing up
+put-seeks : (k : Kind) → puts k ≡ true → seeks k ≡ true → ⊥
+put-seeks kinds.Seek put seek = true≢false (sym put)
+put-seeks kinds.Find put seek = true≢false (sym put)
+put-seeks k put seek = true≢false (sym seek)
+
+-- where one link leads to its leaf, which was looked up while no other call was open, the tree was a leaf when that look-up began
+low-then : AloneLaws → (p : Parts) (w : ℕ) {view : KeyView} (m : MustAnswerKey p w view) → IsLonely w p.journal.past → (path : Path) → HasEnd path → m.on.serving.path ≡ Some path → path.depth ≤ 1 → (view_in p.config ((known p w m.on).past.at (known p w m.on).past.since).image).height ≡ 1
+low-then b p w m lonely path last is few =
+    let alone : HasOthers 0 0 (known p w m.on).past = (m.on.merges lonely).looking m.quiet (ap seeks m.kind) in
+    let good : IsScene (known p w m.on) = known-scene b.scenes p w m.on in
+    let way : IsPath (key_of m.on.serving.call) path (known p w m.on).past = m.leads path is in
+    let still = b.rounds.stand (known p w m.on) (known p w m.on).past.since (known p w m.on).past.since (length p.journal.past) (key_of m.on.serving.call) good (record { since = omega arith; now = good.begun; effects = omega (arith, alone) })
+    (record { from = omega arith; to = good.begun }) (record { from = good.begun; to = omega arith }) in
+    sym still.height ∙ b.rounds.roots (key_of m.on.serving.call) path last.0 (known p w m.on) good (omega (arith, alone)) way last.1 (omega (arith, few, way.some))
+
 -- a task that makes the call's change may be begun, where its key was looked up; it ends for want of room only where the leaf lacks that
 pub must-change : AloneLaws → LonelyCallsAreAlone → (p : Parts) (w : ℕ) (view : KeyView) (m : MustAnswerKey p w view) (key : List ℕ) → key_of m.on.serving.call ≡ key → (task : AnyTask) (had : Option (List ℕ)) → payload_of view.found ≡ had → config_of task ≡ p.config → AreLaws task → IsChangeFor m.on.serving.call had (change_of task)
     → ((way : Option Path) → IsLookup key way task) → asks_of task ≡ None → wants_of task ≡ 0 → 0 < change_swaps task → ((s : Scene) → s.past.config ≡ p.config → s.effected ≡ false → IsScene s → IsKeyView key view s.past → facts_of task Waiting s)
     → IsChangeKind (kind_of task) → made_of task ≡ 0 → ((s : Scene) → means_of task NeedsRoom s → LacksRoomFor m.on.serving.call view.status)
-    → IsPutBy task (effect_reply m.on.serving.call had) → MustChange p w had task
-must-change b alone p w view m key key-is task had found config laws change lookup asks wants swaps facts kind made lacks put = record {
+    → IsPutBy task (effect_reply m.on.serving.call had) → (kind_of task ≡ kinds.Delete → (path : Path) → m.on.serving.path ≡ Some path → HasEnd path) → MustChange p w had task
+must-change b alone p w view m key key-is task had found config laws change lookup asks wants swaps facts kind made lacks put ends = record {
   reads = record { on = m.on; leads = m.leads; quiet = m.quiet; some = m.some; other = λ other get lonely. absurd (subst (λ called. IsChangeOf called had (change_of task).new) get change.is) };
   tasked = record { config = config; laws = laws; lookup = subst (λ k. IsLookup k m.on.serving.path task) (sym key-is) (lookup m.on.serving.path); change = inr change; wayless = λ none other. subst (λ k. IsLookup k other task) (sym key-is) (lookup other) };
   asks = asks;
@@ -244,6 +263,17 @@ must-change b alone p w view m key key-is task had found config laws change look
   silent = not-silent task (changes (kind_of task) kind);
   lacks = λ z means none. lacks-stage m.on.serving.call view.status (known p w m.on) (b.rounds.key_stages (key_of m.on.serving.call) view (known p w m.on) (known-scene b.scenes p w m.on) none m.viewed) (lacks z means);
   due = λ lonely. change-due b.settled alone p w view m lonely had (change_of task).new found change.is;
+  merges = λ lonely. record {
+    looking = λ quiet seek. absurd (put-seeks (kind_of task) put.kind seek);
+    deleting = λ quiet delete going. record {
+      alone = let none : 0 ≡ made_of task + 0 = omega (arith, made) in subst (λ k. HasOthers 0 k (known p w m.on).past) none ((m.on.merges lonely).looking m.quiet (ap seeks m.kind));
+      wants = wants;
+      swaps = omega (arith, put.few, delete-swaps task delete);
+      way = m.some;
+      low = λ path is few. low-then b p w m lonely path (ends delete path is) is few;
+    };
+    merging = λ at is deletes. absurd (cc (m.quiet, is));
+  };
   exact = λ lonely room. (
       let look = only-looked m.on.between.opened (known p w m.on).past (reach_idle p.access) (stock_of p) (tells_of m.on.serving) m.on.serving m.quiet (outcomes.Key view) m.ends.1 (λ e. e) (m.on.exact lonely room) in
       let goes : end_of task ≡ None = fresh-goes task laws asks in

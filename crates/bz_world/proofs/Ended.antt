@@ -17,7 +17,7 @@ use Rattle.bz_sound.specs.Memory.OpenCallLaws.{LeavesRoom}
 use Rattle.bz_sound.specs.Power.Sound.{IsSound}
 use Rattle.bz_story.specs.Laws.{GoesOn, goes_on}
 use Rattle.bz_story.specs.Living.{IsLiving}
-use Rattle.bz_story.specs.Story.{Story}
+use Rattle.bz_story.specs.Story.{scene, Story}
 use Rattle.bz_swap.specs.SwapMemory.{SwapMemory}
 use Rattle.bz_world.specs.Inside.Acted.{IsBetween}
 use Rattle.bz_world.specs.Inside.Beginning.{supply_of}
@@ -44,6 +44,9 @@ use Rattle.bz_world.proofs.LonelyEnds.{ends-briefly}
 use Rattle.bz_world.proofs.Staying.{none-takes-well, slot-stays}
 use Rattle.bz_world.proofs.Tabled.{tabled-plain}
 use Rattle.bz_world.proofs.Unspent.{nothing-taken}
+use Rattle.bz_world.specs.Merges.{MergesFor}
+use Rattle.bz_world.proofs.Merging.{duly-pages}
+use Rattle.bz_world.specs.Inside.Exact.{reach_of}
 
 -- what is known of a worker does not depend on the journal's pages
 slot-pages : (c : Config) (m : SwapMemory) (log : Log) (pages : Pages) (story : Story) (owners : List ℕ) (stock : Stock) (v : ℕ) (slot : Option OpenCall) → IsSlot c m log story owners stock v slot → IsSlot c m (record log { pages = pages }) story owners stock v slot
@@ -63,6 +66,7 @@ slot-pages c m log pages story owners stock v (Some x) h = record {
   paid = h.paid;
   due = h.due;
   exact = λ lonely room. h.exact lonely (record { writes = room.writes; room = room.room; enough = room.enough });
+  merges = λ lonely. duly-pages c log pages h.opened (scene c log.past story v h.call_open.look.since h.opened).past (reach_of m v) stock x (h.merges lonely);
 }
 
 living-pages : (c : Config) (m : SwapMemory) (log : Log) (pages : Pages) (story : Story) → IsLiving c m log story → IsLiving c m (record log { pages = pages }) story
@@ -200,6 +204,7 @@ end-went b p w n reply at m number plain room = record {
       let one : m.on.between.opened ≡ opened = cc both in
       subst (TakesAsTold (begun_with p) (supply_of p)) same (m.told lonely (subst (HadRoom p.config p.journal.start p.journal.past) (sym one) room))
       );
+  merged = λ number moment answer e. (let same : reply ≡ answer = cc e in subst (MergesFor p.config p.journal.start p.journal.past w) same m.merged);
 }
   where
     in-time : length p.journal.past + left_to p.access w + 1 ≤ deadline p.config w p.journal.past → suc (length p.journal.past) ≤ deadline p.config w p.journal.past
@@ -234,6 +239,7 @@ end-page-went b p w n page next at m number place room = record {
   little = λ whole number moment spent e. absurd (cc e);
   unspent = λ number moment answer e tells lonely. nothing-taken b.lonely.alone p w m.on lonely (p.journal.pages ++ p.page ∷ []) (Page (length p.journal.pages) next) at refl m.right;
   exact = λ number moment answer opened e is-open lonely room. (let same : Page page next ≡ answer = cc e in subst (TakesAsTold (begun_with p) (supply_of p)) same tt);
+  merged = λ number moment answer e. (let same : Page page next ≡ answer = cc e in subst (MergesFor p.config p.journal.start p.journal.past w) same tt);
 }
   where
     in-time : length p.journal.past + left_to p.access w + 1 ≤ deadline p.config w p.journal.past → suc (length p.journal.past) ≤ deadline p.config w p.journal.past

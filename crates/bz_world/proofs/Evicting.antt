@@ -16,7 +16,7 @@ use Rattle.bz_sound.specs.Memory.Moments.{image_after}
 use Rattle.bz_sound.specs.Power.Sound.{IsSound}
 use Rattle.bz_story.specs.Laws.{GoesOn, goes_on}
 use Rattle.bz_story.specs.Living.{IsLiving}
-use Rattle.bz_story.specs.Story.{Story}
+use Rattle.bz_story.specs.Story.{scene, Story}
 use Rattle.bz_swap.specs.Effects.{NoneTakesEffect, EffectIs}
 use Rattle.bz_swap.specs.Evictions.{EvictsIn}
 use Rattle.bz_swap.specs.SwapMemory.{SwapMemory, doing_of, memory_words}
@@ -35,11 +35,12 @@ use Rattle.bz_world.proofs.Due.{rightly-on}
 use Rattle.bz_world.proofs.Exact.{exact-on}
 use Rattle.bz_world.proofs.LeavesKept.{passed-leaves}
 use Rattle.bz_world.proofs.LonelyActs.{all-evicted}
-use Rattle.bz_world.proofs.Powered.{is-not-off}
+use Rattle.bz_world.proofs.Powered.{is-not-off, begun-in}
 use Rattle.bz_world.proofs.Owners.{pending-begun}
 use Rattle.bz_world.proofs.Stepped.{unused-by}
 use Rattle.bz_world.proofs.Staying.{SameFor, reach-stays, slot-stays}
 use Rattle.bz_world.proofs.Tabled.{tabled-evicted}
+use Rattle.bz_world.proofs.Merging.{duly-later, still-effects}
 
 effect-in : (phase : Phase) (old new : SwapMemory) (told : Option ℕ) → phase ≢ Recovering → EvictsIn phase old told new → EffectIs old new told
 effect-in Opened old new told ne h = h
@@ -135,6 +136,9 @@ module _ (b : StepLaws) (sees : EvictionsAreSeen) (old new : Parts) (a : ℕ) (k
     rightly = rightly-on old.config old.access.taken new.access.taken old.journal (Evict a) (stock_of old) v y (same v).taken (λ map. refl) (λ l. l) t.due;
     exactly = exact-on old.config old.journal (Evict a) k.story after v t.call_open.look.since t.opened (next_instant new.access (k.story.at (length old.journal.past))) refl t.call_open.look.by_now (omega (arith, t.call_open.look.after_begin, t.call_open.look.by_now)) refl
         (reach_of old.access v) (reach_of new.access v) (stock_of old) (tells_of y) y (reach-stays old.access new.access v (same v)) (λ l. l) t.exact;
+    duly = λ lonely. duly-later old.config old.journal (Evict a) (scene old.config old.journal.past k.story v t.call_open.look.since t.opened).past (scene old.config (Evict a ∷ old.journal.past) after v t.call_open.look.since t.opened).past
+        (b.quiet old.config old.access new.access old.journal k.story (Evict a) v t.call_open.look.since t.opened goes (sees.leaves old.access new.access a None e.eviction) (begun-in k.living t.call_open)).continues t.call_open.look.by_now refl
+        (still-effects k.story after (length old.journal.past) (next_instant new.access (k.story.at (length old.journal.past))) refl refl) b.lone.known (reach_of old.access v) (stock_of old) y t.opened (reach_of new.access v) (reach-stays old.access new.access v (same v)) (t.merges lonely);
   }) (k.workers v)
 
   was : image_after old.journal.start old.journal.past ≡ (k.story.at (length old.journal.past)).image

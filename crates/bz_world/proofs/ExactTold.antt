@@ -25,7 +25,7 @@ use Rattle.bz_world.specs.declared.serving.OpenCall.{OpenCall}
 use Rattle.bz_world.proofs.Exact.{none-ended, seeks-look}
 
 -- a task that has ended is told nothing
-deaf : (what : Seen) → Hears (Some todo.Finish) what → ⊥
+pub deaf : (what : Seen) → Hears (Some todo.Finish) what → ⊥
 deaf seen.Start h = h
 deaf (seen.Read v) h = h
 deaf seen.Stored h = h
@@ -34,7 +34,7 @@ deaf (seen.Swapped won) h = h
 deaf seen.NoSwap h = h
 
 -- what came of a swap is told only where one was asked for, and so is that there is no descriptor
-told-swaps : (o : Option Todo) (what : Seen) → Hears o what → answered_in what ≤ swaps_in o
+pub told-swaps : (o : Option Todo) (what : Seen) → Hears o what → answered_in what ≤ swaps_in o
 told-swaps (Some (todo.Swap entries)) (seen.Swapped won) h = omega arith
 told-swaps o (seen.Swapped won) h = absurd h
 told-swaps o seen.Start h = omega arith
@@ -43,7 +43,7 @@ told-swaps o seen.Stored h = omega arith
 told-swaps o seen.Flushed h = omega arith
 told-swaps o seen.NoSwap h = omega arith
 
-none-left : (o : Option Todo) (what : Seen) → Hears o what → what ≡ seen.NoSwap → swaps_in o ≡ 1
+pub none-left : (o : Option Todo) (what : Seen) → Hears o what → what ≡ seen.NoSwap → swaps_in o ≡ 1
 none-left (Some (todo.Swap entries)) seen.NoSwap h e = refl
 none-left o seen.NoSwap h e = absurd h
 none-left o what h e = absurd (cc e)

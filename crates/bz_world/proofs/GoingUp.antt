@@ -41,7 +41,8 @@ use Rattle.bz_world.proofs.MakingAnew.{renewal-meant}
 use Rattle.bz_world.proofs.Meant.{split-meant}
 use Rattle.bz_world.proofs.Paid.{swaps-write, within-of}
 use Rattle.bz_world.proofs.Spared.{most_in, most-kind, task-paid}
-use Rattle.bz_world.proofs.TakingOn.{known-scene, lookup-taken}
+use Rattle.bz_world.proofs.TakingOn.{known-scene, lookup-taken, duly-other}
+use Rattle.bz_world.specs.Inside.Exact.{seeks}
 
 -- the split of the key's leaf, which has to be split, or of an inner node on the way up from it, where the node stands below another one
 pub record IsOnTheWay (t : AnyTask) (key : List ℕ) (p : Past) : Type 0 where
@@ -197,6 +198,18 @@ module _ (lone : AloneLaws) (p : Parts) (w : ℕ) (task : AnyTask) (m : MustGoUp
     | inr root ↦ absurd (let both : kinds.Merge ≡ kinds.SplitRootNode m.up.above.up = sym merge ∙ root.0 in cc both)
   ]
 
+  pub no-seek : seeks (kind_of task) ≡ true → ⊥
+  no-seek seek = elim m.up.above.kind [
+    | inl node ↦ true≢false (sym seek ∙ ap seeks node.0)
+    | inr root ↦ true≢false (sym seek ∙ ap seeks root.0)
+  ]
+
+  pub no-delete : kind_of task ≡ kinds.Delete → ⊥
+  no-delete delete = elim m.up.above.kind [
+    | inl node ↦ cc (delete, node.0)
+    | inr root ↦ cc (delete, root.0)
+  ]
+
   pub no-find : kind_of task ≢ kinds.Find
   no-find find = elim m.up.above.kind [
     | inl node ↦ absurd (let both : kinds.Find ≡ kinds.SplitNode m.up.above.up = sym find ∙ node.0 in cc both)
@@ -221,3 +234,4 @@ module _ (lone : AloneLaws) (p : Parts) (w : ℕ) (task : AnyTask) (m : MustGoUp
         | inr none ↦ absurd (no-look (looks-only m.ends.on.serving.call (kind_of m.ends.on.serving.task) none.looks))
       ])
       (λ lonely room. absurd (again-ended p w m.ends.on m.ends.quiet NeedsRoom m.ends.end (m.ends.tasked.laws.ends_of NeedsRoom (known p w m.ends.on) (m.ends.tasked.laws.ends (known p w m.ends.on) NeedsRoom m.ends.facts m.ends.end).0) (λ e. e) (λ e. e) lonely room))
+      (duly-other p w m.ends.on task None m.ends.quiet no-seek no-delete)

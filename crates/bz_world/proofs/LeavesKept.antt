@@ -23,6 +23,9 @@ use Rattle.bz_task.specs.Instant.{Instant, is_inside}
 use Rattle.bz_task.specs.Laws.{RangesStay}
 use Rattle.bz_task.specs.Steps.{IsHistory}
 use Rattle.bz_world.specs.Leaves.{leaves_after, LeavesFollow, FollowsTree}
+use Rattle.bz_alone.specs.Trees.{SameTree, TreesStand}
+use Rattle.bz_lone.specs.FromAlone.Quiet.{IsQuietSince}
+use Rattle.bz_task.specs.Scene.{Scene, IsScene, here}
 
 -- a test that says the same on a range passes as many of it
 filter-same : (f g : ℕ → Bool) (a n : ℕ) → ((k : ℕ) → k < a + n → f k ≡ g k) → length (filter f (range_with_len a n)) ≡ length (filter g (range_with_len a n))
@@ -51,6 +54,12 @@ leaf-by false true l n e same = absurd (true≢false e)
 leaves-stay : RangesStay → (c : Config) (at : ℕ → Instant) (first last m : ℕ) → IsHistory c at first last → first ≤ m → m + 1 ≤ last → ((k : ℕ) → is_inside c (at (m + 1)) k ≡ is_inside c (at m) k) → leaves_in c (at (m + 1)).image ≡ leaves_in c (at m).image
 leaves-stay ranges c at first last m history from now same = same-count c (at m).image (at (m + 1)).image (λ k few. leaf-by (is_inside c (at m) k) (is_inside c (at (m + 1)) k) _ _ (same k)
     (λ inside. (ranges c at first last m (m + 1) k history (record { since = from; order = omega arith; until = now }) (λ e. absurd (omega (arith, e, few))) inside (same k ∙ inside)).level))
+
+-- in a time in which no swap takes effect they are as many
+pub leaves-stand : TreesStand → (s : Scene) (m : ℕ) → IsScene s → IsQuietSince m s.past → leaves_in s.past.config (here s).image ≡ leaves_in s.past.config (s.past.at m).image
+leaves-stand trees s m good quiet =
+    let same : SameTree s.past.config (s.past.at m) (here s) = trees s m m s.past.now good quiet (record { from = omega arith; to = quiet.now }) (record { from = quiet.now; to = omega arith }) in
+    same-count s.past.config (s.past.at m).image (here s).image (λ k few. leaf-by (is_inside s.past.config (s.past.at m) k) (is_inside s.past.config (here s) k) _ _ (same.inside k) (λ inside. (same.place k (λ e. absurd (omega (arith, e, few))) inside).level))
 
 -- a mark at which no swap takes effect
 abbrev inside_in : Config → (ℕ → ℕ) → ℕ → Bool

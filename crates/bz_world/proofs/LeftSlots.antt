@@ -143,5 +143,47 @@ pub count-one : (f : ℕ → Bool) (n : ℕ) → 0 < n → f 0 ≡ true → ((j 
 count-one f zero some first fails = absurd (omega (arith, some))
 count-one f (suc n) some first fails = sym (length-filter f (range_with_len 0 (suc n))) ∙ rw first (ap (λ (xs : List ℕ). suc (length xs)) (none-passes f 1 n (λ j above few. fails j above (omega (arith, few)))))
 
+-- numbers that pass one test or the other
+filter-either : (f g : ℕ → Bool) (xs : List ℕ) → length (filter (λ j. f j || g j) xs) ≤ length (filter f xs) + length (filter g xs)
+filter-either f g [] = omega arith
+filter-either f g (x ∷ xs) = by (f x) (g x) (filter-either f g xs)
+  where
+    by : (a b : Bool) → length (filter (λ j. f j || g j) xs) ≤ length (filter f xs) + length (filter g xs)
+        → length (cond (a || b) (x ∷ filter (λ j. f j || g j) xs) (filter (λ j. f j || g j) xs)) ≤ length (cond a (x ∷ filter f xs) (filter f xs)) + length (cond b (x ∷ filter g xs) (filter g xs))
+    by true true l = omega (arith, l)
+    by true false l = omega (arith, l)
+    by false true l = omega (arith, l)
+    by false false l = l
+
+-- a number stands in a range once at most
+filter-one : (x a n : ℕ) → length (filter (λ j. x == j) (range_with_len a n)) ≤ 1
+filter-one x a zero = omega arith
+filter-one x a (suc n) = by (x == a) refl (filter-one x (a + 1) n)
+  where
+    by : (b : Bool) → (x == a) ≡ b → length (filter (λ j. x == j) (range_with_len (a + 1) n)) ≤ 1 → length (cond b (a ∷ filter (λ j. x == j) (range_with_len (a + 1) n)) (filter (λ j. x == j) (range_with_len (a + 1) n))) ≤ 1
+    by true e l = rw (none-passes (λ j. x == j) (a + 1) n (λ j above few. let t : (x == j) ≡ false = grind (arith, nat_tests) in t)) (omega arith)
+    by false e l = l
+
+-- where each number of a range passes or is in the list
+is-covered : (f : ℕ → Bool) (n : ℕ) (xs : List ℕ) → ((j : ℕ) → j < n → is_among xs j ≡ false → f j ≡ true) → n ≤ length xs + length (filter f (range_with_len 0 n))
+is-covered f n [] covers =
+    let all : 0 + length (filter f (range_with_len 0 n)) ≡ n = count-among f 0 n [] (record {
+      rising = λ k within. absurd (omega (arith, within));
+      from = λ j h. absurd (true≢false (sym h));
+      below = λ j h. absurd (true≢false (sym h));
+      fails = λ j h. absurd (true≢false (sym h));
+      all = λ j some few fails. absurd (true≢false (sym (covers j (omega (arith, few)) refl) ∙ fails));
+    }) in
+    omega (arith, all)
+is-covered f n (x ∷ xs) covers = omega (arith, is-covered (λ j. f j || (x == j)) n xs (λ j few out. by j out (f j) (x == j) (covers j few)), filter-either f (λ j. x == j) (range_with_len 0 n), filter-one x 0 n)
+  where
+    by : (j : ℕ) → is_among xs j ≡ false → (a b : Bool) → (b || is_among xs j ≡ false → a ≡ true) → a || b ≡ true
+    by j out true b passes = refl
+    by j out false true passes = refl
+    by j out false false passes = absurd (true≢false (sym (passes out)))
+
+pub count-more : (f : ℕ → Bool) (n : ℕ) (xs : List ℕ) → ((j : ℕ) → j < n → is_among xs j ≡ false → f j ≡ true) → n ≤ length xs + count_by f (range_with_len 0 n)
+count-more f n xs covers = omega (arith, is-covered f n xs covers, length-filter f (range_with_len 0 n))
+
 pub count-left : (f : ℕ → Bool) (a n : ℕ) (xs : List ℕ) → AreLeftOut f a n xs → length xs + count_by f (range_with_len a n) ≡ n
 count-left f a n xs l = ap (λ m. length xs + m) (sym (length-filter f (range_with_len a n))) ∙ count-among f a n xs l

@@ -5,6 +5,12 @@ mod Due
 mod Exact
 mod ExactTold
 mod Exactly
+mod Merging
+mod MergingTold
+mod MergeEnds
+mod MergeStarts
+mod StruckFew
+mod StruckShown
 mod Enough
 mod StruckEnough
 mod Ready

@@ -1,5 +1,5 @@
 -- A leaf that is made anew: the task that does it.
-use Rattle.std.proofs.Common.{◌≡◌, ◌≢◌, ℕ, ◌+◌, if◌then◌else◌, Bool, true, false, List, arith, refl, sym, ap, subst, ◌∙◌, inl, inr, Option, None, is_some}
+use Rattle.std.proofs.Common.{◌≡◌, ◌≢◌, ℕ, suc, ◌+◌, if◌then◌else◌, Bool, true, false, List, arith, refl, sym, ap, subst, ◌∙◌, inl, inr, Option, None, is_some, length}
 use Rattle.std.proofs.lemmas.Bool.{true≢false}
 use Rattle.bz_ascent.specs.declared.ascent.Ascent.{Ascent}
 use Rattle.bz_call.specs.Map.{key_of}
@@ -11,7 +11,7 @@ use Rattle.bz_lone.specs.Meant.{IsMeantFor}
 use Rattle.bz_lone.specs.FromCosts.Resources.{Resource}
 use Rattle.bz_lone.specs.Prices.{Prices, coming, coming_after, coming_to_read, coming_to_write}
 use Rattle.bz_lone.specs.FromRounds.Due.{MayBeMadeAnew}
-use Rattle.bz_running.specs.Duties.{config_of, asks_of, made_of, wants_of, facts_of, makes_no_change}
+use Rattle.bz_running.specs.Duties.{config_of, asks_of, made_of, wants_of, facts_of, makes_no_change, swaps_of}
 use Rattle.bz_running.specs.Hearing.{IsLookup}
 use Rattle.bz_running.specs.Kinds as kinds
 use Rattle.bz_running.specs.Kinds.{Kind, is_renewal, kind_of}
@@ -27,7 +27,7 @@ use Rattle.bz_world.specs.Inside.Due.{IsDueAlone, only_looks}
 use Rattle.bz_world.specs.Inside.Going.{MustGoOn, MustTakeOn, MustRestructure, MustMakeAnew, MustCopy, MustSplit, MustSplitBelow, MustMerge, known, MustAnswer}
 use Rattle.bz_world.specs.Inside.Laws.{AloneLaws, RoundLaws}
 use Rattle.bz_world.specs.Inside.Meant.{IsMeant}
-use Rattle.bz_world.specs.Inside.Paid.{bound_in, errand_of, no_extra, used_in, IsPaidFor, HasToSpare, HasARound}
+use Rattle.bz_world.specs.Inside.Paid.{bound_in, errand_of, no_extra, used_in, IsPaidFor, HasToSpare, HasARound, stock_of}
 use Rattle.bz_world.specs.Inside.Serving.{IsWanted, NeedsAtLeast}
 use Rattle.bz_world.specs.declared.parts.Parts.{Parts}
 use Rattle.bz_world.specs.declared.serving.OpenCall.{OpenCall}
@@ -36,7 +36,13 @@ use Rattle.bz_world.proofs.Due.{page-reads}
 use Rattle.bz_world.proofs.Exactly.{again-kind}
 use Rattle.bz_world.proofs.Paid.{within-of}
 use Rattle.bz_world.proofs.Spared.{most_in, task-paid, writes-look, lacks-write, is-small, is-large, is-lacking}
-use Rattle.bz_world.proofs.TakingOn.{known-scene, lookup-taken, none-wanted}
+use Rattle.bz_world.proofs.TakingOn.{known-scene, lookup-taken, none-wanted, duly-other}
+use Rattle.bz_lone.specs.FromAlone.Counts.{HasOthers}
+use Rattle.bz_layout.specs.declared.swaps.TheConstants.{MERGE_SWAPS}
+use Rattle.bz_world.specs.Inside.Exact.{reach_idle, seeks}
+use Rattle.bz_world.specs.Inside.Merging.{MergesDuly}
+use Rattle.bz_world.proofs.Changing.{fresh-goes}
+use Rattle.bz_world.proofs.MergeStarts.{may-now}
 
 -- of a call that makes a change and has had no effect, this is what may come after a task of some kind
 coming-is : (r : Resource) (q : Prices) (x : OpenCall) (k : Kind) → x.effect ≡ None → is_read x.call ≡ false → coming r q (errand_of x) k ≡ coming_to_write r q (errand_of x) k
@@ -117,18 +123,20 @@ freeze-taken lone p w view m thawed task f lookup wants facts made =
     (renewal-paid lone.rounds p w m.answer.on m.answer.quiet (lacks-write m.answer.on.serving.call view.status m.lacks) task kinds.Freeze f freeze-no-merge (inr (inr made)) (freeze-spares lone p w view m thawed))
     (λ quiet lonely. inl (read-due p w view m.answer (lacks-write m.answer.on.serving.call view.status m.lacks) lonely))
     (λ lonely room. absurd (again-kind p w m.answer.on m.answer.quiet kinds.ReadWhole m.answer.kind refl refl lonely room))
+    (duly-other p w m.answer.on task None m.answer.quiet (λ seek. true≢false (sym seek ∙ ap seeks f.kind)) (λ delete. cc (f.kind, delete)))
 
 -- its copy or its split
-abbrev pub anew-taken : AloneLaws → (p : Parts) (w : ℕ) (path : Path) (view : LeafView) (m : MustMakeAnew p w path view) (task : AnyTask) (k : Kind) → IsFresh p.config task k → k ≢ kinds.Merge → ((way : Option Path) → IsLookup (key_of m.answer.on.serving.call) way task) → (slots : ℕ) → wants_of task ≡ slots → NeedsAtLeast p.config p.journal.start p.journal.past m.answer.on.between.opened slots
+abbrev pub anew-taken : AloneLaws → (p : Parts) (w : ℕ) (path : Path) (view : LeafView) (m : MustMakeAnew p w path view) (task : AnyTask) (k : Kind) → IsFresh p.config task k → k ≢ kinds.Merge → (seeks k ≡ true → ⊥) × (k ≡ kinds.Delete → ⊥) → ((way : Option Path) → IsLookup (key_of m.answer.on.serving.call) way task) → (slots : ℕ) → wants_of task ≡ slots → NeedsAtLeast p.config p.journal.start p.journal.past m.answer.on.between.opened slots
     → ((s : Scene) → s.past.config ≡ p.config → IsScene s → IsPath (key_of m.answer.on.serving.call) path s.past → IsView (key_of m.answer.on.serving.call) view s.past → facts_of task Waiting s) → IsMadeFor task (key_of m.answer.on.serving.call) (words_asked m.answer.on.serving.call) (known p w m.answer.on).past
     → HasToSpare p w m.answer.on.serving (known p w m.answer.on).past (λ r q. most_in r k + coming_to_write r q (errand_of m.answer.on.serving) k) → MustTakeOn p w task None m.answer.on.serving.had None
-anew-taken lone p w path view m task k f other lookup slots wants needs facts made spares =
+anew-taken lone p w path view m task k f other plain lookup slots wants needs facts made spares =
     lookup-taken p w m.answer.on (inl m.answer.quiet) task None None (key_of m.answer.on.serving.call) f.config f.laws f.silent (lookup None) (λ none. lookup) refl f.asks
     (facts (known p w m.answer.on) refl (known-scene lone.scenes p w m.answer.on) m.way m.answer.viewed)
     (λ quiet some. subst (NeedsAtLeast p.config p.journal.start p.journal.past m.answer.on.between.opened) (sym wants) needs) (λ key get lonely. absurd (m.answer.other key get lonely)) (renewal-meant p w m.answer.on m.answer.quiet (lacks-write m.answer.on.serving.call view.status m.lacks) task f.within (λ merge. other (sym f.kind ∙ merge)) (inr (inr made)))
     (renewal-paid lone.rounds p w m.answer.on m.answer.quiet (lacks-write m.answer.on.serving.call view.status m.lacks) task k f other (inr (inr made)) spares)
     (λ quiet lonely. inl (read-due p w view m.answer (lacks-write m.answer.on.serving.call view.status m.lacks) lonely))
     (λ lonely room. absurd (again-kind p w m.answer.on m.answer.quiet kinds.ReadWhole m.answer.kind refl refl lonely room))
+    (duly-other p w m.answer.on task None m.answer.quiet (λ seek. plain.0 (ap seeks (sym f.kind) ∙ seek)) (λ delete. plain.1 (sym f.kind ∙ delete)))
 
 -- its merge with a neighbour
 pub merge-meant : (p : Parts) (w : ℕ) (path : Path) (view : LeafView) (m : MustMerge p w path view) (task : AnyTask) → IsFresh p.config task kinds.Merge → ((key : List ℕ) (q : Past) → IsView key view q → (status view.status).frozen ≡ true → IsMergeFor task key q) → ((key : List ℕ) (q : Past) → IsView key view q → IsSmallMerge task key q) → IsMeant (record m.on.serving { task = task; path = None }) (known p w m.on).past
@@ -141,15 +149,48 @@ merge-meant p w path view m task f for small = record {
   small = λ merge. small (key_of m.on.serving.call) (known p w m.on).past m.viewed;
 }
 
-abbrev pub merge-taken : AloneLaws → (p : Parts) (w : ℕ) (path : Path) (view : LeafView) (m : MustMerge p w path view) (task : AnyTask) → IsFresh p.config task kinds.Merge → ((key : List ℕ) (way : Option Path) → IsLookup key way task) → wants_of task ≡ MERGE_SLOTS
+-- which it may begin where nobody's swap took effect since the effect of its delete: it has a neighbour that fits
+pub merge-duly : AloneLaws → (p : Parts) (w : ℕ) (path : Path) (view : LeafView) (m : MustMerge p w path view) (task : AnyTask) → IsFresh p.config task kinds.Merge → wants_of task ≡ MERGE_SLOTS → swaps_of task ≡ MERGE_SWAPS
+    → ((key : List ℕ) (s : Scene) → s.past.config ≡ p.config → IsScene s → IsPath key path s.past → IsView key view s.past → facts_of task Waiting s) → ((key : List ℕ) (q : Past) → IsView key view q → IsSmallMerge task key q)
+    → MergesDuly p.config p.journal w m.on.between.opened (known p w m.on).past (reach_idle p.access) (stock_of p) (record m.on.serving { task = task; path = None })
+merge-duly lone p w path view m task f wants swaps facts small lonely = record {
+  looking = λ quiet seek. absurd (true≢false (sym seek ∙ ap seeks f.kind));
+  deleting = λ quiet delete going. absurd (cc (f.kind, delete));
+  merging = λ at is deletes. let s = m.stands lonely at is deletes in record {
+    after_begin = s.0.after_begin;
+    by_now = s.0.by_now;
+    merging = λ may. let standing = s.0.standing may in inr (inl (record {
+      kind = f.kind;
+      moment = suc at;
+      after = omega arith;
+      stood = standing.stood;
+      leaves = refl;
+      alone = λ on. let none : 0 ≡ made_of task + 0 = omega (arith, f.made) in subst (λ k. HasOthers 0 k (known p w m.on).past) none (s.1 may);
+      knows = lone.rounds.knows task (key_of m.on.serving.call) (known p w m.on) (known-scene lone.scenes p w m.on) (facts (key_of m.on.serving.call) (known p w m.on) refl (known-scene lone.scenes p w m.on) m.way m.viewed) f.kind (fresh-goes task f.laws f.asks)
+          (small (key_of m.on.serving.call) (known p w m.on).past m.viewed);
+      seen = length p.journal.past;
+      seen_since = m.on.between.call_open.look.by_now;
+      seen_by_now = omega arith;
+      may = may-now lone.scenes lone.rounds.neighbours p w m.on at s.0.after_begin standing.stood may;
+      wants = wants;
+      left = λ some. standing.left;
+      taken = omega (arith, standing.taken, swaps);
+      before = λ few. refl;
+      ends = λ o e. absurd (cc (fresh-goes task f.laws f.asks, e));
+    }));
+  };
+}
+
+abbrev pub merge-taken : AloneLaws → (p : Parts) (w : ℕ) (path : Path) (view : LeafView) (m : MustMerge p w path view) (task : AnyTask) → IsFresh p.config task kinds.Merge → ((key : List ℕ) (way : Option Path) → IsLookup key way task) → wants_of task ≡ MERGE_SLOTS → swaps_of task ≡ MERGE_SWAPS
     → ((key : List ℕ) (s : Scene) → s.past.config ≡ p.config → IsScene s → IsPath key path s.past → IsView key view s.past → facts_of task Waiting s) → ((key : List ℕ) (q : Past) → IsView key view q → (status view.status).frozen ≡ true → IsMergeFor task key q) → ((key : List ℕ) (q : Past) → IsView key view q → IsSmallMerge task key q) → MustTakeOn p w task None m.on.serving.had None
-merge-taken lone p w path view m task f lookup wants facts for small =
+merge-taken lone p w path view m task f lookup wants swaps facts for small =
     lookup-taken p w m.on m.may task None None (key_of m.on.serving.call) f.config f.laws f.silent (lookup (key_of m.on.serving.call) None) (λ none. lookup (key_of m.on.serving.call)) refl f.asks
     (facts (key_of m.on.serving.call) (known p w m.on) refl (known-scene lone.scenes p w m.on) m.way m.viewed)
     (subst (IsWanted p.config p.journal m.on.between.opened) (sym wants) m.wanted) (λ key get lonely. absurd (m.other key get lonely)) (merge-meant p w path view m task f for small)
     (task-paid lone.rounds p w m.on task None m.on.serving.had kinds.Merge f.kind f.laws f.asks f.made (merge-meant p w path view m task f for small) (λ quiet merge. is-small lone p w m.on view m.viewed (m.frozen quiet) (omega (arith, m.small))) m.spares)
     (λ quiet lonely. inl (m.due quiet lonely))
     (λ lonely room. absurd (m.again lonely room))
+    (merge-duly lone p w path view m task f wants swaps facts small)
 
 -- the page that is put together for that is nothing to the world
 abbrev pub anew-pages : (p : Parts) (w : ℕ) (path : Path) (view : LeafView) (pairs : List (List ℕ × List ℕ)) → MustMakeAnew p w path view → MustMakeAnew (record p { page = pairs }) w path view

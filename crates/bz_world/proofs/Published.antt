@@ -1,5 +1,5 @@
 -- The effect of a swap that makes the change of its call: the Effect mark follows.
-use Rattle.std.proofs.Common.{◌≡◌, ◌≢◌, ℕ, suc, ◌+◌, ◌<◌, if◌then◌else◌, Bool, true, false, List, ◌∷◌, length, arith, refl, sym, ap, subst, ◌∙◌, inl, inr, Option, Some, None}
+use Rattle.std.proofs.Common.{◌≡◌, ◌≢◌, ℕ, suc, ◌+◌, ◌<◌, if◌then◌else◌, Bool, true, false, List, ◌∷◌, length, arith, refl, sym, ap, subst, ◌∙◌, inl, inr, Option, Some, None, ◌≤◌}
 use Rattle.std.specs.Prelude.{get_or, is_some, bytes_eq, option_map}
 use Rattle.std.specs.Global.{Vec}
 use Rattle.std.proofs.lemmas.Bool.{cases_eq, true≢false}
@@ -9,7 +9,7 @@ use Rattle.bz_call.specs.declared.calls.Call.TheVariants as call
 use Rattle.bz_content.specs.Content.{content_in}
 use Rattle.bz_layout.specs.declared.config.Config.{Config}
 use Rattle.bz_mark.specs.Log.{Log, with_mark}
-use Rattle.bz_mark.proofs.MomentLaws.{at_moment-before}
+use Rattle.bz_mark.proofs.MomentLaws.{at_moment-before, at_moment-now}
 use Rattle.bz_mark.specs.declared.marks.Mark.{Mark}
 use Rattle.bz_mark.specs.declared.marks.Mark.TheVariants.{Effect}
 use Rattle.bz_running.specs.Duties.{facts_of, publishing_of, change_of, no-change-is-published}
@@ -40,7 +40,7 @@ use Rattle.bz_world.proofs.Alone.{waits-on}
 use Rattle.bz_world.proofs.Due.{flush-lonely}
 use Rattle.bz_world.proofs.Exact.{exact-published, had-room-on}
 use Rattle.bz_world.proofs.Lonely.{now-is}
-use Rattle.bz_world.proofs.StruckEnough.{struck-enough}
+use Rattle.bz_world.proofs.StruckEnough.{struck-enough, takes-away}
 use Rattle.bz_world.proofs.Counting.{pairs-change}
 use Rattle.bz_world.proofs.LeavesKept.{same-leaves}
 use Rattle.bz_world.proofs.LeavesStruck.{struck-leaves}
@@ -54,7 +54,7 @@ use Rattle.bz_task.specs.Instant.{Instant}
 use Rattle.bz_world.specs.Inside.Exact.{HasStood, IsChanging, reach_of, underway}
 use Rattle.bz_world.specs.Roomy.{HadRoom, KeepsEnough}
 use Rattle.bz_world.specs.Inside.Paid.{errand_of, no_extra, stock_of, IsPaidIn}
-use Rattle.bz_world.specs.WorldView.{stepper}
+use Rattle.bz_world.specs.WorldView.{stepper, is_delete}
 use Rattle.bz_world.proofs.Meant.{publishing-kind, publishing-no-merge}
 use Rattle.bz_world.proofs.Paid.{flush-runs, next-is}
 use Rattle.bz_world.proofs.PaidSteps.{less-in, marks-in}
@@ -64,6 +64,15 @@ use Rattle.bz_world.proofs.Striking.{flush-calls, old, kept, w, x, its, owner, b
 use Rattle.bz_world.proofs.LonelyActs.{none-struck}
 use Rattle.bz_world.proofs.StruckQuietly.{image-was, image-is, fault-is, stage-is, its-swap, its-asks, still-does}
 use Rattle.bz_world.proofs.Tabled.{tabled-marked}
+use Rattle.bz_lone.specs.FromJoined.Neighbours.{MayBeMerged}
+use Rattle.bz_running.specs.Kinds as kinds
+use Rattle.bz_running.specs.Kinds.{kind_of}
+use Rattle.bz_sound.specs.Memory.Spent.{count_taken}
+use Rattle.bz_sound.specs.Power.Spent.{count_used}
+use Rattle.bz_sound.specs.Power.Times.{since_on}
+use Rattle.bz_world.specs.Inside.Merging.{HasToMerge, IsDeletingAlone}
+use Rattle.bz_world.proofs.StruckFew.{changes-record, changing-delete, struck-few}
+use Rattle.bz_world.proofs.StruckShown.{shown-taken, shown-used}
 
 -- the reply to a call that makes a change, by what its key had
 reply-of : (called : Call) (had new : Option (List ℕ)) (map : Map) → IsChangeOf called had new → (apply_at had map called).reply ≡ Some (effect_reply called had)
@@ -196,9 +205,9 @@ module _ (b : StrikeLaws) (p : Parts) (s : ℕ) (h : IsStriking p s) (publishes 
       both (Some y) t = serving-stays b.scenes b.stay c p.access p.access with_flush effect_mark (after b p s h) told_story (old b p s h).owners.items (stock_of (old b p s h)) (stock_of (old b p s h)) v y lives (told-leaves v ne)
           (serving-stays b.scenes b.stay c (old b p s h).access p.access log h.mark (kept b p s h).story (after b p s h) (old b p s h).owners.items (stock_of (old b p s h)) (stock_of (old b p s h)) v y (living b p s h) (leaves b p s h v ne) t
           (λ runs. less-in b.paid c p.access with_flush.past (stock_of (old b p s h)) v (errand_of y) y.task (untold p.access (doing_of p.access v)) one_mark (scene c with_flush.past (after b p s h) v t.call_open.look.since t.opened).past (other-paid b p s h v ne y t (flush-runs c v with_flush.past h.flush runs)))
-          (record { rightly = λ quiet lonely. absurd (beside b p s h v ne lonely); exactly = λ lonely room. absurd (beside b p s h v ne lonely) }))
+          (record { rightly = λ quiet lonely. absurd (beside b p s h v ne lonely); exactly = λ lonely room. absurd (beside b p s h v ne lonely); duly = λ lonely. absurd (beside b p s h v ne lonely) }))
           (λ steps. marked v (errand_of y) y.task (untold p.access (doing_of p.access v)) t.call_open.look.since t.opened (begun-in (kept b p s h).living t.call_open) steps (other-paid b p s h v ne y t steps))
-          (record { rightly = λ quiet lonely. absurd (beside b p s h v ne lonely); exactly = λ lonely room. absurd (beside b p s h v ne lonely) })
+          (record { rightly = λ quiet lonely. absurd (beside b p s h v ne lonely); exactly = λ lonely room. absurd (beside b p s h v ne lonely); duly = λ lonely. absurd (beside b p s h v ne lonely) })
 
   -- the call, with its effect
   abbrev effected : Open
@@ -264,6 +273,37 @@ module _ (b : StrikeLaws) (p : Parts) (s : ℕ) (h : IsStriking p s) (publishes 
     enough = subst (λ (z : Instant). KeepsEnough c z.image its-open.call 0) (sym (now-is (after b p s h).at (suc (length log.past)) (next_instant p.access ((after b p s h).at (suc (length log.past)))))) (struck-enough b p s h publishes is-change none-untold room ch);
   }
 
+  -- and a delete that leaves its leaf too small tells so, and all that was taken is shown
+  last-lonely : IsLonely worker (effect_mark ∷ h.mark ∷ log.past) → IsLonely worker (h.mark ∷ log.past)
+  last-lonely lonely = lonely
+
+  to-merge : IsLonely worker (effect_mark ∷ h.mark ∷ log.past) → (at : ℕ) → suc (length log.past) ≡ at → is_delete (x b p s h).call ≡ true
+      → HasToMerge c (with_mark with_flush effect_mark) effected at (scene c (effect_mark ∷ with_flush.past) told_story worker since effected).past (reach_of p.access worker) (stock_of (old b p s h)) with_moment
+  to-merge lonely at is deletes = subst (λ n. HasToMerge c (with_mark with_flush effect_mark) effected n (scene c (effect_mark ∷ with_flush.past) told_story worker since effected).past (reach_of p.access worker) (stock_of (old b p s h)) with_moment) is (record {
+    after_begin = omega (arith, (its b p s h).call_open.look.after_begin, (its b p s h).call_open.look.by_now);
+    by_now = omega arith;
+    merging = λ may. inl (record {
+      standing = record {
+        stood = record { by_now = omega arith; still = refl };
+        taken = subst (λ (past : List Mark). p.access.taken ≤ count_taken c (since_on past)) (sym (at_moment-now (effect_mark ∷ h.mark ∷ log.past))) (shown-taken b p s h (last-lonely lonely) (delete-of deletes));
+        left = subst (λ (past : List Mark). c.nodes ≤ length (old b p s h).slots.free + count_used c log.start past) (sym (at_moment-now (effect_mark ∷ h.mark ∷ log.past))) (shown-used b p s h (last-lonely lonely) (delete-of deletes));
+      };
+      task = inl (record {
+        kind = delete-of deletes;
+        wants = (deleting lonely deletes).wants;
+        few = struck-few b p s h (delete-of deletes) is-change.0 (deleting lonely deletes) none-untold publishes (subst (λ (z : Instant). MayBeMerged c z.image (key_of its-open.call)) (now-is (after b p s h).at (suc (length log.past)) (next_instant p.access ((after b p s h).at (suc (length log.past))))) (subst (λ k. MayBeMerged c (told_story.at (suc (suc (length log.past)))).image k) (ap key_of (sym (its b p s h).call_open.call)) may));
+        waits = λ on. (ap (untold p.access) (still-does b p s h) ∙ ap (λ (z : Bool). if z then 1 else 0) h.takes.effect.done, (deleting lonely deletes).swaps);
+        ends = λ o e. absurd (cc (goes-still b p s h, e));
+      });
+    });
+  })
+    where
+      delete-of : is_delete (x b p s h).call ≡ true → kind_of (x b p s h).task ≡ kinds.Delete
+      delete-of deletes = changing-delete (x b p s h).task (changes-record (x b p s h).task publishes) (takes-away its-open.call (change_of (x b p s h).task).old (change_of (x b p s h).task).new (ap is_delete (its b p s h).call_open.call ∙ deletes) is-change.1)
+
+      deleting : IsLonely worker (effect_mark ∷ h.mark ∷ log.past) → is_delete (x b p s h).call ≡ true → IsDeletingAlone (before b p s h).past (reach_of (old b p s h).access worker) (x b p s h)
+      deleting lonely deletes = ((its b p s h).merges (flush-lonely worker h.mark log.past h.flush lonely)).deleting (sym (its b p s h).call_open.effect ∙ first) (delete-of deletes) (goes-still b p s h)
+
   serves-on : IsServing c p.access (with_mark with_flush effect_mark) told_story (old b p s h).owners.items (stock_of (old b p s h)) worker with_moment
   serves-on = record {
     opened = effected;
@@ -291,6 +331,11 @@ module _ (b : StrikeLaws) (p : Parts) (s : ℕ) (h : IsStriking p s) (publishes 
         (marked worker (errand_of with_moment) (x b p s h).task 1 since effected begun-its steps
         (subst (λ z. IsPaidIn c p.access with_flush.past (stock_of (old b p s h)) worker (effected_by z (errand_of (x b p s h))) (x b p s h).task 1 (λ r. mark_of_effect r z) (later b p s h).past) publishes (own-paid b p s h steps)));
     due = λ quiet lonely. absurd (cc quiet);
+    merges = λ lonely. record {
+      looking = λ quiet seek. absurd (cc quiet);
+      deleting = λ quiet kind going. absurd (cc quiet);
+      merging = λ at is deletes. to-merge lonely at (let same : suc (length log.past) ≡ at = cc is in same) deletes;
+    };
     exact = λ lonely room. exact-published (its b p s h).opened effected (before b p s h).past (scene c (effect_mark ∷ with_flush.past) told_story worker since effected).past (reach_of (old b p s h).access worker) (reach_of p.access worker) (stock_of (old b p s h)) (tells_of (x b p s h)) (x b p s h) with_moment refl (λ none. absurd (cc none))
         h.work.taken (ap underway h.takes.effect.pending) (ap underway (still-does b p s h)) ((its b p s h).tasked.laws.last publishes) (goes-still b p s h) (no-look b p s h) (sym (its b p s h).call_open.effect ∙ first) (stood (room-at-begin room))
         ((its b p s h).exact (flush-lonely worker h.mark log.past h.flush lonely) (room-at-begin room));

@@ -51,6 +51,8 @@ use Rattle.bz_world.specs.Leaves.{LeavesFollow}
 use Rattle.bz_world.proofs.Stepped.{act-tabled, act-taken, act-sound, held}
 use Rattle.bz_world.proofs.Staying.{SameFor, Pays, slot-stays, told-stays, wanted-stays, Takes, none-takes-well}
 use Rattle.bz_world.proofs.ToldActs.{act-avoids, own-avoids}
+use Rattle.bz_world.specs.Inside.Merging.{MergesDuly}
+use Rattle.bz_world.proofs.Merging.{duly-later, still-effects}
 
 -- the call of a worker that serves one is open, so it is one of the workers
 module _ (p : Parts) (k : IsAwake p) (w : ℕ) (x : OpenCall) (is-worker : get_or p.workers.items w None ≡ Some x) where
@@ -184,10 +186,22 @@ module _ (b : StepLaws) (old new : Parts) (w : ℕ) (x : OpenCall) (made : Act) 
       (reach_of old.access w) (reach new.access.taken untold_now way) (stock_of old) (tells_of y) y (reach-same new.access.taken untold_now way old.access.taken (untold old.access (doing_of old.access w)) (underway (doing_of old.access w)) a.step.one.others.taken (sym unheard) (sym under))
       (lonely-act w w old.journal.past made) t.exact
 
-  pub own-takes : (after : Story) → after.at ≡ and_then k.story.at (length old.journal.past) (next_instant new.access (k.story.at (length old.journal.past))) → SameFor old.access new.access w → Takes old.config old.access old.journal (mark_of w made) k.story after old.owners.items (stock_of old) (stock_of old) new.access w
-  own-takes after at same y t = record {
+  -- and the merge that is due as due
+  pub own-duly : (after : Story) → after.at ≡ and_then k.story.at (length old.journal.past) (next_instant new.access (k.story.at (length old.journal.past))) → (untold_now way : ℕ) → untold old.access (doing_of old.access w) ≡ untold_now → underway (doing_of old.access w) ≡ way
+      → (y : OpenCall) (t : IsServing old.config old.access old.journal k.story old.owners.items (stock_of old) w y)
+      → Continues (scene old.config old.journal.past k.story w t.call_open.look.since t.opened).past (scene old.config (mark_of w made ∷ old.journal.past) after w t.call_open.look.since t.opened).past
+      → MergesDuly old.config (with_mark old.journal (mark_of w made)) w t.opened (scene old.config (mark_of w made ∷ old.journal.past) after w t.call_open.look.since t.opened).past (reach new.access.taken untold_now way) (stock_of old) y
+  own-duly after at untold_now way unheard under y t continues lonely = duly-later old.config old.journal (mark_of w made) (scene old.config old.journal.past k.story w t.call_open.look.since t.opened).past (scene old.config (mark_of w made ∷ old.journal.past) after w t.call_open.look.since t.opened).past
+      continues t.call_open.look.by_now refl (still-effects k.story after (length old.journal.past) (next_instant new.access (k.story.at (length old.journal.past))) at refl) b.lone.known (reach_of old.access w) (stock_of old) y t.opened (reach new.access.taken untold_now way)
+      (reach-same new.access.taken untold_now way old.access.taken (untold old.access (doing_of old.access w)) (underway (doing_of old.access w)) a.step.one.others.taken (sym unheard) (sym under)) (t.merges (lonely-act w w old.journal.past made lonely))
+
+  pub own-takes : (after : Story) → after.at ≡ and_then k.story.at (length old.journal.past) (next_instant new.access (k.story.at (length old.journal.past))) → SameFor old.access new.access w
+      → ((y : OpenCall) (t : IsServing old.config old.access old.journal k.story old.owners.items (stock_of old) w y) → Continues (scene old.config old.journal.past k.story w t.call_open.look.since t.opened).past (scene old.config (mark_of w made ∷ old.journal.past) after w t.call_open.look.since t.opened).past)
+      → Takes old.config old.access old.journal (mark_of w made) k.story after old.owners.items (stock_of old) (stock_of old) new.access w
+  own-takes after at same continues y t = record {
     rightly = own-rightly y t;
     exactly = own-exactly after at (untold new.access (doing_of new.access w)) (underway (doing_of new.access w)) (sym (ap (untold new.access) same.doing ∙ untold-by old.access new.access (doing_of old.access w) same.effects)) (sym (ap underway same.doing)) y t;
+    duly = own-duly after at (untold new.access (doing_of new.access w)) (underway (doing_of new.access w)) (sym (ap (untold new.access) same.doing ∙ untold-by old.access new.access (doing_of old.access w) same.effects)) (sym (ap underway same.doing)) y t (continues y t);
   }
 
   -- so what is known of a worker stays, if the mark is a lawful step for it

@@ -19,6 +19,7 @@ use Rattle.bz_task.specs.declared.todo.Todo.{Todo}
 use Rattle.bz_world.specs.Inside.Acted.{IsBetween}
 use Rattle.bz_world.specs.Inside.Alone.{WaitsAlone, untold}
 use Rattle.bz_world.specs.Inside.Exact.{IsExact, underway}
+use Rattle.bz_world.specs.Inside.Merging.{IsDuly}
 use Rattle.bz_world.specs.Inside.Kept.{KeepsNotes, IsAwake}
 use Rattle.bz_world.specs.Inside.Laws.{AloneLaws, BegunLaws, StartLaws}
 use Rattle.bz_world.specs.Inside.Serving.{IsServing, IsDoing, IsSlot, stage_in, tells_of}
@@ -123,6 +124,8 @@ module _ (lone : AloneLaws) (starts : StartsAreSeen) (begun : BegunLaws) (alone 
     meant = m.asking.meant;
     paid = λ steps. subst (λ u. IsPaidIn p.config (started p.access w doing) p.journal.past (stock_of p) w (errand_of m.serving) m.serving.task u no_extra its-scene.past) (sym (none-untold (started p.access w doing) (doing_of (started p.access w doing) w) none)) pays;
     due = between.due;
+    merges = λ lonely. subst (λ r. IsDuly p.config p.journal between.opened its-scene.past r (stock_of p) m.serving) (sym (reach-same (started p.access w doing).taken (untold (started p.access w doing) (doing_of (started p.access w doing) w)) (underway (doing_of (started p.access w doing) w)) p.access.taken 0 0 refl
+        (none-untold (started p.access w doing) (doing_of (started p.access w doing) w) none) (none-underway (doing_of (started p.access w doing) w) none))) (m.asking.merges lonely);
     exact = λ lonely room. subst (λ r. IsExact between.opened its-scene.past r (stock_of p) (tells_of m.serving) m.serving) (sym (reach-same (started p.access w doing).taken (untold (started p.access w doing) (doing_of (started p.access w doing) w)) (underway (doing_of (started p.access w doing) w)) p.access.taken 0 0 refl
         (none-untold (started p.access w doing) (doing_of (started p.access w doing) w) none) (none-underway (doing_of (started p.access w doing) w) none))) (m.asking.exact lonely room);
   }

@@ -35,6 +35,7 @@ use Rattle.bz_world.proofs.Alone.{untold-by, waits-same}
 use Rattle.bz_world.proofs.Exact.{reach-same}
 use Rattle.bz_world.proofs.Meant.{call-meant-on}
 use Rattle.bz_world.proofs.Powered.{looks-on}
+use Rattle.bz_world.specs.Inside.Merging.{MergesDuly}
 
 -- what a worker does is the same in two memories, and so is whether its swap has taken effect
 pub record SameFor (m n : SwapMemory) (v : ℕ) : Type 0 where
@@ -134,13 +135,14 @@ Pays c m log mark story after owners stock more n v = (x : OpenCall) (s : IsServ
 pub record TakesWell (c : Config) (m n : SwapMemory) (log : Log) (mark : Mark) (story after : Story) (owners : List ℕ) (stock more : Stock) (v : ℕ) (x : OpenCall) (s : IsServing c m log story owners stock v x) : Type 0 where
   pub rightly : TakesRightly c n.taken (with_mark log mark) more v x
   pub exactly : CountsExactly c (with_mark log mark) v s.opened (scene c (mark ∷ log.past) after v s.call_open.look.since s.opened).past (reach_of n v) more (tells_of x) x
+  pub duly : MergesDuly c (with_mark log mark) v s.opened (scene c (mark ∷ log.past) after v s.call_open.look.since s.opened).past (reach_of n v) more x
 
 abbrev pub Takes : Config → SwapMemory → Log → Mark → Story → Story → List ℕ → Stock → Stock → SwapMemory → ℕ → Type 0
 Takes c m log mark story after owners stock more n v = (x : OpenCall) (s : IsServing c m log story owners stock v x) → TakesWell c m n log mark story after owners stock more v x s
 
 -- of a call beside which another one is open nothing is to be known
 pub none-takes-well : (c : Config) (m n : SwapMemory) (log : Log) (mark : Mark) (story after : Story) (owners : List ℕ) (stock more : Stock) (v : ℕ) → (IsLonely v (mark ∷ log.past) → ⊥) → Takes c m log mark story after owners stock more n v
-none-takes-well c m n log mark story after owners stock more v never x s = record { rightly = λ quiet lonely. absurd (never lonely); exactly = λ lonely room. absurd (never lonely) }
+none-takes-well c m n log mark story after owners stock more v never x s = record { rightly = λ quiet lonely. absurd (never lonely); exactly = λ lonely room. absurd (never lonely); duly = λ lonely. absurd (never lonely) }
 
 unfoldable pub serving-stays : ScenesAreSeen → EffectsStayOpen → (c : Config) (m n : SwapMemory) (log : Log) (mark : Mark) (story after : Story) (owners : List ℕ) (stock more : Stock) (v : ℕ) (x : OpenCall) → IsLiving c n (with_mark log mark) after → Leaves c m n log mark story after v
     → (s : IsServing c m log story owners stock v x)
@@ -171,6 +173,7 @@ serving-stays seen stay c m n log mark story after owners stock more v x living 
   paid = pays;
   due = takes.rightly;
   exact = takes.exactly;
+  merges = takes.duly;
 }
   where
     since : after.from ≤ s.call_open.look.since
@@ -203,6 +206,7 @@ slot-same c m n log story owners others stock more v (Some x) same well table st
   paid = λ steps. absurd (still steps);
   due = λ quiet lonely. absurd (beside lonely);
   exact = λ lonely room. absurd (beside lonely);
+  merges = λ lonely. absurd (beside lonely);
 }
   where
     doing-by : (m : SwapMemory) (owners others : List ℕ) (v : ℕ) (asked : Todo) → ((s : ℕ) → doing_of m v ≡ Swapping s → slice_index others s ≡ slice_index owners s) → IsDoing m owners v asked → IsDoing m others v asked
@@ -232,4 +236,5 @@ slot-scenes c m log story after owners stock more v (Some x) some same filled st
   paid = λ steps. absurd (still steps);
   due = λ quiet lonely. absurd (beside lonely);
   exact = λ lonely room. absurd (beside lonely);
+  merges = λ lonely. absurd (beside lonely);
 }

@@ -19,7 +19,7 @@ use Rattle.bz_world.specs.Inside.Going.{WentOn}
 use Rattle.bz_world.specs.Inside.Kept.{IsAwake}
 use Rattle.bz_world.specs.Inside.Paid.{begun_with, bound_in, errand_of, stock_of, used_in}
 use Rattle.bz_world.specs.Inside.Serving.{IsServing}
-use Rattle.bz_world.specs.WorldView.{mark_of, stepper, deadline, IsStruck, Spends, EndsFullOfLittle, EndsFullRightly, EndsAsTold, EndsUnspent, GetsBriefly, KeepsSupply, RunsWhole, Steps, GoesOn, flush_of, is_swapping}
+use Rattle.bz_world.specs.WorldView.{mark_of, stepper, deadline, IsStruck, Spends, EndsFullOfLittle, EndsFullRightly, EndsAsTold, EndsUnspent, GetsBriefly, KeepsSupply, RunsWhole, Steps, GoesOn, flush_of, is_swapping, EndsMerged}
 use Rattle.bz_world.specs.declared.answers.Applied.{Applied}
 use Rattle.bz_world.specs.declared.answers.Applied.TheVariants.{Stepped}
 use Rattle.bz_world.specs.declared.parts.Parts.{Parts}
@@ -103,6 +103,7 @@ stepped-on old new w was is some a taken = record {
   little = λ whole n at spent e. absurd (not-longer (End w n (Full spent) at) new.journal.past e);
   unspent = λ n at reply e tells lonely. absurd (not-longer (End w n reply at) new.journal.past e);
   exact = λ n at reply opened e is-open lonely room. absurd (not-longer (End w n reply at) new.journal.past e);
+  merged = λ n at reply e. absurd (not-longer (End w n reply at) new.journal.past e);
 }
   where
     left : length new.slots.free ≡ length old.slots.free
@@ -135,6 +136,7 @@ stepped-through old mid told new w answer was a taken rest fewer few went = reco
   little = λ whole. subst (λ (j : Log). EndsFullOfLittle new.config j w new.journal (begun_with new)) journal (went.little (subst (λ (j : Log). RunsWhole new.config w j.past) (sym journal) whole));
   unspent = subst (EndsUnspent (record old.journal { past = mid.journal.past }) w new.journal (begun_with new)) (sym (shown-on new went.kept.on)) (subst (λ (j : Log). EndsUnspent j w new.journal (begun_with new) (supply_of new)) journal went.unspent);
   exact = subst (EndsAsTold new.config (record old.journal { past = mid.journal.past }) w new.journal (begun_with new)) (sym (shown-on new went.kept.on)) (subst (λ (j : Log). EndsAsTold new.config j w new.journal (begun_with new) (supply_of new)) journal went.exact);
+  merged = subst (λ (j : Log). EndsMerged new.config j w new.journal) journal went.merged;
 }
   where
     journal : told.journal ≡ record old.journal { past = mid.journal.past }

@@ -34,7 +34,7 @@ use Rattle.bz_world.specs.Inside.Paid.{errand_of, no_extra, stock_of, IsPaidIn}
 use Rattle.bz_world.proofs.Meant.{call-meant-on}
 use Rattle.bz_world.proofs.Powered.{begun-in}
 use Rattle.bz_world.proofs.Staying.{covered-stays}
-use Rattle.bz_world.proofs.Quiet.{some-worker, serves, sees, own, goes, same-other, stays, answered, quiet-paid, none-pays, none-takes, own-exactly}
+use Rattle.bz_world.proofs.Quiet.{some-worker, serves, sees, own, goes, same-other, stays, answered, quiet-paid, none-pays, none-takes, own-duly, own-exactly}
 use Rattle.bz_world.proofs.Answered.{no-finish}
 use Rattle.bz_world.proofs.Lonely.{lonely-act}
 use Rattle.bz_world.proofs.LonelyActs.{reads-now}
@@ -100,4 +100,5 @@ module _ (b : StepLaws) (old new : Parts) (w : ℕ) (x : OpenCall) (made : Act) 
       paid = subst (λ u. IsPaidIn old.config new.access (mark_of w made ∷ old.journal.past) (stock_of old) w (errand_of x) x.task u no_extra later.past) (ap (untold old.access) stores)
           (quiet-paid b old new w x made answer k is-worker a after living refl x its (let h : HasBegun old.journal k.story its.call_open.look.since = begun-in k.living its.call_open in record { from = h.from; by_now = omega (arith, h.by_now) }) stored.continues);
       exact = own-exactly b old new w x made answer k is-worker a after refl 0 0 (ap (untold old.access) stores) (ap underway stores) x its;
+      merges = own-duly b old new w x made answer k is-worker a after refl 0 0 (ap (untold old.access) stores) (ap underway stores) x its stored.continues;
     })

@@ -144,7 +144,7 @@ module _ (b : StrikeLaws) (p : Parts) (s : ℕ) (h : IsStriking p s) where
   abbrev pub later : Scene
   later = scene old.config (h.mark ∷ old.journal.past) after w its.call_open.look.since opened
 
-  takes-effect : Takes (publishing_of x.task) (entries_of old.access s) before later
+  pub takes-effect : Takes (publishing_of x.task) (entries_of old.access s) before later
   takes-effect = b.told.own old.config old.access p.access old.journal kept.story h.mark s w its.call_open.look.since its.opened (publishing_of x.task) (change_of x.task) (suc (length old.journal.past)) strikes-it
 
   pub begun : HasBegun (with_mark old.journal h.mark) after its.call_open.look.since

@@ -18,7 +18,7 @@ use Rattle.bz_running.specs.declared.running.AnyTask.TheVariants.{Inserting, Upd
 use Rattle.bz_sight.specs.Effects.{effect_instant}
 use Rattle.bz_sound.specs.Memory.ImageLaws.{IsChangeOf}
 use Rattle.bz_swap.specs.SwapMemory.{entries_of}
-use Rattle.bz_tally.specs.Deletes.{live_of_key, LosesOneRecord}
+use Rattle.bz_lone.specs.FromTally.Deletes.{live_of_key, LosesOneRecord}
 use Rattle.bz_task.specs.Instant.{Instant}
 use Rattle.bz_task.specs.Scene.{here}
 use Rattle.bz_world.specs.Inside.Acted.{IsStriking}
@@ -35,7 +35,7 @@ use Rattle.bz_world.proofs.Ready.{image-then, since-begin}
 use Rattle.bz_world.proofs.Striking.{before, goes-still, its, kept, old, w, x}
 
 -- a call that deletes takes its key away
-takes-away : (called : Call) (had new : Option (List ℕ)) → is_delete called ≡ true → IsChangeOf called had new → new ≡ None
+pub takes-away : (called : Call) (had new : Option (List ℕ)) → is_delete called ≡ true → IsChangeOf called had new → new ≡ None
 takes-away (call.Delete key) None new deletes is = absurd is
 takes-away (call.Delete key) (Some had) new deletes is = is
 takes-away called had new deletes is = absurd (true≢false (sym deletes))
@@ -48,7 +48,7 @@ delete-kind (Updating t) put none = absurd (cc none)
 delete-kind (Deleting t) put none = refl
 delete-kind t put none = absurd (true≢false (sym put))
 
-delete-swaps : (t : AnyTask) → kind_of t ≡ kinds.Delete → change_swaps t ≡ DELETE_SWAPS
+pub delete-swaps : (t : AnyTask) → kind_of t ≡ kinds.Delete → change_swaps t ≡ DELETE_SWAPS
 unfolding kind_of change_swaps
 delete-swaps (Deleting t) is = refl
 delete-swaps t is = absurd (cc is)

@@ -29,11 +29,16 @@ use Rattle.bz_world.specs.Inside.Paid.{errand_of, no_extra, stock_of, IsPaidIn}
 use Rattle.bz_world.proofs.Due.{flush-lonely, flush-map, rightly-on}
 use Rattle.bz_world.proofs.Exact.{exact-struck, had-room-on, puts-change}
 use Rattle.bz_world.proofs.Paid.{flush-runs}
-use Rattle.bz_world.proofs.LeavesStruck.{struck-leaves}
+use Rattle.bz_world.proofs.LeavesStruck.{struck-leaves, own-swap}
 use Rattle.bz_world.proofs.LonelyActs.{none-struck}
 use Rattle.bz_world.proofs.Powered.{looks-on, flush-leaves, free-on}
 use Rattle.bz_world.proofs.Staying.{told-stays, wanted-stays, finishing-stays}
-use Rattle.bz_world.proofs.Striking.{flush-calls, old, kept, w, x, its, owner, before, good, after, living, opened, later, took, struck-alone, struck-meant, own-paid, others, was-image, is-image, no-look}
+use Rattle.bz_world.proofs.Striking.{flush-calls, old, kept, w, x, its, owner, before, good, after, living, opened, later, took, struck-alone, struck-meant, own-paid, others, was-image, is-image, no-look, takes-effect, goes-still}
+use Rattle.bz_world.proofs.Merging.{duly-struck}
+use Rattle.bz_world.proofs.LeavesKept.{leaves-stand}
+use Rattle.bz_world.proofs.Lonely.{now-is}
+use Rattle.bz_lone.specs.FromTally.Leaves.{leaves_in}
+use Rattle.bz_task.specs.Instant.{Instant}
 
 module _ (b : StrikeLaws) (p : Parts) (s : ℕ) (h : IsStriking p s) where
   -- the image before and after it
@@ -97,6 +102,13 @@ module _ (b : StrikeLaws) (p : Parts) (s : ℕ) (h : IsStriking p s) where
     one-more k = others-on (old b p s h).config (old b p s h).journal.past h.mark (kept b p s h).story (after b p s h) (w b p s h) (its b p s h).call_open.look.since (its b p s h).opened (its b p s h).opened
         (effect_instant (old b p s h).config p.access ((kept b p s h).story.at (length (old b p s h).journal.past))) 0 k 0 (k + 1) 1 refl (its b p s h).call_open.look.by_now refl (omega arith)
 
+    -- the memory then
+    abbrev struck_memory : Instant
+    struck_memory = effect_instant (old b p s h).config p.access ((kept b p s h).story.at (length (old b p s h).journal.past))
+
+    struck-now : (after b p s h).at (suc (length (old b p s h).journal.past)) ≡ struck_memory
+    struck-now = now-is (kept b p s h).story.at (length (old b p s h).journal.past) struck_memory
+
     -- the last swap of a change makes it
     earlier : puts (kind_of (x b p s h).task) ≡ true → swaps_of (x b p s h).task ≤ 1 → ⊥
     earlier change few = true≢false (sym ((its b p s h).tasked.laws.publishes_last (entries_of (old b p s h).access s) (puts-change (x b p s h).task change) few its-asks) ∙ silent)
@@ -127,6 +139,15 @@ module _ (b : StrikeLaws) (p : Parts) (s : ℕ) (h : IsStriking p s) where
           (sym (ap (untold p.access) still-does ∙ ap (λ (z : Bool). if z then 1 else 0) h.takes.effect.done))
           (subst (λ z. IsPaidIn (old b p s h).config p.access (h.mark ∷ (old b p s h).journal.past) (stock_of (old b p s h)) (w b p s h) (effected_by z (errand_of (x b p s h))) (x b p s h).task 1 (λ r. mark_of_effect r z) (later b p s h).past) silent (own-paid b p s h steps));
       due = rightly-on (old b p s h).config (old b p s h).access.taken p.access.taken (old b p s h).journal h.mark (stock_of (old b p s h)) (w b p s h) (x b p s h) h.work.taken (flush-map h.mark (old b p s h).journal.past h.flush) (flush-lonely (w b p s h) h.mark (old b p s h).journal.past h.flush) (its b p s h).due;
+      merges = λ lonely. duly-struck (old b p s h).config (old b p s h).journal h.mark (before b p s h).past (scene (old b p s h).config (h.mark ∷ (old b p s h).journal.past) (after b p s h) (w b p s h) (its b p s h).call_open.look.since (its b p s h).opened).past
+          (takes-effect b p s h).continues (its b p s h).call_open.look.by_now refl (ap (λ (z : Instant). z.effects) struck-now) b.known (reach_of (old b p s h).access (w b p s h)) (reach_of p.access (w b p s h)) (stock_of (old b p s h)) (x b p s h)
+          none-yet one-now h.work.taken way-same (goes-still b p s h) (no-look b p s h)
+          (λ merge few. ap (λ (z : Instant). leaves_in (old b p s h).config z.image + 1) struck-now ∙ (b.counts (x b p s h).task (entries_of (old b p s h).access s) (before b p s h) struck_memory (own-swap b p s h) merge).last few)
+          (λ merge more. ap (λ (z : Instant). leaves_in (old b p s h).config z.image) struck-now ∙ (b.counts (x b p s h).task (entries_of (old b p s h).access s) (before b p s h) struck_memory (own-swap b p s h) merge).before more)
+          (its b p s h).opened (λ at m begun after stood. leaves-stand b.trees (scene (old b p s h).config (old b p s h).journal.past (kept b p s h).story (w b p s h) m (its b p s h).opened) m
+          (b.scenes (old b p s h).config (old b p s h).access (old b p s h).journal (kept b p s h).story (w b p s h) m (its b p s h).opened (kept b p s h).living (record { from = omega (arith, (kept b p s h).living.begins (w b p s h) (its b p s h).opened (its b p s h).call_open.is_open, begun, after); by_now = stood.by_now })).scene
+          (record { since = omega arith; now = stood.by_now; effects = stood.still }))
+          ((its b p s h).merges (flush-lonely (w b p s h) h.mark (old b p s h).journal.past h.flush lonely));
       exact = λ lonely room. let had = had-room-on (old b p s h).config (old b p s h).journal h.mark (its b p s h).opened begun-before room in
           exact-struck (its b p s h).opened (before b p s h).past (scene (old b p s h).config (h.mark ∷ (old b p s h).journal.past) (after b p s h) (w b p s h) (its b p s h).call_open.look.since (its b p s h).opened).past
           (reach_of (old b p s h).access (w b p s h)) (reach_of p.access (w b p s h)) (stock_of (old b p s h)) (tells_of (x b p s h)) (x b p s h)

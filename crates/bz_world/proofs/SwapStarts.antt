@@ -40,6 +40,7 @@ use Rattle.bz_world.proofs.Alone.{waits-same}
 use Rattle.bz_world.proofs.AloneStarts.{stands-now, starts-well, well-beside}
 use Rattle.bz_world.proofs.Due.{looks-only, not-lonely}
 use Rattle.bz_world.proofs.Exact.{exact-swaps, still-asks}
+use Rattle.bz_world.proofs.Merging.{duly-swaps}
 use Rattle.bz_world.proofs.Lonely.{in-place, only-own}
 use Rattle.bz_world.proofs.Paid.{swapless}
 use Rattle.bz_world.proofs.Powered.{begun-in}
@@ -164,6 +165,8 @@ module _ (lone : AloneLaws) (starts : StartsAreSeen) (scenes : ScenesAreSeen) (b
       | inl due ↦ inl due
       | inr none ↦ absurd (swapless lone.paid.asked m.serving.task entries m.asking.asks (m.asking.tasked.laws.looks (looks-only m.serving.call (kind_of m.serving.task) none.looks)).swaps)
     ];
+    merges = λ lonely. duly-swaps p.config p.journal its-scene.past (reach_idle p.access) (reach_of new w) (stock_of p) m.serving (omega arith) refl none-yet refl (ap underway does)
+        (still-asks m.serving.task m.asking.tasked.laws (todo.Swap entries) m.asking.asks (λ ends. absurd (cc ends))) (swapless lone.paid.asked m.serving.task entries m.asking.asks) (λ looks. (m.asking.tasked.laws.looks looks).swaps) was.opened (m.asking.merges lonely);
     exact = λ lonely room. exact-swaps was.opened its-scene.past (reach_idle p.access) (reach_of new w) (stock_of p) (tells_of m.serving) m.serving (omega arith) refl none-yet refl (ap underway does)
         (still-asks m.serving.task m.asking.tasked.laws (todo.Swap entries) m.asking.asks (λ ends. absurd (cc ends)))
         (swapless lone.paid.asked m.serving.task entries m.asking.asks) (λ looks. (m.asking.tasked.laws.looks looks).swaps) (m.asking.exact lonely room);
@@ -202,6 +205,7 @@ module _ (lone : AloneLaws) (starts : StartsAreSeen) (scenes : ScenesAreSeen) (b
         meant = h.meant;
         paid = λ steps. absurd (ne (was.steps v steps));
         due = λ quiet lonely. absurd (not-lonely alone w v p.journal.past was.opened was.call_open.is_open ne lonely);
+        merges = λ lonely. absurd (not-lonely alone w v p.journal.past was.opened was.call_open.is_open ne lonely);
         exact = λ lonely room. absurd (not-lonely alone w v p.journal.past was.opened was.call_open.is_open ne lonely);
       }
         where

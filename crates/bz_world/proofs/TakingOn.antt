@@ -1,5 +1,5 @@
 -- A call that gets another task.
-use Rattle.std.proofs.Common.{◌≡◌, ◌≢◌, ◌⊎◌, ◌≤◌, ◌<◌, ◌+◌, ◌-◌, ℕ, Bool, true, false, List, [], length, arith, refl, sym, ap, subst, ◌∙◌, inl, inr, Option, Some, None}
+use Rattle.std.proofs.Common.{◌≡◌, ◌≢◌, ◌⊎◌, ◌≤◌, ◌<◌, ◌+◌, ◌-◌, ℕ, Bool, true, false, List, [], length, arith, refl, sym, ap, subst, ◌∙◌, inl, inr, Option, Some, None, suc}
 use Rattle.std.specs.Prelude.{get_or, IsSome}
 use Rattle.std.specs.Global.{Vec}
 use Rattle.std.specs.Vec.{with_item}
@@ -37,7 +37,7 @@ use Rattle.bz_task.specs.declared.todo.Todo.{Todo}
 use Rattle.bz_task.specs.declared.todo.Todo.TheVariants.{Read, Finish}
 use Rattle.bz_world.specs.Roomy.{HadRoom}
 use Rattle.bz_world.specs.Inside.Acted.{IsBetween, MustTell}
-use Rattle.bz_world.specs.Inside.Going.{MustGoOn, LooksUpAgain, MustLookUp, MustLookUpAs, MustTakeOn, MustRead, MustReadWhole, HasRoomForEnd, taken_for, HadEffect, HasReadAfter, LacksSwap, known, call_in, end_in, path_in, WentOn, MayGoOnIn}
+use Rattle.bz_world.specs.Inside.Going.{MustGoOn, LooksUpAgain, MustLookUp, MustLookUpAs, MustTakeOn, MustRead, MustReadWhole, HasRoomForEnd, taken_for, HadEffect, HasReadAfter, LacksSwap, known, call_in, end_in, path_in, WentOn, MayGoOnIn, StandsForLooking, StoodFor}
 use Rattle.bz_world.specs.Inside.Beginning.{supply_of}
 use Rattle.bz_world.specs.Inside.Due.{TakesRightly, only_looks}
 use Rattle.bz_world.specs.Inside.Exact.{CountsExactly, HasStood, IsExact, reach_idle, seeks}
@@ -62,7 +62,7 @@ use Rattle.std.proofs.lemmas.Bool.{true≢false}
 use Rattle.bz_world.specs.Inside.Laws.{RoundLaws}
 use Rattle.bz_world.specs.Inside.Meant.{IsMeant}
 use Rattle.bz_world.specs.Inside.Paid.{begun_with, bound_in, crowded, errand_of, is_merge, stock_of, used_in, IsPaidFor, HasARoundAs, HasToSpare}
-use Rattle.bz_world.specs.WorldView.{deadline}
+use Rattle.bz_world.specs.WorldView.{deadline, is_delete, EndsMerged}
 use Rattle.bz_world.proofs.Paid.{swaps-write, swapless}
 use Rattle.bz_world.proofs.PaidSteps.{kept-supply, less-in, room-of}
 use Rattle.bz_world.specs.WorldView.{GoesOn, EndsAsTold, EndsFullOfLittle, EndsFullRightly, EndsUnspent, GetsBriefly, RunsWhole}
@@ -80,6 +80,10 @@ use Rattle.bz_world.proofs.Staying.{none-unfilled}
 use Rattle.bz_world.proofs.Supplies.{not-longer}
 use Rattle.bz_world.proofs.Tabled.{tabled-beside}
 use Rattle.bz_task.specs.declared.todo.Seen.{Seen}
+use Rattle.bz_world.specs.Inside.Merging.{looks_on, IsDuly, IsLookingOn, IsStanding, IsTellingFew, MergesDuly}
+use Rattle.bz_lone.specs.FromJoined.Neighbours.{MayBeMerged}
+use Rattle.bz_world.proofs.Merging.{duly-alone, duly-froze}
+use Rattle.bz_world.proofs.MergeEnds.{ended-merged, looks-on-ends}
 
 -- each slot that was taken has been stored into
 pub has-filled : (p : Parts) (w : ℕ) (on : MustGoOn p w) → HasFilled (known p w on)
@@ -98,6 +102,7 @@ must-go-on p w todo m outcome ended lonely = record {
   filled = (m.asking.tasked.laws.ends (scene p.config p.journal.past m.asking.between.story w m.asking.between.call_open.look.since m.asking.between.opened) outcome m.asking.facts ended).1;
   fit = m.asking.meant.fit;
   exact = m.asking.exact;
+  merges = m.asking.merges;
   lonely = lonely;
 }
 
@@ -131,6 +136,7 @@ lacks-told lone p w todo m lacks = record {
         (sym m.asking.tasked.config) m.asking.facts NoSwap refl (λ e. absurd (cc e));
     meant = m.asking.meant;
     exact = m.asking.exact;
+    merges = m.asking.merges;
     paid = less-in lone.paid p.config p.access p.journal.past (stock_of p) w (errand_of m.serving) m.serving.task 0 (λ r. start_takes r todo) (scene p.config p.journal.past m.asking.between.story w m.asking.between.call_open.look.since m.asking.between.opened).past m.asking.paid;
   };
 }
@@ -160,10 +166,19 @@ lacks-swap b p w todo then m lacks q moment free left rest asks told = record {
       (λ look. swapless b.asked m.serving.task lacks.entries (m.asking.asks ∙ ap Some lacks.is) (m.asking.tasked.laws.looks look).swaps));
   told = λ quiet lonely room. full-told asks.asking.between.opened (scene q.config q.journal.past asks.asking.between.story w asks.asking.between.call_open.look.since asks.asking.between.opened).past q.access.taken (stock_of q) asks.serving quiet (heard.heard.no_swap refl)
       (λ looks. swapless b.asked m.serving.task lacks.entries (m.asking.asks ∙ ap Some lacks.is) (m.asking.tasked.laws.looks (seeks-look (kind_of m.serving.task) (sym (ap seeks heard.heard.kind) ∙ looks))).swaps) (asks.asking.exact lonely room);
+  merged = λ at is. ended-merged b.scenes b.trees q w at (must-go-on q w then asks (Full Swaps) (heard.heard.no_swap refl) (λ key get lonely. absurd (lacks-other p w todo then m lacks q moment free left rest asks told key get lonely))) is (Full Swaps) (heard.heard.no_swap refl)
+      (λ full. ap (λ (z : Parts). z.access.taken) rest ∙ (lacks.spent ∙ sym (ap (λ (z : Parts). z.config.swaps) rest)))
+      (λ begun may s. never-full s.task);
 }
   where
     heard : HasTold m.serving NoSwap moment free then asks.serving left
     heard = subst (λ z. HasToldIn z NoSwap moment free then (Some asks.serving) left) m.is (subst (λ z. HasToldIn (get_or p.workers.items w None) NoSwap moment free then z left) asks.is told)
+
+    -- neither a delete that told of its swap ends so, nor what looks on
+    never-full : IsTellingFew (reach_idle q.access) asks.serving ⊎ IsLookingOn (scene q.config q.journal.past asks.asking.between.story w asks.asking.between.call_open.look.since asks.asking.between.opened).past asks.serving → ⊥
+    never-full (inl tells) = cc (tells.ends (Full Swaps) (heard.heard.no_swap refl))
+    never-full (inr look) = looks-on-ends (kind_of asks.serving.task) (Full Swaps) look.looks (asks.asking.tasked.laws.ends_of (Full Swaps) (scene q.config q.journal.past asks.asking.between.story w asks.asking.between.call_open.look.since asks.asking.between.opened)
+        (asks.asking.tasked.laws.ends (scene q.config q.journal.past asks.asking.between.story w asks.asking.between.call_open.look.since asks.asking.between.opened) (Full Swaps) asks.asking.facts (heard.heard.no_swap refl)).0)
 
     -- the descriptor that is asked for was still to be had, by what is promised for the call
     few : p.access.taken - p.taken_then + (start_takes Descriptors todo + weigh Descriptors m.serving.task) + 0 ≤ SWAPS_PER_CALL → p.config.swaps < p.taken_then + SWAPS_PER_CALL
@@ -220,8 +235,22 @@ anew-past p w on = (scene p.config p.journal.past on.between.story w (length p.j
 pub stood-anew : (p : Parts) (w : ℕ) (on : MustGoOn p w) → HasStood on.between.opened (known p w on).past → HasStood on.between.opened (anew-past p w on)
 stood-anew p w on stood = record { at = stood.at; effect = stood.effect; after_begin = stood.after_begin; by_now = stood.by_now; still = stood.still; enough = stood.enough }
 
-abbrev pub looks-anew : (p : Parts) (w : ℕ) (on : MustGoOn p w) → LooksUpAgain p w on → MustGoOn p w
-looks-anew p w on again = record on {
+-- a merge that is due stays due
+still-stands : (p : Parts) (w : ℕ) (on : MustGoOn p w) (at : ℕ) → IsStanding p.config p.journal at (known p w on).past (reach_idle p.access) (stock_of p) → IsStanding p.config p.journal at (anew-past p w on) (reach_idle p.access) (stock_of p)
+still-stands p w on at s = record { stood = record { by_now = s.stood.by_now; still = s.stood.still }; taken = s.taken; left = s.left }
+
+pub duly-anew : (p : Parts) (w : ℕ) (on : MustGoOn p w) → ((at : ℕ) → on.serving.effect ≡ Some at → is_delete on.serving.call ≡ true → StoodFor p w on at × (MayBeMerged p.config ((known p w on).past.at (suc at)).image (key_of on.serving.call) → IsTellingFew (reach_idle p.access) on.serving))
+    → (kind_of on.serving.task ≡ kinds.Delete → end_of on.serving.task ≢ None) → IsDuly p.config p.journal on.between.opened (anew-past p w on) (reach_idle p.access) (stock_of p) on.serving
+duly-anew p w on stands over = record {
+  looking = λ quiet seek. omega arith;
+  deleting = λ quiet kind going. absurd (over kind going);
+  merging = λ at is deletes. let s = stands at is deletes in record { after_begin = s.0.after_begin; by_now = s.0.by_now; merging = λ may. inl (record { standing = still-stands p w on at (s.0.standing may); task = inl (s.1 may) }) };
+}
+
+-- so it goes on
+abbrev pub looks-anew : (p : Parts) (w : ℕ) (on : MustGoOn p w) → LooksUpAgain p w on → StandsForLooking p w on → (kind_of on.serving.task ≡ kinds.Delete → end_of on.serving.task ≢ None) → MustGoOn p w
+looks-anew p w on again stands over = record on {
+  merges = λ lonely. duly-anew p w on (stands lonely) over;
   exact = λ lonely room. exact-anew on.between.opened (known p w on).past (anew-past p w on) (reach_idle p.access) (stock_of p) (tells_of on.serving) on.serving (again lonely room).effected (stood-anew p w on) (omega arith) (on.exact lonely room);
   between = record on.between {
     call_open = record on.between.call_open {
@@ -231,11 +260,20 @@ looks-anew p w on again = record on {
 }
 
 -- so does that of a delete which looks once more at its leaf
-pub look-after : (p : Parts) (w : ℕ) (on : MustGoOn p w) (again : LooksUpAgain p w on) → IsLonely w p.journal.past → HadRoom p.config p.journal.start p.journal.past on.between.opened → (task : AnyTask) → is_look (kind_of task) ≡ true
-    → IsExact on.between.opened (known p w (looks-anew p w on again)).past (reach_idle p.access) (stock_of p) (tells_of on.serving) (record on.serving { task = task; path = None })
-look-after p w on again lonely room task looks =
+pub look-after : (p : Parts) (w : ℕ) (on : MustGoOn p w) (again : LooksUpAgain p w on) (stands : StandsForLooking p w on) (over : kind_of on.serving.task ≡ kinds.Delete → end_of on.serving.task ≢ None) → IsLonely w p.journal.past → HadRoom p.config p.journal.start p.journal.past on.between.opened → (task : AnyTask) → is_look (kind_of task) ≡ true
+    → IsExact on.between.opened (known p w (looks-anew p w on again stands over)).past (reach_idle p.access) (stock_of p) (tells_of on.serving) (record on.serving { task = task; path = None })
+look-after p w on again stands over lonely room task looks =
     let was = again lonely room in
     inr (inr (inr (record { looks = looks; counted = record { effected = was.effected; same_taken = was.same_taken; same_left = was.same_left; stood = stood-anew p w on was.stood }; alone = omega arith })))
+
+-- and its look-up goes on with the merge that is due
+pub duly-looks : (p : Parts) (w : ℕ) (on : MustGoOn p w) (again : LooksUpAgain p w on) (stands : StandsForLooking p w on) (over : kind_of on.serving.task ≡ kinds.Delete → end_of on.serving.task ≢ None) (task : AnyTask) → kind_of task ≡ kinds.Seek
+    → MergesDuly p.config p.journal w on.between.opened (known p w (looks-anew p w on again stands over)).past (reach_idle p.access) (stock_of p) (record on.serving { task = task; path = None })
+duly-looks p w on again stands over task kind lonely = record {
+  looking = λ quiet seek. omega arith;
+  deleting = λ quiet delete going. absurd (cc (kind, delete));
+  merging = λ at is deletes. let s = (stands lonely at is deletes).0 in record { after_begin = s.after_begin; by_now = s.by_now; merging = λ may. inl (record { standing = still-stands p w on at (s.standing may); task = inr (record { looks = ap looks_on kind; alone = omega arith }) }) };
+}
 
 -- a task that takes no slot needs no reason
 pub none-wanted : (p : Parts) (w : ℕ) (on : MustGoOn p w) (task : AnyTask) → wants_of task ≡ 0 → IsWanted p.config p.journal on.between.opened (wants_of task)
@@ -267,8 +305,9 @@ abbrev pub lookup-taken : (p : Parts) (w : ℕ) (on : MustGoOn p w) → MayGoOn 
     → asks_of task ≡ asked → facts_of task Waiting (known p w on) → IsWanted p.config p.journal on.between.opened (wants_of task)
     → WhereLonely p.journal.past w on.serving.call (IsLonelyGet p.access p.journal.past on.between.story w (record on.serving { task = task; path = way }) on.between.opened) → IsMeant (record on.serving { task = task; path = way }) (known p w on).past → IsPaidFor p w (record on.serving { task = task; path = way }) 0 (taken_for asked) (known p w on).past
     → TakesRightly p.config p.access.taken p.journal (stock_of p) w (record on.serving { task = task; path = way }) → CountsExactly p.config p.journal w on.between.opened (known p w on).past (reach_idle p.access) (stock_of p) (tells_of (record on.serving { task = task; path = way })) (record on.serving { task = task; path = way })
+    → MergesDuly p.config p.journal w on.between.opened (known p w on).past (reach_idle p.access) (stock_of p) (record on.serving { task = task; path = way })
     → MustTakeOn p w task way on.serving.had asked
-lookup-taken p w on may task way asked key config laws looks lookup wayless same asks facts wanted lonely meant paid due exact = record {
+lookup-taken p w on may task way asked key config laws looks lookup wayless same asks facts wanted lonely meant paid due exact merges = record {
   on = on;
   may = may;
   tasked = record { config = config; laws = laws; lookup = subst (λ k. IsLookup k way task) same lookup; change = inl looks; wayless = λ none other. subst (λ k. IsLookup k other task) same (wayless none other) };
@@ -280,7 +319,13 @@ lookup-taken p w on may task way asked key config laws looks lookup wayless same
   paid = paid;
   due = due;
   exact = exact;
+  merges = merges;
 }
+
+-- a task of a call without effect that neither looks its key up nor deletes it
+pub duly-other : (p : Parts) (w : ℕ) (on : MustGoOn p w) (task : AnyTask) (way : Option Path) → on.serving.effect ≡ None → (seeks (kind_of task) ≡ true → ⊥) → (kind_of task ≡ kinds.Delete → ⊥)
+    → MergesDuly p.config p.journal w on.between.opened (known p w on).past (reach_idle p.access) (stock_of p) (record on.serving { task = task; path = way })
+duly-other p w on task way quiet seek delete lonely = record { looking = λ none looks. absurd (seek looks); deleting = λ none kind going. absurd (delete kind); merging = λ at is deletes. absurd (cc (quiet, is)) }
 
 -- and one that begins once the change was made needs none either
 pub none-wanted-after : (p : Parts) (w at : ℕ) (had : HadEffect p w at) (wants : ℕ) → IsWanted p.config p.journal had.on.between.opened wants
@@ -301,6 +346,7 @@ said-alone p w on other alone slot is = record {
   filled = on.filled;
   fit = record { words = on.fit.words; thawed = on.fit.thawed };
   lonely = λ key get lonely. absurd (other key get lonely);
+  merges = λ lonely. duly-alone p.config p.journal on.between.opened (known p w on).past (reach_idle p.access) (stock_of p) on.serving alone (on.merges lonely);
   exact = λ lonely room. exact-alone on.between.opened (known p w on).past (reach_idle p.access) (stock_of p) (tells_of on.serving) on.serving alone (on.exact lonely room);
 }
 
@@ -311,6 +357,8 @@ said-may p w m alone merges slot is = record {
   may = m.may;
   other = m.other;
   pays = subst (λ (a : Bool). HasARoundAs p w (record (errand_of m.on.serving) { alone = a }) (known p w m.on).past) (sym merges) m.pays;
+  stands = λ lonely at is deletes. let s = m.stands lonely at is deletes in (assumption s.0, λ may. assumption (s.1 may));
+  over = m.over;
   again = λ lonely room. assumption (m.again lonely room);
 }
 
@@ -325,6 +373,7 @@ said-froze p w on other froze thawed freezes slot is = record {
   filled = on.filled;
   fit = record { words = on.fit.words; thawed = thawed };
   lonely = λ key get lonely. absurd (other key get lonely);
+  merges = λ lonely. duly-froze p.config p.journal on.between.opened (known p w on).past (reach_idle p.access) (stock_of p) on.serving froze (on.merges lonely);
   exact = λ lonely room. exact-froze on.between.opened (known p w on).past (reach_idle p.access) (stock_of p) (tells_of on.serving) on.serving froze (λ f looks. freezes f (seeks-only on.serving.call (kind_of on.serving.task) looks)) (on.exact lonely room);
 }
   where
@@ -345,6 +394,8 @@ froze-may p w m froze freezes slot is = record {
   may = m.may;
   other = m.other;
   pays = subst (λ (f : Bool). HasARoundAs p w (record (errand_of m.on.serving) { froze = f }) (known p w m.on).past) (sym freezes) m.pays;
+  stands = λ lonely at is deletes. let s = m.stands lonely at is deletes in (assumption s.0, λ may. assumption (s.1 may));
+  over = m.over;
   again = λ lonely room. assumption (m.again lonely room);
 }
 
@@ -364,6 +415,7 @@ thawed-read p w path m slot is = record {
   other = m.other;
   look = m.look;
   due = m.due;
+  stands = λ lonely at is deletes. let s = m.stands lonely at is deletes in (assumption s.0, s.1);
   again = λ lonely room. assumption (m.again lonely room);
   spares = λ r counted. thawed-spares r p.access w (errand_of m.on.serving) (used_in r p w) (bound_in r p w) (known p w m.on).past (m.spares r counted);
 }
@@ -409,6 +461,7 @@ module _ (p : Parts) (w : ℕ) (task : AnyTask) (had : Option (List ℕ)) (asked
       alone = record { others = (counts-now lone).0; made = made_of task; counted = (counts-now lone).1; stands = λ ends. absurd (more ends) };
       meant = m.meant;
       exact = m.exact;
+      merges = m.merges;
       paid = subst (λ (o : Option Todo). IsPaidFor p w next 0 (taken_for o) (known p w m.on).past) e m.paid;
     };
   }
@@ -432,6 +485,7 @@ module _ (p : Parts) (w : ℕ) (task : AnyTask) (had : Option (List ℕ)) (asked
       alone = hears-now lone.counted task (known p w m.on) (known-scene lone.scenes p w m.on) (sym m.tasked.config) m.facts Start refl (λ e. absurd (cc e));
       meant = m.meant;
       exact = m.exact;
+      merges = m.merges;
       paid = subst (λ (o : Option Todo). IsPaidFor p w next 0 (taken_for o) (known p w m.on).past) e m.paid;
     };
   }
@@ -514,6 +568,7 @@ told-went old mid w answer new rest fewer few went = record {
   little = λ whole. subst (λ (j : Log). EndsFullOfLittle new.config j w new.journal (begun_with new)) (ap (λ (p : Parts). p.journal) rest) (went.little (subst (λ (j : Log). RunsWhole new.config w j.past) (sym (ap (λ (p : Parts). p.journal) rest)) whole));
   unspent = subst (λ (j : Log). EndsUnspent j w new.journal (begun_with new) (supply_of new)) (ap (λ (p : Parts). p.journal) rest) went.unspent;
   exact = subst (λ (j : Log). EndsAsTold new.config j w new.journal (begun_with new) (supply_of new)) (ap (λ (p : Parts). p.journal) rest) went.exact;
+  merged = subst (λ (j : Log). EndsMerged new.config j w new.journal) (ap (λ (p : Parts). p.journal) rest) went.merged;
   config = went.config ∙ ap (λ (p : Parts). p.config) rest;
   at_start = went.at_start ∙ ap (λ (p : Parts). p.at_start) rest;
   left_out = went.left_out ∙ ap (λ (p : Parts). p.left_out) rest;
@@ -538,6 +593,7 @@ went-anew p workers page w answer new went = record {
   little = went.little;
   unspent = went.unspent;
   exact = went.exact;
+  merged = went.merged;
 }
 
 -- or that started something
@@ -562,6 +618,7 @@ went-started p workers w new kept rest taken others room x here = record {
   supplied = λ whole. kept-supply new kept w x (subst (λ (z : Parts). get_or z.workers.items w None ≡ Some x) (sym rest) here) (subst (λ (j : Log). RunsWhole new.config w j.past) (sym (ap (λ (z : Parts). z.journal) rest)) whole);
   little = λ whole n at spent e. absurd (not-longer (End w n (reply.Full spent) at) p.journal.past (sym (ap (λ (z : Parts). z.journal.past) rest) ∙ e));
   unspent = λ n at answer e tells lonely. absurd (not-longer (End w n answer at) p.journal.past (sym (ap (λ (z : Parts). z.journal.past) rest) ∙ e));
+  merged = λ n at answer e. absurd (not-longer (End w n answer at) p.journal.past (sym (ap (λ (z : Parts). z.journal.past) rest) ∙ e));
   exact = λ n at answer opened e is-open lonely room. absurd (not-longer (End w n answer at) p.journal.past (sym (ap (λ (z : Parts). z.journal.past) rest) ∙ e));
 }
   where

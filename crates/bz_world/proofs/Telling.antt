@@ -21,7 +21,7 @@ use Rattle.bz_story.specs.Story.{Story, scene}
 use Rattle.bz_task.specs.OwnActs.{AreTakenFrom, AreUnreached, gained, is_gained}
 use Rattle.bz_task.specs.Outcomes.{IsPath}
 use Rattle.bz_task.specs.Requests.{effects_in}
-use Rattle.bz_task.specs.Scene.{Scene, Waiting}
+use Rattle.bz_task.specs.Scene.{Scene, Waiting, IsScene}
 use Rattle.bz_task.specs.declared.path.Path.{Path}
 use Rattle.bz_task.specs.declared.todo.Outcome.TheVariants as outcome
 use Rattle.bz_task.specs.declared.todo.Seen.{Seen}
@@ -62,6 +62,8 @@ use Rattle.bz_world.proofs.Staying.{covered-stays, slot-scenes}
 use Rattle.bz_world.proofs.Takings.{covered-taken, may-take, no-more-free, still-free, was-free}
 use Rattle.bz_world.proofs.Tabled.{tabled-beside}
 use Rattle.bz_task.specs.declared.todo.Todo.TheVariants.{Finish}
+use Rattle.bz_world.specs.Inside.Merging.{IsDuly, MergesDuly}
+use Rattle.bz_world.proofs.MergingTold.{duly-told}
 
 -- the slot has a task that was told
 pub record IsNext (x : OpenCall) (seen : Seen) (moment : ℕ) (free : FreeSlots) (todo : Todo) (slot : Option OpenCall) (left : FreeSlots) : Type 0 where
@@ -235,6 +237,18 @@ module _ (scenes : ScenesAreSeen) (slots : SlotsAreTaken) (laws : LonelyLaws) (l
         (λ o e. (scene p.config p.journal.past after w told.between.call_open.look.since told.between.opened, (h.laws.ends (scene p.config p.journal.past after w told.between.call_open.look.since told.between.opened) o facts e).0)) refl
         (λ none. slots-same (needs_of x.task) (needs_of y.task) p.slots left none h.heard.slots) (told.exact lonely room))
 
+    -- and the merge that is due: it does not lack a neighbour, and no slots but for a split
+    good : IsScene (scene p.config p.journal.past after w told.between.call_open.look.since told.between.opened)
+    good = (lone.scenes p.config p.access p.journal after w told.between.call_open.look.since told.between.opened living (record { from = (begun-in told.between.living told.between.call_open).from; by_now = told.between.call_open.look.by_now })).scene
+
+    still-duly : MergesDuly p.config p.journal w told.between.opened here.past (reach_idle p.access) (record (stock_of p) { left = length left.free }) y
+    still-duly lonely = subst (λ (z : OpenCall). IsDuly p.config p.journal told.between.opened here.past (reach_idle p.access) (record (stock_of p) { left = length left.free }) z) (sym h.rest)
+        (duly-told p.config p.journal told.between.opened here.past p.access.taken (stock_of p) x y.task seen (length p.journal.past) p.slots todo left h.heard told.tasked.laws h.laws told.hears told.alone.others told.alone.counted not-again
+        (λ o e. (scene p.config p.journal.past after w told.between.call_open.look.since told.between.opened, (h.laws.ends (scene p.config p.journal.past after w told.between.call_open.look.since told.between.opened) o facts e).0)) refl lone.known
+        (λ e. (h.laws.height (scene p.config p.journal.past after w told.between.call_open.look.since told.between.opened) good facts e).0)
+        (λ kind knows i since by_now may counted e. lone.room x.task y.task seen (length p.journal.past) p.slots left todo (key_of x.call) i (scene p.config p.journal.past after w told.between.call_open.look.since told.between.opened) h.heard kind good facts (omega (arith, counted)) knows
+        (record { from = since; to = by_now }) may e) (told.merges lonely))
+
     pub is-asking : (workers : Vec (Option OpenCall)) → length workers.items ≡ length p.workers.items → ((v : ℕ) → v ≢ w → get_or workers.items v None ≡ get_or p.workers.items v None) → IsAsking (record p { slots = left; workers = workers }) w y todo
     is-asking workers size rest = record {
       between = record {
@@ -269,6 +283,7 @@ module _ (scenes : ScenesAreSeen) (slots : SlotsAreTaken) (laws : LonelyLaws) (l
       meant = still-meant;
       paid = still-paid;
       exact = still-exact;
+      merges = still-duly;
     }
 
   pub must-start : (todo : Todo) (left : FreeSlots) (old slot : Option OpenCall) → old ≡ Some x → HasToldIn old seen (length p.journal.past) p.slots todo slot left → MustStart (record p { slots = left; workers = with_item p.workers w slot }) w todo

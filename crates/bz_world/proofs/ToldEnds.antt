@@ -1,7 +1,7 @@
 -- What a world keeps of what its journal tells of descriptors and slots, from mark to mark.
-use Rattle.std.proofs.Common.{◌≡◌, ◌≢◌, ◌⊎◌, ℕ, zero, suc, ◌+◌, ◌-◌, ◌<◌, ◌≤◌, ◌==◌, ◌||◌, if◌then◌else◌, nat_lt, Bool, true, false, List, [], ◌∷◌, length, arith, refl, sym, ap, subst, ◌∙◌, inl, inr, Option, Some, None}
+use Rattle.std.proofs.Common.{◌≡◌, ◌≢◌, ◌⊎◌, ℕ, ◌+◌, ◌-◌, ◌<◌, ◌≤◌, ◌==◌, ◌||◌, if◌then◌else◌, nat_lt, Bool, true, false, List, [], ◌∷◌, length, arith, refl, sym, ap, subst, ◌∙◌, inl, inr, Option, Some, None}
 use Rattle.std.specs.Prelude.{option_map, MatchOption}
-use Rattle.std.proofs.lemmas.Bool.{cases_eq, true≢false}
+use Rattle.std.proofs.lemmas.Bool.{true≢false}
 use Rattle.std.proofs.lemmas.Bool.Decides.{nat_tests}
 use Rattle.bz_acts.specs.declared.acted.Act.{Act}
 use Rattle.bz_acts.specs.declared.acted.Act.TheVariants as act
@@ -19,10 +19,11 @@ use Rattle.bz_sound.specs.Power.Times.{power_of}
 use Rattle.bz_sound.specs.declared.power.Power.{Power}
 use Rattle.bz_sound.specs.declared.power.Power.TheVariants as power
 use Rattle.bz_world.specs.Inside.Told.{BeganAsTold, TellsEnds, TellsEndsIn}
+use Rattle.bz_world.specs.Merges.{MergeFollows, MergesFor}
 use Rattle.bz_world.specs.Roomy.{HadRoom}
 use Rattle.bz_world.specs.Taken.{IsAsShown, NoneOpen, TellsAsShown, supply_told, TakesWhatItTells, EndFollows}
 use Rattle.bz_world.specs.WorldView as view
-use Rattle.bz_world.specs.WorldView.{WorldView, Supply, mark_of, power_in, tells_only, TakesAsTold, IsStruck, Steps, Recovers, Evicts}
+use Rattle.bz_world.specs.WorldView.{WorldView, Supply, mark_of, power_in, TakesAsTold, IsStruck, Steps, Recovers, Evicts}
 use Rattle.bz_world.specs.declared.answers.Applied.{Applied}
 use Rattle.bz_world.specs.declared.answers.Applied.TheVariants as applied
 use Rattle.bz_world.specs.declared.answers.Begun.{Begun}
@@ -50,6 +51,10 @@ plain-begins mark plain = tt
 plain-follows : (c : Config) (start : List ℕ) (past : List Mark) (mark : Mark) → IsPlain mark → EndFollows c start past mark
 plain-follows c start past (End w n reply at) plain = absurd plain
 plain-follows c start past mark plain = tt
+
+plain-merges : (c : Config) (start : List ℕ) (past : List Mark) (mark : Mark) → IsPlain mark → MergeFollows c start past mark
+plain-merges c start past (End w n reply at) plain = absurd plain
+plain-merges c start past mark plain = tt
 
 act-plain : (w : ℕ) (made : Act) → IsPlain (mark_of w made)
 act-plain w (act.Load a v) = tt
@@ -109,7 +114,7 @@ began-on c start past mark supply none b = record {
     few w opened is lonely = let o = was-open w past mark opened none is in omega (arith, o.begun, b.by_now w o.was o.is_open (was-lonely w past mark none lonely))
 
 plain-on : (c : Config) (start : List ℕ) (past : List Mark) (mark : Mark) (supply : Supply) → IsPlain mark → TellsEnds c start past supply → TellsEnds c start (mark ∷ past) supply
-plain-on c start past mark supply plain t = record { ends = (plain-follows c start past mark plain, t.ends); began = began-on c start past mark supply (plain-begins mark plain) t.began }
+plain-on c start past mark supply plain t = record { ends = (plain-follows c start past mark plain, t.ends); merges = (plain-merges c start past mark plain, t.merges); began = began-on c start past mark supply (plain-begins mark plain) t.began }
 
 struck-on : (c : Config) (start : List ℕ) (past new : List Mark) (supply : Supply) → IsStruck past new → TellsEnds c start past supply → TellsEnds c start new supply
 struck-on c start past new supply (inl same) t = subst (λ (z : List Mark). TellsEnds c start z supply) (sym same) t
@@ -129,7 +134,7 @@ as-told c start past supply shown = λ t. record { taken = shown.taken t; left =
 
 -- where nothing has happened
 pub tells-at-first : (c : Config) (start : List ℕ) (supply : Supply) → TellsEnds c start [] supply
-tells-at-first c start supply = record { ends = tt; began = record { by_now = λ w opened is lonely. absurd lonely; told = λ w opened is lonely. absurd lonely } }
+tells-at-first c start supply = record { ends = tt; merges = tt; began = record { by_now = λ w opened is lonely. absurd lonely; told = λ w opened is lonely. absurd lonely } }
 
 power-struck : (at_start : Power) (past new : List Mark) → IsStruck past new → power_of at_start new ≡ power_of at_start past
 power-struck at_start past new (inl same) = ap (power_of at_start) same
@@ -172,7 +177,7 @@ module _ (alone : LonelyCallsAreAlone) (old : WorldView) (w : ℕ) (answer : App
       }
 
     ended : TellsEnds old.config old.log.start (End w n reply at ∷ s.struck) old.at_begin
-    ended = record { ends = (takes, mid.ends); began = began-on old.config old.log.start s.struck (End w n reply at) old.at_begin tt mid.began }
+    ended = record { ends = (takes, mid.ends); merges = (subst (λ (z : Config). MergesFor z old.log.start s.struck w reply) s.config (s.merged n at reply past), mid.merges); began = began-on old.config old.log.start s.struck (End w n reply at) old.at_begin tt mid.began }
 
   by-answer : (x : Applied) → view.GoesOn (record old.log { past = s.struck }) w x new.log → TellsEndsIn new
   by-answer applied.Stepped same = moved old.config new.config old.log.start new.log.start s.struck new.log.past old.at_begin new.at_begin s.config (ap (λ (z : Log). z.start) same) (ap (λ (z : Log). z.past) same) s.at_begin mid
@@ -270,7 +275,7 @@ module _ (old : WorldView) (w : ℕ) (called : Call) (shown : TellsAsShown old) 
       first v opened is lonely = newest-open (w == v) (record { number = n; call = called; begun = length old.log.past; effect = None }) (open_call v old.log.past) opened (let t : (w == v) ≡ true = grind (arith, nat_tests, lonely.0) in t) is
 
   begins-by : (answer : Begun) → answer ≡ view.begin_answer old w called → TellsEndsIn (view.after_begin old w called answer)
-  begins-by (begun.Begun n) is = record { ends = (tt, told.ends); began = begin-began n (begins-on old w n called is) }
+  begins-by (begun.Begun n) is = record { ends = (tt, told.ends); merges = (tt, told.merges); began = begin-began n (begins-on old w n called is) }
   begins-by other is = told
 
   pub begun-tells : (answer : Begun) (new : WorldView) → answer ≡ view.begin_answer old w called → new ≡ view.after_begin old w called answer → TellsEndsIn new

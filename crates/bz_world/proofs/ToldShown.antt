@@ -1,26 +1,28 @@
 -- While the power is on and no call is open, a world tells of descriptors and slots what its journal shows.
-use Rattle.std.proofs.Common.{◌≡◌, ◌⊎◌, ℕ, zero, suc, ◌+◌, ◌<◌, ◌≤◌, ◌||◌, Bool, true, false, length, arith, refl, sym, ap, ◌∙◌, inl, inr, Option, Some, None}
+use Rattle.std.proofs.Common.{◌≡◌, ℕ, zero, suc, ◌+◌, ◌<◌, ◌≤◌, Bool, true, false, List, length, arith, sym, ap, ◌∙◌, inl, inr, Option, Some, None}
 use Rattle.std.specs.Prelude.{count_by, filter, get_or}
 use Rattle.std.specs.List.{range_with_len}
-use Rattle.std.proofs.lemmas.Bool.{true≢false}
+use Rattle.std.proofs.lemmas.Bool.{false_from_ne_true, or_from, or_left, or_right, true_from_ne_false, true≢false}
 use Rattle.std.proofs.lemmas.List.Sums.{length-filter}
-use Rattle.bz_layout.specs.Slots.{IsInOrder}
+use Rattle.bz_layout.specs.Slots.{FreeSlots, IsInOrder}
+use Rattle.bz_layout.specs.declared.config.Config.{Config}
+use Rattle.bz_mark.specs.declared.marks.Mark.{Mark}
 use Rattle.bz_shape.specs.Walk.{is_among}
-use Rattle.bz_sound.specs.Calls.{Open}
 use Rattle.bz_sound.specs.Memory.Spent.{is_taken, is_stored_into, is_reached_in, count_taken}
 use Rattle.bz_sound.specs.Power.Spent.{is_used, count_used}
 use Rattle.bz_sound.specs.Power.Times.{since_on, image_at_on}
 use Rattle.bz_sound.specs.declared.power.Power.TheVariants as power
-use Rattle.bz_swap.specs.SwapMemory.{Doing, Idle, Swapping}
+use Rattle.bz_swap.specs.SwapMemory.{Idle, Swapping}
+use Rattle.bz_swap.specs.TakenStatuses.{IsTaken}
 use Rattle.bz_world.specs.Inside.Beginning.{world_view}
-use Rattle.bz_world.specs.Inside.Kept.{IsAwake, IsKept}
+use Rattle.bz_world.specs.Inside.Kept.{AreFree, AreTaken, IsAwake, IsKept}
 use Rattle.bz_world.specs.Inside.Paid.{stock_of}
 use Rattle.bz_world.specs.Inside.Serving.{IsAtRest, IsSlot}
 use Rattle.bz_world.specs.Taken.{NoneOpen, TellsAsShown}
 use Rattle.bz_world.specs.WorldView.{Supply}
 use Rattle.bz_world.specs.declared.parts.Parts.{Parts}
 use Rattle.bz_world.specs.declared.serving.OpenCall.{OpenCall}
-use Rattle.bz_world.proofs.LeftSlots.{count-left}
+use Rattle.bz_world.proofs.LeftSlots.{count-left, count-more}
 use Rattle.bz_world.proofs.Powered.{awake-in}
 use Rattle.bz_world.proofs.Supplies.{shown-on}
 
@@ -36,17 +38,41 @@ count-front : (f : ℕ → Bool) (n t : ℕ) → t ≤ n → ((s : ℕ) → s < 
 count-front f n t few passes fails =
     sym (length-filter f (range_with_len 0 n)) ∙ front-passes f 0 n t few (λ s from below. passes s (omega (arith, below))) (λ s from below. fails s (omega (arith, from)) (omega (arith, below)))
 
-or-false : (a b : Bool) → a ≡ false → b ≡ false → a || b ≡ false
-or-false false false e f = refl
-or-false true b e f = absurd (true≢false e)
-or-false false true e f = absurd (true≢false f)
+-- where no descriptor that is taken has the status free, they are those that are shown begun
+module _ (p : Parts) (t : AreTaken p) (held : (s : ℕ) → s < p.access.taken → IsTaken p.access s) where
+  not-begun : (s : ℕ) → p.access.taken ≤ s → s < p.config.swaps → is_taken s (since_on p.journal.past) ≡ false
+  not-begun s from below = false_from_ne_true (is_taken s (since_on p.journal.past)) (λ seen. absurd (omega (arith, t.only s below seen, from)))
 
-or-none : (a b : Bool) → a || b ≡ false → (a ≡ false) × (b ≡ false)
-or-none false b e = (refl, e)
-or-none true b e = absurd (true≢false e)
+  pub as-taken : p.access.taken ≡ count_taken p.config (since_on p.journal.past)
+  as-taken = sym (count-front (λ swap. is_taken swap (since_on p.journal.past)) p.config.swaps p.access.taken t.few (λ s few. t.shown s (omega (arith, few, t.few)) (held s few)) not-begun)
 
+-- where a store went into each slot that a worker took, each that is not free is shown used
+module _ (c : Config) (start : List ℕ) (past : List Mark) (slots : FreeSlots) (took : ℕ → ℕ → Bool) (f : AreFree c (image_at_on start past) slots took) (stored : (v j : ℕ) → took v j ≡ true → is_stored_into c j (since_on past) ≡ true) where
+  used : (j : ℕ) → j < c.nodes → is_among slots.free j ≡ false → is_used c start past j ≡ true
+  used j below held = elim (f.others j below held) [
+    | inl reached ↦ or_left (is_reached_in c (image_at_on start past) j) (is_stored_into c j (since_on past)) reached
+    | inr some ↦ or_right (is_reached_in c (image_at_on start past) j) (is_stored_into c j (since_on past)) (stored some.0 j some.1)
+  ]
+
+  pub none-lost : c.nodes ≤ length slots.free + count_used c start past
+  none-lost = count-more (λ slot. is_used c start past slot) c.nodes slots.free used
+
+  -- and the free ones are those that are not, where none of them was stored into
+  free : (j : ℕ) → j < c.nodes → is_used c start past j ≡ false → is_among slots.free j ≡ true
+  free j below unused = true_from_ne_false (is_among slots.free j) (λ held. true≢false (sym (used j below held) ∙ unused))
+
+  pub as-left : ((j : ℕ) → is_among slots.free j ≡ true → is_stored_into c j (since_on past) ≡ false) → IsInOrder slots → length slots.free + count_used c start past ≡ c.nodes
+  as-left unstored order = count-left (λ slot. is_used c start past slot) 0 c.nodes slots.free (record {
+    rising = order.rising;
+    from = λ j h. omega arith;
+    below = λ j h. omega (arith, f.within j h);
+    fails = λ j h. or_from (is_reached_in c (image_at_on start past) j) (is_stored_into c j (since_on past)) (f.fresh j h) (unstored j h);
+    all = λ j from below fails. free j (omega (arith, below)) fails;
+  })
+
+-- so it is while no call is open
 module _ (p : Parts) (k : IsAwake p) (none : NoneOpen p.journal.past) where
-  -- so every worker is at rest
+  -- as every worker is at rest
   rest : (v : ℕ) → IsAtRest p.access p.journal k.story v
   rest v = by (get_or p.workers.items v None) (k.workers v)
     where
@@ -54,55 +80,21 @@ module _ (p : Parts) (k : IsAwake p) (none : NoneOpen p.journal.past) where
       by None r = r
       by (Some x) s = absurd (let never : None ≡ Some s.opened = sym (none v) ∙ s.call_open.is_open in cc never)
 
-  -- the descriptors that are taken are those that are shown begun
-  begun : (s : ℕ) → s < p.access.taken → is_taken s (since_on p.journal.past) ≡ true
-  begun s few = k.taken.shown s (omega (arith, few, k.taken.few)) (elim (k.taken.held s few) [
+  all-begun : (s : ℕ) → s < p.access.taken → IsTaken p.access s
+  all-begun s few = elim (k.taken.held s few) [
     | inl doing ↦ absurd (let never : Idle ≡ Swapping s = sym (rest doing.0).idle ∙ doing.1 in cc never)
     | inr taken ↦ taken
-  ])
+  ]
 
-  not-begun : (s : ℕ) → p.access.taken ≤ s → s < p.config.swaps → is_taken s (since_on p.journal.past) ≡ false
-  not-begun s from below = by (is_taken s (since_on p.journal.past)) (k.taken.only s below)
-    where
-      by : (t : Bool) → (t ≡ true → s < p.access.taken) → t ≡ false
-      by false only = refl
-      by true only = absurd (omega (arith, only refl, from))
-
-  as-taken : p.access.taken ≡ count_taken p.config (since_on p.journal.past)
-  as-taken = sym (count-front (λ swap. is_taken swap (since_on p.journal.past)) p.config.swaps p.access.taken k.taken.few begun not-begun)
-
-  -- and the slots that are free those that are not shown used
-  unused : (j : ℕ) → is_among p.slots.free j ≡ true → is_used p.config p.journal.start p.journal.past j ≡ false
-  unused j free = or-false (is_reached_in p.config (image_at_on p.journal.start p.journal.past) j) (is_stored_into p.config j (since_on p.journal.past)) (k.free.fresh j free) (k.taken.unstored j free)
-
-  used : (j : ℕ) → j < p.config.nodes → is_among p.slots.free j ≡ false → is_used p.config p.journal.start p.journal.past j ≡ false → ⊥
-  used j below held unused =
-      let neither = or-none (is_reached_in p.config (image_at_on p.journal.start p.journal.past) j) (is_stored_into p.config j (since_on p.journal.past)) unused in
-      elim (k.free.others j below held) [
-        | inl reached ↦ true≢false (sym reached ∙ neither.0)
-        | inr took ↦ true≢false (sym (k.living.stored took.0 j ((rest took.0).filled j took.1)) ∙ neither.1)
-      ]
-
-  free : (j : ℕ) → j < p.config.nodes → is_used p.config p.journal.start p.journal.past j ≡ false → is_among p.slots.free j ≡ true
-  free j below unused = by (is_among p.slots.free j) (λ held. used j below held unused)
-    where
-      by : (t : Bool) → (t ≡ false → ⊥) → t ≡ true
-      by true never = refl
-      by false never = absurd (never refl)
-
-  as-left : IsInOrder p.slots → length p.slots.free + count_used p.config p.journal.start p.journal.past ≡ p.config.nodes
-  as-left order = count-left (λ slot. is_used p.config p.journal.start p.journal.past slot) 0 p.config.nodes p.slots.free (record {
-    rising = order.rising;
-    from = λ j f. omega arith;
-    below = λ j f. omega (arith, k.free.within j f);
-    fails = unused;
-    all = λ j from below fails. free j (omega (arith, below)) fails;
-  })
+  all-stored : (v j : ℕ) → k.story.took v j ≡ true → is_stored_into p.config j (since_on p.journal.past) ≡ true
+  all-stored v j took = k.living.stored v j ((rest v).filled j took)
 
 pub tells-as-shown : (p : Parts) → IsKept p → IsInOrder p.slots → TellsAsShown (world_view p)
 tells-as-shown p k order on none =
     let is : p.power ≡ power.On = sym k.tabled.power ∙ on in
+    let awake : IsAwake p = awake-in p k is in
     record {
-      taken = ap (λ (s : Supply). s.taken) (shown-on p is) ∙ as-taken p (awake-in p k is) none;
-      left = ap (λ (n : ℕ). n + count_used p.config p.journal.start p.journal.past) (ap (λ (s : Supply). s.left) (shown-on p is)) ∙ as-left p (awake-in p k is) none order;
+      taken = ap (λ (s : Supply). s.taken) (shown-on p is) ∙ as-taken p awake.taken (all-begun p awake none);
+      left = ap (λ (n : ℕ). n + count_used p.config p.journal.start p.journal.past) (ap (λ (s : Supply). s.left) (shown-on p is))
+          ∙ as-left p.config p.journal.start p.journal.past p.slots awake.story.took awake.free (all-stored p awake none) awake.taken.unstored order;
     }

@@ -4,6 +4,7 @@ pub mod Meant
 pub mod Paid
 pub mod Due
 pub mod Exact
+pub mod Merging
 pub mod Serving
 pub mod Lonely
 pub mod Kept

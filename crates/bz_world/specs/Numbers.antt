@@ -3,9 +3,12 @@ use Rattle.bz_layout.specs.declared.config.Config.{Config}
 use Rattle.bz_mark.specs.Log.{Log}
 use Rattle.bz_sound.specs.declared.power.Power.{Power}
 use Rattle.bz_world.specs.Leaves.{AreLeavesKept}
+use Rattle.bz_world.specs.Merges.{AreMergesMade}
 use Rattle.bz_world.specs.Taken.{AreEndsTold}
 
--- leaves come only by splits and go only by merges; and what each call took beside which no other was open is what its reply tells
+-- leaves come only by splits and go only by merges; what each call took beside which no other was open is what its reply tells; and a leaf that such a delete leaves too
+-- small to stand alone is merged, where a neighbour has room, and slots and descriptors are left
 pub record AreNumbersKept (c : Config) (at_start : Power) (log : Log) : Type 0 where
   pub leaves : AreLeavesKept c at_start log
   pub taken : AreEndsTold c log.start log.past
+  pub merged : AreMergesMade c log.start log.past

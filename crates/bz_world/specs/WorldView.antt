@@ -33,6 +33,7 @@ use Rattle.bz_sound.specs.Memory.Spent.{NeedsSlots, is_reached_in}
 use Rattle.bz_sound.specs.Power.Times.{power_of, since_on, image_at_on}
 use Rattle.bz_sound.specs.Replies.{Pages}
 use Rattle.bz_story.specs.Reviving.{acts_by}
+use Rattle.bz_world.specs.Merges.{MergesFor}
 use Rattle.bz_world.specs.Roomy.{HadRoom, swaps_told}
 use Rattle.bz_world.specs.declared.answers.Applied.{Applied}
 use Rattle.bz_world.specs.declared.answers.Applied.TheVariants as applied
@@ -374,6 +375,10 @@ TakesAsTold begun supply other = Unit {0}
 abbrev pub EndsAsTold : Config → Log → ℕ → Log → Supply → Supply → Type 0
 EndsAsTold c old w new begun supply = (n at : ℕ) (reply : Reply) (opened : Open) → new.past ≡ End w n reply at ∷ old.past → open_call w old.past ≡ Some opened → IsLonely w old.past → HadRoom c old.start old.past opened → TakesAsTold begun supply reply
 
+-- and of a delete beside which no other was open the leaf is merged, where that has too few live words then and a neighbour has room; unless slots or descriptors are short
+abbrev pub EndsMerged : Config → Log → ℕ → Log → Type 0
+EndsMerged c old w new = (n at : ℕ) (reply : Reply) → new.past ≡ End w n reply at ∷ old.past → MergesFor c old.start old.past w reply
+
 -- a step of a worker: exactly one act of it, a flush exactly where that was said before; at most one effect; at most its
 -- call's End, which is a Full only where what that names has run out, and that of a lonely get only after few acts. A task takes at
 -- most as many slots as a split does: the one that this act ends, and the next one. What the next acts of the others are stays, and
@@ -403,6 +408,7 @@ pub record Steps (old : WorldView) (w : ℕ) (answer : Applied) (new : WorldView
   pub unspent : EndsUnspent (record old.log { past = struck }) w new.log new.at_begin new.supply
   -- and of one that changes a record in a leaf with room for that as many descriptors as its reply tells
   pub exact : EndsAsTold new.config (record old.log { past = struck }) w new.log new.at_begin new.supply
+  pub merged : EndsMerged new.config (record old.log { past = struck }) w new.log
 
 -- the recovery goes on, or has ended with this act: its Ready follows directly
 abbrev pub EndsRecovery : Log → Applied → Log → Type 0

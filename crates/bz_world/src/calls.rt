@@ -3,7 +3,8 @@ ghost use Rattle.std.specs.Prelude.{◌≡◌, ◌↔◌, true, IsTrue, IsSome, 
 ghost use Rattle.bz_call.specs.Map.{key_of as key_in};
 ghost use Rattle.bz_sound.specs.Memory.Replies.{IsWrite};
 ghost use Rattle.bz_task.specs.declared.todo.Todo.TheVariants.{Finish};
-ghost use Rattle.bz_world.specs.Inside.Going.{call_in, end_in, asks_in, path_in as way_in, had_in as payload_in, effect_in as moment_in, froze_in, alone_in, freezes_in, merges_in, DeletesIn, CanGoUpIn, MayGoUpIn, StandsBelowIn, GoesUpIn, with_task, with_change, with_alone, with_froze};
+ghost use Rattle.bz_world.specs.Inside.Merging.{is_below as leads_below};
+ghost use Rattle.bz_world.specs.Inside.Going.{call_in, end_in, asks_in, path_in as way_in, had_in as payload_in, effect_in as moment_in, froze_in, alone_in, freezes_in, merges_in, few_in, DeletesIn, CanGoUpIn, MayGoUpIn, StandsBelowIn, GoesUpIn, with_task, with_change, with_alone, with_froze};
 
 use crate::serving::OpenCall;
 use bz_call::Call;
@@ -156,16 +157,19 @@ pub(crate) fn is_merging(slot: &Option<OpenCall>) -> bool
 
 /// Whether its task is a delete that leaves so little in its leaf, below a parent, that this may be merged.
 pub(crate) fn leaves_few(slot: &Option<OpenCall>) -> bool
-    ensures { result ≡ true → DeletesIn slot.now }
+    ensures deletes { result ≡ true → DeletesIn slot.now }
+    ensures tells { result ≡ few_in slot.now }
 {
     match slot {
-        Some(serving) => is_deep(&serving.path) && serving.task.leaves_few(),
+        Some(serving) => is_below(&serving.path) && serving.task.leaves_few(),
         None => false,
     }
 }
 
 // Whether a path leads to a leaf below a parent.
-fn is_deep(path: &Option<Path>) -> bool {
+fn is_below(path: &Option<Path>) -> bool
+    ensures { result ≡ leads_below path.now }
+{
     match path {
         Some(path) => path.depth > 1,
         None => false,

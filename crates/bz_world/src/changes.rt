@@ -12,7 +12,7 @@ use crate::answers::Applied;
 use crate::calls::{ended_in, found_path, set_change};
 use crate::end::end;
 use crate::going::go_on;
-use crate::laws::{alone_laws, answer_laws, round_laws, start_laws};
+use crate::laws::{alone_laws, answer_laws, paths_end, round_laws, start_laws};
 use crate::lookups::read_leaf;
 use crate::parts::Parts;
 use crate::serving::OpenCall;
@@ -115,6 +115,7 @@ fn delete(parts: &mut Parts, w: u8, view: &KeyView, key: Key, had: Payload) -> A
 {
     start_laws();
     let path = found_path(&parts.workers[w as usize]);
+    paths_end(&path);
     let task = AnyTask::delete(&parts.config, path, *view, key);
     task.laws();
     begin_change(parts, w, Some(had), task)

@@ -2,7 +2,7 @@
 ghost use Rattle.std.specs.Prelude.{◌≡◌, ◌≢◌, ◌<◌, ◌≤◌, ◌+◌, false, None, Some, get_or, length};
 ghost use Rattle.bz_task.specs.declared.todo.Todo.TheVariants.{Finish};
 ghost use Rattle.bz_call.specs.Pages.{names_page};
-ghost use Rattle.bz_world.specs.Inside.Going.{MustLookUp, HadEffect, LacksSwap, IsShort, WentOn, end_in, needs_in};
+ghost use Rattle.bz_world.specs.Inside.Going.{MustLookUp, HasToEnd, LacksSwap, IsShort, WentOn, end_in, needs_in};
 ghost use Rattle.bz_world.specs.Inside.Lonely.{IsNotLonelyIn};
 ghost use Rattle.bz_world.specs.Inside.Serving.{effect_reply as reply_in};
 ghost use Rattle.bz_world.specs.Inside.Telling.{MustBegin, MustStart};
@@ -49,7 +49,7 @@ pub(crate) fn effect_reply(call: &Call, had: Option<Payload>) -> Reply
 
 /// Ends a call that had its effect, by the reply that tells it.
 pub(crate) fn end_effective(parts: &mut Parts, w: u8, at: u32) -> Applied
-    requires had { HadEffect parts.old w at }
+    requires had { HasToEnd parts.old w at }
     requires room { length parts.old.journal.past < parts.old.config.marks }
     ensures went { WentOn parts.old w result parts.new }
     ensures slots { parts.new.slots ≡ parts.old.slots }

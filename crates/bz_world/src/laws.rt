@@ -83,6 +83,12 @@ pub(crate) fn round_laws()
     lone::stages_stand();
     lone::lone_views_tell_the_live_words();
     bz_alone::laws::paths_read_few();
+    story::scenes_are_seen();
+    bz_alone::laws::trees_stand();
+    lone::neighbours_stand();
+    lone::lone_merges_are_due();
+    lone::merges_know_their_leaf();
+    lone::lone_root_leaves_are_the_tree();
 }
 
 /// Those of a worker that is alone.
@@ -96,6 +102,8 @@ pub(crate) fn alone_laws()
     rivals::expected_stand();
     story::scenes_are_seen();
     sound::loads_are_settled();
+    lone::known_leaves_stay();
+    lone::lone_merges_do_not_lack_room();
     paid_laws();
     round_laws();
 }
@@ -133,8 +141,14 @@ pub(crate) fn strike_laws()
     lonely_laws();
     paid_laws();
     lone::leaves_come_and_go();
-    bz_tally::laws::deletes_take_one_record();
+    lone::deletes_take_one_record();
     lone::stages_stand();
+    lone::known_leaves_stay();
+    lone::merges_count_at_last();
+    bz_alone::laws::trees_stand();
+    lone::deletes_tell_of_merges();
+    lone::mergeable_leaves_stand_below();
+    bz_content::laws::well_formed_images_have_no_fault();
     bz_task::laws::fronts_stay();
     bz_page::laws::views_say_what_images_say();
     sight::effects_take_place();

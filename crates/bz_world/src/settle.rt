@@ -16,7 +16,7 @@ use crate::calls::{
 use crate::changes::{answer_delete, answer_insert, answer_update, answer_upsert};
 use crate::end::{end, end_page};
 use crate::going::{end_effective, end_full, go_on, look_up, outcome_of};
-use crate::laws::{answer_laws, lonely_laws, paths_end, round_laws, start_laws};
+use crate::laws::{answer_laws, paths_end, round_laws, start_laws};
 use crate::lookups::{read_frozen, read_leaf};
 use crate::parts::Parts;
 use crate::restructuring::{merge, restructure, split_above};
@@ -232,7 +232,6 @@ fn settle_small(parts: &mut Parts, w: u8, at: u32, view: &LeafView) -> Applied
     requires room { length parts.old.journal.past < parts.old.config.marks }
     ensures { WentOn parts.old w result parts.new }
 {
-    lonely_laws();
     round_laws();
     let Some(path) = path_in(&parts.workers[w as usize]) else {
         return end_effective(parts, w, at);

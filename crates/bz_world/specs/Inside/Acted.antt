@@ -37,6 +37,7 @@ use Rattle.bz_world.specs.Inside.Due.{TakesRightly}
 use Rattle.bz_world.specs.Inside.Exact.{CountsExactly, reach_at, reach_idle}
 use Rattle.bz_world.specs.Inside.Kept.{IsTabled, AreTaken, AreFree, IsAwake}
 use Rattle.bz_world.specs.Inside.Lonely.{WhereLonely, IsLonelyGet, AsksBriefly}
+use Rattle.bz_world.specs.Inside.Merging.{MergesDuly}
 use Rattle.bz_world.specs.Inside.Meant.{IsMeant}
 use Rattle.bz_world.specs.Inside.Paid.{no_extra, runner, stock_of, IsPaidFor}
 use Rattle.bz_world.specs.Leaves.{AreLeavesKept}
@@ -126,6 +127,7 @@ pub record IsTold (p : Parts) (w : ℕ) (x : OpenCall) (seen : Seen) : Type 0 wh
   pub meant : IsMeant x (scene p.config p.journal.past between.story w between.call_open.look.since between.opened).past
   pub paid : IsPaidFor p w x (effects_in seen) no_extra (scene p.config p.journal.past between.story w between.call_open.look.since between.opened).past
   pub exact : CountsExactly p.config p.journal w between.opened (scene p.config p.journal.past between.story w between.call_open.look.since between.opened).past (reach_at p.access seen) (stock_of p) (tells_of x) x
+  pub merges : MergesDuly p.config p.journal w between.opened (scene p.config p.journal.past between.story w between.call_open.look.since between.opened).past (reach_at p.access seen) (stock_of p) x
 
 -- and its task asks for this: for nothing more, where its change is made
 pub record IsAsking (p : Parts) (w : ℕ) (x : OpenCall) (todo : Todo) : Type 0 where
@@ -140,6 +142,7 @@ pub record IsAsking (p : Parts) (w : ℕ) (x : OpenCall) (todo : Todo) : Type 0 
   pub meant : IsMeant x (scene p.config p.journal.past between.story w between.call_open.look.since between.opened).past
   pub paid : IsPaidFor p w x 0 (λ r. start_takes r todo) (scene p.config p.journal.past between.story w between.call_open.look.since between.opened).past
   pub exact : CountsExactly p.config p.journal w between.opened (scene p.config p.journal.past between.story w between.call_open.look.since between.opened).past (reach_idle p.access) (stock_of p) (tells_of x) x
+  pub merges : MergesDuly p.config p.journal w between.opened (scene p.config p.journal.past between.story w between.call_open.look.since between.opened).past (reach_idle p.access) (stock_of p) x
 
 -- the worker's call is served, and its task is to be told this
 pub record MustTell (p : Parts) (w : ℕ) (seen : Seen) : Type 0 where

@@ -1,5 +1,5 @@
 -- A call whose task has ended: nothing goes on for it, until it is answered or gets another task.
-use Rattle.std.specs.Prelude.{◌≡◌, ◌≢◌, ◌+◌, ◌<◌, ◌≤◌, ◌⊎◌, ℕ, ◌++◌, ◌∷◌, [], ◌*◌, Bool, true, false, List, length, get_or, Option, Some, None, option_map}
+use Rattle.std.specs.Prelude.{◌≡◌, ◌≢◌, ◌+◌, ◌<◌, ◌≤◌, ◌⊎◌, ℕ, suc, ◌++◌, ◌∷◌, [], ◌*◌, Bool, true, false, List, length, get_or, Option, Some, None, option_map}
 use Rattle.bz_call.specs.Map.{key_of}
 use Rattle.bz_call.specs.Pages.{is_page}
 use Rattle.bz_call.specs.declared.calls.Call.{Call}
@@ -23,6 +23,7 @@ use Rattle.bz_layout.specs.declared.thresholds.TheConstants.{MERGE_SLOTS, SPLIT_
 use Rattle.bz_lone.specs.FromAlone.Alone.{IsAlone}
 use Rattle.bz_lone.specs.FromAlone.Counts.{HasOthers}
 use Rattle.bz_lone.specs.FromAlone.Reads.{get_reads}
+use Rattle.bz_lone.specs.FromJoined.Neighbours.{MayBeMerged}
 use Rattle.bz_running.specs.Duties.{config_of, asks_of, end_of, made_of, ascent_of, change_swaps, needs_of, wants_of, facts_of, means_of, makes_no_change}
 use Rattle.bz_ascent.specs.Ascents.{IsOneUp}
 use Rattle.bz_ascent.specs.declared.ascent.Ascent.{Ascent}
@@ -54,10 +55,12 @@ use Rattle.bz_world.specs.Inside.Due.{IsDue, IsDueAlone, TakesRightly}
 use Rattle.bz_world.specs.Inside.Exact.{CountsExactly, HasCounted, reach_idle}
 use Rattle.bz_world.specs.Inside.Kept.{IsAwake}
 use Rattle.bz_world.specs.Inside.Meant.{IsMeant}
+use Rattle.bz_world.specs.Inside.Merging.{tells_few, IsStanding, IsTellingFew, MergesDuly}
+use Rattle.bz_world.specs.Merges.{IsMergedSince, MergesFor}
 use Rattle.bz_world.specs.Inside.Paid.{begun_with, bound_in, errand_of, is_merge, no_extra, stock_of, used_in, IsCounted, IsFit, IsPaidFor, HasToSpare, HasARound, HasARoundAs}
 use Rattle.bz_world.specs.Inside.Room.{LacksRoomFor}
 use Rattle.bz_world.specs.Inside.Lonely.{WhereLonely, IsNotLonely, IsLonelyGet, HasLooked}
-use Rattle.bz_world.specs.WorldView.{deadline, GoesOn, Spends, HadFew, HasRunOut, EndsFullOfLittle, EndsFullRightly, EndsAsTold, EndsUnspent, GetsBriefly, KeepsSupply, RunsWhole, TakesAsTold, is_delete}
+use Rattle.bz_world.specs.WorldView.{deadline, GoesOn, Spends, HadFew, HasRunOut, EndsFullOfLittle, EndsFullRightly, EndsAsTold, EndsMerged, EndsUnspent, GetsBriefly, KeepsSupply, RunsWhole, TakesAsTold, is_delete}
 use Rattle.bz_world.specs.Inside.Serving.{IsTasked, IsWanted, MayGoOn, tells_of}
 use Rattle.bz_world.specs.Roomy.{HadRoom}
 use Rattle.bz_world.specs.declared.answers.Applied.{Applied}
@@ -73,6 +76,7 @@ pub record MustGoOn (p : Parts) (w : ℕ) : Type 0 where
   pub fit : IsFit serving
   pub lonely : WhereLonely p.journal.past w serving.call (HasLooked p.access p.journal.past between.story w serving between.opened)
   pub exact : CountsExactly p.config p.journal w between.opened (scene p.config p.journal.past between.story w between.call_open.look.since between.opened).past (reach_idle p.access) (stock_of p) (tells_of serving) serving
+  pub merges : MergesDuly p.config p.journal w between.opened (scene p.config p.journal.past between.story w between.call_open.look.since between.opened).past (reach_idle p.access) (stock_of p) serving
 
 -- the call in this place changes nothing
 abbrev pub is_read_in : Option OpenCall → Bool
@@ -103,12 +107,28 @@ LooksUpAgain p w m = IsLonely w p.journal.past → HadRoom p.config p.journal.st
 abbrev pub ReadsAgain : (p : Parts) (w : ℕ) → MustGoOn p w → Type 0
 ReadsAgain p w m = IsLonely w p.journal.past → HadRoom p.config p.journal.start p.journal.past m.between.opened → HasCountedAll p w m × HasOthers 0 0 (known p w m).past
 
+-- what stands of a delete that has had its effect, beside which no other call is open, where its leaf might be merged directly after that
+pub record StoodFor (p : Parts) (w : ℕ) (on : MustGoOn p w) (at : ℕ) : Type 0 where
+  pub after_begin : on.between.opened.begun ≤ at
+  pub by_now : suc at ≤ length p.journal.past
+  pub standing : MayBeMerged p.config ((known p w on).past.at (suc at)).image (key_of on.serving.call) → IsStanding p.config p.journal at (known p w on).past (reach_idle p.access) (stock_of p)
+
+-- that it leaves little was told before its key is looked up again
+abbrev pub StandsForLooking : (p : Parts) (w : ℕ) → MustGoOn p w → Type 0
+StandsForLooking p w on = IsLonely w p.journal.past → (at : ℕ) → on.serving.effect ≡ Some at → is_delete on.serving.call ≡ true → StoodFor p w on at × (MayBeMerged p.config ((known p w on).past.at (suc at)).image (key_of on.serving.call) → IsTellingFew (reach_idle p.access) on.serving)
+
+-- and nobody's swap took effect since it looks for its leaf
+abbrev pub StandsForReading : (p : Parts) (w : ℕ) → MustGoOn p w → Type 0
+StandsForReading p w on = IsLonely w p.journal.past → (at : ℕ) → on.serving.effect ≡ Some at → is_delete on.serving.call ≡ true → StoodFor p w on at × (MayBeMerged p.config ((known p w on).past.at (suc at)).image (key_of on.serving.call) → HasOthers 0 0 (known p w on).past)
+
 -- and it may look its key up, or have its leaf changed: it is no lonely get, which is never looked up again
 pub record MustLookUp (p : Parts) (w : ℕ) : Type 0 where
   pub on : MustGoOn p w
   pub may : MayGoOn on.serving
   pub other : IsNotLonely p.journal.past w on.serving.call
   pub pays : HasARound p w on.serving (known p w on).past
+  pub stands : StandsForLooking p w on
+  pub over : kind_of on.serving.task ≡ kinds.Delete → end_of on.serving.task ≢ None
   pub again : LooksUpAgain p w on
 
 -- the same, where it is looked up as the end of its task leaves it: so its leaf is read whole after its own freeze, or copied alone
@@ -117,6 +137,8 @@ pub record MustLookUpAs (p : Parts) (w : ℕ) (change : Errand → Kind → Erra
   pub may : MayGoOn on.serving
   pub other : IsNotLonely p.journal.past w on.serving.call
   pub pays : HasARoundAs p w (change (errand_of on.serving) (kind_of on.serving.task)) (known p w on).past
+  pub stands : StandsForLooking p w on
+  pub over : kind_of on.serving.task ≡ kinds.Delete → end_of on.serving.task ≢ None
   pub again : LooksUpAgain p w on
 
 -- the call that is served, how its task has ended, what it asks for, the way to its leaf, its effect, and whether it froze its leaf last
@@ -159,6 +181,11 @@ merges_in (Some x) = is_merge (kind_of x.task)
 abbrev pub DeletesIn : Option OpenCall → Type 0
 DeletesIn None = ⊥
 DeletesIn (Some x) = kind_of x.task ≡ kinds.Delete
+
+-- whether its task is a delete which tells that little is left in a leaf below another node
+abbrev pub few_in : Option OpenCall → Bool
+few_in None = false
+few_in (Some x) = tells_few x
 
 -- its key may be looked up in its leaf: it is no page
 abbrev pub LooksUpIn : Option OpenCall → Type 0
@@ -264,6 +291,7 @@ pub record MustTakeOn (p : Parts) (w : ℕ) (task : AnyTask) (way : Option Path)
   pub paid : IsPaidFor p w (record on.serving { task = task; path = way; had = had }) 0 (taken_for asked) (known p w on).past
   pub due : TakesRightly p.config p.access.taken p.journal (stock_of p) w (record on.serving { task = task; path = way; had = had })
   pub exact : CountsExactly p.config p.journal w on.between.opened (known p w on).past (reach_idle p.access) (stock_of p) (tells_of (record on.serving { task = task; path = way; had = had })) (record on.serving { task = task; path = way; had = had })
+  pub merges : MergesDuly p.config p.journal w on.between.opened (known p w on).past (reach_idle p.access) (stock_of p) (record on.serving { task = task; path = way; had = had })
 
 -- the way to its leaf was found, which is to be read whole
 pub record MustRead (p : Parts) (w : ℕ) (path : Path) : Type 0 where
@@ -275,6 +303,7 @@ pub record MustRead (p : Parts) (w : ℕ) (path : Path) : Type 0 where
   pub look : on.serving.effect ≡ None → IsLookOf on.serving.call kinds.ReadWhole
   -- for a page, or to make it anew
   pub due : on.serving.effect ≡ None → IsLonely w p.journal.past → (is_page on.serving.call ≡ true) ⊎ IsDue p.config p.journal on.serving.call
+  pub stands : StandsForReading p w on
   pub again : ReadsAgain p w on
 
 -- its task knows what it should, and has ended so
@@ -287,6 +316,7 @@ pub record MustFind (p : Parts) (w : ℕ) (path : Path) : Type 0 where
   pub quiet : on.serving.effect ≡ None
   pub leads : IsPath (key_of on.serving.call) path (known p w on).past
   pub ends : EndsSo p w on (outcomes.Path path)
+  pub kind : kind_of on.serving.task ≡ kinds.Seek
   pub spares : HasToSpare p w on.serving (known p w on).past (λ r q. coming r q (errand_of on.serving) kinds.Seek)
 
 -- its task has ended so, and it had no effect
@@ -329,6 +359,7 @@ pub record MustAnswerKey (p : Parts) (w : ℕ) (view : KeyView) : Type 0 where
   pub leads : (path : Path) → on.serving.path ≡ Some path → IsPath (key_of on.serving.call) path (known p w on).past
   pub quiet : on.serving.effect ≡ None
   pub ends : EndsSo p w on (outcomes.Key view)
+  pub kind : kind_of on.serving.task ≡ kinds.Find
   pub some : on.serving.path ≢ None
   pub spares : HasToSpare p w on.serving (known p w on).past (λ r q. coming r q (errand_of on.serving) kinds.Find)
   pub look : IsLookOf on.serving.call kinds.Find
@@ -370,6 +401,7 @@ pub record MustChange (p : Parts) (w : ℕ) (had : Option (List ℕ)) (task : An
   pub lacks : (z : Scene) → means_of task outcomes.NeedsRoom z → IsAlone 0 (known p w reads.on).past → 0 < stage_now (errand_of reads.on.serving) (known p w reads.on).past
   pub due : IsDueAlone p.config p.journal w reads.on.serving.call
   pub exact : CountsExactly p.config p.journal w reads.on.between.opened (known p w reads.on).past (reach_idle p.access) (stock_of p) (tells_of (record reads.on.serving { task = task; path = reads.on.serving.path; had = had })) (record reads.on.serving { task = task; path = reads.on.serving.path; had = had })
+  pub merges : MergesDuly p.config p.journal w reads.on.between.opened (known p w reads.on).past (reach_idle p.access) (stock_of p) (record reads.on.serving { task = task; path = reads.on.serving.path; had = had })
 
 -- that leaf is frozen, or has no room for what the call puts there
 pub record MustRestructure (p : Parts) (w : ℕ) (view : LeafView) : Type 0 where
@@ -425,6 +457,7 @@ pub record MustMerge (p : Parts) (w : ℕ) (path : Path) (view : LeafView) : Typ
   pub write : on.serving.effect ≡ None → is_read on.serving.call ≡ false
   pub thawed_call : IsThawed (errand_of on.serving)
   pub due : on.serving.effect ≡ None → IsDueAlone p.config p.journal w on.serving.call
+  pub stands : StandsForReading p w on
   pub again : HadNoRoom p w on
   pub spares : HasToSpare p w on.serving (known p w on).past (λ r q. most_of_merge r + coming r q (errand_of on.serving) kinds.Merge)
 
@@ -468,6 +501,15 @@ pub record HadEffect (p : Parts) (w at : ℕ) : Type 0 where
   pub effect : on.serving.effect ≡ Some at
   pub room : HasRoomForEnd p w
 
+-- of a delete beside which no other call was open: its leaf was merged, if it might be directly after its effect, or slots or descriptors were not left
+abbrev pub HasMergedIn : (p : Parts) (w at : ℕ) → MustGoOn p w → Type 0
+HasMergedIn p w at on =
+    IsLonely w p.journal.past → is_delete on.serving.call ≡ true → MayBeMerged p.config (image_at p.journal.start (suc at) p.journal.past) (key_of on.serving.call) → IsMergedSince p.config p.journal.start p.journal.past at
+
+pub record HasToEnd (p : Parts) (w at : ℕ) : Type 0 where
+  pub had : HadEffect p w at
+  pub merged : HasMergedIn p w at had.on
+
 -- and its task has ended so
 pub record HasEndedAfter (p : Parts) (w at : ℕ) (outcome : Outcome) : Type 0 where
   pub had : HadEffect p w at
@@ -478,6 +520,9 @@ pub record HasEndedAfter (p : Parts) (w at : ℕ) (outcome : Outcome) : Type 0 w
   pub path : (path : Path) → outcome ≡ outcomes.Path path → IsPath (key_of had.on.serving.call) path (known p w had.on).past
   pub view : (view : LeafView) → outcome ≡ outcomes.View view → IsView (key_of had.on.serving.call) view (known p w had.on).past
   pub leads : (view : LeafView) → outcome ≡ outcomes.View view → (path : Path) → had.on.serving.path ≡ Some path → IsPath (key_of had.on.serving.call) path (known p w had.on).past
+  pub some : (view : LeafView) → outcome ≡ outcomes.View view → had.on.serving.path ≢ None
+  pub alone : EndsAlone outcome (known p w had.on).past
+  pub swaps : outcome ≢ outcomes.Full Swaps
 
 -- or the leaf of a delete was read since, by the path that was found
 pub record HasReadAfter (p : Parts) (w at : ℕ) (view : LeafView) : Type 0 where
@@ -487,6 +532,8 @@ pub record HasReadAfter (p : Parts) (w at : ℕ) (view : LeafView) : Type 0 wher
   pub viewed : IsView (key_of had.on.serving.call) view (known p w had.on).past
   pub leads : (path : Path) → had.on.serving.path ≡ Some path → IsPath (key_of had.on.serving.call) path (known p w had.on).past
   pub spares : HasToSpare p w had.on.serving (known p w had.on).past (λ r q. coming r q (errand_of had.on.serving) kinds.ReadWhole)
+  pub some : had.on.serving.path ≢ None
+  pub ends : end_of had.on.serving.task ≡ Some (outcomes.View view)
 
 -- no descriptor is left
 pub record LacksSwap (p : Parts) (w : ℕ) : Type 0 where
@@ -496,6 +543,7 @@ pub record LacksSwap (p : Parts) (w : ℕ) : Type 0 where
   pub room : HasRoomForEnd p w
   pub write : on.serving.effect ≡ None → is_read on.serving.call ≡ false
   pub told : on.serving.effect ≡ None → IsLonely w p.journal.past → HadRoom p.config p.journal.start p.journal.past on.between.opened → TakesAsTold (begun_with p) (supply_of p) (Full Swaps)
+  pub merged : (at : ℕ) → on.serving.effect ≡ Some at → HasMergedIn p w at on
 
 -- fewer slots are left than its task takes, and the call had no effect
 pub record IsOutOfSlots (p : Parts) (w : ℕ) : Type 0 where
@@ -522,6 +570,7 @@ pub record MustEnd (p : Parts) (w : ℕ) (reply : Reply) (at : ℕ) : Type 0 whe
   pub told : IsLonely w p.journal.past → HadRoom p.config p.journal.start p.journal.past on.between.opened → TakesAsTold (begun_with p) (supply_of p) reply
   pub room : HasRoomForEnd p w
   pub brief : WhereLonely p.journal.past w on.serving.call (λ key. acts_since w p.journal.past ≤ 2 * get_reads p.config (image_at p.journal.start at p.journal.past) key)
+  pub merged : MergesFor p.config p.journal.start p.journal.past w reply
 
 -- the page that was put together is the right one, up to this key
 pub record MustEndPage (p : Parts) (w : ℕ) (next : Option (List ℕ)) (at : ℕ) : Type 0 where
@@ -547,4 +596,5 @@ pub record WentOn (old : Parts) (w : ℕ) (answer : Applied) (new : Parts) : Typ
   pub supplied : RunsWhole new.config w old.journal.past → KeepsSupply (begun_with new) (supply_of new)
   pub little : RunsWhole new.config w old.journal.past → EndsFullOfLittle new.config old.journal w new.journal (begun_with new)
   pub unspent : EndsUnspent old.journal w new.journal (begun_with new) (supply_of new)
+  pub merged : EndsMerged new.config old.journal w new.journal
   pub exact : EndsAsTold new.config old.journal w new.journal (begun_with new) (supply_of new)

@@ -17,11 +17,15 @@ use Rattle.bz_record.specs.Laws.{ViewsShowLeaves}
 use Rattle.bz_rivals.specs.Laws.{RivalsFall}
 use Rattle.bz_rivals.specs.Notes.{NotesAreOfBegun, ZeroSwapsNothing}
 use Rattle.bz_rivals.specs.Wins.{OwnSwapsWin, ExpectedStand}
-use Rattle.bz_lone.specs.FromJoined.DueMerges.{LoneViewsTellTheLiveWords}
+use Rattle.bz_alone.specs.Trees.{TreesStand}
+use Rattle.bz_content.specs.Laws.{WellFormedImagesHaveNoFault}
+use Rattle.bz_lone.specs.FromJoined.DueMerges.{LoneMergesAreDue, LoneViewsTellTheLiveWords}
+use Rattle.bz_lone.specs.FromJoined.Neighbours.{KnownLeavesStay, LoneMergesDoNotLackRoom, MergesKnowTheirLeaf, NeighboursStand}
+use Rattle.bz_lone.specs.FromJoined.SmallLeaves.{DeletesTellOfMerges, LoneRootLeavesAreTheTree, MergeableLeavesStandBelow}
 use Rattle.bz_lone.specs.FromRounds.Due.{LoneLeavesAreDue, LoneAscentsAreDue}
 use Rattle.bz_lone.specs.FromRounds.Levels.{LoneAscentsAreBelowTheStage}
 use Rattle.bz_lone.specs.FromRounds.Stands.{LoneViewsTellTheLeaf, StagesStand}
-use Rattle.bz_lone.specs.FromTally.Laws.{LeavesComeAndGo}
+use Rattle.bz_lone.specs.FromTally.Laws.{LeavesComeAndGo, MergesCountAtLast}
 use Rattle.bz_lone.specs.FromRounds.Viewed.{LoneViewsTellTheStage, LoneKeyViewsTellTheStage}
 use Rattle.bz_sight.specs.Acts.{FlushingStepsFlush, QuietStepsPass, StepsLeaveCaches, StoringStepsStore}
 use Rattle.bz_sight.specs.Effects.{EffectsTakePlace}
@@ -39,7 +43,7 @@ use Rattle.bz_swap.specs.LoneRuns.{LoneStepsAreAllowed}
 use Rattle.bz_swap.specs.TakenStatuses.{BegunStayTaken, TakenStatusesStay}
 use Rattle.bz_task.specs.declared.path.Link.{Link}
 use Rattle.bz_task.specs.declared.path.Path.{Path}
-use Rattle.bz_tally.specs.Deletes.{DeletesTakeOneRecord}
+use Rattle.bz_lone.specs.FromTally.Deletes.{DeletesTakeOneRecord}
 use Rattle.bz_task.specs.Laws.{FrontsStay, RangesStay}
 
 -- a path has a last link
@@ -112,6 +116,12 @@ pub record RoundLaws : Type 0 where
   pub stand : StagesStand
   pub live : LoneViewsTellTheLiveWords
   pub low : PathsReadFew
+  pub scenes : ScenesAreSeen
+  pub trees : TreesStand
+  pub neighbours : NeighboursStand
+  pub merges_due : LoneMergesAreDue
+  pub knows : MergesKnowTheirLeaf
+  pub roots : LoneRootLeavesAreTheTree
 
 -- by which a worker that is alone does not begin again
 pub record AloneLaws : Type 0 where
@@ -124,6 +134,8 @@ pub record AloneLaws : Type 0 where
   pub paid : PaidLaws
   pub rounds : RoundLaws
   pub settled : LoadsAreSettled
+  pub known : KnownLeavesStay
+  pub room : LoneMergesDoNotLackRoom
 
 -- by which an act without effect leads on
 pub record StepLaws : Type 0 where
@@ -164,6 +176,12 @@ pub record StrikeLaws : Type 0 where
   pub leaves : LeavesComeAndGo
   pub deletes : DeletesTakeOneRecord
   pub stand : StagesStand
+  pub known : KnownLeavesStay
+  pub counts : MergesCountAtLast
+  pub trees : TreesStand
+  pub tells : DeletesTellOfMerges
+  pub below : MergeableLeavesStandBelow
+  pub formed : WellFormedImagesHaveNoFault
   pub fronts : FrontsStay
   pub said : ViewsSayWhatImagesSay
   pub lonely : LonelyLaws

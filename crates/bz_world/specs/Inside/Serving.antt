@@ -31,6 +31,7 @@ use Rattle.bz_world.specs.Inside.Alone.{WaitsAlone, untold}
 use Rattle.bz_world.specs.Inside.Due.{TakesRightly}
 use Rattle.bz_world.specs.Inside.Exact.{CountsExactly, reach_of}
 use Rattle.bz_world.specs.Inside.Meant.{IsMeant}
+use Rattle.bz_world.specs.Inside.Merging.{MergesDuly}
 use Rattle.bz_world.specs.Inside.Paid.{Stock, IsPaidIn, errand_of, no_extra, runner}
 use Rattle.bz_world.specs.Roomy.{swaps_told}
 use Rattle.bz_world.specs.WorldView.{is_delete}
@@ -153,6 +154,7 @@ pub record IsServing (c : Config) (m : SwapMemory) (log : Log) (story : Story) (
   pub paid : runner c log.past ≡ Some w → IsPaidIn c m log.past stock w (errand_of x) x.task (untold m (doing_of m w)) no_extra (scene c log.past story w call_open.look.since opened).past
   pub due : TakesRightly c m.taken log stock w x
   pub exact : CountsExactly c log w opened (scene c log.past story w call_open.look.since opened).past (reach_of m w) stock (tells_of x) x
+  pub merges : MergesDuly c log w opened (scene c log.past story w call_open.look.since opened).past (reach_of m w) stock x
 
 -- no call of the worker is open, it does nothing, and it has stored into each slot that it took
 pub record IsAtRest (m : SwapMemory) (log : Log) (story : Story) (w : ℕ) : Type 0 where

@@ -7,6 +7,7 @@ use Rattle.bz_sound.specs.Calls.{Open, open_call}
 use Rattle.bz_sound.specs.Lonely.{IsLonely}
 use Rattle.bz_world.specs.Inside.Beginning.{world_view}
 use Rattle.bz_world.specs.Inside.Kept.{IsKept}
+use Rattle.bz_world.specs.Merges.{AreMergesMade}
 use Rattle.bz_world.specs.Taken.{supply_told, AreEndsTold}
 use Rattle.bz_world.specs.WorldView.{WorldView, Supply}
 use Rattle.bz_world.specs.declared.parts.Parts.{Parts}
@@ -19,6 +20,7 @@ pub record BeganAsTold (c : Config) (start : List ℕ) (past : List Mark) (begun
 -- so each End can be told
 pub record TellsEnds (c : Config) (start : List ℕ) (past : List Mark) (begun : Supply) : Type 0 where
   pub ends : AreEndsTold c start past
+  pub merges : AreMergesMade c start past
   pub began : BeganAsTold c start past begun
 
 abbrev pub TellsEndsIn : WorldView → Type 0

@@ -13,6 +13,7 @@ begin_change-requires-clause-change c =
     (insert-changes c.requires.must.answer.on.serving.call c.args.key c.args.payload _ c.requires.must.may c.insert-task.ensures.change) c.insert-task.ensures.ends c.insert-task.ensures.asks c.insert-task.ensures.wants (omega (arith, c.insert-task.ensures.takes)) c.insert-task.ensures.facts
     (inl c.insert-task.ensures.kind) c.insert-task.ensures.made (λ s means. insert-lacks c.requires.must.answer.on.serving.call c.args.key c.args.payload c.args.view.now.status c.requires.must.may (c.insert-task.ensures.needs_room s means))
     (record { kind = ap puts c.insert-task.ensures.kind; tells = c.insert-task.ensures.takes ∙ sym (ap swaps_told (insert-puts c.requires.must.answer.on.serving.call c.args.key c.args.payload c.requires.must.may)); few = omega (arith, c.insert-task.ensures.swaps, c.insert-task.ensures.takes) })
+    (λ delete. absurd (cc (c.insert-task.ensures.kind, delete)))
 
 pub found_path-path-requires : goal.found_path-path-requires
 found_path-path-requires c = some-path c.args.parts.now c.args.w c.requires.must.answer.on c.index.result.now c.index.ensures c.requires.must.answer.some

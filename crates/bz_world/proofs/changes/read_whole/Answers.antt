@@ -14,6 +14,7 @@ read_leaf-requires-clause-path c = let r = c.requires.way.reads in record {
   other = r.other;
   spares = c.requires.way.spares;
   due = λ quiet lonely. inr (c.requires.way.due lonely);
+  stands = λ lonely at is deletes. absurd (cc (r.quiet, is));
   again = no-reading c.args.parts.now c.args.w r.on c.requires.way.again;
   look = λ quiet. writes-look r.on.serving.call kinds.ReadWhole c.requires.way.write;
 }

@@ -12,6 +12,7 @@ begin_change-requires-clause-change c =
     (update-changes c.requires.must.answer.on.serving.call c.args.key c.args.payload c.args.had _ c.requires.must.may (c.update-task.ensures.change ∙ ap (λ old. record { key = c.args.key; old = old; new = Some c.args.payload }) c.requires.present)) c.update-task.ensures.ends c.update-task.ensures.asks c.update-task.ensures.wants (omega (arith, c.update-task.ensures.takes)) c.update-task.ensures.facts
     (inr (inl c.update-task.ensures.kind)) c.update-task.ensures.made (λ s means. update-lacks c.requires.must.answer.on.serving.call c.args.key c.args.payload c.args.view.now.status c.requires.must.may (c.update-task.ensures.needs_room s means))
     (record { kind = ap puts c.update-task.ensures.kind; tells = c.update-task.ensures.takes ∙ sym (ap swaps_told (update-puts c.requires.must.answer.on.serving.call c.args.key c.args.payload c.args.had c.requires.must.may)); few = omega (arith, c.update-task.ensures.swaps, c.update-task.ensures.takes) })
+    (λ delete. absurd (cc (c.update-task.ensures.kind, delete)))
 
 pub update-task-requires : goal.update-task-requires
 update-task-requires c = record { present = some-found c.args.view.now.found c.args.had c.requires.present }

@@ -14,6 +14,7 @@ end-requires-clause-right c = subst (MustEnd c.args.parts.now c.args.w (Full c.a
   room = c.requires.short.room;
   full = λ spent e. subst (RunsOut c.args.parts.now c.args.w) (cc e) c.requires.short.out;
   told = c.requires.short.told;
+  merged = tt;
   brief = λ key get lonely. absurd (subst (IsNotLonelyIn c.args.parts.now.journal.past c.args.w) c.requires.short.on.is c.requires.other key get lonely);
 })
   where

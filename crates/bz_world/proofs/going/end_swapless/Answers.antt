@@ -5,7 +5,9 @@ use Rattle.bz_world.proofs.TakingOn.{slot-is}
 use Rattle.bz_world.proofs.going.end_swapless.Goals as goal
 
 pub end_effective-requires-clause-had : goal.end_effective-requires-clause-had
-end_effective-requires-clause-had c = record { on = c.requires.lacks.on; effect = ap effect_in (sym (slot-is c.args.parts.now c.args.w c.requires.lacks.on c.index.result.now c.index.ensures)) ∙ sym c.in-Some.ensures; room = c.requires.lacks.room }
+end_effective-requires-clause-had c =
+    let effect = ap effect_in (sym (slot-is c.args.parts.now c.args.w c.requires.lacks.on c.index.result.now c.index.ensures)) ∙ sym c.in-Some.ensures in
+    record { had = record { on = c.requires.lacks.on; effect = effect; room = c.requires.lacks.room }; merged = c.requires.lacks.merged c.in-Some.at effect }
 
 pub end_full-requires-clause-short : goal.end_full-requires-clause-short
 end_full-requires-clause-short c = record {

@@ -7,7 +7,10 @@ use Rattle.bz_world.specs.declared.serving.OpenCall.{OpenCall}
 use Rattle.bz_world.proofs.Spared.{task-paid}
 use Rattle.bz_world.proofs.Paid.{within-of}
 use Rattle.bz_world.specs.Inside.Due.{only_looks}
+use Rattle.std.proofs.lemmas.Bool.{true≢false}
+use Rattle.bz_world.specs.Inside.Exact.{seeks}
 use Rattle.bz_world.specs.Inside.Meant.{IsMeant}
+use Rattle.bz_world.specs.Inside.Merging.{looks_on}
 use Rattle.bz_running.specs.Kinds as kinds
 use Rattle.bz_running.specs.Kinds.{is_look, is_renewal}
 use Rattle.bz_lone.specs.Errands.{IsLookOf}
@@ -27,7 +30,12 @@ begin_task-requires-clause-begins c = task-begins c.args.parts.now c.args.w c.re
       | inl page ↦ looks-right c.args.parts.now c.args.w c.requires.path.on c.read_leaf-task.result (Some c.args.path) (ap (only_looks c.requires.path.on.serving.call) c.read_leaf-task.ensures.kind ∙ page) quiet lonely
       | inr due ↦ inl due
     ])
-    (λ lonely room. let reads = c.requires.path.again lonely room in inr (inr (inr (record { looks = ap is_look c.read_leaf-task.ensures.kind; counted = assumption reads.0; alone = reads.1 })))))
+    (λ lonely room. let reads = c.requires.path.again lonely room in inr (inr (inr (record { looks = ap is_look c.read_leaf-task.ensures.kind; counted = assumption reads.0; alone = reads.1 }))))
+    (λ lonely. record {
+      looking = λ quiet seek. absurd (true≢false (sym seek ∙ ap seeks c.read_leaf-task.ensures.kind));
+      deleting = λ quiet delete going. absurd (cc (c.read_leaf-task.ensures.kind, delete));
+      merging = λ at is deletes. let s = c.requires.path.stands lonely at is deletes in record { after_begin = s.0.after_begin; by_now = s.0.by_now; merging = λ may. inl (record { standing = s.0.standing may; task = inr (record { looks = ap looks_on c.read_leaf-task.ensures.kind; alone = s.1 may }) }) };
+    }))
     c.set_task.new.slot (c.set_task.ensures ∙ ap (λ (z : Option OpenCall). with_task z c.read_leaf-task.result (Some c.args.path)) (slot-is c.args.parts.now c.args.w c.requires.path.on c.index_mut.result.now c.index_mut.ensures.value))
     c.requires.path.on.between.call_open.told c.start_laws.ensures.lone c.requires.path.other refl c.read_leaf-task.ensures.silent (λ e. cc (c.read_leaf-task.ensures.kind, e))
   where

@@ -25,6 +25,7 @@ merge-requires-clause-merge c = let due = c.is_due.ensures.due.0 c.if-is_due.tru
   write = λ quiet. lacks-write c.requires.copy.anew.answer.on.serving.call c.args.view.now.status c.requires.copy.anew.lacks;
   thawed_call = c.requires.copy.anew.answer.on.fit.thawed;
   due = λ quiet. read-due c.args.parts.now c.args.w c.args.view.now c.requires.copy.anew.answer (lacks-write c.requires.copy.anew.answer.on.serving.call c.args.view.now.status c.requires.copy.anew.lacks);
+  stands = λ lonely at is deletes. absurd (cc (c.requires.copy.anew.answer.quiet, is));
   again = again-kind c.args.parts.now c.args.w c.requires.copy.anew.answer.on c.requires.copy.anew.answer.quiet kinds.ReadWhole c.requires.copy.anew.answer.kind refl refl;
   spares = merge-spares c.start_laws.ensures.lone c.args.parts.now c.args.w c.args.path c.args.view.now c.requires.copy (sym (ap alone_in (slot-is c.args.parts.now c.args.w c.requires.copy.anew.answer.on c.index.result.now c.index.ensures)) ∙ (sym c.is_alone.ensures ∙ c.if-is_alone.false));
 }

@@ -20,6 +20,8 @@ look_up_frozen-requires c =
     record {
       on = c.requires.view.on;
       may = inl c.requires.view.quiet;
+      stands = λ lonely at is deletes. absurd (cc (c.requires.view.quiet, is));
+      over = λ delete none. absurd (cc (c.requires.view.kind, delete));
       again = no-look-up c.args.parts.now c.args.w c.requires.view.on (again-kind c.args.parts.now c.args.w c.requires.view.on c.requires.view.quiet kinds.ReadWhole c.requires.view.kind refl refl);
       other = c.requires.view.other;
       pays = read-has c.start_laws.ensures.lone c.args.parts.now c.args.w c.args.view.now c.requires.view

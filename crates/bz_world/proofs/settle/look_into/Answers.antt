@@ -22,6 +22,7 @@ read_frozen-requires-clause-path c = record {
     | inl due ↦ inr due
     | inr none ↦ absurd (true≢false (sym froze ∙ none.thawed))
   ];
+  stands = λ lonely at is deletes. absurd (cc (c.requires.path.quiet, is));
   again = no-reading c.args.parts.now c.args.w c.requires.path.on (again-froze c.args.parts.now c.args.w c.requires.path.on c.requires.path.quiet (outcomes.Path c.args.path) c.requires.path.ends.1 (λ e. e) froze);
   spares = way-read c.round_laws.ensures c.args.parts.now c.args.w c.args.path c.requires.path (inr (inr froze));
 }
@@ -39,6 +40,7 @@ read_leaf-requires-clause-path c =
       other = λ key get lonely. absurd (cc (page, get));
       look = λ quiet. subst (λ z. IsLookOf z kinds.ReadWhole) (sym page) (inr refl);
       due = λ quiet lonely. inl (ap is_page page);
+      stands = λ lonely at is deletes. absurd (cc (c.requires.path.quiet, is));
       again = no-reading c.args.parts.now c.args.w c.requires.path.on (again-call c.args.parts.now c.args.w c.requires.path.on (ap is_read page));
       spares = way-read c.round_laws.ensures c.args.parts.now c.args.w c.args.path c.requires.path (inr (inl (ap is_read page)));
     }

@@ -26,6 +26,9 @@ settle_effective-requires-clause-ends c =
       path = λ path is. tasked.lookup.path path here (tasked.laws.ends here (Path path) facts (ended ∙ ap Some is)).0;
       view = λ view is. tasked.lookup.view view here (tasked.laws.ends here (View view) facts (ended ∙ ap Some is)).0;
       leads = λ view is path way. tasked.lookup.leads path way view here (tasked.laws.ends here (View view) facts (ended ∙ ap Some is)).0;
+      some = λ view is none. no-view (key_of on.serving.call) on.serving.task (tasked.wayless none) view here (tasked.laws.ends here (View view) facts (ended ∙ ap Some is)).0;
+      alone = let a = c.requires.ends.asking.alone in record { others = a.others; made = a.made; counted = a.counted; stands = λ none again. a.stands refl none (ended ∙ ap Some again) };
+      swaps = λ is. c.requires.swaps (c.outcome_of-outcome.ensures ∙ ap Some is);
     }
 
 pub settle_quiet-requires-clause-ends : goal.settle_quiet-requires-clause-ends

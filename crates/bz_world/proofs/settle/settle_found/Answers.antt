@@ -27,6 +27,7 @@ answer-requires-clause-view c =
       some = s.knows.some;
       quiet = s.knows.quiet;
       ends = (s.must.asking.facts, ended);
+      kind = c.requires.ends.kind;
       spares = ended-spares c.round_laws.ensures c.args.parts.now c.args.w on (Key c.in-Key.view) kinds.Find c.requires.ends.kind refl ended (λ e. cc e) (finished-for c.args.parts.now c.args.w s.must.serving (known c.args.parts.now c.args.w on).past s.must.asking.paid);
       look = subst (IsLookOf s.must.serving.call) c.requires.ends.kind (s.must.asking.meant.look s.knows.quiet);
     }
@@ -41,6 +42,8 @@ look_up-requires c =
     record {
       on = on;
       may = inl s.knows.quiet;
+      stands = λ lonely at is deletes. absurd (cc (s.knows.quiet, is));
+      over = λ delete none. absurd (cc (ended, none));
       again = no-look-up c.args.parts.now c.args.w on (again-restart c.args.parts.now c.args.w on s.knows.quiet (ended ∙ ap Some again) s.must.asking.alone.others s.must.asking.alone.made s.must.asking.alone.counted (λ none. s.must.asking.alone.stands refl none (ended ∙ ap Some again)));
       other = other-found c.args.parts.now c.args.w on c.outcome_of.result ended c.requires.ends.path c.requires.ends.found (λ view e. c.in_default.not-Key view e);
       pays = λ r counted. (c.round_laws.ensures.rounds r).restart c.args.parts.now.access c.args.w (errand_of s.must.serving) s.must.serving.task (used_in r c.args.parts.now c.args.w) (bound_in r c.args.parts.now c.args.w) (known c.args.parts.now c.args.w on).past (ap is_some s.knows.quiet) (ended ∙ ap Some again)

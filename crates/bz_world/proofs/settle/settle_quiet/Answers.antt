@@ -22,6 +22,7 @@ look_into-requires-clause-path c =
       quiet = e.quiet;
       leads = e.path c.in-Path.path c.in-Path.is;
       ends = (e.facts, ended);
+      kind = kind;
       spares = ended-spares c.round_laws.ensures c.args.parts.now c.args.w e.on (Path c.in-Path.path) kinds.Seek kind refl ended (λ e. cc e) e.paid;
     }
 
@@ -37,6 +38,7 @@ answer-requires-clause-view c =
       some = e.some_found c.in-Key.view c.in-Key.is;
       quiet = e.quiet;
       ends = (e.facts, ended);
+      kind = kind;
       spares = ended-spares c.round_laws.ensures c.args.parts.now c.args.w e.on (Key c.in-Key.view) kinds.Find kind refl ended (λ e. cc e) e.paid;
       look = subst (IsLookOf e.on.serving.call) kind (e.meant.look e.quiet);
     }
@@ -71,6 +73,8 @@ look_up_frozen-requires c =
     record {
       on = e.on;
       may = inl e.quiet;
+      stands = λ lonely at is deletes. absurd (cc (e.quiet, is));
+      over = λ delete none. absurd (cc (ended, none));
       again = no-look-up c.args.parts.now c.args.w e.on (again-ended c.args.parts.now c.args.w e.on e.quiet Done ended (e.tasked.laws.ends_of Done (known c.args.parts.now c.args.w e.on) (e.tasked.laws.ends (known c.args.parts.now c.args.w e.on) Done e.facts ended).0) (λ e. e) (λ e. e));
       other = other-ended c.args.parts.now c.args.w e.on Done ended (λ path e. cc e) (λ view e. cc e);
       pays = λ r counted. (c.round_laws.ensures.rounds r).done c.args.parts.now.access c.args.w (errand_of e.on.serving) e.on.serving.task (used_in r c.args.parts.now c.args.w) (bound_in r c.args.parts.now c.args.w) (known c.args.parts.now c.args.w e.on).past (ap is_some e.quiet) ended (e.paid r counted);
@@ -84,6 +88,8 @@ look_up-requires c =
     record {
       on = e.on;
       may = inl e.quiet;
+      stands = λ lonely at is deletes. absurd (cc (e.quiet, is));
+      over = λ delete none. absurd (cc (e.end, none));
       again = no-look-up c.args.parts.now c.args.w e.on (again-restart c.args.parts.now c.args.w e.on e.quiet (e.end ∙ ap Some again) e.alone.others e.alone.made e.alone.counted (λ none. e.alone.stands none again));
       other = other-ended c.args.parts.now c.args.w e.on c.args.outcome e.end (λ path e. c.in_default.not-Path path e) (λ view e. c.in_default.not-Key view e);
       pays = λ r counted. (c.round_laws.ensures.rounds r).restart c.args.parts.now.access c.args.w (errand_of e.on.serving) e.on.serving.task (used_in r c.args.parts.now c.args.w) (bound_in r c.args.parts.now c.args.w) (known c.args.parts.now c.args.w e.on).past (ap is_some e.quiet) (e.end ∙ ap Some again) (e.paid r counted);

@@ -1,0 +1,139 @@
+-- Where the swap by which a delete takes its record away takes effect and no other call is open, the journal shows directly after the effect all that was taken.
+use Rattle.std.proofs.Common.{◌≡◌, ◌≢◌, ℕ, ◌+◌, ◌<◌, ◌≤◌, if◌then◌else◌, Bool, true, false, List, ◌∷◌, length, slice_index, arith, sym, ap, subst, ◌∙◌, inl, inr, Option, Some, None}
+use Rattle.std.specs.Prelude.{get_or, nat_lt}
+use Rattle.std.proofs.lemmas.Bool.{cases_eq, cases_lt, true≢false}
+use Rattle.std.proofs.lemmas.List.{get_or_past}
+use Rattle.bz_cells.specs.Store.{status_at, status_of}
+use Rattle.bz_layout.specs.Addresses.{swap_address}
+use Rattle.bz_layout.specs.declared.config.Config.{Config}
+use Rattle.bz_machine.specs.Machine.{is_succeeded}
+use Rattle.bz_machine.specs.declared.status.SwapStatus.TheVariants.{Free}
+use Rattle.bz_mark.specs.Log.{Log}
+use Rattle.bz_mark.specs.WordsAfter.{words_after_marks}
+use Rattle.bz_mark.specs.declared.marks.Mark.{Mark}
+use Rattle.bz_mark.specs.declared.marks.Mark.TheVariants.{Effect}
+use Rattle.bz_mark.proofs.Steps.{levelled, levels_or_not, not_levelled}
+use Rattle.bz_mark.proofs.WordLaws.{length-words_of}
+use Rattle.bz_pm.specs.Words.{Words}
+use Rattle.bz_running.specs.Duties.{asks_of, facts_of}
+use Rattle.bz_running.specs.Kinds as kinds
+use Rattle.bz_running.specs.Kinds.{kind_of}
+use Rattle.bz_running.specs.declared.running.AnyTask.{AnyTask}
+use Rattle.bz_sound.specs.Calls.{open_call}
+use Rattle.bz_sound.specs.Lonely.{IsLonely}
+use Rattle.bz_sound.specs.Memory.Spent.{is_stored_into, count_taken}
+use Rattle.bz_sound.specs.Power.Spent.{count_used}
+use Rattle.bz_sound.specs.Power.Times.{since_on}
+use Rattle.bz_swap.specs.SwapMemory.{SwapMemory, Idle, Swapping, doing_of, has_effect, memory_words}
+use Rattle.bz_swap.specs.TakenStatuses.{IsTaken}
+use Rattle.bz_task.specs.Scene.{HasFilled, Scene, Waiting}
+use Rattle.bz_task.specs.declared.todo.Todo.TheVariants as todo
+use Rattle.bz_word.specs.declared.entry.Entry.{Entry}
+use Rattle.bz_world.specs.Inside.Acted.{IsStriking}
+use Rattle.bz_world.specs.Inside.Laws.{StrikeLaws}
+use Rattle.bz_world.specs.Inside.Paid.{stock_of}
+use Rattle.bz_world.specs.Inside.Serving.{IsAtRest, IsSlot}
+use Rattle.bz_world.specs.declared.parts.Parts.{Parts}
+use Rattle.bz_world.specs.declared.serving.OpenCall.{OpenCall}
+use Rattle.bz_world.proofs.Powered.{flush-leaves, free-on}
+use Rattle.bz_world.proofs.Striking.{after, before, flush-calls, its, kept, living, old, owner, w, waits, x}
+use Rattle.bz_world.proofs.StruckQuietly.{still-does}
+use Rattle.bz_world.proofs.ToldShown.{as-taken, none-lost}
+
+-- the word of a status that says that a swap has succeeded is not 0
+succeeded-some : (z : ℕ) → is_succeeded (status_of z) ≡ true → z ≢ 0
+unfolding status_of
+succeeded-some z done zero = let never : is_succeeded (status_of 0) ≡ true = subst (λ (y : ℕ). is_succeeded (status_of y) ≡ true) zero done in true≢false (sym never)
+
+status-some : (swaps : ℕ) (words : List ℕ) (s : ℕ) → is_succeeded (status_at swaps words s) ≡ true → slice_index words (swap_address s) ≢ 0
+status-some swaps words s = by (nat_lt s swaps)
+  where
+    by : (t : Bool) → is_succeeded (if t then status_of (slice_index words (swap_address s)) else Free) ≡ true → slice_index words (swap_address s) ≢ 0
+    by true done = succeeded-some (slice_index words (swap_address s)) done
+    by false done = absurd (true≢false (sym done))
+
+-- the mark by which a swap takes effect has made the cached word of its status the durable one, so that is not free
+module _ (was is : SwapMemory) (start : List ℕ) (past : List Mark) (mark : Mark) (s : ℕ) (before-it : memory_words was ≡ words_after_marks start past) (after-it : memory_words is ≡ words_after_marks start (mark ∷ past)) (swaps : is.swaps ≡ was.swaps) where
+  within : slice_index is.durable (swap_address s) ≢ 0 → swap_address s < length start
+  within some = elim (cases_lt (swap_address s) (length start)) [
+    | inl below ↦ below
+    | inr beyond ↦ absurd (some (let size : length is.durable ≡ length start = ap (λ (m : Words). length m.durable) after-it ∙ (length-words_of start (mark ∷ past)).durable in get_or_past is.durable (swap_address s) 0 (omega (arith, beyond, size))))
+  ]
+
+  same-effect : slice_index is.durable (swap_address s) ≡ slice_index was.durable (swap_address s) → has_effect is s ≡ has_effect was s
+  same-effect same = ap (λ (n : ℕ). is_succeeded (status_at n is.durable s)) swaps ∙ ap (λ (z : ℕ). is_succeeded (if nat_lt s was.swaps then status_of z else Free)) same
+
+  effect-takes : has_effect was s ≡ false → has_effect is s ≡ true → IsTaken is s
+  effect-takes none done free = elim (levels_or_not (swap_address s) mark) [
+    | inl levels ↦ some (word ∙ (levelled start (words_after_marks start past) mark (swap_address s) (length-words_of start past) (within some) levels ∙ (ap (λ (m : Words). slice_index m.cached (swap_address s)) (sym after-it) ∙ free)))
+    | inr leaves ↦ true≢false (sym done ∙ (same-effect (word ∙ (not_levelled start (words_after_marks start past) mark (swap_address s) (length-words_of start past) (within some) leaves ∙ ap (λ (m : Words). slice_index m.durable (swap_address s)) (sym before-it))) ∙ none))
+  ]
+    where
+      some : slice_index is.durable (swap_address s) ≢ 0
+      some = status-some is.swaps is.durable s done
+
+      word : slice_index is.durable (swap_address s) ≡ slice_index (words_after_marks start (mark ∷ past)).durable (swap_address s)
+      word = ap (λ (m : Words). slice_index m.durable (swap_address s)) after-it
+
+-- a delete that asks for its swap has stored into each slot that its worker took
+delete-filled : (t : AnyTask) (entries : List Entry) (u : Scene) → kind_of t ≡ kinds.Delete → asks_of t ≡ Some (todo.Swap entries) → facts_of t Waiting u → HasFilled u
+unfolding kind_of asks_of facts_of
+delete-filled t entries u is asks facts j took = grind arith
+
+module _ (b : StrikeLaws) (p : Parts) (s : ℕ) (h : IsStriking p s) (lonely : IsLonely (w b p s h) (h.mark ∷ (old b p s h).journal.past)) (deletes : kind_of (x b p s h).task ≡ kinds.Delete) where
+  abbrev c : Config
+  c = (old b p s h).config
+
+  abbrev log : Log
+  log = (old b p s h).journal
+
+  abbrev worker : ℕ
+  worker = w b p s h
+
+  -- the other workers are at rest
+  rest : (v : ℕ) → v ≢ worker → IsAtRest (old b p s h).access log (kept b p s h).story v
+  rest v ne = by (get_or (old b p s h).workers.items v None) ((kept b p s h).workers v)
+    where
+      none : open_call v log.past ≡ None
+      none = sym (flush-calls v h.mark log.past h.flush) ∙ b.lonely.alone worker v (h.mark ∷ log.past) lonely ne
+
+      by : (slot : Option OpenCall) → IsSlot c (old b p s h).access log (kept b p s h).story (old b p s h).owners.items (stock_of (old b p s h)) v slot → IsAtRest (old b p s h).access log (kept b p s h).story v
+      by None r = r
+      by (Some y) t = absurd (let never : None ≡ Some t.opened = sym none ∙ t.call_open.is_open in cc never)
+
+  -- so the status of no descriptor that is taken is free
+  its-taken : IsTaken p.access s
+  its-taken = effect-takes (old b p s h).access p.access log.start log.past h.mark s (kept b p s h).living.words h.marked h.takes.same.swaps h.takes.effect.before h.takes.effect.done
+
+  all-begun : (t : ℕ) → t < p.access.taken → IsTaken p.access t
+  all-begun t few = elim (h.taken.held t few) [
+    | inr taken ↦ taken
+    | inl doing ↦ elim (cases_eq doing.0 worker) [
+      | inr ne ↦ absurd (let never : Idle ≡ Swapping t = sym (rest doing.0 ne).idle ∙ (sym (h.work.doing doing.0) ∙ doing.1) in cc never)
+      | inl e ↦ (
+          let both : Swapping s ≡ Swapping t = sym (still-does b p s h) ∙ (ap (doing_of p.access) (sym e) ∙ doing.1) in
+          let same : s ≡ t = cc both in
+          subst (IsTaken p.access) same its-taken)
+    ]
+  ]
+
+  pub shown-taken : p.access.taken ≤ count_taken c (since_on (Effect worker (its b p s h).opened.number ∷ h.mark ∷ log.past))
+  shown-taken =
+      let there : count_taken p.config (since_on p.journal.past) ≡ count_taken c (since_on (h.mark ∷ log.past)) = ap (λ (q : Parts). count_taken q.config (since_on q.journal.past)) h.rest in
+      omega (arith, as-taken p h.taken all-begun, there)
+
+  -- and the workers have stored into each slot that they took
+  filled : (v j : ℕ) → (kept b p s h).story.took v j ≡ true → (kept b p s h).story.filled v j ≡ true
+  filled v j took = elim (cases_eq v worker) [
+    | inr ne ↦ (rest v ne).filled j took
+    | inl e ↦ (
+        let its-own : (kept b p s h).story.took worker j ≡ true = subst (λ (u : ℕ). (kept b p s h).story.took u j ≡ true) e took in
+        subst (λ (u : ℕ). (kept b p s h).story.filled u j ≡ true) (sym e) (delete-filled (x b p s h).task _ (before b p s h) deletes (owner b p s h).asks (waits b p s h) j its-own))
+  ]
+
+  all-stored : (v j : ℕ) → (after b p s h).took v j ≡ true → is_stored_into c j (since_on (h.mark ∷ log.past)) ≡ true
+  all-stored v j took = (living b p s h).stored v j (filled v j took)
+
+  pub shown-used : c.nodes ≤ length (old b p s h).slots.free + count_used c log.start (Effect worker (its b p s h).opened.number ∷ h.mark ∷ log.past)
+  shown-used = none-lost c log.start (h.mark ∷ log.past) (old b p s h).slots (after b p s h).took
+      (free-on c log.start log.past h.mark (old b p s h).slots (after b p s h).took (flush-leaves h.mark log.past h.flush) (kept b p s h).free) all-stored
