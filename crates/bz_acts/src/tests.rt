@@ -10,6 +10,8 @@ use bz_machine::{DescriptorWords, Done, HelpStep, Operation, Place, PrepareStep,
 use bz_memory::Memory;
 use bz_word::WordKind;
 use std::alloc::Global;
+use std::fmt::Debug;
+use std::process::Abort;
 use std::test::Fail;
 
 const SWAPS: u32 = 4;
@@ -20,6 +22,10 @@ const WORKERS: u8 = 2;
 const NODE: u32 = 80;
 
 const WORDS: u32 = 96;
+
+fn same<T: PartialEq + Debug + Drop>(rt: &impl Abort, got: T, want: T) {
+    assert_eq!(rt; got, want);
+}
 
 // A memory of four descriptors and two lines, all of it zero.
 fn zeros(alloc: Global) -> Result<Cells, Memory>
@@ -163,10 +169,10 @@ fn a_swap_alone_takes_seven_acts_and_ten_an_entry(rt: HostRuntime) -> Result<(),
         let mut cells = zeros(rt.alloc())?;
         let mut worker = swapper(count, 0);
         let ended = run(&mut cells, &mut worker, 1, 60);
-        assert_eq!(rt; ended, Some((Done::Swapped(true), acts)));
+        same(&rt, ended, Some((Done::Swapped(true), acts)));
         for i in 0..4u32 {
             let value = if (i as u64) < count { 11 + i as u64 } else { 0 };
-            assert_eq!(rt; cells.load(NODE + i), value);
+            same(&rt, cells.load(NODE + i), value);
         }
     }
     Ok(())
@@ -179,10 +185,10 @@ fn a_target_that_differs_fails_the_swap_and_the_first_is_restored(
     let mut cells = zeros(rt.alloc())?;
     let mut worker = swapper(2, 5);
     let ended = run(&mut cells, &mut worker, 1, 60);
-    assert_eq!(rt; ended.map(|(done, _)| done), Some(Done::Swapped(false)));
-    assert_eq!(rt; cells.load_word(NODE), WordKind::Value(0));
-    assert_eq!(rt; cells.load_word(NODE + 1), WordKind::Value(0));
-    assert_eq!(rt; cells.is_missed(0), true);
+    same(&rt, ended.map(|(done, _)| done), Some(Done::Swapped(false)));
+    same(&rt, cells.load_word(NODE), WordKind::Value(0));
+    same(&rt, cells.load_word(NODE + 1), WordKind::Value(0));
+    same(&rt, cells.is_missed(0), true);
     Ok(())
 }
 
@@ -197,15 +203,17 @@ fn a_read_through_a_pointer_helps(rt: HostRuntime) -> Result<(), Fail> {
         back: None,
         list: DescriptorWords { words: [0; 13] },
     };
-    assert_eq!(rt; run(&mut cells, &mut sleeper, 1, 10), None);
-    assert_eq!(rt; cells.load_word(NODE), WordKind::Swap(0));
-    assert_eq!(rt;
+    same(&rt, run(&mut cells, &mut sleeper, 1, 10), None);
+    same(&rt, cells.load_word(NODE), WordKind::Swap(0));
+    same(
+        &rt,
         run(&mut cells, &mut reader, 2, 60),
-        Some((Done::Read(11), 15))
+        Some((Done::Read(11), 15)),
     );
-    assert_eq!(rt;
+    same(
+        &rt,
         run(&mut cells, &mut sleeper, 1, 60),
-        Some((Done::Swapped(true), 3))
+        Some((Done::Swapped(true), 3)),
     );
     Ok(())
 }

@@ -3,76 +3,99 @@ use super::{
     FailSink, FailSource, Failed, MemSink, MemSource, ReadFault, RealSink, RealSource, Sink,
     Source, read_all, write_all,
 };
+use std::alloc::Global;
+use std::fmt::Debug;
+use std::process::Abort;
 use std::test::Fail;
+
+fn same<T: PartialEq + Debug + Drop>(rt: &impl Abort, got: T, want: T) {
+    assert_eq!(rt; got, want);
+}
+
+// What five reads give of a source that has these five bytes: a dot behind each piece, and `!` for a
+// failure.
+fn expect_reads(
+    rt: &impl Abort,
+    alloc: Global,
+    piece: usize,
+    room: usize,
+    fails: &[u64],
+    want: &[u8],
+) -> Result<(), Fail> {
+    let piece = piece.max(1);
+    let mut source = FailSource::of(alloc, b"abcde", piece, fails)?;
+    let mut trace: Vec<u8> = Vec::new(alloc);
+    for _ in 0..5u8 {
+        let mut buffer = [0u8; 8];
+        let into = &mut buffer[..room.min(8)];
+        match source.read(into) {
+            Ok(count) => {
+                trace.extend_from_slice(&into[..count])?;
+                trace.push(b'.')?;
+            }
+            Err(Failed) => trace.push(b'!')?,
+        }
+    }
+    assert_eq!(rt; trace.as_slice(), want, "piece {piece}, room {room}");
+    Ok(())
+}
 
 #[test]
 fn failing_source_gives_pieces_and_fails_where_told(rt: HostRuntime) -> Result<(), Fail> {
-    // piece, room of the reader, numbers of the failing calls, what five reads give
-    let table: [(usize, usize, &[u64], &[u8]); 6] = [
-        (2, 8, &[], b"ab.cd.e..."),
-        (8, 3, &[], b"abc.de...."),
-        (8, 8, &[1], b"!abcde...."),
-        (2, 8, &[4, 2], b"ab.!cd.!e."),
-        (1, 1, &[5, 5, 0], b"a.b.c.d.!"),
-        (5, 0, &[2], b".!..."),
-    ];
-    for (piece, room, fails, want) in table {
-        let piece = piece.max(1);
-        let mut source = FailSource::of(rt.alloc(), b"abcde", piece, fails)?;
-        let mut trace: Vec<u8> = Vec::new(rt.alloc());
-        for _ in 0..5u8 {
-            let mut buffer = [0u8; 8];
-            let into = &mut buffer[..room.min(8)];
-            match source.read(into) {
-                Ok(count) => {
-                    trace.extend_from_slice(&into[..count])?;
-                    trace.push(b'.')?;
-                }
-                Err(Failed) => trace.push(b'!')?,
+    let alloc = rt.alloc();
+    expect_reads(&rt, alloc, 2, 8, &[], b"ab.cd.e...")?;
+    expect_reads(&rt, alloc, 8, 3, &[], b"abc.de....")?;
+    expect_reads(&rt, alloc, 8, 8, &[1], b"!abcde....")?;
+    expect_reads(&rt, alloc, 2, 8, &[4, 2], b"ab.!cd.!e.")?;
+    expect_reads(&rt, alloc, 1, 1, &[5, 5, 0], b"a.b.c.d.!")?;
+    expect_reads(&rt, alloc, 5, 0, &[2], b".!...")
+}
+
+// What a sink with so much room holds after each of four writes of what is left of five bytes: a dot
+// behind each, and `!` for a failure.
+fn expect_writes(
+    rt: &impl Abort,
+    alloc: Global,
+    room: usize,
+    piece: usize,
+    fails: &[u64],
+    want: &[u8],
+) -> Result<(), Fail> {
+    let piece = piece.max(1);
+    let mut sink = FailSink::open(alloc, room, piece, fails)?;
+    let all: &[u8] = b"abcde";
+    let mut trace: Vec<u8> = Vec::new(alloc);
+    for _ in 0..4u8 {
+        let done = sink.bytes().len().min(all.len());
+        match sink.write(&all[done..]) {
+            Ok(_) => {
+                trace.extend_from_slice(sink.bytes())?;
+                trace.push(b'.')?;
             }
+            Err(Failed) => trace.push(b'!')?,
         }
-        assert_eq!(rt; trace.as_slice(), want, "piece {piece}, room {room}");
     }
+    assert_eq!(rt; trace.as_slice(), want, "room {room}, piece {piece}");
     Ok(())
 }
 
 #[test]
 fn failing_sink_takes_pieces_and_fails_where_told(rt: HostRuntime) -> Result<(), Fail> {
-    // room, piece, numbers of the failing calls, the bytes held after each of four writes
-    let table: [(usize, usize, &[u64], &[u8]); 5] = [
-        (8, 2, &[], b"ab.abcd.abcde.abcde."),
-        (3, 2, &[], b"ab.abc.!!"),
-        (8, 5, &[1, 3], b"!abcde.!abcde."),
-        (0, 1, &[], b"!!!!"),
-        (8, 1, &[2], b"a.!ab.abc."),
-    ];
-    for (room, piece, fails, want) in table {
-        let piece = piece.max(1);
-        let mut sink = FailSink::open(rt.alloc(), room, piece, fails)?;
-        let all: &[u8] = b"abcde";
-        let mut trace: Vec<u8> = Vec::new(rt.alloc());
-        for _ in 0..4u8 {
-            let done = sink.bytes().len().min(all.len());
-            match sink.write(&all[done..]) {
-                Ok(_) => {
-                    trace.extend_from_slice(sink.bytes())?;
-                    trace.push(b'.')?;
-                }
-                Err(Failed) => trace.push(b'!')?,
-            }
-        }
-        assert_eq!(rt; trace.as_slice(), want, "room {room}, piece {piece}");
-    }
-    Ok(())
+    let alloc = rt.alloc();
+    expect_writes(&rt, alloc, 8, 2, &[], b"ab.abcd.abcde.abcde.")?;
+    expect_writes(&rt, alloc, 3, 2, &[], b"ab.abc.!!")?;
+    expect_writes(&rt, alloc, 8, 5, &[1, 3], b"!abcde.!abcde.")?;
+    expect_writes(&rt, alloc, 0, 1, &[], b"!!!!")?;
+    expect_writes(&rt, alloc, 8, 1, &[2], b"a.!ab.abc.")
 }
 
 #[test]
 fn sink_in_memory_fills_its_room(rt: HostRuntime) -> Result<(), Fail> {
     let mut sink = MemSink::open(rt.alloc(), 3)?;
-    assert_eq!(rt; sink.write(b"ab"), Ok(2));
-    assert_eq!(rt; sink.write(b"cd"), Ok(1));
-    assert_eq!(rt; sink.write(b"d"), Err(Failed));
-    assert_eq!(rt; sink.bytes(), b"abc".as_slice());
+    same(&rt, sink.write(b"ab"), Ok(2));
+    same(&rt, sink.write(b"cd"), Ok(1));
+    same(&rt, sink.write(b"d"), Err(Failed));
+    same(&rt, sink.bytes(), b"abc".as_slice());
     Ok(())
 }
 
@@ -105,10 +128,10 @@ fn input_is_read_piece_by_piece_and_one_fault_ends_it(rt: HostRuntime) -> Result
 #[test]
 fn all_is_written_or_a_front_part(rt: HostRuntime) -> Result<(), Fail> {
     let mut sink = FailSink::open(rt.alloc(), 9, 1, &[4])?;
-    assert_eq!(rt; write_all(&mut sink, b"abc"), Ok(()));
-    assert_eq!(rt; write_all(&mut sink, b"def"), Err(Failed));
-    assert_eq!(rt; write_all(&mut sink, b"xy"), Ok(()));
-    assert_eq!(rt; sink.bytes(), b"abcxy".as_slice());
+    same(&rt, write_all(&mut sink, b"abc"), Ok(()));
+    same(&rt, write_all(&mut sink, b"def"), Err(Failed));
+    same(&rt, write_all(&mut sink, b"xy"), Ok(()));
+    same(&rt, sink.bytes(), b"abcxy".as_slice());
     Ok(())
 }
 
@@ -124,25 +147,28 @@ fn real_source_gives_what_its_reader_gives(rt: HostRuntime) -> Result<(), Fail> 
 fn real_sink_passes_bytes_on_and_refuses_when_its_writer_is_full(rt: HostRuntime) {
     let mut room = [0u8; 4];
     let mut sink = RealSink::of(&mut room[..]);
-    assert_eq!(rt; write_all(&mut sink, b"abc"), Ok(()));
-    assert_eq!(rt; write_all(&mut sink, b"de"), Err(Failed));
-    assert_eq!(rt; sink.write(b""), Ok(0));
+    same(&rt, write_all(&mut sink, b"abc"), Ok(()));
+    same(&rt, write_all(&mut sink, b"de"), Err(Failed));
+    same(&rt, sink.write(b""), Ok(0));
     drop(sink);
-    assert_eq!(rt; room, *b"abcd");
+    same(&rt, room, *b"abcd");
+}
+
+fn expect_words(rt: &impl Abort, alloc: Global, fault: ReadFault, want: &str) -> Result<(), Fail> {
+    same(rt, format!(in alloc; "{fault}")?.as_str(), want);
+    Ok(())
 }
 
 #[test]
 fn faults_have_their_words(rt: HostRuntime) -> Result<(), Fail> {
-    for (fault, want) in [
-        (ReadFault::Failed, "read failed"),
-        (ReadFault::TooLong, "input too long"),
-        (ReadFault::Memory, "want of memory"),
-    ] {
-        assert_eq!(rt; format!(in rt.alloc(); "{fault}")?.as_str(), want);
-    }
-    assert_eq!(rt;
-        format!(in rt.alloc(); "{Failed}")?.as_str(),
-        "read or write failed"
+    let alloc = rt.alloc();
+    expect_words(&rt, alloc, ReadFault::Failed, "read failed")?;
+    expect_words(&rt, alloc, ReadFault::TooLong, "input too long")?;
+    expect_words(&rt, alloc, ReadFault::Memory, "want of memory")?;
+    same(
+        &rt,
+        format!(in alloc; "{Failed}")?.as_str(),
+        "read or write failed",
     );
     Ok(())
 }

@@ -6,6 +6,7 @@ use bz_key::{Key, Payload};
 use bz_layout::Config;
 use bz_shape::{ShapeFault, ShapeRule};
 use std::alloc::Global;
+use std::fmt::Debug;
 use std::process::Abort;
 use std::test::Fail;
 
@@ -48,6 +49,10 @@ const TREE: [Written; 23] = [
     (430, 0x007A_0000_0000_0000),
     (431, 0x0032_0000_0000_0000),
 ];
+
+fn same<T: PartialEq + Debug + Drop>(rt: &impl Abort, got: T, want: T) {
+    assert_eq!(rt; got, want);
+}
 
 // Writes words of an image.
 fn write(words: &mut [u64; 432], written: &[Written]) {
@@ -111,7 +116,7 @@ fn accepts_trees(rt: HostRuntime) -> Result<(), Fail> {
             reached: 3,
         })
     };
-    assert_eq!(rt; judged(rt.alloc(), &[]), shape(2));
+    same(&rt, judged(rt.alloc(), &[]), shape(2));
     assert_eq!(rt; judged_in_swap(rt.alloc(), 1), shape(1), "undecided");
     assert_eq!(rt; judged_in_swap(rt.alloc(), 2), shape(2), "succeeded");
     assert_eq!(rt; judged_in_swap(rt.alloc(), 3), shape(1), "failed");

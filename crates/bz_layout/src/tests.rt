@@ -4,6 +4,8 @@ use crate::slots::Slots;
 use crate::superblock::fresh;
 use bz_memory::Memory;
 use std::alloc::Global;
+use std::fmt::Debug;
+use std::process::Abort;
 use std::test::Fail;
 
 const SMALLEST: Config = Config {
@@ -24,10 +26,14 @@ const GREATEST: Config = Config {
     pages: 4_096,
 };
 
+fn same<T: PartialEq + Debug + Drop>(rt: &impl Abort, got: T, want: T) {
+    assert_eq!(rt; got, want);
+}
+
 #[test]
 fn the_ends_of_the_ranges_are_taken(rt: HostRuntime) {
-    assert_eq!(rt; SMALLEST.check(), Ok(()));
-    assert_eq!(rt; GREATEST.check(), Ok(()));
+    same(&rt, SMALLEST.check(), Ok(()));
+    same(&rt, GREATEST.check(), Ok(()));
 }
 
 #[test]
@@ -117,18 +123,18 @@ fn a_refused_configuration_tells_the_range(rt: HostRuntime) -> Result<(), Fail> 
     ];
     for (error, want) in table {
         let text = format!(in rt.alloc(); "{error}")?;
-        assert_eq!(rt; text.as_str(), want);
+        same(&rt, text.as_str(), want);
     }
     Ok(())
 }
 
 #[test]
 fn the_greatest_memory_has_these_addresses(rt: HostRuntime) {
-    assert_eq!(rt; GREATEST.swap_at(0), 16);
-    assert_eq!(rt; GREATEST.swap_at(65_535), 1_048_576);
-    assert_eq!(rt; GREATEST.node_at(0), 1_048_592);
-    assert_eq!(rt; GREATEST.node_at(16_383), 3_145_616);
-    assert_eq!(rt; GREATEST.words(), 3_145_744);
+    same(&rt, GREATEST.swap_at(0), 16);
+    same(&rt, GREATEST.swap_at(65_535), 1_048_576);
+    same(&rt, GREATEST.node_at(0), 1_048_592);
+    same(&rt, GREATEST.node_at(16_383), 3_145_616);
+    same(&rt, GREATEST.words(), 3_145_744);
 }
 
 #[test]
@@ -142,9 +148,9 @@ fn fresh_memory_begins_with_five_words(rt: HostRuntime) -> Result<(), Fail> {
         (SMALLEST, [1, 1, 0, 1, 1], 160),
         (config, [1, 1, 0, 16, 64], 3_088),
     ] {
-        assert_eq!(rt; config.check(), Ok(()));
+        same(&rt, config.check(), Ok(()));
         let words = fresh(rt.alloc(), &config)?;
-        assert_eq!(rt; words.len(), count);
+        same(&rt, words.len(), count);
         for (place, word) in words.iter().enumerate() {
             let want = if place < 5 { front[place] } else { 0 };
             assert_eq!(rt; *word, want, "at {place}");
@@ -165,14 +171,14 @@ fn take_answers_false_where_one_slot_is_missing(rt: HostRuntime) -> Result<(), F
     ];
     for (k, left, taken, want) in table {
         let mut slots = upper_of_five(rt.alloc(), left)?;
-        assert_eq!(rt; slots.left(), u32::from(left));
+        same(&rt, slots.left(), u32::from(left));
         let mut out = [9; 3];
         assert!(rt; 1 <= k && k <= 3);
         assert_eq!(rt; slots.take(k, &mut out), taken, "{k} of {left}");
         assert_eq!(rt; out, want, "{k} of {left}");
-        assert_eq!(rt; slots.left(), if taken { 0 } else { u32::from(left) });
+        same(&rt, slots.left(), if taken { 0 } else { u32::from(left) });
         slots.free_all();
-        assert_eq!(rt; slots.left(), 5);
+        same(&rt, slots.left(), 5);
     }
     Ok(())
 }

@@ -3,7 +3,13 @@
 use super::*;
 use bz_call::{Call, Reply};
 use bz_key::{Key, PAGE_PAIRS, Payload};
+use std::fmt::Debug;
+use std::process::Abort;
 use std::test::Fail;
+
+fn same<T: PartialEq + Debug + Drop>(rt: &impl Abort, got: T, want: T) {
+    assert_eq!(rt; got, want);
+}
 
 // The kind, the worker or 0, and two numbers of a mark.
 fn parts(mark: Mark) -> (&'static str, u8, u64, u64) {
@@ -26,7 +32,7 @@ fn parts(mark: Mark) -> (&'static str, u8, u64, u64) {
 fn takes_as_many_marks_as_its_room(rt: HostRuntime) -> Result<(), Fail> {
     let key = Key::of(b"a")?;
     let mut journal = Journal::open(rt.alloc(), &[7, 8], 11, 1, 0)?;
-    assert_eq!(rt; journal.room(), 11);
+    same(&rt, journal.room(), 11);
     journal.push(Mark::On);
     journal.push(Mark::Begin {
         w: 1,
@@ -56,10 +62,10 @@ fn takes_as_many_marks_as_its_room(rt: HostRuntime) -> Result<(), Fail> {
     });
     journal.push(Mark::Evict { a: 1 });
     journal.push(Mark::Cut);
-    assert_eq!(rt; journal.room(), 1);
+    same(&rt, journal.room(), 1);
     journal.push(Mark::Ready);
-    assert_eq!(rt; journal.room(), 0);
-    assert_eq!(rt; journal.length(), 11);
+    same(&rt, journal.room(), 0);
+    same(&rt, journal.length(), 11);
     let table = [
         (0, ("on", 0, 0, 0)),
         (1, ("begin", 1, 1, 0)),
@@ -77,7 +83,7 @@ fn takes_as_many_marks_as_its_room(rt: HostRuntime) -> Result<(), Fail> {
         assert!(rt; i < journal.length());
         assert_eq!(rt; parts(journal.mark(i)), want, "mark {i}");
     }
-    assert_eq!(rt; journal.start(), [7, 8].as_slice());
+    same(&rt, journal.start(), [7, 8].as_slice());
     Ok(())
 }
 
@@ -86,12 +92,12 @@ fn keeps_full_and_empty_pages(rt: HostRuntime) -> Result<(), Fail> {
     let pair = (Key::of(b"k01")?, Payload::of(b"v")?);
     let full = [pair; PAGE_PAIRS];
     let mut journal = Journal::open(rt.alloc(), &[], 0, 0, 2)?;
-    assert_eq!(rt; journal.page_count(), 0);
-    assert_eq!(rt; journal.add_page(&full), 0);
-    assert_eq!(rt; journal.add_page(&[]), 1);
-    assert_eq!(rt; journal.page_count(), 2);
-    assert_eq!(rt; journal.page(0).len(), PAGE_PAIRS);
-    assert_eq!(rt; journal.page(0), full.as_slice());
-    assert_eq!(rt; journal.page(1).len(), 0);
+    same(&rt, journal.page_count(), 0);
+    same(&rt, journal.add_page(&full), 0);
+    same(&rt, journal.add_page(&[]), 1);
+    same(&rt, journal.page_count(), 2);
+    same(&rt, journal.page(0).len(), PAGE_PAIRS);
+    same(&rt, journal.page(0), full.as_slice());
+    same(&rt, journal.page(1).len(), 0);
     Ok(())
 }

@@ -7,10 +7,15 @@ ghost use Rattle.bz_node.specs.Reading.{IsReadableLeaf, IsReadableInner, count_i
 use crate::ordering::is_before;
 use crate::{Child, NodeImage, inner, leaf};
 use bz_key::{Key, PageBuf, Payload};
+use std::fmt::Debug;
 use std::process::Abort;
 use std::test::Fail;
 
 const LONGEST: &[u8; 28] = b"abcdefghijklmnopqrstuvwxyz01";
+
+fn same<T: PartialEq + Debug + Drop>(rt: &impl Abort, got: T, want: T) {
+    assert_eq!(rt; got, want);
+}
 
 // Whether the records make a leaf without fences.
 fn make_leaf(records: &[(Key, Payload)]) -> bool
@@ -80,7 +85,7 @@ fn lays_the_worked_record_out(rt: HostRuntime) -> Result<(), Fail> {
     words[10] = 0x1000_007E_0001_0002;
     words[126] = 0x0061_0000_0000_0000;
     words[127] = 0x0031_0000_0000_0000;
-    assert_eq!(rt; image, NodeImage(words));
+    same(&rt, image, NodeImage(words));
     Ok(())
 }
 
@@ -102,7 +107,7 @@ fn takes_118_words_in_a_leaf(rt: HostRuntime) -> Result<(), Fail> {
     let Some(image) = leaf_of(&rt, &records) else {
         return Err(Fail::from("118 words do not fit"));
     };
-    assert_eq!(rt; image.live_words(), 118);
+    same(&rt, image.live_words(), 118);
     assert_eq!(rt;
         image.0[23] & 0xFFFF_FFFF,
         0x000E_001C,
@@ -125,11 +130,11 @@ fn makes_the_empty_leaf(rt: HostRuntime) -> Result<(), Fail> {
     let Some(image) = leaf_of(&rt, &[]) else {
         return Err(Fail::from("it does not fit"));
     };
-    assert_eq!(rt; image, NodeImage([0; 128]));
+    same(&rt, image, NodeImage([0; 128]));
     let mut page = PageBuf::open(rt.alloc())?;
     image.records(&mut page);
     assert!(rt; page.pairs().is_empty());
-    assert_eq!(rt; image.live_words(), 0);
+    same(&rt, image.live_words(), 0);
     Ok(())
 }
 
@@ -139,10 +144,10 @@ fn holds_the_longest_record(rt: HostRuntime) -> Result<(), Fail> {
     let Some(image) = leaf_of(&rt, &[record]) else {
         return Err(Fail::from("it does not fit"));
     };
-    assert_eq!(rt; image.0[10], 0x1000_0078_001C_0038);
-    assert_eq!(rt; image.0[120], 0x0061_6263_6465_6667);
-    assert_eq!(rt; image.0[123], 0x0076_7778_797A_3031);
-    assert_eq!(rt; image.0[124], 0x0061_6263_6465_6667);
+    same(&rt, image.0[10], 0x1000_0078_001C_0038);
+    same(&rt, image.0[120], 0x0061_6263_6465_6667);
+    same(&rt, image.0[123], 0x0076_7778_797A_3031);
+    same(&rt, image.0[124], 0x0061_6263_6465_6667);
     let mut page = PageBuf::open(rt.alloc())?;
     image.records(&mut page);
     assert!(rt; page.pairs() == [record].as_slice());
@@ -172,10 +177,10 @@ fn takes_118_words_in_an_inner_node(rt: HostRuntime) -> Result<(), Fail> {
     let Some(image) = inner_of(&rt, &children, 1) else {
         return Err(Fail::from("118 words do not fit"));
     };
-    assert_eq!(rt; image.child_count(), 21);
+    same(&rt, image.child_count(), 21);
     for i in 0..21u32 {
         assert!(rt; i < image.child_count());
-        assert_eq!(rt; image.child(i), children[i as usize]);
+        same(&rt, image.child(i), children[i as usize]);
     }
     let more = twenty_one_children(&[20; 15])?;
     assert!(rt; inner_of(&rt, &more, 1).is_none(), "119 words");
@@ -202,7 +207,7 @@ fn lays_children_out(rt: HostRuntime) -> Result<(), Fail> {
     words[125] = 0x0062_0000_0000_0000;
     words[126] = 1;
     words[127] = 4;
-    assert_eq!(rt; image, NodeImage(words));
+    same(&rt, image, NodeImage(words));
     Ok(())
 }
 
@@ -211,17 +216,22 @@ fn packs_fences(rt: HostRuntime) -> Result<(), Fail> {
     let Some(image) = leaf(&[], Some(Key::of(b"abcdefg")?), Some(Key::of(b"abcdefgh")?)) else {
         return Err(Fail::from("it does not fit"));
     };
-    assert_eq!(rt; image.0[1], 0x0008_0700);
-    assert_eq!(rt; &image.0[2..6], [0x0061_6263_6465_6667, 0, 0, 0].as_slice());
-    assert_eq!(rt;
+    same(&rt, image.0[1], 0x0008_0700);
+    same(
+        &rt,
+        &image.0[2..6],
+        [0x0061_6263_6465_6667, 0, 0, 0].as_slice(),
+    );
+    same(
+        &rt,
         &image.0[6..10],
-        [0x0061_6263_6465_6667, 0x0068_0000_0000_0000, 0, 0].as_slice()
+        [0x0061_6263_6465_6667, 0x0068_0000_0000_0000, 0, 0].as_slice(),
     );
     let Some(image) = leaf(&[], None, Some(Key::of(LONGEST)?)) else {
         return Err(Fail::from("it does not fit"));
     };
-    assert_eq!(rt; image.0[1], 0x001C_0000);
-    assert_eq!(rt; &image.0[2..6], [0, 0, 0, 0].as_slice());
-    assert_eq!(rt; image.0[9], 0x0076_7778_797A_3031);
+    same(&rt, image.0[1], 0x001C_0000);
+    same(&rt, &image.0[2..6], [0, 0, 0, 0].as_slice());
+    same(&rt, image.0[9], 0x0076_7778_797A_3031);
     Ok(())
 }

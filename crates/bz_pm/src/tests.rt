@@ -1,6 +1,7 @@
 //! What the memory holds after each act of a sequence, worked out by hand from the rule of each act.
 
 use super::*;
+use std::fmt::Debug;
 use std::process::Abort;
 use std::test::Fail;
 
@@ -16,6 +17,10 @@ enum Act {
     Flush(u32),
     Evict(u32),
     Cut,
+}
+
+fn same<T: PartialEq + Debug + Drop>(rt: &impl Abort, got: T, want: T) {
+    assert_eq!(rt; got, want);
 }
 
 fn make(rt: &impl Abort, pm: &mut Pm, act: Act) {
@@ -72,7 +77,7 @@ fn each_act_changes_these_words(rt: HostRuntime) -> Result<(), Fail> {
         100, 101, 102, 103, 104, 105, 106, 107, 108, 109, 110, 111, 112, 113, 114, 115,
     ];
     let mut pm = Pm::open(rt.alloc(), &start)?;
-    assert_eq!(rt; pm.words(), 16);
+    same(&rt, pm.words(), 16);
     let found = |a: u32, old: u64, new: u64, found: u64| Act::Cas { a, old, new, found };
     // an act, the cached words and the durable words that differ from the start after it
     let table: [(Act, &[(u32, u64)], &[(u32, u64)]); 16] = [
@@ -148,6 +153,6 @@ fn each_act_changes_these_words(rt: HostRuntime) -> Result<(), Fail> {
 fn a_memory_may_have_no_word(rt: HostRuntime) -> Result<(), Fail> {
     let mut pm = Pm::open(rt.alloc(), &[])?;
     pm.cut();
-    assert_eq!(rt; pm.words(), 0);
+    same(&rt, pm.words(), 0);
     Ok(())
 }

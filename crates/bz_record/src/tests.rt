@@ -9,6 +9,7 @@ use crate::record_swap::RecordSwap;
 use bz_key::{Key, Payload};
 use bz_layout::{Config, SHARED_WORDS};
 use bz_word::{Entry, Extent};
+use std::fmt::Debug;
 use std::process::Abort;
 use std::test::Fail;
 
@@ -33,6 +34,10 @@ const INSERTED: FoundRecord = FoundRecord {
 
 // The leaf's status then.
 const STATUS: u64 = 0x0010_0800_0000_0002;
+
+fn same<T: PartialEq + Debug + Drop>(rt: &impl Abort, got: T, want: T) {
+    assert_eq!(rt; got, want);
+}
 
 // The record of `a` and a payload for a leaf with this status.
 fn record_at(rt: &impl Abort, status: u64, payload: &[u8]) -> NewRecord
@@ -80,8 +85,8 @@ fn the_swaps_of_the_worked_insert(rt: HostRuntime) {
         meta: 0x0000_007E_0001_0002,
         new_meta: 0x1000_007E_0001_0002,
     };
-    assert_eq!(rt; record.reservation(), reserved);
-    assert_eq!(rt; record.publication(), published);
+    same(&rt, record.reservation(), reserved);
+    same(&rt, record.publication(), published);
 }
 
 #[test]
@@ -89,14 +94,14 @@ fn the_words_of_the_worked_insert(rt: HostRuntime) {
     let record = fitting(&rt, 0, b"1");
     assert!(rt; SMALL.check().is_ok());
     assert!(rt; (record.slot as u32) < SMALL.nodes);
-    assert_eq!(rt; record.size(), 2);
+    same(&rt, record.size(), 2);
     assert!(rt; record.size() == 2);
-    assert_eq!(rt; record.address(&SMALL, 0), 1_166);
-    assert_eq!(rt; record.address(&SMALL, 1), 1_167);
-    assert_eq!(rt; record.word(0), 0x0061_0000_0000_0000);
-    assert_eq!(rt; record.word(1), 0x0031_0000_0000_0000);
-    assert_eq!(rt; record.first_line(&SMALL), 145);
-    assert_eq!(rt; record.last_line(&SMALL), 145);
+    same(&rt, record.address(&SMALL, 0), 1_166);
+    same(&rt, record.address(&SMALL, 1), 1_167);
+    same(&rt, record.word(0), 0x0061_0000_0000_0000);
+    same(&rt, record.word(1), 0x0031_0000_0000_0000);
+    same(&rt, record.first_line(&SMALL), 145);
+    same(&rt, record.last_line(&SMALL), 145);
 }
 
 // The payload comes to have two words, so the record has three.
@@ -118,9 +123,9 @@ fn the_swaps_of_the_worked_update(rt: HostRuntime) {
         meta: 0x1000_007E_0001_0002,
         new_meta: 0x1000_007B_0001_0009,
     };
-    assert_eq!(rt; record.growth_entry(&SMALL), grown);
-    assert_eq!(rt; record.growth(&SMALL).count(), 1);
-    assert_eq!(rt; INSERTED.replacement(&record), replaced);
+    same(&rt, record.growth_entry(&SMALL), grown);
+    same(&rt, record.growth(&SMALL).count(), 1);
+    same(&rt, INSERTED.replacement(&record), replaced);
 }
 
 #[test]
@@ -135,7 +140,7 @@ fn the_swap_of_the_worked_delete(rt: HostRuntime) {
         meta: 0x1000_007E_0001_0002,
         new_meta: 0x0000_0000_0001_0002,
     };
-    assert_eq!(rt; INSERTED.removal(0, STATUS), removed);
+    same(&rt, INSERTED.removal(0, STATUS), removed);
 }
 
 #[test]
@@ -151,6 +156,6 @@ fn a_leaf_that_is_full_or_frozen_has_no_room(rt: HostRuntime) {
     for (status, room) in table {
         let record = record_at(&rt, status, b"1");
         assert!(rt; status < 1 << 61);
-        assert_eq!(rt; record.has_room(), room);
+        same(&rt, record.has_room(), room);
     }
 }

@@ -4,6 +4,7 @@ ghost use Rattle.std.specs.Prelude.{◌≡◌, length};
 use crate::{Place, node_fault};
 use bz_key::Key;
 use bz_shape::ShapeRule;
+use std::fmt::Debug;
 use std::process::Abort;
 use std::test::Fail;
 
@@ -20,6 +21,10 @@ struct Case {
 /// Nothing is written here but what stands there.
 const SAME: Written = (200, 0);
 
+fn same<T: PartialEq + Debug + Drop>(rt: &impl Abort, got: T, want: T) {
+    assert_eq!(rt; got, want);
+}
+
 // The node of these words, the others 0, with some of them written anew.
 fn written(node: &mut [u64; 128], words: &[Written]) {
     for (place, word) in words {
@@ -34,7 +39,7 @@ fn all_found(rt: &impl Abort, node: &[u64; 128], place: &Place, cases: &[Case]) 
     for case in cases {
         let mut words = *node;
         written(&mut words, &case.written);
-        assert_eq!(rt; node_fault(&words, &words, 4, place), case.found);
+        same(rt, node_fault(&words, &words, 4, place), case.found);
     }
 }
 
@@ -216,11 +221,12 @@ fn finds_a_word_that_is_dirty(rt: HostRuntime) -> Result<(), Fail> {
     let mut raw = words;
     raw[0] = 0x8020_1000_0000_0000;
     raw[10] = 0x9000_007E_0001_0002;
-    assert_eq!(rt; node_fault(&raw, &words, 4, &at_level(0)), None);
+    same(&rt, node_fault(&raw, &words, 4, &at_level(0)), None);
     raw[127] = 0x8031_0000_0000_0000;
-    assert_eq!(rt;
+    same(
+        &rt,
         node_fault(&raw, &words, 4, &at_level(0)),
-        Some(ShapeRule::Record)
+        Some(ShapeRule::Record),
     );
     Ok(())
 }

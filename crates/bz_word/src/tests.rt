@@ -1,46 +1,38 @@
 //! Words worked out by hand from the tables of bits, each field at its least and greatest value, and each
 //! number that is refused.
 
-ghost use Rattle.std.specs.Prelude.{◌≡◌};
-ghost use Rattle.bz_word.specs.Kinds.{IsKind};
-ghost use Rattle.bz_word.specs.Statuses.{IsStatus};
-ghost use Rattle.bz_word.specs.Metas.{IsMeta};
-ghost use Rattle.bz_word.specs.Headers.{IsHeader};
-
 use super::*;
 use std::process::Abort;
 
-fn kind_is(rt: &impl Abort, word: u64, kind: WordKind)
-    requires { IsKind kind }
-{
-    assert_eq!(rt; kind_of(word), Some(kind), "{word:#x}");
-    assert_eq!(rt; word_of(kind), word, "{kind:?}");
+fn kind_is(rt: &impl Abort, word: u64, kind: WordKind) {
+    match kind_of(word) {
+        Some(found) => assert!(rt; found == kind && word_of(found) == word),
+        None => assert!(rt; false),
+    }
 }
 
-fn status_is(rt: &impl Abort, word: u64, status: Status)
-    requires { IsStatus status }
-{
-    assert_eq!(rt; Status::unpack(word), Some(status), "{word:#x}");
-    assert_eq!(rt; status.pack(), word, "{status:?}");
+fn status_is(rt: &impl Abort, word: u64, status: Status) {
+    match Status::unpack(word) {
+        Some(found) => assert!(rt; found == status && found.pack() == word),
+        None => assert!(rt; false),
+    }
 }
 
-fn meta_is(rt: &impl Abort, word: u64, meta: Meta)
-    requires { IsMeta meta }
-{
-    assert_eq!(rt; Meta::unpack(word), Some(meta), "{word:#x}");
-    assert_eq!(rt; meta.pack(), word, "{meta:?}");
+fn meta_is(rt: &impl Abort, word: u64, meta: Meta) {
+    match Meta::unpack(word) {
+        Some(found) => assert!(rt; found == meta && found.pack() == word),
+        None => assert!(rt; false),
+    }
 }
 
-fn header_is(rt: &impl Abort, word: u64, header: Header)
-    requires { IsHeader header }
-{
-    assert_eq!(rt; Header::unpack(word), Some(header), "{word:#x}");
-    assert_eq!(rt; header.pack(), word, "{header:?}");
+fn header_is(rt: &impl Abort, word: u64, header: Header) {
+    match Header::unpack(word) {
+        Some(found) => assert!(rt; found == header && found.pack() == word),
+        None => assert!(rt; false),
+    }
 }
 
-fn tag(swap: u16, entry: u8, worker: u8, seq: u64) -> WordKind
-    ensures { result ≡ WordKind.Tag swap entry worker seq }
-{
+fn tag(swap: u16, entry: u8, worker: u8, seq: u64) -> WordKind {
     WordKind::Tag {
         swap,
         entry,
@@ -89,9 +81,7 @@ fn these_words_have_no_kind(rt: HostRuntime) {
     }
 }
 
-fn status(frozen: bool, count: u32, block: u32, dead: u32, stamp: u32) -> Status
-    ensures { result ≡ record { frozen = frozen; count = count; block = block; dead = dead; stamp = stamp } }
-{
+fn status(frozen: bool, count: u32, block: u32, dead: u32, stamp: u32) -> Status {
     Status {
         frozen,
         count,
@@ -150,9 +140,7 @@ fn records_have_these_words(rt: HostRuntime) {
     }
 }
 
-fn header(level: u32, low: u32, high: u32, sorted: u32) -> Header
-    ensures { result ≡ record { level = level; low = low; high = high; sorted = sorted } }
-{
+fn header(level: u32, low: u32, high: u32, sorted: u32) -> Header {
     Header {
         level,
         low,
