@@ -1,8 +1,8 @@
 //! What `clap` reads of the words.
 ghost use Rattle.std.specs.Prelude.{◌≡◌, ◌≢◌, false, List, ℕ, Option, Some, IfOk, map, option_map, codes};
-ghost use Rattle.clap.specs.Words.{app_of, rule_of};
+ghost use Rattle.clap.specs.Words.{app_of, rule_of, with_subcommand};
 ghost use Rattle.clap.specs.declared.builder.command.Command.TheViews.{out-Command as fields_of};
-ghost use Rattle.bz_words.specs.Inside.Parser.{bz_app, marks_rule, value_rule, bare_app, work_app, seen_in, Seen, IsReadAs};
+ghost use Rattle.bz_words.specs.Inside.Parser.{bz_app, program_app, marks_rule, value_rule, bare_app, work_app, seen_in, Seen, IsReadAs};
 ghost use Rattle.bz_words.specs.Inside.Founds.{seen_of};
 ghost use Rattle.clap.specs.Simple.{subcommand_of};
 
@@ -58,22 +58,35 @@ fn work<'a>(alloc: Global) -> Result<Command<'a>, AllocError>
         .arg(marks_option(alloc))
 }
 
-// One command with one level of subcommands, without help and version.
-fn parser<'a>(alloc: Global) -> Result<Command<'a>, AllocError>
-    ensures { IfOk result (λ parser. app_of parser ≡ bz_app) }
+// The program, with no command yet, and without help and version.
+fn program<'a>(alloc: Global) -> Command<'a>
+    ensures { app_of result ≡ program_app }
 {
-    let run = bare(alloc, "run")?;
-    let dump = bare(alloc, "dump")?;
-    let load = bare(alloc, "load")?;
-    let work = work(alloc)?;
     Command::new(alloc, "bz")
         .no_binary_name(true)
         .disable_help_flag(true)
         .disable_help_subcommand(true)
-        .subcommand(run)?
-        .subcommand(dump)?
-        .subcommand(load)?
-        .subcommand(work)
+}
+
+// The program with one command more, which has no values.
+fn with_bare<'a>(
+    alloc: Global,
+    program: Command<'a>,
+    name: &'a str,
+) -> Result<Command<'a>, AllocError>
+    ensures { IfOk result (λ made. app_of made ≡ with_subcommand (app_of program.entry) (bare_app name.entry.now).top) }
+{
+    program.subcommand(bare(alloc, name)?)
+}
+
+// One command with one level of subcommands.
+fn parser<'a>(alloc: Global) -> Result<Command<'a>, AllocError>
+    ensures { IfOk result (λ parser. app_of parser ≡ bz_app) }
+{
+    let with_run = with_bare(alloc, program(alloc), "run")?;
+    let with_dump = with_bare(alloc, with_run, "dump")?;
+    let with_load = with_bare(alloc, with_dump, "load")?;
+    with_load.subcommand(work(alloc)?)
 }
 
 /// Reads the words by `clap`.

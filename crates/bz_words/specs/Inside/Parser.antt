@@ -21,15 +21,17 @@ bare_app name = with_rule (new_app name) marks_rule
 abbrev pub work_app : App
 work_app = with_rule (with_rule (with_rule (with_rule (new_app (codes "work")) (value_rule (codes "seed"))) (value_rule (codes "calls"))) (value_rule (codes "workers"))) marks_rule
 
--- the command with one level of subcommands, without help and version
+-- the program with no command, without help and version
+abbrev pub program_app : App
+program_app = on_top (λ s. record s { no_binary_name = true; disable_help_flag = true; disable_help_subcommand = true }) (new_app (codes "bz"))
+
+-- the command with one level of subcommands
 abbrev pub bz_app : App
 bz_app =
     with_subcommand
     (with_subcommand
     (with_subcommand
-    (with_subcommand
-    (on_top (λ s. record s { no_binary_name = true; disable_help_flag = true; disable_help_subcommand = true })
-    (new_app (codes "bz"))) (bare_app (codes "run")).top) (bare_app (codes "dump")).top) (bare_app (codes "load")).top) work_app.top
+    (with_subcommand program_app (bare_app (codes "run")).top) (bare_app (codes "dump")).top) (bare_app (codes "load")).top) work_app.top
 
 -- what is found: the subcommand's name, and the texts of its limit on marks and of its values
 pub record Seen : Type 0 where
