@@ -24,9 +24,9 @@ use Rattle.bz_task.specs.Outcomes.{IsLink, IsPath}
 use Rattle.bz_task.specs.Scene.{Scene, IsScene, here}
 use Rattle.bz_task.specs.declared.path.Link.{Link}
 use Rattle.bz_task.specs.declared.path.Path.{Path}
-use Rattle.bz_alone.specs.Alone.{IsAlone}
-use Rattle.bz_alone.specs.Quiet.{IsQuietSince, IsIn, LonelyTimesAreQuiet, ReadValuesStand}
-use Rattle.bz_alone.specs.Trees.{PathsLeadToLeaves}
+use Rattle.bz_rounds.specs.FromAlone.Alone.{IsAlone}
+use Rattle.bz_rounds.specs.FromAlone.Quiet.{IsQuietSince, IsIn, LonelyTimesAreQuiet, ReadValuesStand}
+use Rattle.bz_rounds.specs.FromAlone.Trees.{PathsLeadToLeaves}
 use Rattle.bz_rounds.specs.Due.{LoneLeavesAreDue, MayBeMadeAnew}
 use Rattle.bz_joined.specs.DueMerges.{LoneViewsTellTheLiveWords, LoneRootLeavesHaveNoNeighbour, LoneMergesAreDue}
 use Rattle.bz_joined.specs.Neighbours.{parent_in, place_in, MayBeMerged}

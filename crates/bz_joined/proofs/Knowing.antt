@@ -19,14 +19,14 @@ use Rattle.bz_task.specs.Instant.{words, form_at, is_inside}
 use Rattle.bz_task.specs.Scene.{Past, Scene, Waiting, Continues, IsScene}
 use Rattle.bz_task.specs.declared.path.Link.{Link}
 use Rattle.bz_task.specs.declared.todo.Outcome.TheVariants.{NeedsRoom}
-use Rattle.bz_alone.specs.FromRunning.AnyTask.{AnyTask}
-use Rattle.bz_alone.specs.FromRunning.AnyTask.TheVariants.{Seeking, Finding, Reading, Inserting, Updating, Deleting, Freezing, Consolidating, Splitting, SplittingBelow, SplittingInner, SplittingInnerRoot, Merging}
-use Rattle.bz_alone.specs.FromRunning.Duties.{end_of, facts_of, means_of}
-use Rattle.bz_alone.specs.FromRunning.Kinds as kinds
-use Rattle.bz_alone.specs.FromRunning.Kinds.{kind_of}
-use Rattle.bz_alone.specs.FromRunning.MadeFor.{WasLeafOf, WasSmallLeafOf, IsSmallMerge}
-use Rattle.bz_alone.specs.Alone.{IsAlone}
-use Rattle.bz_alone.specs.Quiet.{IsIn, LonelyTimesAreQuiet}
+use Rattle.bz_rounds.specs.FromAlone.AnyTask.{AnyTask}
+use Rattle.bz_rounds.specs.FromAlone.AnyTask.TheVariants.{Seeking, Finding, Reading, Inserting, Updating, Deleting, Freezing, Consolidating, Splitting, SplittingBelow, SplittingInner, SplittingInnerRoot, Merging}
+use Rattle.bz_rounds.specs.FromAlone.Duties.{end_of, facts_of, means_of}
+use Rattle.bz_rounds.specs.FromAlone.Kinds as kinds
+use Rattle.bz_rounds.specs.FromAlone.Kinds.{kind_of}
+use Rattle.bz_rounds.specs.FromAlone.MadeFor.{WasLeafOf, WasSmallLeafOf, IsSmallMerge}
+use Rattle.bz_rounds.specs.FromAlone.Alone.{IsAlone}
+use Rattle.bz_rounds.specs.FromAlone.Quiet.{IsIn, LonelyTimesAreQuiet}
 use Rattle.bz_joined.specs.Neighbours.{WasReadBelow, KnowsItsLeaf, LoneMergesTryTheirNeighbours, LoneNeighboursLackRoom, LoneTasksTryTheirNeighbours, LoneMergesDoNotLackRoom, MergesKnowTheirLeaf, KnownLeavesStay, NeighboursStand}
 
 -- while it goes on it knows the leaf as it was viewed

@@ -20,10 +20,10 @@ use Rattle.bz_task.specs.Instant.{words, durable, form_at, is_inside}
 use Rattle.bz_task.specs.Laws.{IsLeafInTree, LeavesAreInTrees, SameRecordsShowTheSame, SaysAlike, SeenLeavesAreWhole}
 use Rattle.bz_task.specs.Scene.{Scene, IsScene, here}
 use Rattle.bz_task.specs.declared.path.Link.{Link}
-use Rattle.bz_alone.specs.Alone.{IsAlone}
-use Rattle.bz_alone.specs.FromRunning.MadeFor.{WasLeafOf}
-use Rattle.bz_alone.specs.Quiet.{IsQuietSince, IsIn, LonelyTimesAreQuiet}
-use Rattle.bz_alone.specs.Trees.{SameTree}
+use Rattle.bz_rounds.specs.FromAlone.Alone.{IsAlone}
+use Rattle.bz_rounds.specs.FromAlone.MadeFor.{WasLeafOf}
+use Rattle.bz_rounds.specs.FromAlone.Quiet.{IsQuietSince, IsIn, LonelyTimesAreQuiet}
+use Rattle.bz_rounds.specs.FromAlone.Trees.{SameTree}
 use Rattle.bz_joined.specs.Neighbours.{parent_in, place_in, own_live, beside_live, MayBeMerged, WasReadBelow, LoneNeighboursLackRoom}
 use Rattle.bz_joined.proofs.Alike.{live-alike, live-is}
 use Rattle.bz_joined.proofs.Families.{count-is, child-is, high-inside, up-is, index-is}

@@ -22,14 +22,14 @@ use Rattle.bz_task.specs.Scene.{Past, Scene, Waiting, IsScene, here}
 use Rattle.bz_task.specs.Swaps.{Stand, SwapsTo}
 use Rattle.bz_task.specs.declared.todo.Todo.TheVariants.{Swap as Swaps_for}
 use Rattle.bz_stage.specs.Swaps.{FreezesLeaf}
-use Rattle.bz_alone.specs.Alone.{IsAlone}
-use Rattle.bz_alone.specs.Changes.{MergesGoOn}
-use Rattle.bz_alone.specs.FromRunning.MadeFor.{WasLeafOf}
-use Rattle.bz_alone.specs.Trees.{SameTree}
+use Rattle.bz_rounds.specs.FromAlone.Alone.{IsAlone}
+use Rattle.bz_rounds.specs.FromAlone.Changes.{MergesGoOn}
+use Rattle.bz_rounds.specs.FromAlone.MadeFor.{WasLeafOf}
+use Rattle.bz_rounds.specs.FromAlone.Trees.{SameTree}
 use Rattle.bz_rounds.proofs.Freezing.{Swapping, freezes-leaf}
 use Rattle.bz_rounds.specs.Lone.{IsLoneSwap}
 use Rattle.bz_rounds.proofs.Lone.{tree-now, leaf-now, same-entries}
-use Rattle.bz_tally.proofs.Pairs.{to-other, to-own}
+use Rattle.bz_rounds.proofs.FromTally.Pairs.{to-other, to-own}
 use Rattle.bz_joined.specs.Laws.{FreezesBesideKeepTheStage, FreezesBesideKeepTheLeaf, SmallFreezesLeaveACopy}
 use Rattle.bz_joined.specs.Lone.{LoneFreezesBesideKeepTheStage, LoneFreezesBesideKeepTheLeaf, LoneOwnFreezesLeaveACopy}
 

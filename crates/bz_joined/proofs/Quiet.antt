@@ -19,8 +19,8 @@ use Rattle.bz_task.specs.Instant.{Instant, words, durable, form_at, is_inside}
 use Rattle.bz_task.specs.Laws.{HeadersSayTheLevel}
 use Rattle.bz_task.specs.Scene.{Scene, IsScene}
 use Rattle.bz_task.specs.Shown.{IsShown}
-use Rattle.bz_alone.specs.Quiet.{IsQuietSince, IsIn, ReadValuesStand}
-use Rattle.bz_alone.specs.Trees.{SameTree, TreesStand}
+use Rattle.bz_rounds.specs.FromAlone.Quiet.{IsQuietSince, IsIn, ReadValuesStand}
+use Rattle.bz_rounds.specs.FromAlone.Trees.{SameTree, TreesStand}
 
 -- the laws on which it rests
 pub record Laws : Type 0 where

@@ -12,7 +12,7 @@ use Rattle.bz_task.specs.Scene.{Scene, Waiting, here}
 use Rattle.bz_task.specs.Swaps.{Stand, SwapsTo}
 use Rattle.bz_task.specs.declared.todo.Todo.TheVariants.{Swap as Swaps_for}
 use Rattle.bz_stage.specs.Swaps.{FreezesLeaf}
-use Rattle.bz_alone.specs.Laws.{FreezesGoOn}
+use Rattle.bz_rounds.specs.FromAlone.Laws.{FreezesGoOn}
 use Rattle.bz_rounds.proofs.Freezing.{Swapping, freezes-leaf}
 use Rattle.bz_rounds.proofs.Lone.{tree-now, leaf-now, holds-now, below-top, same-entries}
 use Rattle.bz_joined.specs.Laws.{FrozenLeavesAreTheKeys}

@@ -26,13 +26,13 @@ use Rattle.bz_task.specs.Swaps.{Stand, SwapsTo}
 use Rattle.bz_task.specs.declared.todo.Todo.TheVariants.{Swap as Swaps_for}
 use Rattle.bz_stage.specs.Stages.{leaf_page, full_above}
 use Rattle.bz_stage.specs.Swaps.{IsRoomy}
-use Rattle.bz_alone.specs.FromRunning.MadeFor.{WasLeafOf}
+use Rattle.bz_rounds.specs.FromAlone.MadeFor.{WasLeafOf}
 use Rattle.bz_rounds.proofs.Lacking.{some}
 use Rattle.bz_rounds.proofs.Lone.{same-entries}
-use Rattle.bz_tally.specs.Counts.{IsLeafNow}
-use Rattle.bz_tally.proofs.Links.{tree-now}
-use Rattle.bz_tally.proofs.Merging.{Laws as Turning, first-leaf, second-leaf, merges, merged-words}
-use Rattle.bz_tally.proofs.Pairs.{to-own}
+use Rattle.bz_rounds.specs.FromTally.Counts.{IsLeafNow}
+use Rattle.bz_rounds.proofs.FromTally.Links.{tree-now}
+use Rattle.bz_rounds.proofs.FromTally.Merging.{Laws as Turning, first-leaf, second-leaf, merges, merged-words}
+use Rattle.bz_rounds.proofs.FromTally.Pairs.{to-own}
 use Rattle.bz_joined.specs.Laws.{MergesGiveRoom}
 use Rattle.bz_joined.specs.Lone.{MergeSwapsGiveRoom}
 use Rattle.bz_joined.proofs.Roomy.{Laws as Roomy, joined-roomy}

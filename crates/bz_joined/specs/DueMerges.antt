@@ -9,7 +9,7 @@ use Rattle.bz_task.specs.Scene.{Scene, IsScene, here}
 use Rattle.bz_task.specs.declared.path.Link.{Link}
 use Rattle.bz_task.specs.declared.path.Path.{Path}
 use Rattle.bz_task.specs.declared.view.LeafView.{LeafView}
-use Rattle.bz_alone.specs.Alone.{IsAlone}
+use Rattle.bz_rounds.specs.FromAlone.Alone.{IsAlone}
 use Rattle.bz_joined.specs.Neighbours.{own_live, MayBeMerged}
 
 -- where nobody's swap took effect since the look-up began, the leaf has as many live words now as when it was viewed

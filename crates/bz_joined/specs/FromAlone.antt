@@ -1,8 +1,9 @@
 -- What crates above take of bz_alone by this one.
-pub use Rattle.bz_alone.specs.Alone
-pub use Rattle.bz_alone.specs.Brief
-pub use Rattle.bz_alone.specs.Counts
-pub use Rattle.bz_alone.specs.Quiet
-pub use Rattle.bz_alone.specs.Reads
-pub use Rattle.bz_alone.specs.Restarts
-pub use Rattle.bz_alone.specs.Tasks
+pub use Rattle.bz_rounds.specs.FromAlone.Alone
+pub use Rattle.bz_rounds.specs.FromAlone.Brief
+pub use Rattle.bz_rounds.specs.FromAlone.Counts
+pub use Rattle.bz_rounds.specs.FromAlone.Quiet
+pub use Rattle.bz_rounds.specs.FromAlone.Reads
+pub use Rattle.bz_rounds.specs.FromAlone.Restarts
+pub use Rattle.bz_rounds.specs.FromAlone.Tasks
+pub use Rattle.bz_rounds.specs.FromAlone.Trees

@@ -1,6 +1,6 @@
 -- What crates above take of bz_tally by this one.
-pub use Rattle.bz_tally.specs.Counts
-pub use Rattle.bz_tally.specs.Deletes
-pub use Rattle.bz_tally.specs.FromLeaves.Leaves
-pub use Rattle.bz_tally.specs.Laws
-pub use Rattle.bz_tally.specs.Swaps
+pub use Rattle.bz_rounds.specs.FromTally.Counts
+pub use Rattle.bz_rounds.specs.FromTally.Deletes
+pub use Rattle.bz_rounds.specs.FromTally.Leaves
+pub use Rattle.bz_rounds.specs.FromTally.Laws
+pub use Rattle.bz_rounds.specs.FromTally.Swaps

@@ -14,10 +14,10 @@ use Rattle.bz_content.specs.Content.{image_of}
 use Rattle.bz_task.specs.Instant.{Instant}
 use Rattle.bz_task.specs.Scene.{Scene, here}
 use Rattle.bz_stage.specs.Stages.{leaf_page, stage_in}
-use Rattle.bz_alone.specs.FromRunning.MadeFor.{WasLeafOf}
+use Rattle.bz_rounds.specs.FromAlone.MadeFor.{WasLeafOf}
 use Rattle.bz_rounds.specs.Falls.{GivesRoom}
 use Rattle.bz_rounds.specs.Lone.{IsLoneSwap}
-use Rattle.bz_tally.specs.Swaps.{IsOwnSwap}
+use Rattle.bz_rounds.specs.FromTally.Swaps.{IsOwnSwap}
 
 -- that of the neighbour of the key's leaf, which was frozen when it was viewed, leaves the stage
 abbrev pub LoneFreezesBesideKeepTheStage : Type 0

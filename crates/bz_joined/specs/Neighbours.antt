@@ -22,13 +22,13 @@ use Rattle.bz_task.specs.declared.todo.Outcome.TheVariants.{NeedsRoom}
 use Rattle.bz_task.specs.declared.todo.Seen.{Seen}
 use Rattle.bz_task.specs.declared.todo.Todo.{Todo}
 use Rattle.bz_stage.specs.Stages.{leaf_page}
-use Rattle.bz_alone.specs.Alone.{IsAlone}
-use Rattle.bz_alone.specs.FromRunning.AnyTask.{AnyTask}
-use Rattle.bz_alone.specs.FromRunning.Duties as any
-use Rattle.bz_alone.specs.FromRunning.Hearing.{HasHeard}
-use Rattle.bz_alone.specs.FromRunning.Kinds as kinds
-use Rattle.bz_alone.specs.FromRunning.MadeFor.{WasLeafOf, IsSmallMerge}
-use Rattle.bz_alone.specs.Quiet.{IsQuietSince, IsIn}
+use Rattle.bz_rounds.specs.FromAlone.Alone.{IsAlone}
+use Rattle.bz_rounds.specs.FromAlone.AnyTask.{AnyTask}
+use Rattle.bz_rounds.specs.FromAlone.Duties as any
+use Rattle.bz_rounds.specs.FromAlone.Hearing.{HasHeard}
+use Rattle.bz_rounds.specs.FromAlone.Kinds as kinds
+use Rattle.bz_rounds.specs.FromAlone.MadeFor.{WasLeafOf, IsSmallMerge}
+use Rattle.bz_rounds.specs.FromAlone.Quiet.{IsQuietSince, IsIn}
 
 -- the slot of the node above the key's leaf, and which of that node's children the leaf is
 abbrev pub parent_in : Config → (ℕ → ℕ) → List ℕ → ℕ

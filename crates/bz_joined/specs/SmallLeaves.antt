@@ -10,12 +10,12 @@ use Rattle.bz_task.specs.Outcomes.{IsPath}
 use Rattle.bz_task.specs.Scene.{Scene, IsScene, here}
 use Rattle.bz_task.specs.declared.path.Link.{Link}
 use Rattle.bz_task.specs.declared.path.Path.{Path}
-use Rattle.bz_alone.specs.Alone.{IsAlone}
-use Rattle.bz_alone.specs.FromRunning.AnyTask.{AnyTask}
-use Rattle.bz_alone.specs.FromRunning.Duties.{config_of, asks_of, facts_of, change_of, leaves_few_of}
-use Rattle.bz_alone.specs.FromRunning.Kinds as kinds
-use Rattle.bz_alone.specs.FromRunning.Kinds.{kind_of}
-use Rattle.bz_tally.specs.Swaps.{IsOwnSwap}
+use Rattle.bz_rounds.specs.FromAlone.Alone.{IsAlone}
+use Rattle.bz_rounds.specs.FromAlone.AnyTask.{AnyTask}
+use Rattle.bz_rounds.specs.FromAlone.Duties.{config_of, asks_of, facts_of, change_of, leaves_few_of}
+use Rattle.bz_rounds.specs.FromAlone.Kinds as kinds
+use Rattle.bz_rounds.specs.FromAlone.Kinds.{kind_of}
+use Rattle.bz_rounds.specs.FromTally.Swaps.{IsOwnSwap}
 use Rattle.bz_joined.specs.Neighbours.{MayBeMerged}
 
 -- where the key's leaf may be merged directly after the swap of a delete, the delete tells that it leaves little

@@ -6,14 +6,18 @@ ghost use Rattle.bz_joined.specs.DueMerges.{LoneViewsTellTheLiveWords, LoneRootL
 ghost use Rattle.bz_joined.specs.Neighbours.{NeighboursStand, LoneNeighboursLackRoom, LoneMergesTryTheirNeighbours, MergesKnowTheirLeaf, KnownLeavesStay, LoneTasksTryTheirNeighbours, LoneMergesDoNotLackRoom};
 ghost use Rattle.bz_joined.specs.SmallLeaves.{DeletesTellOfMerges, MergeableLeavesStandBelow, LoneRootLeavesAreTheTree, LoneDeletesTellOfMerges};
 
-use bz_alone::laws as alone;
-pub use bz_alone::laws::{
-    brief_look_ups_go_on, effects_never_fall, gets_are_brief, lone_restarts_are_refusals,
-    loners_go_on, look_ups_are_brief, own_swaps_are_counted, ways_are_brief,
-};
 use bz_content::laws as content;
 use bz_join::laws as join;
 use bz_renew::laws as renew;
+pub use bz_rounds::laws::alone::{
+    brief_look_ups_go_on, effects_never_fall, gets_are_brief, lone_restarts_are_refusals,
+    loners_go_on, look_ups_are_brief, own_swaps_are_counted, paths_read_few, trees_stand,
+    ways_are_brief,
+};
+pub use bz_rounds::laws::tally::{
+    deletes_take_one_record, deletes_tell_few, leaves_come_and_go, merges_count_at_last,
+};
+use bz_rounds::laws::{alone, tally};
 pub use bz_rounds::laws::{
     lone_ascents_are_below_the_stage, lone_ascents_are_due, lone_key_views_tell_the_stage,
     lone_leaves_are_due, lone_swaps_leave, lone_views_tell_the_leaf, lone_views_tell_the_stage,
@@ -22,10 +26,6 @@ pub use bz_rounds::laws::{
 use bz_shape::laws as shape;
 use bz_slotted::laws as slotted;
 use bz_stage::laws as stage;
-use bz_tally::laws as tally;
-pub use bz_tally::laws::{
-    deletes_take_one_record, deletes_tell_few, leaves_come_and_go, merges_count_at_last,
-};
 use bz_task::laws as task;
 
 /// The freeze of a neighbour leaves the stage.

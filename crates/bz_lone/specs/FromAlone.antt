@@ -6,3 +6,4 @@ pub use Rattle.bz_joined.specs.FromAlone.Quiet
 pub use Rattle.bz_joined.specs.FromAlone.Reads
 pub use Rattle.bz_joined.specs.FromAlone.Restarts
 pub use Rattle.bz_joined.specs.FromAlone.Tasks
+pub use Rattle.bz_joined.specs.FromAlone.Trees

@@ -1,6 +1,7 @@
 mod Copying
 mod Due
 pub mod Freezing
+pub mod FromTally
 mod HalvingBelow
 mod HalvingInner
 pub mod Lacking

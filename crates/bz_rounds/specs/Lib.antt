@@ -1,6 +1,8 @@
 pub mod Crowded
 pub mod Due
 pub mod Falls
+pub mod FromAlone
+pub mod FromTally
 pub mod Laws
 pub mod Left
 pub mod Levels

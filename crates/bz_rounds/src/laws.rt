@@ -8,7 +8,7 @@ ghost use Rattle.bz_rounds.specs.Levels.{AscentsStandAtLevels, LoneAscentsAreBel
 ghost use Rattle.bz_rounds.specs.Stands.{StagesStand, LoneKeyViewsTellTheLeaf, LoneViewsTellTheLeaf};
 ghost use Rattle.bz_rounds.specs.Viewed.{LoneKeyViewsTellTheStage, LoneViewsTellTheStage, LoneViewsAgree};
 
-use bz_alone::laws as alone;
+pub use bz_alone::laws as alone;
 use bz_content::laws as content;
 use bz_halves::laws as halves;
 use bz_parted::laws as parted;
@@ -16,6 +16,7 @@ use bz_renew::laws as renew;
 use bz_shape::laws as shape;
 use bz_slotted::laws as slotted;
 use bz_stage::laws as stage;
+pub use bz_tally::laws as tally;
 use bz_task::laws as task;
 
 /// A freeze of a leaf that lacks the words lowers the stage of its key.

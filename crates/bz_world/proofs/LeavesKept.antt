@@ -23,7 +23,7 @@ use Rattle.bz_task.specs.Instant.{Instant, is_inside}
 use Rattle.bz_task.specs.Laws.{RangesStay}
 use Rattle.bz_task.specs.Steps.{IsHistory}
 use Rattle.bz_world.specs.Leaves.{leaves_after, LeavesFollow, FollowsTree}
-use Rattle.bz_alone.specs.Trees.{SameTree, TreesStand}
+use Rattle.bz_lone.specs.FromAlone.Trees.{SameTree, TreesStand}
 use Rattle.bz_lone.specs.FromAlone.Quiet.{IsQuietSince}
 use Rattle.bz_task.specs.Scene.{Scene, IsScene, here}
 

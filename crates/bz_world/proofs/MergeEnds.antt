@@ -1,7 +1,7 @@
 -- A delete that has had its effect, beside which no other call is open, ends once its leaf was merged, where that might be, or slots or descriptors were not left.
 use Rattle.std.proofs.Common.{◌≡◌, ◌≢◌, ℕ, suc, true, false, List, length, arith, refl, sym, ap, subst, ◌∙◌, inl, inr, Option, Some, None, ◌≤◌, ◌-◌}
 use Rattle.std.proofs.lemmas.Bool.{true≢false}
-use Rattle.bz_alone.specs.Trees.{TreesStand}
+use Rattle.bz_lone.specs.FromAlone.Trees.{TreesStand}
 use Rattle.bz_call.specs.Map.{key_of}
 use Rattle.bz_call.specs.declared.calls.Call.{Call}
 use Rattle.bz_call.specs.declared.calls.Call.TheVariants as call

@@ -82,9 +82,9 @@ pub(crate) fn round_laws()
     stage::lacking_leaves_say();
     lone::stages_stand();
     lone::lone_views_tell_the_live_words();
-    bz_alone::laws::paths_read_few();
+    lone::paths_read_few();
     story::scenes_are_seen();
-    bz_alone::laws::trees_stand();
+    lone::trees_stand();
     lone::neighbours_stand();
     lone::lone_merges_are_due();
     lone::merges_know_their_leaf();
@@ -145,7 +145,7 @@ pub(crate) fn strike_laws()
     lone::stages_stand();
     lone::known_leaves_stay();
     lone::merges_count_at_last();
-    bz_alone::laws::trees_stand();
+    lone::trees_stand();
     lone::deletes_tell_of_merges();
     lone::mergeable_leaves_stand_below();
     bz_content::laws::well_formed_images_have_no_fault();

@@ -17,7 +17,7 @@ use Rattle.bz_record.specs.Laws.{ViewsShowLeaves}
 use Rattle.bz_rivals.specs.Laws.{RivalsFall}
 use Rattle.bz_rivals.specs.Notes.{NotesAreOfBegun, ZeroSwapsNothing}
 use Rattle.bz_rivals.specs.Wins.{OwnSwapsWin, ExpectedStand}
-use Rattle.bz_alone.specs.Trees.{TreesStand}
+use Rattle.bz_lone.specs.FromAlone.Trees.{TreesStand}
 use Rattle.bz_content.specs.Laws.{WellFormedImagesHaveNoFault}
 use Rattle.bz_lone.specs.FromJoined.DueMerges.{LoneMergesAreDue, LoneViewsTellTheLiveWords}
 use Rattle.bz_lone.specs.FromJoined.Neighbours.{KnownLeavesStay, LoneMergesDoNotLackRoom, MergesKnowTheirLeaf, NeighboursStand}
