@@ -7,6 +7,7 @@ use bz_io::{FailSink, FailSource, Failed, MemSink, MemSource, Sink};
 use bz_layout::Config;
 use bz_world::World;
 use std::alloc::Global;
+use std::fmt::{Debug, Display};
 use std::process::Abort;
 use std::test::Fail;
 
@@ -17,6 +18,14 @@ const SIZE: usize = 1_300;
 const COUNT: usize = 160;
 
 /// The file of fresh memory.
+fn same<T: PartialEq + Debug + Drop>(rt: &impl Abort, got: T, want: T) {
+    assert_eq!(rt; got, want);
+}
+
+fn same_at<T: PartialEq + Debug + Drop>(rt: &impl Abort, got: T, want: T, at: impl Display + Drop) {
+    assert_eq!(rt; got, want, "at {at}");
+}
+
 fn smallest() -> [u8; SIZE] {
     let mut file = [0u8; SIZE];
     file[..20].copy_from_slice(&[
@@ -85,24 +94,24 @@ fn told_of(alloc: Global, bytes: &[u8]) -> [Option<ImageFault>; 3] {
 
 // An image has these words.
 fn has_words(rt: &impl Abort, image: &Image, words: &[u64; COUNT]) {
-    assert_eq!(rt; image.words.words(), words.as_slice());
+    same(rt, image.words.words(), words.as_slice());
 }
 
 #[test]
 fn each_image_has_its_length(rt: HostRuntime) {
-    assert_eq!(rt; image_bytes(1, 1), SIZE);
-    assert_eq!(rt; image_bytes(16, 64), 24_724);
-    assert_eq!(rt; image_bytes(16_384, 65_536), 25_165_972);
+    same(&rt, image_bytes(1, 1), SIZE);
+    same(&rt, image_bytes(16, 64), 24_724);
+    same(&rt, image_bytes(16_384, 65_536), 25_165_972);
 }
 
 #[test]
 fn the_smallest_file_is_written_and_read(rt: HostRuntime) -> Result<(), Fail> {
     let file = smallest();
     let mut sink = MemSink::open(rt.alloc(), SIZE)?;
-    assert_eq!(rt; written(&world(&rt, rt.alloc()), &mut sink), Ok(()));
-    assert_eq!(rt; sink.bytes(), file.as_slice());
+    same(&rt, written(&world(&rt, rt.alloc()), &mut sink), Ok(()));
+    same(&rt, sink.bytes(), file.as_slice());
     let image = read(rt.alloc(), &file)?;
-    assert_eq!(rt; (image.nodes, image.swaps), (1, 1));
+    same(&rt, (image.nodes, image.swaps), (1, 1));
     has_words(&rt, &image, &fresh());
     Ok(())
 }
@@ -136,7 +145,7 @@ fn each_length_has_its_answer(rt: HostRuntime) {
     file[..SIZE].copy_from_slice(&smallest());
     for length in 0..SIZE + 2 {
         let bytes = &file[..length.min(SIZE + 1)];
-        assert_eq!(rt; told_of(rt.alloc(), bytes), wanted_of(length), "{length}");
+        same_at(&rt, told_of(rt.alloc(), bytes), wanted_of(length), length);
     }
 }
 
@@ -145,7 +154,7 @@ fn the_front_has_its_length(rt: HostRuntime) -> Result<(), Fail> {
     let mut file = [7u8; SIZE + 40];
     file[..SIZE].copy_from_slice(&smallest());
     let (image, length) = read_front(rt.alloc(), &file)?;
-    assert_eq!(rt; length, SIZE);
+    same(&rt, length, SIZE);
     has_words(&rt, &image, &fresh());
     Ok(())
 }
@@ -193,10 +202,10 @@ fn is_told(rt: &impl Abort, alloc: Global, place: usize, lowest: bool) {
     let want = turned(place, lowest);
     match read(alloc, &file_with(place, mask)) {
         Ok(image) => {
-            assert_eq!(rt; None, want, "{place}");
+            same_at(rt, None, want, place);
             has_words(rt, &image, &words_with(place, mask));
         }
-        Err(fault) => assert_eq!(rt; Some(fault), want, "{place}"),
+        Err(fault) => same_at(rt, Some(fault), want, place),
     }
 }
 
@@ -227,7 +236,7 @@ fn the_first_fault_is_told(rt: HostRuntime) {
         let end = end.min(20);
         file[..end].copy_from_slice(&right[..end]);
         let [_, front, whole] = told_of(rt.alloc(), &file[..length.min(SIZE)]);
-        assert_eq!(rt; (front, whole), (Some(want), Some(want)), "{end}");
+        same_at(&rt, (front, whole), (Some(want), Some(want)), end);
     }
 }
 
@@ -245,8 +254,8 @@ fn taken_before(file: &[u8], call: u64) -> &[u8] {
 fn fails_at(rt: &impl Abort, alloc: Global, world: &World, call: u64) -> Result<(), Fail> {
     let want = if call == 22 { Ok(()) } else { Err(Failed) };
     let mut sink = FailSink::open(alloc, SIZE, 64, &[call])?;
-    assert_eq!(rt; written(world, &mut sink), want, "{call}");
-    assert_eq!(rt; sink.bytes(), taken_before(&smallest(), call), "{call}");
+    same_at(rt, written(world, &mut sink), want, call);
+    same_at(rt, sink.bytes(), taken_before(&smallest(), call), call);
     Ok(())
 }
 
@@ -254,8 +263,8 @@ fn fails_at(rt: &impl Abort, alloc: Global, world: &World, call: u64) -> Result<
 fn lacks_room(rt: &impl Abort, alloc: Global, world: &World, room: usize) -> Result<(), Fail> {
     let file = smallest();
     let mut sink = MemSink::open(alloc, room)?;
-    assert_eq!(rt; written(world, &mut sink), Err(Failed), "{room}");
-    assert_eq!(rt; sink.bytes(), &file[..room.min(SIZE)], "{room}");
+    same_at(rt, written(world, &mut sink), Err(Failed), room);
+    same_at(rt, sink.bytes(), &file[..room.min(SIZE)], room);
     Ok(())
 }
 
@@ -294,9 +303,10 @@ fn what_follows_an_image_is_left_to_the_source(rt: HostRuntime) -> Result<(), Fa
     bytes[..SIZE].copy_from_slice(&smallest());
     let mut source = MemSource::of(rt.alloc(), &bytes)?;
     assert!(rt; fetch_image(rt.alloc(), &mut source).is_ok());
-    assert_eq!(rt;
+    same(
+        &rt,
         fault_of(fetch_image(rt.alloc(), &mut source)),
-        Some(FetchFault::Image(ImageFault::Short))
+        Some(FetchFault::Image(ImageFault::Short)),
     );
     Ok(())
 }
@@ -311,7 +321,7 @@ fn faults_have_their_words(rt: HostRuntime) -> Result<(), Fail> {
         (ImageFault::Long, "long"),
         (ImageFault::Memory, "want of memory"),
     ] {
-        assert_eq!(rt; format!(in rt.alloc(); "{fault}")?.as_str(), want);
+        same(&rt, format!(in rt.alloc(); "{fault}")?.as_str(), want);
     }
     Ok(())
 }

@@ -8,6 +8,7 @@ use bz_layout::{Config, MAX_MARKS, Slots};
 use bz_pm::Pm;
 use bz_task::{Outcome, Seen, Todo};
 use std::alloc::Global;
+use std::fmt::Debug;
 use std::process::Abort;
 use std::test::Fail;
 
@@ -93,6 +94,10 @@ const RESOLVED: [(u32, u64); 8] = [
     (NODE + 40, 61),
     (NODE + 127, 9),
 ];
+
+fn same<T: PartialEq + Debug + Drop>(rt: &impl Abort, got: T, want: T) {
+    assert_eq!(rt; got, want);
+}
 
 // The words of the memory before the recovery.
 fn image() -> [u64; WORDS] {
@@ -207,9 +212,9 @@ fn every_kind_of_word_is_resolved(rt: HostRuntime) -> Result<(), Fail> {
     let made = recover(&rt, &mut pm, &mut slots, 1000, false);
     assert!(rt; made.ended);
     is_recovered(&rt, &pm, 0);
-    assert_eq!(rt; slots.left(), 0);
+    same(&rt, slots.left(), 0);
     // words 1, 81 and 82, 89, 100 and 101, 120 and 207 stand in six lines; a flush for each, and for each descriptor
-    assert_eq!(rt; made.flushes, 10);
+    same(&rt, made.flushes, 10);
     Ok(())
 }
 
@@ -222,8 +227,8 @@ fn a_recovered_memory_is_only_read(rt: HostRuntime) -> Result<(), Fail> {
     assert!(rt; made.ended);
     // a load of each word outside the descriptors, and of each status; then of the root pointer, and of the header and the status
     // of the node to which it leads, an inner one without children
-    assert_eq!(rt; made.acts, 151);
-    assert_eq!(rt; made.flushes, 0);
+    same(&rt, made.acts, 151);
+    same(&rt, made.flushes, 0);
     is_recovered(&rt, &pm, 0);
     Ok(())
 }

@@ -6,6 +6,7 @@ ghost use Rattle.bz_recover.specs.Duties.{hears_in};
 use super::Walk;
 use bz_layout::{Config, MAX_MARKS, Slots};
 use bz_task::{Outcome, Seen, Todo};
+use std::fmt::Debug;
 use std::process::Abort;
 use std::test::Fail;
 
@@ -47,6 +48,10 @@ const TREE: [(usize, u64); 14] = [
 
 // The pointer of slot 1 to its child.
 const LAST: (usize, u64) = (287, 3);
+
+fn same<T: PartialEq + Debug + Drop>(rt: &impl Abort, got: T, want: T) {
+    assert_eq!(rt; got, want);
+}
 
 // Makes a load; anything else is no act.
 fn make(rt: &impl Abort, words: &[u64; WORDS], todo: &Todo) -> Option<Seen>
@@ -93,11 +98,11 @@ fn the_slots_of_a_tree_are_held(rt: HostRuntime) -> Result<(), Fail> {
     words.extend_from_slice(&TREE)?;
     words.extend_from_slice(&[LAST])?;
     // the root pointer and the root's header; of each of three inner nodes its status, and two words for each child
-    assert_eq!(rt; walk(&rt, &words, &mut slots), 15);
-    assert_eq!(rt; slots.left(), 2);
+    same(&rt, walk(&rt, &words, &mut slots), 15);
+    same(&rt, slots.left(), 2);
     let mut out = [9; 3];
     assert!(rt; slots.take(2, &mut out));
-    assert_eq!(rt; out, [4, 7, 9]);
+    same(&rt, out, [4, 7, 9]);
     Ok(())
 }
 
@@ -105,10 +110,10 @@ fn the_slots_of_a_tree_are_held(rt: HostRuntime) -> Result<(), Fail> {
 fn of_a_tree_of_one_leaf_one_slot_is_held(rt: HostRuntime) -> Result<(), Fail> {
     let mut slots = Slots::open(rt.alloc(), 8)?;
     slots.hold(5);
-    assert_eq!(rt; walk(&rt, &[(1, 2)], &mut slots), 2);
-    assert_eq!(rt; slots.left(), 7);
+    same(&rt, walk(&rt, &[(1, 2)], &mut slots), 2);
+    same(&rt, slots.left(), 7);
     let mut out = [9; 3];
     assert!(rt; slots.take(3, &mut out));
-    assert_eq!(rt; out, [0, 2, 3]);
+    same(&rt, out, [0, 2, 3]);
     Ok(())
 }

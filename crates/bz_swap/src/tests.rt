@@ -18,7 +18,13 @@ mod world;
 
 use crate::entry_list::EntryList;
 use bz_word::Entry;
+use std::fmt::Debug;
 use std::process::Abort;
+
+/// Two values are the same.
+pub(crate) fn same<T: PartialEq + Debug + Drop>(rt: &impl Abort, got: T, want: T) {
+    assert_eq!(rt; got, want);
+}
 
 fn entry(target: u32) -> Entry
     ensures { result.target ≡ target }

@@ -2,10 +2,26 @@
 use crate::{Gate, NoGate, top};
 use bz_io::{MemSink, MemSource, Sink, Source};
 use std::alloc::Global;
+use std::fmt::{Debug, Display};
 use std::process::Abort;
 use std::sync::Wait;
 use std::test::Fail;
 use std::thread::Threads;
+
+/// Two values are the same.
+pub(crate) fn same<T: PartialEq + Debug + Drop>(rt: &impl Abort, got: T, want: T) {
+    assert_eq!(rt; got, want);
+}
+
+/// The same, and where.
+pub(crate) fn same_at<T: PartialEq + Debug + Drop>(
+    rt: &impl Abort,
+    got: T,
+    want: T,
+    at: impl Display + Drop,
+) {
+    assert_eq!(rt; got, want, "at {at}");
+}
 
 /// The status of a run of `bz` on these words, with this between the acts of its threads.
 pub(crate) fn gated<R: Threads + Wait + Sync, S: Source, K: Sink, G: Gate + Sync>(
@@ -43,7 +59,7 @@ pub(crate) fn expect_run<R: Threads + Wait + Abort + Sync>(
     let mut source = MemSource::of(alloc, input)?;
     let mut sink = MemSink::open(alloc, 65536)?;
     let got = status(rt, alloc, words, &mut source, &mut sink);
-    assert_eq!(rt; got, want);
-    assert_eq!(rt; sink.bytes(), output);
+    same(rt, got, want);
+    same(rt, sink.bytes(), output);
     Ok(())
 }

@@ -1,5 +1,5 @@
 //! A source and a sink that fail at each of their calls, over forty keys rising.
-use super::bench::status;
+use super::bench::{same, same_at, status};
 use bz_io::{FailSink, FailSource, MemSink, MemSource};
 use std::alloc::Global;
 use std::process::Abort;
@@ -33,8 +33,8 @@ fn expect_read_fault<R: Threads + Wait + Abort + Sync>(
     let mut source = FailSource::of(alloc, input, PIECE, &[call])?;
     let mut sink = MemSink::open(alloc, 100)?;
     let got = status(rt, alloc, &["run"], &mut source, &mut sink);
-    assert_eq!(rt; got, 1, "{call}");
-    assert_eq!(rt; sink.bytes(), b"fault: read\n".as_slice(), "{call}");
+    same_at(rt, got, 1, call);
+    same_at(rt, sink.bytes(), b"fault: read\n".as_slice(), call);
     Ok(())
 }
 
@@ -58,15 +58,15 @@ fn expect_write_fault<R: Threads + Wait + Abort + Sync>(
     let mut source = MemSource::of(alloc, input)?;
     let mut sink = FailSink::open(alloc, 4_096, PIECE, &[call])?;
     let got = status(rt, alloc, &["run"], &mut source, &mut sink);
-    assert_eq!(rt; got, 4, "{call}");
-    assert_eq!(rt; sink.bytes(), taken_before(output, call), "{call}");
+    same_at(rt, got, 4, call);
+    same_at(rt, sink.bytes(), taken_before(output, call), call);
     Ok(())
 }
 
 #[test]
 fn a_source_and_a_sink_fail_at_each_call(rt: HostRuntime) -> Result<(), Fail> {
     let (input, output) = rising(rt.alloc())?;
-    assert_eq!(rt; (input.len(), output.len()), (704, 1_191));
+    same(&rt, (input.len(), output.len()), (704, 1_191));
     // eleven reads give all of the input, and the next one its end
     for call in 1..13u64 {
         expect_read_fault(&rt, rt.alloc(), input.as_bytes(), call)?;

@@ -1,9 +1,8 @@
 //! `dump` and `load`: the smallest image byte for byte, and every refusal.
-use super::bench::{expect_run, status};
+use super::bench::{expect_run, same, same_at, status};
 use crate::{NoGate, top};
 use bz_image::write_image;
-use bz_io::{FailSink, FailSource, MemSink, MemSource};
-use bz_sched::World;
+use bz_io::{FailSink, FailSource, Failed, MemSink, MemSource};
 use std::alloc::Global;
 use std::process::Abort;
 use std::sync::Wait;
@@ -152,7 +151,7 @@ fn failing_load<R: Threads + Wait + Abort + Sync>(
     let mut source = FailSource::of(alloc, &input, 64, &[call])?;
     let mut sink = MemSink::open(alloc, 100)?;
     let got = status(rt, alloc, &["load"], &mut source, &mut sink);
-    assert_eq!(rt; sink.bytes(), loaded_with(got));
+    same(rt, sink.bytes(), loaded_with(got));
     Ok(got)
 }
 
@@ -175,7 +174,7 @@ fn failing_dump<R: Threads + Wait + Abort + Sync>(
     let mut sink = FailSink::open(alloc, SIZE, 64, &[call])?;
     let got = status(rt, alloc, &["dump"], &mut source, &mut sink);
     let file = smallest();
-    assert_eq!(rt; sink.bytes(), taken_before(&file, call));
+    same(rt, sink.bytes(), taken_before(&file, call));
     Ok(got)
 }
 
@@ -194,22 +193,29 @@ fn a_source_and_a_sink_fail_at_each_call(rt: HostRuntime) -> Result<(), Fail> {
     // the head of an image is read and written alone; the end of a script is a read too
     for call in 1..25u64 {
         let want = if call < 24 { 1 } else { 0 };
-        assert_eq!(rt; failing_load(&rt, rt.alloc(), call)?, want, "{call}");
+        same_at(&rt, failing_load(&rt, rt.alloc(), call)?, want, call);
     }
     for call in 1..23u64 {
         let want = if call < 22 { 4 } else { 0 };
-        assert_eq!(rt; failing_dump(&rt, rt.alloc(), call)?, want, "{call}");
+        same_at(&rt, failing_dump(&rt, rt.alloc(), call)?, want, call);
     }
     Ok(())
 }
 
-// The image that a world has left.
-fn left_by(alloc: Global, lab: Option<World>) -> Result<Vec<u8>, Fail> {
-    let mut sink = MemSink::open(alloc, 24_724)?;
-    if let Some(world) = lab {
-        write_image(&world, &mut sink)?;
+// Loads an image, and writes what the world has left to another sink.
+fn load_over<R: Threads + Wait + Abort + Sync>(
+    rt: &R,
+    alloc: Global,
+    source: &mut MemSource,
+    report: &mut MemSink,
+    image: &mut MemSink,
+) -> Result<(), Failed> {
+    let outcome = top(rt, alloc, &["load"], source, report, &NoGate);
+    same(rt, outcome.status, 0);
+    match &outcome.lab {
+        Some(world) => write_image(world, image),
+        None => Ok(()),
     }
-    Ok(Vec::from_slice(alloc, sink.bytes())?)
 }
 
 // The image of a memory that was loaded from another and has recovered.
@@ -221,10 +227,10 @@ fn recovered<R: Threads + Wait + Abort + Sync>(
     let mut input = Vec::from_slice(alloc, image)?;
     input.extend_from_slice(b"memory 16 64\n")?;
     let mut source = MemSource::of(alloc, &input)?;
-    let mut sink = MemSink::open(alloc, 100)?;
-    let outcome = top(rt, alloc, &["load"], &mut source, &mut sink, &NoGate);
-    assert_eq!(rt; outcome.status, 0);
-    left_by(alloc, outcome.lab)
+    let mut report = MemSink::open(alloc, 100)?;
+    let mut sink = MemSink::open(alloc, 24_724)?;
+    load_over(rt, alloc, &mut source, &mut report, &mut sink)?;
+    Ok(Vec::from_slice(alloc, sink.bytes())?)
 }
 
 // The image that `dump` of a script writes.
@@ -236,7 +242,7 @@ fn dumped<R: Threads + Wait + Abort + Sync>(
     let mut source = MemSource::of(alloc, script.as_bytes())?;
     let mut sink = MemSink::open(alloc, 24_724)?;
     let got = status(rt, alloc, &["dump"], &mut source, &mut sink);
-    assert_eq!(rt; got, 0);
+    same(rt, got, 0);
     Ok(Vec::from_slice(alloc, sink.bytes())?)
 }
 
@@ -251,7 +257,7 @@ fn what_has_recovered_loads_as_it_is(rt: HostRuntime) -> Result<(), Fail> {
         let image = dumped(&rt, rt.alloc(), &script)?;
         let once = recovered(&rt, rt.alloc(), &image)?;
         let twice = recovered(&rt, rt.alloc(), &once)?;
-        assert_eq!(rt; once.as_slice(), twice.as_slice(), "{acts}");
+        same_at(&rt, once.as_slice(), twice.as_slice(), acts);
     }
     Ok(())
 }

@@ -1,5 +1,5 @@
 //! Scripts that cut the power, and turn it on again.
-use super::bench::status;
+use super::bench::{same, status};
 use bz_io::{MemSink, MemSource};
 use std::alloc::Global;
 use std::process::Abort;
@@ -16,7 +16,7 @@ fn report<R: Threads + Wait + Abort + Sync>(
 ) -> Result<(), Fail> {
     let mut source = MemSource::of(alloc, script.as_bytes())?;
     let got = status(rt, alloc, &["run"], &mut source, sink);
-    assert_eq!(rt; got, 0);
+    same(rt, got, 0);
     Ok(())
 }
 

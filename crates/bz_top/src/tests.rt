@@ -1,6 +1,6 @@
 //! Runs of the program over sources and sinks in memory.
 use super::bench;
-use super::bench::status;
+use super::bench::{same, status};
 use bz_io::{FailSink, FailSource, MemSink, MemSource};
 use std::alloc::Global;
 use std::process::Abort;
@@ -20,6 +20,34 @@ fn expect_run<R: Threads + Wait + Abort + Sync>(
     bench::expect_run(rt, alloc, words, input, output.as_bytes(), want)
 }
 
+// A script runs to its end and prints its report.
+fn expect_example<R: Threads + Wait + Abort + Sync>(
+    rt: &R,
+    alloc: Global,
+    script: &str,
+    report: &str,
+) -> Result<(), Fail> {
+    expect_run(rt, alloc, &["run"], script.as_bytes(), report, 0)
+}
+
+// Each row is an input, with `/` for a line feed, and what it prints before it ends with a status.
+fn expect_rows<R: Threads + Wait + Abort + Sync>(
+    rt: &R,
+    alloc: Global,
+    rows: &str,
+    want: u8,
+) -> Result<(), Fail> {
+    for row in rows.lines() {
+        let Some((input, output)) = row.split_once(" =>") else {
+            return Err(Fail::from("a row without its output"));
+        };
+        let input = input.replace(alloc, "/", "\n")?;
+        let output = output.trim_start().replace(alloc, "/", "\n")?;
+        expect_run(rt, alloc, &["run"], input.as_bytes(), &output, want)?;
+    }
+    Ok(())
+}
+
 const MIXED: &str =
     "memory 16 64\nw 3 insert c 3\nw 1 insert a 1\nw 3 get a\nw 2 get c\nw 1 get b\nrun alone\nw 2 get c\nrun alone\n";
 
@@ -35,128 +63,54 @@ const PAGES_REPORT: &str =
 
 #[test]
 fn a_script_prints_its_report(rt: HostRuntime) -> Result<(), Fail> {
-    for (input, output) in [
-        ("memory 16 64\n", ""),
-        ("memory 16384 65536\nrun alone\n", ""),
-        (
-            "memory 16 64\nw 1 insert a 1\nw 1 get a\nrun alone\n",
-            "w1.1 insert a 1 = inserted\nw1.2 get a = value 1\n",
-        ),
-        (
-            "memory 16 64\nw 1 insert a 1\nw 1 insert a 2\nw 1 get a\nrun alone\n",
-            "w1.1 insert a 1 = inserted\nw1.2 insert a 2 = exists\nw1.3 get a = value 1\n",
-        ),
-        (
-            "memory 16 64\nw 1 insert abcdefghijklmnopqrstuvwxyz01 1\nrun alone\n",
-            "w1.1 insert abcdefghijklmnopqrstuvwxyz01 1 = inserted\n",
-        ),
-        (
-            "memory 1 2\nw 64 insert a%20b %\nw 64 get a%20b\nw 64 get %00\nrun alone\n",
-            "w64.1 insert a%20b % = inserted\nw64.2 get a%20b = value %\nw64.3 get %00 = missing\n",
-        ),
-        (
-            "memory 16 64\nw 1 insert a 1\nw 1 delete a\nw 1 get a\nw 1 update a 2\nw 1 delete a\nrun alone\n",
-            "w1.1 insert a 1 = inserted\nw1.2 delete a = deleted 1\nw1.3 get a = missing\nw1.4 update a 2 = missing\nw1.5 delete a = missing\n",
-        ),
-        (
-            "memory 16 64\nw 1 upsert a 1\nw 1 upsert a 22\nw 1 update a %\nw 1 get a\nrun alone\n",
-            "w1.1 upsert a 1 = inserted\nw1.2 upsert a 22 = updated 1\nw1.3 update a % = updated 22\nw1.4 get a = value %\n",
-        ),
-        (MIXED, MIXED_REPORT),
-        ("memory 16 64\nw 1 get a\n", ""),
-        (
-            "memory 16 64\nw 1 page a\nrun alone\n",
-            "w1.1 page a = page end\n",
-        ),
-        (
-            "memory 16 64\nw 1 insert b 1\nw 1 page a\nw 1 page b\nw 1 page b0\nrun alone\n",
-            "w1.1 insert b 1 = inserted\nw1.2 page a = page b=1 end\nw1.3 page b = page b=1 end\nw1.4 page b0 = page end\n",
-        ),
-        (PAGES, PAGES_REPORT),
-    ] {
-        expect_run(&rt, rt.alloc(), &["run"], input.as_bytes(), output, 0)?;
-    }
-    Ok(())
+    let alloc = rt.alloc();
+    expect_example(&rt, alloc, MIXED, MIXED_REPORT)?;
+    expect_example(&rt, alloc, PAGES, PAGES_REPORT)?;
+    let rows = "\
+memory 16 64/ =>
+memory 16384 65536/run alone/ =>
+memory 16 64/w 1 insert a 1/w 1 get a/run alone/ => w1.1 insert a 1 = inserted/w1.2 get a = value 1/
+memory 16 64/w 1 insert a 1/w 1 insert a 2/w 1 get a/run alone/ => w1.1 insert a 1 = inserted/w1.2 insert a 2 = exists/w1.3 get a = value 1/
+memory 16 64/w 1 insert abcdefghijklmnopqrstuvwxyz01 1/run alone/ => w1.1 insert abcdefghijklmnopqrstuvwxyz01 1 = inserted/
+memory 1 2/w 64 insert a%20b %/w 64 get a%20b/w 64 get %00/run alone/ => w64.1 insert a%20b % = inserted/w64.2 get a%20b = value %/w64.3 get %00 = missing/
+memory 16 64/w 1 insert a 1/w 1 delete a/w 1 get a/w 1 update a 2/w 1 delete a/run alone/ => w1.1 insert a 1 = inserted/w1.2 delete a = deleted 1/w1.3 get a = missing/w1.4 update a 2 = missing/w1.5 delete a = missing/
+memory 16 64/w 1 upsert a 1/w 1 upsert a 22/w 1 update a %/w 1 get a/run alone/ => w1.1 upsert a 1 = inserted/w1.2 upsert a 22 = updated 1/w1.3 update a % = updated 22/w1.4 get a = value %/
+memory 16 64/w 1 get a/ =>
+memory 16 64/w 1 page a/run alone/ => w1.1 page a = page end/
+memory 16 64/w 1 insert b 1/w 1 page a/w 1 page b/w 1 page b0/run alone/ => w1.1 insert b 1 = inserted/w1.2 page a = page b=1 end/w1.3 page b = page b=1 end/w1.4 page b0 = page end/";
+    expect_rows(&rt, alloc, rows, 0)
 }
 
 #[test]
 fn a_faulty_input_is_refused_by_name(rt: HostRuntime) -> Result<(), Fail> {
-    for (input, output) in [
-        ("", "fault: line 1: memory expected\n"),
-        ("\n", "fault: line 1: memory expected\n"),
-        ("memory 16 64", "fault: line 1: line feed expected\n"),
-        ("memory 0 64\n", "fault: line 1: bad number\n"),
-        ("memory 16 65537\n", "fault: line 1: bad number\n"),
-        ("memory 016 64\n", "fault: line 1: bad number\n"),
-        ("memory 16 64 \n", "fault: line 1: wrong number of words\n"),
-        ("memory 16 64\nrun fast\n", "fault: line 2: unknown word\n"),
-        ("memory 16 64\n\nrun\n", "fault: line 2: unknown word\n"),
-        (
-            "memory 16 64\nrun threads 1\n",
-            "fault: line 2: wrong number of words\n",
-        ),
-        (
-            "memory 16 64\ncut 1 0\ncut 1 0\n",
-            "fault: line 3: wrong order\n",
-        ),
-        (
-            "memory 16 64\nw 1 rename a b\n",
-            "fault: line 2: unknown word\n",
-        ),
-        (
-            "memory 16 64\nrun list\n",
-            "fault: line 2: wrong number of words\n",
-        ),
-        (
-            "memory 16 64\nrun turns 1 2\n",
-            "fault: line 2: wrong number of words\n",
-        ),
-        (
-            "memory 16 64\nrun list 1*2*3\n",
-            "fault: line 2: bad number\n",
-        ),
-        (
-            "memory 16 64\nrun list 1 65 0*0\n",
-            "fault: line 2: bad worker\n",
-        ),
-        (
-            "memory 16 64\nrun list 1 2*65537 0\n",
-            "fault: line 2: bad number\n",
-        ),
-        (
-            "memory 16 64\nrun turns -1\n",
-            "fault: line 2: bad number\n",
-        ),
-        ("memory 16 64\nw 65 get a\n", "fault: line 2: bad worker\n"),
-        (
-            "memory 16 64\nw 0 get A%41\n",
-            "fault: line 2: bad worker\n",
-        ),
-        (
-            "memory 16 64\nw 1 get\n",
-            "fault: line 2: wrong number of words\n",
-        ),
-        ("memory 16 64\nw 1 get a%2f\n", "fault: line 2: bad key\n"),
-        (
-            "memory 16 64\nw 1 insert abcdefghijklmnopqrstuvwxyz012 1\nrun alone\n",
-            "fault: line 2: bad key\n",
-        ),
-        (
-            "memory 16 64\nw 1 insert a abcdefghijklmnopqrstuvwxyz012\n",
-            "fault: line 2: bad payload\n",
-        ),
-        (
-            "memory 16 64\nw 1 get a\nmemory 16 64\nrun fast\n",
-            "fault: line 3: wrong order\n",
-        ),
-        (
-            "memory 16 64\nw 1 get a\nrun alone",
-            "fault: line 3: line feed expected\n",
-        ),
-    ] {
-        expect_run(&rt, rt.alloc(), &["run"], input.as_bytes(), output, 3)?;
-    }
-    Ok(())
+    let rows = "\
+/ => fault: line 1: memory expected/
+memory 16 64 => fault: line 1: line feed expected/
+memory 0 64/ => fault: line 1: bad number/
+memory 16 65537/ => fault: line 1: bad number/
+memory 016 64/ => fault: line 1: bad number/
+memory 16 64 / => fault: line 1: wrong number of words/
+memory 16 64/run fast/ => fault: line 2: unknown word/
+memory 16 64//run/ => fault: line 2: unknown word/
+memory 16 64/run threads 1/ => fault: line 2: wrong number of words/
+memory 16 64/cut 1 0/cut 1 0/ => fault: line 3: wrong order/
+memory 16 64/w 1 rename a b/ => fault: line 2: unknown word/
+memory 16 64/run list/ => fault: line 2: wrong number of words/
+memory 16 64/run turns 1 2/ => fault: line 2: wrong number of words/
+memory 16 64/run list 1*2*3/ => fault: line 2: bad number/
+memory 16 64/run list 1 65 0*0/ => fault: line 2: bad worker/
+memory 16 64/run list 1 2*65537 0/ => fault: line 2: bad number/
+memory 16 64/run turns -1/ => fault: line 2: bad number/
+memory 16 64/w 65 get a/ => fault: line 2: bad worker/
+memory 16 64/w 0 get A%41/ => fault: line 2: bad worker/
+memory 16 64/w 1 get/ => fault: line 2: wrong number of words/
+memory 16 64/w 1 get a%2f/ => fault: line 2: bad key/
+memory 16 64/w 1 insert abcdefghijklmnopqrstuvwxyz012 1/run alone/ => fault: line 2: bad key/
+memory 16 64/w 1 insert a abcdefghijklmnopqrstuvwxyz012/ => fault: line 2: bad payload/
+memory 16 64/w 1 get a/memory 16 64/run fast/ => fault: line 3: wrong order/
+memory 16 64/w 1 get a/run alone => fault: line 3: line feed expected/
+ => fault: line 1: memory expected/";
+    expect_rows(&rt, rt.alloc(), rows, 3)
 }
 
 #[test]
@@ -206,23 +160,15 @@ const ONE_SWAP_REPORT: &str =
 
 #[test]
 fn plans_and_descriptors_show_in_the_report(rt: HostRuntime) -> Result<(), Fail> {
-    for (input, output) in [
-        (PLANS, PLANS_REPORT),
-        (TWO_SWAPS, TWO_SWAPS_REPORT),
-        (ONE_SWAP, ONE_SWAP_REPORT),
-        (
-            "memory 16 64\nrun turns 1\nrun list 1*65536\nrun alone\n",
-            "",
-        ),
-        ("memory 16 64\nw 1 insert a 1\nrun list 1*10\n", ""),
-        (
-            "memory 1 2\nw 64 insert a 1\nrun turns 0\nw 64 get a\nrun list 1 64*65536 2\n",
-            "w64.1 insert a 1 = inserted\nw64.2 get a = value 1\n",
-        ),
-    ] {
-        expect_run(&rt, rt.alloc(), &["run"], input.as_bytes(), output, 0)?;
-    }
-    Ok(())
+    let alloc = rt.alloc();
+    expect_example(&rt, alloc, PLANS, PLANS_REPORT)?;
+    expect_example(&rt, alloc, TWO_SWAPS, TWO_SWAPS_REPORT)?;
+    expect_example(&rt, alloc, ONE_SWAP, ONE_SWAP_REPORT)?;
+    let rows = "\
+memory 16 64/run turns 1/run list 1*65536/run alone/ =>
+memory 16 64/w 1 insert a 1/run list 1*10/ =>
+memory 1 2/w 64 insert a 1/run turns 0/w 64 get a/run list 1 64*65536 2/ => w64.1 insert a 1 = inserted/w64.2 get a = value 1/";
+    expect_rows(&rt, alloc, rows, 0)
 }
 
 // The scripts of examples/, with what they print.
@@ -246,14 +192,10 @@ const EVICTIONS_REPORT: &str =
 
 #[test]
 fn the_examples_print_what_is_said_of_them(rt: HostRuntime) -> Result<(), Fail> {
-    for (input, output) in [
-        (INTERLEAVED, INTERLEAVED_REPORT),
-        (STOPPED, STOPPED_REPORT),
-        (EVICTIONS, EVICTIONS_REPORT),
-    ] {
-        expect_run(&rt, rt.alloc(), &["run"], input.as_bytes(), output, 0)?;
-    }
-    Ok(())
+    let alloc = rt.alloc();
+    expect_example(&rt, alloc, INTERLEAVED, INTERLEAVED_REPORT)?;
+    expect_example(&rt, alloc, STOPPED, STOPPED_REPORT)?;
+    expect_example(&rt, alloc, EVICTIONS, EVICTIONS_REPORT)
 }
 
 // A run on an input prints one of two outputs.
@@ -267,7 +209,7 @@ fn expect_either<R: Threads + Wait + Abort + Sync>(
     let mut source = MemSource::of(alloc, input.as_bytes())?;
     let mut sink = MemSink::open(alloc, 65536)?;
     let got = status(rt, alloc, &["run"], &mut source, &mut sink);
-    assert_eq!(rt; got, 0);
+    same(rt, got, 0);
     let held = sink.bytes();
     assert!(rt; held == one.as_bytes() || held == other.as_bytes());
     Ok(())
@@ -360,8 +302,8 @@ fn expect_limit<R: Threads + Wait + Abort + Sync>(
     let mut source = MemSource::of(alloc, &input)?;
     let mut sink = MemSink::open(alloc, 2_000_000)?;
     let got = status(rt, alloc, &["run"], &mut source, &mut sink);
-    assert_eq!(rt; got, 5);
-    assert_eq!(rt; sink.bytes().len(), bytes);
+    same(rt, got, 5);
+    same(rt, sink.bytes().len(), bytes);
     assert!(rt; sink.bytes().ends_with(end.as_bytes()));
     Ok(())
 }
@@ -418,7 +360,7 @@ fn expect_start_of_report<R: Threads + Wait + Abort + Sync>(
     let mut source = MemSource::of(alloc, input.as_bytes())?;
     let mut sink = MemSink::open(alloc, 2_000_000)?;
     let got = status(rt, alloc, words, &mut source, &mut sink);
-    assert_eq!(rt; got, 5);
+    same(rt, got, 5);
     Ok(expect_start(rt, sink.bytes(), whole.as_bytes()))
 }
 
@@ -510,8 +452,8 @@ fn a_failing_source_is_told(rt: HostRuntime) -> Result<(), Fail> {
     let mut source = FailSource::of(rt.alloc(), TWO_CALLS, 8, &[2])?;
     let mut sink = MemSink::open(rt.alloc(), 100)?;
     let got = status(&rt, rt.alloc(), &["run"], &mut source, &mut sink);
-    assert_eq!(rt; got, 1);
-    assert_eq!(rt; sink.bytes(), b"fault: read\n".as_slice());
+    same(&rt, got, 1);
+    same(&rt, sink.bytes(), b"fault: read\n".as_slice());
     Ok(())
 }
 
@@ -520,8 +462,8 @@ fn a_sink_without_room_holds_the_first_bytes(rt: HostRuntime) -> Result<(), Fail
     let mut source = MemSource::of(rt.alloc(), TWO_CALLS)?;
     let mut sink = MemSink::open(rt.alloc(), 10)?;
     let got = status(&rt, rt.alloc(), &["run"], &mut source, &mut sink);
-    assert_eq!(rt; got, 4);
-    assert_eq!(rt; sink.bytes(), b"w1.1 inser".as_slice());
+    same(&rt, got, 4);
+    same(&rt, sink.bytes(), b"w1.1 inser".as_slice());
     Ok(())
 }
 
@@ -536,13 +478,14 @@ fn expect_start_by<R: Threads + Wait + Abort + Sync>(
     let got = status(rt, alloc, &["run"], &mut source, &mut sink);
     let held = sink.bytes();
     assert!(rt; TWO_REPLIES.starts_with(held));
-    assert_eq!(rt;
+    same(
+        rt,
         got,
         if held.len() == TWO_REPLIES.len() {
             0
         } else {
             4
-        }
+        },
     );
     Ok(())
 }

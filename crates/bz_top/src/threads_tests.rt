@@ -1,5 +1,5 @@
 //! Scripts that run on threads.
-use super::bench::{gated, status};
+use super::bench::{gated, same, same_at, status};
 use crate::{Gate, NoGate};
 use bz_io::{MemSink, MemSource};
 use std::alloc::Global;
@@ -78,15 +78,15 @@ fn calls_of_threads_overlap(rt: HostRuntime) -> Result<(), Fail> {
     let script =
         "memory 64 1024\nw 1 insert a 1\nw 2 insert b 2\nw 3 insert c 3\nw 4 insert d 4\nrun threads\n";
     let text = report(&rt, rt.alloc(), script, 0, &gate)?;
-    assert_eq!(rt; gate.given_up.load(Ordering::SeqCst), 0);
-    assert_eq!(rt; text.lines().count(), 4);
+    same(&rt, gate.given_up.load(Ordering::SeqCst), 0);
+    same(&rt, text.lines().count(), 4);
     for line in [
         "w1.1 insert a 1 = inserted",
         "w2.1 insert b 2 = inserted",
         "w3.1 insert c 3 = inserted",
         "w4.1 insert d 4 = inserted",
     ] {
-        assert_eq!(rt; count(&text, line), 1, "{line}");
+        same_at(&rt, count(&text, line), 1, line);
     }
     Ok(())
 }
@@ -103,10 +103,10 @@ fn sixty_four_workers_make_a_hundred_calls_each(rt: HostRuntime) -> Result<(), F
     }
     script.push_str("run threads\n")?;
     let text = report(&rt, rt.alloc(), &script, 0, &NoGate)?;
-    assert_eq!(rt; text.lines().count(), 6_401);
-    assert_eq!(rt; count(&text, " = inserted"), 1);
+    same(&rt, text.lines().count(), 6_401);
+    same(&rt, count(&text, " = inserted"), 1);
     let found = count(&text, " = value 1");
-    assert_eq!(rt; found.saturating_add(count(&text, " = missing")), 6_400);
+    same(&rt, found.saturating_add(count(&text, " = missing")), 6_400);
     Ok(())
 }
 
@@ -183,7 +183,7 @@ fn written<R: Threads + Wait + Sync + Abort>(
     let mut source = MemSource::of(alloc, input)?;
     let mut sink = MemSink::open(alloc, 24_724)?;
     let got = status(rt, alloc, &[word], &mut source, &mut sink);
-    assert_eq!(rt; got, 0, "{word}");
+    same_at(rt, got, 0, word);
     Ok(Vec::from_slice(alloc, sink.bytes())?)
 }
 
@@ -195,9 +195,10 @@ fn threads_run_over_an_image(rt: HostRuntime) -> Result<(), Fail> {
         b"memory 16 64\nw 1 get a\nrun threads\npower\nw 2 get b\nrun threads\n",
     )?;
     let text = written(&rt, rt.alloc(), "load", &input)?;
-    assert_eq!(rt;
+    same(
+        &rt,
         std::str::from_utf8(&text)?,
-        "power on 2 pairs\nw1.1 get a = value 1\npower cut\npower on 2 pairs\nw2.1 get b = value 2\n"
+        "power on 2 pairs\nw1.1 get a = value 1\npower cut\npower on 2 pairs\nw2.1 get b = value 2\n",
     );
     Ok(())
 }

@@ -1,5 +1,5 @@
 //! Workloads: their summaries, and the reports of their scripts.
-use super::bench::status;
+use super::bench::{same, status};
 use bz_call::Call;
 use bz_gen::{MOST_CALLS, generate};
 use bz_io::{MemSink, MemSource};
@@ -97,7 +97,7 @@ fn a_workload_prints_the_same_summary_twice(rt: HostRuntime) -> Result<(), Fail>
     for words in [["work", "1", "20", "2"], ["work", "7", "2000", "8"]] {
         let first = printed(&rt, alloc, words.as_slice(), b"")?;
         let again = printed(&rt, alloc, words.as_slice(), b"not read")?;
-        assert_eq!(rt; first.as_str(), again.as_str());
+        same(&rt, first.as_str(), again.as_str());
     }
     Ok(())
 }
@@ -116,7 +116,7 @@ fn printed<R: Threads + Wait + Abort + Sync>(
     input: &[u8],
 ) -> Result<String, Fail> {
     let (text, status) = run(rt, alloc, words, input)?;
-    assert_eq!(rt; status, 0);
+    same(rt, status, 0);
     Ok(text)
 }
 
@@ -124,9 +124,9 @@ fn printed<R: Threads + Wait + Abort + Sync>(
 fn has_lines(rt: &impl Abort, summary: &str, wanted: &[&str]) {
     let mut lines = summary.lines();
     for line in wanted {
-        assert_eq!(rt; lines.next(), Some(*line));
+        same(rt, lines.next(), Some(*line));
     }
-    assert_eq!(rt; lines.next(), None);
+    same(rt, lines.next(), None);
 }
 
 #[test]
@@ -151,8 +151,8 @@ fn a_workload_that_meets_the_limit_tells_it_alone(rt: HostRuntime) -> Result<(),
     let alloc = rt.alloc();
     let words = ["work", "1", "20", "2", "--marks=1024"];
     let (text, status) = run(&rt, alloc, words.as_slice(), b"")?;
-    assert_eq!(rt; status, 5);
-    assert_eq!(rt; text.as_str(), "fault: limit marks\n");
+    same(&rt, status, 5);
+    same(&rt, text.as_str(), "fault: limit marks\n");
     Ok(())
 }
 
@@ -167,15 +167,15 @@ fn a_workload_has_its_numbers_in_their_ranges(rt: HostRuntime) -> Result<(), Fai
         ["work", "1", "20", "65"],
     ] {
         let (text, status) = run(&rt, alloc, words.as_slice(), b"")?;
-        assert_eq!(rt; status, 2);
-        assert_eq!(rt; text.as_str(), "fault: usage\n");
+        same(&rt, status, 2);
+        same(&rt, text.as_str(), "fault: usage\n");
     }
     for words in [
         ["work", "18446744073709551615", "1", "64"],
         ["work", "0", "1", "1"],
     ] {
         let (_, status) = run(&rt, alloc, words.as_slice(), b"")?;
-        assert_eq!(rt; status, 0);
+        same(&rt, status, 0);
     }
     Ok(())
 }

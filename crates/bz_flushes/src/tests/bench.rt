@@ -6,6 +6,7 @@ use bz_key::{Key, Payload};
 use bz_layout::Config;
 use bz_world::{Applied, Begun, Event, World};
 use std::alloc::Global;
+use std::fmt::{Debug, Display};
 use std::process::Abort;
 
 // More marks than a call and the three recoveries about it make, and more steps than any of them.
@@ -44,8 +45,23 @@ pub(super) fn booted(rt: &impl Abort, alloc: Global, image: &[u64]) -> World {
         pages: PAGES,
     };
     assert!(rt; config.check().is_ok());
-    assert_eq!(rt; image.len(), config.words() as usize);
+    assert!(rt; image.len() == config.words() as usize);
     World::boot(alloc, &config, image).expect(rt, "a world")
+}
+
+/// Two values are the same.
+pub(crate) fn same<T: PartialEq + Debug + Drop>(rt: &impl Abort, got: T, want: T) {
+    assert_eq!(rt; got, want);
+}
+
+/// The same, and where.
+pub(crate) fn same_at<T: PartialEq + Debug + Drop>(
+    rt: &impl Abort,
+    got: T,
+    want: T,
+    at: impl Display + Drop,
+) {
+    assert_eq!(rt; got, want, "at {at}");
 }
 
 // Whether the next act of a worker is a flush.
@@ -118,7 +134,7 @@ pub(super) fn evict(world: &mut World, seed: u64) {
 /// The power is cut, where it is on, and comes on again; the recovery goes up to the flush with this number, or to its end.
 pub(super) fn recover(rt: &impl Abort, world: &mut World, flush: u8) {
     world.apply(Event::Cut);
-    assert_eq!(rt; world.apply(Event::On), Applied::On);
+    same(rt, world.apply(Event::On), Applied::On);
     let ended = steps(world, 0, flush);
     assert!(rt; matches!(ended, None | Some(Applied::Ready)));
 }
@@ -169,6 +185,6 @@ fn value(rt: &impl Abort, world: &mut World, of: Key) -> Option<Payload> {
 pub(super) fn find(rt: &impl Abort, world: &mut World, of: Key) -> Found {
     let value = value(rt, world, of);
     let pairs = pairs(rt, world);
-    assert_eq!(rt; world.pairs(), pairs as u64);
+    same(rt, world.pairs(), pairs as u64);
     Found { pairs, value }
 }

@@ -1,7 +1,7 @@
 //! For every flush from the first on a call is cut before it, its recovery before each of its own, and the power comes on once more:
 //! the pairs and the value are those of the table, and how often the recovery is cut makes no difference.
 
-use super::bench::{Found, booted, call, find, recover};
+use super::bench::{Found, booted, call, find, recover, same_at};
 use super::rows::{Row, answer_of, copy, merge, split};
 use bz_call::Reply;
 use std::alloc::Global;
@@ -63,13 +63,13 @@ fn one_verdict(rt: &impl Abort, alloc: Global, row: &Row, cut: u8) -> Option<Ver
 // Each cut of a call over an image: the first one loses it, none after one that keeps it does, and the last one comes after the answer.
 fn each_cut(rt: &impl Abort, alloc: Global, row: &Row) {
     let mut last = one_verdict(rt, alloc, row, 1);
-    assert_eq!(rt; last, Some(Verdict::Lost), "{}", row.name);
+    same_at(rt, last, Some(Verdict::Lost), row.name);
     for cut in 2..=CUTS {
         let next = one_verdict(rt, alloc, row, cut);
         assert!(rt; next >= last, "{}, cut before flush {cut}", row.name);
         last = next;
     }
-    assert_eq!(rt; last, Some(Verdict::Answered), "{}", row.name);
+    same_at(rt, last, Some(Verdict::Answered), row.name);
 }
 
 #[test]

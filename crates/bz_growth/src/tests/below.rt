@@ -1,6 +1,6 @@
 //! Leaves below a parent that are split, and trees of two levels.
 
-use super::bench::{Answer, begin, finish, key, open, payload, steps, whole};
+use super::bench::{Answer, begin, finish, key, open, payload, same, same_at, steps, whole};
 use super::pages::read_page;
 use bz_call::Call;
 use bz_key::Key;
@@ -25,14 +25,14 @@ pub(super) fn numbered(rt: &impl Abort, number: u32) -> Key {
 // Inserts the key with this number, which is new.
 fn inserts(rt: &impl Abort, world: &mut World, number: u32) {
     let call = Call::Insert(numbered(rt, number), payload(rt, b"v"));
-    assert_eq!(rt; whole(world, 1, call), Some(Answer::Inserted), "{number}");
+    same_at(rt, whole(world, 1, call), Some(Answer::Inserted), number);
 }
 
 // The key with this number is there.
 fn has(rt: &impl Abort, world: &mut World, number: u32) {
     let call = Call::Get(numbered(rt, number));
     let value = Answer::Value(payload(rt, b"v"));
-    assert_eq!(rt; whole(world, 1, call), Some(value), "{number}");
+    same_at(rt, whole(world, 1, call), Some(value), number);
 }
 
 // The lengths of the pages from the first key on, each of which begins where the one before ends.
@@ -70,9 +70,10 @@ fn keys_rising(rt: HostRuntime) {
     for number in 1..100 {
         has(&rt, &mut world, number);
     }
-    assert_eq!(rt;
+    same(
+        &rt,
         walk(&rt, &mut world),
-        [20, 20, 20, 39, 0, 0, 0, 0, 0, 0, 0, 0]
+        [20, 20, 20, 39, 0, 0, 0, 0, 0, 0, 0, 0],
     );
 }
 
@@ -86,9 +87,10 @@ fn keys_falling(rt: HostRuntime) {
     for number in 1..100 {
         has(&rt, &mut world, number);
     }
-    assert_eq!(rt;
+    same(
+        &rt,
         walk(&rt, &mut world),
-        [23, 19, 19, 19, 19, 0, 0, 0, 0, 0, 0, 0]
+        [23, 19, 19, 19, 19, 0, 0, 0, 0, 0, 0, 0],
     );
 }
 
@@ -102,7 +104,7 @@ fn keys_shuffled(rt: HostRuntime) {
     for number in 1..100 {
         has(&rt, &mut world, number);
     }
-    assert_eq!(rt; count_pairs(&rt, &mut world), 99);
+    same(&rt, count_pairs(&rt, &mut world), 99);
 }
 
 // Two leaves, of which the right one is full.
@@ -125,7 +127,7 @@ fn begins(rt: &impl Abort, world: &mut World, w: u8, number: u32) {
 
 // An insert has ended, and its key was new.
 fn is_inserted(rt: &impl Abort, ended: Option<Answer>, acts: u32) {
-    assert_eq!(rt; ended, Some(Answer::Inserted), "{acts}");
+    same_at(rt, ended, Some(Answer::Inserted), acts);
 }
 
 // The right one of two leaves is full. Worker 1 stops after so many acts of an insert that splits it; worker 2 makes its own, into the
@@ -139,7 +141,7 @@ fn beside(rt: &impl Abort, alloc: Global, acts: u32, other: u32) {
     is_inserted(rt, second, acts);
     let first = finish(&mut world, 1, first, MOST);
     is_inserted(rt, first, acts);
-    assert_eq!(rt; count_pairs(rt, &mut world), 61, "{other}");
+    same_at(rt, count_pairs(rt, &mut world), 61, other);
 }
 
 #[test]
@@ -179,5 +181,5 @@ fn two_splits_below_one_parent(rt: HostRuntime) {
     }
     is_inserted(&rt, first, MOST);
     is_inserted(&rt, second, MOST);
-    assert_eq!(rt; count_pairs(&rt, &mut world), 80);
+    same(&rt, count_pairs(&rt, &mut world), 80);
 }

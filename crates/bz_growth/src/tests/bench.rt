@@ -6,6 +6,7 @@ use bz_layout::Config;
 use bz_mark::Mark;
 use bz_world::{Applied, Begun, Event, OpenError, Power, World};
 use std::alloc::Global;
+use std::fmt::{Debug, Display};
 use std::process::Abort;
 
 /// What a call answered.
@@ -22,6 +23,21 @@ pub(crate) enum Answer {
     FullNodes,
     FullSwaps,
     FullHeight,
+}
+
+/// Two values are the same.
+pub(crate) fn same<T: PartialEq + Debug + Drop>(rt: &impl Abort, got: T, want: T) {
+    assert_eq!(rt; got, want);
+}
+
+/// The same, and where.
+pub(crate) fn same_at<T: PartialEq + Debug + Drop>(
+    rt: &impl Abort,
+    got: T,
+    want: T,
+    at: impl Display + Drop,
+) {
+    assert_eq!(rt; got, want, "at {at}");
 }
 
 /// A key of these bytes.
@@ -142,12 +158,12 @@ pub(crate) fn applies(rt: &impl Abort, world: &mut World, event: Event, applied:
 
 /// What the power of a world is.
 pub(crate) fn has_power(rt: &impl Abort, world: &World, power: Power) {
-    assert_eq!(rt; world.power(), power);
+    same(rt, world.power(), power);
 }
 
 /// How many pairs a world has.
 pub(crate) fn has_pairs(rt: &impl Abort, world: &World, pairs: u64) {
-    assert_eq!(rt; world.pairs(), pairs);
+    same(rt, world.pairs(), pairs);
 }
 
 /// How many marks a journal has.

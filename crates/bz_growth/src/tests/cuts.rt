@@ -1,7 +1,7 @@
 //! Power cuts after every number of acts of calls that have a leaf copied or split.
 
 use super::bench::{
-    Answer, begin, evict_all, numbered, open, payload, recover, restart, steps, whole,
+    Answer, begin, evict_all, numbered, open, payload, recover, restart, same, steps, whole,
 };
 use super::decode::decode_keys;
 use bz_call::Call;
@@ -44,7 +44,7 @@ fn inserts(rt: &impl Abort, world: &mut World, last: u8) {
     let long = payload(rt, &[b'v'; 28]);
     for number in 0..last {
         let call = Call::Insert(numbered(rt, number.saturating_add(1)), long);
-        assert_eq!(rt; whole(world, 1, call), Some(Answer::Inserted));
+        same(rt, whole(world, 1, call), Some(Answer::Inserted));
     }
 }
 
@@ -53,7 +53,7 @@ fn updates(rt: &impl Abort, world: &mut World) {
     let long = payload(rt, &[b'v'; 28]);
     for _ in 0..22 {
         let call = Call::Update(numbered(rt, 1), long);
-        assert_eq!(rt; whole(world, 1, call), Some(Answer::Updated(long)));
+        same(rt, whole(world, 1, call), Some(Answer::Updated(long)));
     }
 }
 
@@ -78,7 +78,7 @@ fn holds(rt: &impl Abort, world: &World, last: u8) {
             assert!(rt; number == 0 || number > last as usize, "{number}");
         }
     }
-    assert_eq!(rt; u64::from(count), world.pairs());
+    same(rt, u64::from(count), world.pairs());
     assert!(rt; count <= u32::from(last) + 1, "{count}");
 }
 

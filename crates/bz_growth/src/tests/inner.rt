@@ -1,7 +1,7 @@
 //! Inner nodes that are split, and trees of three levels.
 
 use super::below::digit;
-use super::bench::{Answer, begin, finish, key, payload, steps};
+use super::bench::{Answer, begin, finish, key, payload, same, same_at, steps};
 use super::decode::decode_root;
 use super::pages::read_page;
 use bz_call::Call;
@@ -48,7 +48,7 @@ pub(super) fn insert(rt: &impl Abort, number: u32) -> Call {
 pub(super) fn inserts(rt: &impl Abort, world: &mut World, w: u8, number: u32) {
     assert!(rt; begin(world, w, insert(rt, number)));
     let answer = steps(world, w, MOST).1;
-    assert_eq!(rt; answer, Some(Answer::Inserted), "{number}");
+    same_at(rt, answer, Some(Answer::Inserted), number);
 }
 
 /// How many pairs the pages have from a key on, each of which begins where the one before ends.
@@ -70,7 +70,7 @@ pub(super) fn count_pairs(rt: &impl Abort, world: &mut World, first: u32) -> usi
 // The tree has three levels, and all of the keys from 1 on.
 fn is_tall(rt: &impl Abort, world: &mut World) {
     assert!(rt; decode_root(world).is_some_and(|root| root.0 == 2));
-    assert_eq!(rt; count_pairs(rt, world, 1), MANY as usize);
+    same(rt, count_pairs(rt, world, 1), MANY as usize);
 }
 
 #[test]
@@ -127,9 +127,10 @@ fn beside(
     let ended = finish(&mut world, 1, ended, MOST);
     assert_eq!(rt; ended, Some(Answer::Inserted), "{acts} {other}");
     let first = if other == 0 { 0 } else { 1 };
-    assert_eq!(rt;
+    same(
+        rt,
         count_pairs(rt, &mut world, first),
-        last.saturating_add(2) as usize
+        last.saturating_add(2) as usize,
     );
     [before, decode_root(&world)]
 }
@@ -140,7 +141,7 @@ fn a_stopped_split_of_an_inner_root(rt: HostRuntime) {
     for turn in 0..16 {
         for other in [0, 500] {
             let roots = beside(&rt, rt.alloc(), 209, 150 * turn, other);
-            assert_eq!(rt; roots, [Some((1, 20)), Some((2, 2))]);
+            same(&rt, roots, [Some((1, 20)), Some((2, 2))]);
         }
     }
 }
@@ -151,7 +152,7 @@ fn a_stopped_split_of_an_inner_node(rt: HostRuntime) {
     for turn in 0..16 {
         for other in [0, 500] {
             let roots = beside(&rt, rt.alloc(), 319, 200 * turn, other);
-            assert_eq!(rt; roots, [Some((2, 2)), Some((2, 3))]);
+            same(&rt, roots, [Some((2, 2)), Some((2, 3))]);
         }
     }
 }

@@ -2,7 +2,8 @@
 
 use super::below::numbered;
 use super::bench::{
-    Answer, begin, evict_all, finish, has_pairs, open, payload, recover, restart, steps, whole,
+    Answer, begin, evict_all, finish, has_pairs, open, payload, recover, restart, same, same_at,
+    steps, whole,
 };
 use super::decode::decode_root;
 use super::pages::last_page;
@@ -27,16 +28,20 @@ fn grown(rt: &impl Abort, alloc: Global, nodes: u32, swaps: u32, last: u32) -> W
     let mut world = open(alloc, nodes, swaps, 2).expect(rt, "a world");
     for number in 0..last {
         let call = insert(rt, number.saturating_add(1));
-        assert_eq!(rt; whole(&mut world, 1, call), Some(Answer::Inserted));
+        same(rt, whole(&mut world, 1, call), Some(Answer::Inserted));
     }
     world
 }
 
+// What the delete of a key answers that is there.
+fn gone(rt: &impl Abort) -> Option<Answer> {
+    Some(Answer::Deleted(payload(rt, b"v")))
+}
+
 // Deletes the keys from one to another.
 fn deletes(rt: &impl Abort, world: &mut World, first: u32, last: u32) {
-    let gone = Some(Answer::Deleted(payload(rt, b"v")));
     for number in first..last.saturating_add(1) {
-        assert_eq!(rt; whole(world, 1, delete(rt, number)), gone, "{number}");
+        same_at(rt, whole(world, 1, delete(rt, number)), gone(rt), number);
     }
 }
 
@@ -74,7 +79,7 @@ fn after(rt: &impl Abort, alloc: Global, last: u32, first: u32, end: u32) -> [us
     deletes(rt, &mut world, first, end);
     let children = lengths(rt, &mut world);
     let count = children.iter().filter(|length| **length > 0).count() as u32;
-    assert_eq!(rt; decode_root(&world), Some((1, count)));
+    same(rt, decode_root(&world), Some((1, count)));
     let gone = end.saturating_add(1).saturating_sub(first);
     has_pairs(rt, &world, u64::from(last.saturating_sub(gone)));
     children
@@ -107,11 +112,11 @@ fn deletes_at_both_ends_leave_one_leaf(rt: HostRuntime) {
         let mut world = grown(&rt, rt.alloc(), nodes, 128, 40);
         deletes(&rt, &mut world, 31, 40);
         deletes(&rt, &mut world, 1, 10);
-        assert_eq!(rt; lengths(&rt, &mut world)[0], leaf);
-        assert_eq!(rt; decode_root(&world), Some(root));
+        same(&rt, lengths(&rt, &mut world)[0], leaf);
+        same(&rt, decode_root(&world), Some(root));
         // with one slot left both leaves stay frozen, and are not copied
         let answer = whole(&mut world, 1, insert(&rt, 1));
-        assert_eq!(rt; answer, Some(told));
+        same(&rt, answer, Some(told));
     }
 }
 
@@ -131,7 +136,6 @@ fn ready(rt: &impl Abort, alloc: Global) -> World {
 // merge three.
 #[test]
 fn a_merge_without_descriptors_is_dropped(rt: HostRuntime) {
-    let gone = Some(Answer::Deleted(payload(&rt, b"v")));
     for (swaps, left) in [
         (102, [10, 10, 0, 0]),
         (103, [10, 10, 0, 0]),
@@ -139,8 +143,8 @@ fn a_merge_without_descriptors_is_dropped(rt: HostRuntime) {
         (105, [20, 0, 0, 0]),
     ] {
         let mut world = ready_with(&rt, rt.alloc(), swaps);
-        assert_eq!(rt; whole(&mut world, 1, delete(&rt, 10)), gone, "{swaps}");
-        assert_eq!(rt; lengths(&rt, &mut world), left, "{swaps}");
+        same_at(&rt, whole(&mut world, 1, delete(&rt, 10)), gone(&rt), swaps);
+        same_at(&rt, lengths(&rt, &mut world), left, swaps);
     }
 }
 
@@ -159,9 +163,9 @@ fn beside(rt: &impl Abort, alloc: Global, acts: u32, call: Call) {
     let mut world = ready(rt, alloc);
     assert!(rt; begin(&mut world, 1, delete(rt, 10)));
     let (_, ended) = steps(&mut world, 1, acts);
-    assert_eq!(rt; whole(&mut world, 2, call), answer, "{acts}");
+    same_at(rt, whole(&mut world, 2, call), answer, acts);
     let ended = finish(&mut world, 1, ended, MOST);
-    assert_eq!(rt; ended, gone, "{acts}");
+    same_at(rt, ended, gone, acts);
     let count = count_pairs(rt, &mut world);
     has_pairs(rt, &world, count);
 }
@@ -192,13 +196,12 @@ fn three_small(rt: &impl Abort, alloc: Global) -> World {
 
 // A delete in the first leaf is stopped after so many acts, while another one in the last leaf is made whole: one of the two merges.
 fn merge_at_once(rt: &impl Abort, alloc: Global, acts: u32) {
-    let gone = Some(Answer::Deleted(payload(rt, b"v")));
     let mut world = three_small(rt, alloc);
     assert!(rt; begin(&mut world, 1, delete(rt, 1)));
     let (_, ended) = steps(&mut world, 1, acts);
-    assert_eq!(rt; whole(&mut world, 2, delete(rt, 41)), gone, "{acts}");
+    same_at(rt, whole(&mut world, 2, delete(rt, 41)), gone(rt), acts);
     let ended = finish(&mut world, 1, ended, MOST);
-    assert_eq!(rt; ended, gone, "{acts}");
+    same_at(rt, ended, gone(rt), acts);
     is_one_merge(rt, &mut world, acts);
 }
 
@@ -238,8 +241,8 @@ fn cut_after(rt: &impl Abort, alloc: Global, acts: u32) -> bool {
 fn merges_at_last(rt: &impl Abort, world: &mut World, acts: u32) {
     whole(world, 1, delete(rt, 10));
     let gone = Some(Answer::Deleted(payload(rt, b"v")));
-    assert_eq!(rt; whole(world, 1, delete(rt, 30)), gone, "{acts}");
-    assert_eq!(rt; decode_root(world), Some((1, 1)), "{acts}");
+    same_at(rt, whole(world, 1, delete(rt, 30)), gone, acts);
+    same_at(rt, decode_root(world), Some((1, 1)), acts);
 }
 
 #[test]

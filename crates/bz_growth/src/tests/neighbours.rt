@@ -1,6 +1,6 @@
 //! Two neighbours below the root, both full, that are split at once.
 
-use super::bench::{Answer, begin, mark, marks, steps};
+use super::bench::{Answer, begin, mark, marks, same, same_at, steps};
 use super::decode::{child_of, decode_root, resolve, root};
 use super::inner::{MOST, count_pairs, insert, inserts, open};
 use bz_mark::Mark;
@@ -53,7 +53,7 @@ fn go_on(world: &mut World, w: u8, evicts: bool, ended: &mut Option<Answer>) {
 // they take turns.
 fn split_at_once(rt: &impl Abort, alloc: Global, acts: u32, evicts: bool) {
     let mut world = two_full(rt, alloc);
-    assert_eq!(rt; widths(&world), Some([20, 20]));
+    same(rt, widths(&world), Some([20, 20]));
     let mut ends = [None, None];
     assert!(rt; begin(&mut world, 1, insert(rt, 201)));
     for _ in 0..acts {
@@ -64,9 +64,9 @@ fn split_at_once(rt: &impl Abort, alloc: Global, acts: u32, evicts: bool) {
         go_on(&mut world, 1, evicts, &mut ends[0]);
         go_on(&mut world, 2, evicts, &mut ends[1]);
     }
-    assert_eq!(rt; ends, [Some(Answer::Inserted); 2], "{acts}");
-    assert_eq!(rt; decode_root(&world), Some((2, 4)), "{acts}");
-    assert_eq!(rt; count_pairs(rt, &mut world, 2), 420, "{acts}");
+    same_at(rt, ends, [Some(Answer::Inserted); 2], acts);
+    same_at(rt, decode_root(&world), Some((2, 4)), acts);
+    same_at(rt, count_pairs(rt, &mut world, 2), 420, acts);
 }
 
 #[test]

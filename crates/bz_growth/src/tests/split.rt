@@ -1,6 +1,6 @@
 //! A root leaf that is split, and a tree of two levels.
 
-use super::bench::{Answer, begin, finish, numbered, open, payload, steps, whole};
+use super::bench::{Answer, begin, finish, numbered, open, payload, same, same_at, steps, whole};
 use super::decode::decode_keys;
 use super::pages::read_page;
 use bz_call::Call;
@@ -15,7 +15,7 @@ const MOST: u32 = 4_000;
 
 // A call of worker 1 is answered so.
 fn answers(rt: &impl Abort, world: &mut World, call: Call, answer: Answer) {
-    assert_eq!(rt; whole(world, 1, call), Some(answer));
+    same(rt, whole(world, 1, call), Some(answer));
 }
 
 // Inserts the keys with these numbers, each of them new.
@@ -38,7 +38,7 @@ fn walk(rt: &impl Abort, world: &mut World, from: Key) -> [usize; 2] {
 fn holds_up_to(rt: &impl Abort, world: &World, last: usize) {
     let seen = decode_keys(world).expect(rt, "a tree");
     for (number, found) in seen.iter().enumerate() {
-        assert_eq!(rt; *found, number >= 1 && number <= last, "{number}");
+        same_at(rt, *found, number >= 1 && number <= last, number);
     }
 }
 
@@ -66,7 +66,7 @@ fn splits(rt: &impl Abort, alloc: Global, numbers: &[u8], lengths: [usize; 2]) {
     let mut world = open(alloc, 4, 82, 1).expect(rt, "a world");
     inserts(rt, &mut world, numbers);
     finds(rt, &mut world, numbers);
-    assert_eq!(rt; walk(rt, &mut world, numbered(rt, 1)), lengths);
+    same(rt, walk(rt, &mut world, numbered(rt, 1)), lengths);
     holds_up_to(rt, &world, 40);
 }
 
@@ -148,7 +148,7 @@ fn begins(rt: &impl Abort, world: &mut World, w: u8, number: u8) {
 
 // An insert has ended, and its key was new.
 fn is_inserted(rt: &impl Abort, ended: Option<Answer>, acts: u32) {
-    assert_eq!(rt; ended, Some(Answer::Inserted), "{acts}");
+    same_at(rt, ended, Some(Answer::Inserted), acts);
 }
 
 // Over such a leaf worker 1 stops after so many acts of an insert that

@@ -8,7 +8,7 @@
 ghost use Rattle.std.specs.Prelude.{◌≡◌, length};
 ghost use Rattle.bz_layout.specs.Addresses.{words_of};
 
-use super::bench::{Answer, applies, begin, has_pairs, key, payload, steps};
+use super::bench::{Answer, applies, begin, has_pairs, key, payload, same, steps};
 use bz_call::Call;
 use bz_layout::{Config, MAX_LEVELS, NODE_WORDS, SPLIT_SLOTS};
 use bz_world::{Applied, Event, World};
@@ -235,7 +235,7 @@ fn while_recovering(rt: &impl Abort, world: &mut World) {
         match world.apply(Event::Step(0)) {
             Applied::Stepped => {}
             other => {
-                assert_eq!(rt; other, Applied::Ready);
+                same(rt, other, Applied::Ready);
                 return;
             }
         }
@@ -246,7 +246,7 @@ fn while_recovering(rt: &impl Abort, world: &mut World) {
 fn inserts(rt: &impl Abort, world: &mut World, most: u32, answer: Answer) {
     let insert = Call::Insert(key(rt, b"a40"), payload(rt, b"v"));
     assert!(rt; begin(world, 1, insert));
-    assert_eq!(rt; steps(world, 1, most).1, Some(answer));
+    same(rt, steps(world, 1, most).1, Some(answer));
 }
 
 // How many descriptors are taken, and how many slots are left.
@@ -274,10 +274,11 @@ fn the_worst_insert_alone_takes_no_more_than_its_numbers(rt: HostRuntime) {
     inserts(&rt, &mut world, WORST, Answer::Inserted);
     // the leaf is frozen, it and each node above it are split, and the record is put there by two swaps
     let (now_taken, now_left) = supply(&world);
-    assert_eq!(rt; now_taken, taken.saturating_add(MAX_LEVELS - 1 + 3));
-    assert_eq!(rt;
+    same(&rt, now_taken, taken.saturating_add(MAX_LEVELS - 1 + 3));
+    same(
+        &rt,
         left,
-        now_left.saturating_add(SPLIT_SLOTS * (MAX_LEVELS - 1))
+        now_left.saturating_add(SPLIT_SLOTS * (MAX_LEVELS - 1)),
     );
     has_pairs(&rt, &world, 40);
 }

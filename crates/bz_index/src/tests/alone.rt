@@ -2,7 +2,7 @@
 ghost use Rattle.std.specs.Prelude.{◌≡◌, ◌<◌};
 ghost use Rattle.bz_index.specs.Passes.{worker_of, IsEventOfFirst, IsPassOf};
 
-use super::bench::{Said, close, join_back, key, open, payload, recover, short, split_off};
+use super::bench::{Said, close, join_back, key, open, payload, recover, same, short, split_off};
 use crate::{Gate, Index, IndexPass, NoGate};
 use bz_call::Call;
 use bz_key::PageBuf;
@@ -36,7 +36,7 @@ fn answers<R: Abort + Wait>(
     ensures { IsPassOf index.now pass.new × (worker_of pass.new ≡ worker_of pass.old) }
 {
     let answer = index.call(rt, pass, call, page, &NoGate);
-    assert_eq!(rt; short(&answer), said);
+    same(rt, short(&answer), said);
 }
 
 // An event is answered so.
@@ -51,7 +51,7 @@ fn applies<R: Abort + Wait>(
     requires event { IsEventOfFirst event }
     ensures { IsPassOf index.now first.new × (worker_of first.new ≡ 0) }
 {
-    assert_eq!(rt; index.apply(rt, first, event), applied);
+    same(rt, index.apply(rt, first, event), applied);
 }
 
 // How many marks of a world are Begins, and how many Ends.
@@ -97,11 +97,11 @@ fn calls_of_two_workers_are_answered_by_one_map(rt: HostRuntime) -> Result<(), F
         Call::Page(a),
         Said::Page(0),
     );
-    assert_eq!(rt; page.pairs(), &[(a, x), (b, y)][..]);
+    same(&rt, page.pairs(), &[(a, x), (b, y)][..]);
     join_back(&rt, &index, &mut first, two);
     join_back(&rt, &index, &mut first, one);
     let world = close(&rt, index, first);
-    assert_eq!(rt; calls_of(&world), (5, 5));
+    same(&rt, calls_of(&world), (5, 5));
     Ok(())
 }
 
@@ -137,7 +137,7 @@ fn a_call_is_answered_off_after_a_cut_and_again_after_a_recovery(
     );
     join_back(&rt, &index, &mut first, one);
     let world = close(&rt, index, first);
-    assert_eq!(rt; calls_of(&world), (2, 2));
+    same(&rt, calls_of(&world), (2, 2));
     Ok(())
 }
 
@@ -162,11 +162,11 @@ fn the_gate_comes_between_the_acts_of_a_call(rt: HostRuntime) -> Result<(), Fail
     };
     let mut one = split_off(&rt, &index, &mut first, 1);
     let answer = index.call(&rt, &mut one, Call::Page(key(&rt, b"a")), &mut page, &gate);
-    assert_eq!(rt; short(&answer), Said::Page(0));
+    same(&rt, short(&answer), Said::Page(0));
     join_back(&rt, &index, &mut first, one);
     let world = close(&rt, index, first);
     // A Begin, the acts, and an End.
     let acts = gate.acts.load(Ordering::SeqCst).saturating_add(1);
-    assert_eq!(rt; world.journal().length(), acts.saturating_add(2));
+    same(&rt, world.journal().length(), acts.saturating_add(2));
     Ok(())
 }

@@ -10,8 +10,24 @@ use bz_layout::Config;
 use bz_memory::Memory;
 use bz_world::{Applied, Event, LimitKind, OpenError, World};
 use std::alloc::Global;
+use std::fmt::{Debug, Display};
 use std::process::Abort;
 use std::sync::Wait;
+
+/// Two values are the same.
+pub(crate) fn same<T: PartialEq + Debug + Drop>(rt: &impl Abort, got: T, want: T) {
+    assert_eq!(rt; got, want);
+}
+
+/// The same, and where.
+pub(crate) fn same_at<T: PartialEq + Debug + Drop>(
+    rt: &impl Abort,
+    got: T,
+    want: T,
+    at: impl Display + Drop,
+) {
+    assert_eq!(rt; got, want, "at {at}");
+}
 
 /// A key of these bytes.
 pub(crate) fn key(rt: &impl Abort, bytes: &[u8]) -> Key {
@@ -79,7 +95,7 @@ pub(crate) fn recover<R: Abort + Wait>(rt: &R, index: &Index, first: &mut IndexP
     for step in 0..1u32 << 20 {
         let applied = index.apply(rt, first, Event::Step(0));
         if applied != Applied::Stepped {
-            assert_eq!(rt; applied, Applied::Ready, "after {step} steps");
+            same_at(rt, applied, Applied::Ready, step);
             return;
         }
     }

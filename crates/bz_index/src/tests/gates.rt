@@ -1,6 +1,7 @@
 //! A gate that lets a whole call of one thread happen between two acts of another's: the acts of a call are made in turns of
 //! their own, and the bus is free between them.
 
+use super::bench::{same, same_at};
 use super::reader::{NONE, Tally, read};
 use super::stages::{Hold, Until};
 use super::threads::{Case, Kind, Part, run};
@@ -68,14 +69,14 @@ fn a_whole_call_happens_between_two_acts_of_another(rt: HostRuntime) -> Result<(
             }),
         };
         let (world, told) = run(&rt, rt.alloc(), &case)?;
-        assert_eq!(rt; read(&rt, rt.alloc(), &world, &told)?, tally);
+        same(&rt, read(&rt, rt.alloc(), &world, &told)?, tally);
         let ends = [
             Some((2, false)),
             Some((1, false)),
             Some((1, true)),
             Some((2, true)),
         ];
-        assert_eq!(rt; ends_of(&world), ends, "after {acts} acts");
+        same_at(&rt, ends_of(&world), ends, acts);
     }
     Ok(())
 }

@@ -1,5 +1,6 @@
 //! Threads that meet the limits of the journal.
 
+use super::bench::same;
 use super::reader::{NONE, Tally, read};
 use super::stages::Until;
 use super::threads::{Case, Kind, Part, run};
@@ -48,7 +49,7 @@ fn as_many_calls_of_four_threads_begin_as_may(rt: HostRuntime) -> Result<(), Fai
             no_calls: 40u32.saturating_sub(calls_most),
             ..NONE
         };
-        assert_eq!(rt; read(&rt, rt.alloc(), &world, &told)?, tally);
+        same(&rt, read(&rt, rt.alloc(), &world, &told)?, tally);
     }
     Ok(())
 }
@@ -64,7 +65,7 @@ fn as_many_pages_of_four_threads_begin_as_may(rt: HostRuntime) -> Result<(), Fai
             no_pages: 12u32.saturating_sub(pages),
             ..NONE
         };
-        assert_eq!(rt; read(&rt, rt.alloc(), &world, &told)?, tally);
+        same(&rt, read(&rt, rt.alloc(), &world, &told)?, tally);
     }
     Ok(())
 }
@@ -78,7 +79,7 @@ fn a_journal_that_is_full_ends_the_calls_of_all_threads(rt: HostRuntime) -> Resu
         let tally = read(&rt, rt.alloc(), &world, &told)?;
         // Each insert makes 71 acts at least.
         assert!(rt; tally.inserted <= marks / 71, "{tally:?}");
-        assert_eq!(rt; tally.inserted.saturating_add(tally.no_marks), 4 * 64);
+        same(&rt, tally.inserted.saturating_add(tally.no_marks), 4 * 64);
         assert!(rt; world.journal().room() < 3);
     }
     Ok(())

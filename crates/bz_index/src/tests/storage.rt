@@ -4,7 +4,7 @@ ghost use Rattle.std.specs.Prelude.{◌≡◌, ◌<◌, ℕ, IfOk};
 ghost use Rattle.bz_index.specs.Calls.{IsAnswered};
 ghost use Rattle.bz_index.specs.Passes.{origin_in, worker_of, seen_by, IsFree, IsPassOf};
 
-use super::bench::close;
+use super::bench::{close, same};
 use crate::{Answer, Index, IndexPass, NoGate};
 use bz_call::{Call, Reply};
 use bz_key::{Key, PageBuf, Payload};
@@ -94,7 +94,7 @@ fn a_storage_engine_finds_after_a_power_cut_what_it_was_answered(
     let answer = get(&rt, &index, &mut pass, &mut page, key);
     assert!(rt; is_value(&answer, &ada));
 
-    assert_eq!(rt; restart(&rt, &index, &mut first), Applied::Ready);
+    same(&rt, restart(&rt, &index, &mut first), Applied::Ready);
     let answer = get(&rt, &index, &mut pass, &mut page, key);
     assert!(rt; is_value(&answer, &ada));
 

@@ -3,7 +3,7 @@ ghost use Rattle.std.specs.Prelude.{◌≡◌, ◌<◌, All, IfOk};
 ghost use Rattle.std.specs.Thread.{IsSync};
 ghost use Rattle.bz_index.specs.Passes.{origin_in, worker_of, IsPassOf};
 
-use super::bench::{Said, close, join_back, key, open, payload, recover, short, split_off};
+use super::bench::{Said, close, join_back, key, open, payload, recover, same, short, split_off};
 use super::reader::{Tally, read};
 use super::stages::{Hold, Stages, Until};
 use crate::{Index, IndexPass};
@@ -238,8 +238,8 @@ fn happen<R: Abort + Wait>(rt: &R, index: &Index, first: &mut IndexPass, deed: D
     ensures { IsPassOf index.now first.new × (worker_of first.new ≡ 0) }
 {
     match deed {
-        Deed::Cut => assert_eq!(rt; index.apply(rt, first, Event::Cut), Applied::Cut),
-        Deed::On => assert_eq!(rt; index.apply(rt, first, Event::On), Applied::On),
+        Deed::Cut => same(rt, index.apply(rt, first, Event::Cut), Applied::Cut),
+        Deed::On => same(rt, index.apply(rt, first, Event::On), Applied::On),
         Deed::Recover => recover(rt, index, first),
     }
 }
@@ -334,6 +334,6 @@ pub(crate) fn expect<R: Abort + Threads + Wait + Sync>(
     tally: &Tally,
 ) -> Result<World, Fail> {
     let (world, told) = run(rt, alloc, case)?;
-    assert_eq!(rt; read(rt, alloc, &world, &told)?, *tally);
+    same(rt, read(rt, alloc, &world, &told)?, *tally);
     Ok(world)
 }

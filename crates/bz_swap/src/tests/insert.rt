@@ -1,5 +1,6 @@
 //! An opening, and the two swaps of an insert: the first reserves a record, the second publishes it.
 
+use super::same;
 use super::world::World;
 use crate::phase::Phase;
 use crate::progress::NoSwap;
@@ -89,17 +90,18 @@ fn run(world: &mut World, w: u8) -> Option<(Done, u32, [Option<u16>; 2])> {
 fn an_insert_is_two_swaps(rt: HostRuntime) -> Result<(), Fail> {
     let mut world = world_with(rt.alloc(), 0, 1)?;
     for (swap, entries) in [(0, RESERVED), (1, PUBLISHED)] {
-        assert_eq!(rt; world.begin(1, &entries), Some(Ok(swap)));
-        assert_eq!(rt;
+        same(&rt, world.begin(1, &entries), Some(Ok(swap)));
+        same(
+            &rt,
             run(&mut world, 1),
-            Some((Done::Swapped(true), 27, [Some(swap), None]))
+            Some((Done::Swapped(true), 27, [Some(swap), None])),
         );
         for entry in entries {
             // only the cached word loses the dirty bit
-            assert_eq!(rt; world.durable(entry.target), DIRTY + entry.new);
+            same(&rt, world.durable(entry.target), DIRTY + entry.new);
         }
     }
-    assert_eq!(rt; world.begin(1, &PUBLISHED), Some(Err(NoSwap)));
+    same(&rt, world.begin(1, &PUBLISHED), Some(Err(NoSwap)));
     for (a, word) in [
         (16, DIRTY + 2),
         (17, 2),

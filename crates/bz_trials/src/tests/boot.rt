@@ -4,7 +4,7 @@ ghost use Rattle.std.specs.Prelude.{◌≡◌, length};
 ghost use Rattle.bz_layout.specs.Addresses.{words_of};
 
 use super::bench::{
-    Answer, applies, begin, has_pairs, has_power, numbered, open, payload, steps, whole,
+    Answer, applies, begin, has_pairs, has_power, numbered, open, payload, same, steps, whole,
 };
 use super::decode::decode;
 use super::map::{Map, count};
@@ -54,7 +54,7 @@ fn inserting(rt: &impl Abort) -> Call {
 fn stopped(rt: &impl Abort, alloc: Global, acts: u32) -> World {
     let mut world = open(alloc, 4, 16, 2).expect(rt, "a world");
     let had = Call::Insert(numbered(rt, 1), payload(rt, b"o"));
-    assert_eq!(rt; whole(&mut world, 2, had), Some(Answer::Inserted));
+    same(rt, whole(&mut world, 2, had), Some(Answer::Inserted));
     assert!(rt; begin(&mut world, 1, inserting(rt)));
     steps(&mut world, 1, acts);
     world
@@ -71,7 +71,7 @@ fn booted(rt: &impl Abort, alloc: Global, world: &World) -> World {
 // Its power is off, and it begins no call.
 fn is_off(rt: &impl Abort, image: &mut World) {
     has_power(rt, image, Power::Off);
-    assert_eq!(rt; image.begin(1, inserting(rt)), Begun::Off);
+    same(rt, image.begin(1, inserting(rt)), Begun::Off);
 }
 
 // Both go on alike.
@@ -82,7 +82,7 @@ fn goes_on(rt: &impl Abort, alloc: Global, acts: u32) {
     come_on(rt, &mut image);
     applies(rt, &mut world, Event::Cut, Applied::Cut);
     come_on(rt, &mut world);
-    assert_eq!(rt; answers(&mut image, rt), answers(&mut world, rt));
+    same(rt, answers(&mut image, rt), answers(&mut world, rt));
 }
 
 #[test]
@@ -121,7 +121,7 @@ fn explains(rt: &impl Abort, reader: &mut Reader, world: &World) {
 
 // The memory itself has this map.
 fn has(rt: &impl Abort, world: &World, map: Map) {
-    assert_eq!(rt; decode(world), Some(map));
+    same(rt, decode(world), Some(map));
 }
 
 // What a power cut would leave of a world with this map goes on for so many events, which the reader explains.

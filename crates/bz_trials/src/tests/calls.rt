@@ -1,6 +1,6 @@
 //! The six calls, made by one worker.
 
-use super::bench::{Answer, key, open, payload, whole};
+use super::bench::{Answer, key, open, payload, same, whole};
 use bz_call::Call;
 use bz_key::{Key, Payload};
 use bz_world::World;
@@ -8,7 +8,7 @@ use std::process::Abort;
 use std::test::Fail;
 
 fn answers(rt: &impl Abort, world: &mut World, call: Call, answer: Answer) {
-    assert_eq!(rt; whole(world, 1, call), Some(answer));
+    same(rt, whole(world, 1, call), Some(answer));
 }
 
 // A payload of so many bytes, which are this one.
@@ -22,7 +22,7 @@ fn shows(rt: &impl Abort, world: &mut World, page: u32, from: Key, pairs: &[(Key
     answers(rt, world, Call::Page(from), Answer::Page(page, false));
     let journal = world.journal();
     assert!(rt; page < journal.page_count());
-    assert_eq!(rt; journal.page(page), pairs);
+    same(rt, journal.page(page), pairs);
 }
 
 // Changes the payload of a key from one to another and back, by each call that may.

@@ -1,6 +1,6 @@
 //! What the calls cost beyond their lookup, which only loads.
 
-use super::bench::{Answer, begin, key, mark, open, payload, steps};
+use super::bench::{Answer, begin, key, mark, open, payload, same, steps};
 use bz_call::Call;
 use bz_key::{Key, Payload};
 use bz_mark::Mark;
@@ -48,12 +48,12 @@ fn costs_at_most(rt: &impl Abort, world: &mut World, call: Call, answer: Answer,
             foretold = foretold.saturating_add(1);
         }
         if let (_, Some(ended)) = steps(world, 1, 1) {
-            assert_eq!(rt; ended, answer);
+            same(rt, ended, answer);
             break;
         }
     }
     let costs = costs_from(world, from);
-    assert_eq!(rt; costs.flushes, foretold);
+    same(rt, costs.flushes, foretold);
     assert!(rt; costs.stores <= most.stores, "{answer:?}: {costs:?}");
     assert!(rt; costs.swaps <= most.swaps, "{answer:?}: {costs:?}");
     assert!(rt; costs.flushes <= most.flushes, "{answer:?}: {costs:?}");

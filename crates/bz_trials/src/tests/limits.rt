@@ -1,6 +1,6 @@
 //! What a world refuses.
 
-use super::bench::{applies, begin, key, marks, payload, steps};
+use super::bench::{applies, begin, key, marks, payload, same, same_at, steps};
 use bz_call::Call;
 use bz_layout::{Config, ConfigError};
 use bz_world::{Applied, Begun, Event, LimitKind, OpenError, World};
@@ -29,14 +29,14 @@ const NO_NODES: Config = Config {
 fn begins(rt: &impl Abort, world: &mut World, w: u8, page: bool, begun: Begun) {
     let k = key(rt, b"a");
     let call = if page { Call::Page(k) } else { Call::Get(k) };
-    assert_eq!(rt; world.begin(w, call), begun, "{w}");
+    same_at(rt, world.begin(w, call), begun, w);
 }
 
 #[test]
 fn a_world_of_no_nodes_is_not_opened(rt: HostRuntime) {
     match World::open(rt.alloc(), &NO_NODES) {
         Ok(_) => panic!(rt; "no nodes"),
-        Err(error) => assert_eq!(rt; error, OpenError::Config(ConfigError::Nodes)),
+        Err(error) => same(&rt, error, OpenError::Config(ConfigError::Nodes)),
     }
 }
 
@@ -106,7 +106,7 @@ fn a_journal_that_is_full_ends_the_world(rt: HostRuntime) -> Result<(), Fail> {
     begins(&rt, &mut world, 2, false, Begun::Limit(LimitKind::Calls));
     fills(&mut world);
     // an act, an effect and an end have no more room
-    assert_eq!(rt; marks(&world), 1_022);
+    same(&rt, marks(&world), 1_022);
     is_full(&rt, &mut world);
     Ok(())
 }

@@ -1,6 +1,6 @@
 //! Two calls, of which one stops after any number of acts.
 
-use super::bench::{Answer, begin, numbered, open, payload, steps, whole};
+use super::bench::{Answer, begin, numbered, open, payload, same, same_at, steps, whole};
 use super::decode::decode;
 use super::reader::Reader;
 use bz_call::Call;
@@ -61,7 +61,7 @@ fn one_of_two_inserts_of_a_key_finds_it(rt: HostRuntime) -> Result<(), Fail> {
     let key = numbered(&rt, 0);
     let (whole, _) = ends(&rt, rt.alloc(), &[key, key], MOST, MOST).first;
     // a lookup of 6 loads, two swaps of two words, and the two words of the record and their flush
-    assert_eq!(rt; whole, 6 + 27 + 3 + 27);
+    same(&rt, whole, 6 + 27 + 3 + 27);
     for acts in 0..=whole {
         for turn in [acts, MOST] {
             let ends = ends(&rt, rt.alloc(), &[key, key], acts, turn);
@@ -80,8 +80,8 @@ fn a_stopped_insert_holds_nobody_up(rt: HostRuntime) -> Result<(), Fail> {
     let keys = [numbered(&rt, 0), numbered(&rt, 1)];
     for acts in 0..=71 {
         let ends = ends(&rt, rt.alloc(), &keys, acts, MOST);
-        assert_eq!(rt; ends.first.1, Some(Answer::Inserted), "{acts}");
-        assert_eq!(rt; ends.second.1, Some(Answer::Inserted), "{acts}");
+        same_at(&rt, ends.first.1, Some(Answer::Inserted), acts);
+        same_at(&rt, ends.second.1, Some(Answer::Inserted), acts);
         assert!(rt; ends.second.0 <= 200, "{acts}: {:?}", ends.second);
     }
     Ok(())
@@ -89,7 +89,7 @@ fn a_stopped_insert_holds_nobody_up(rt: HostRuntime) -> Result<(), Fail> {
 
 // Makes a whole call of worker 1, which is answered so.
 fn makes(rt: &impl Abort, world: &mut World, call: Call, answer: Answer) {
-    assert_eq!(rt; whole(world, 1, call), Some(answer));
+    same(rt, whole(world, 1, call), Some(answer));
 }
 
 // A leaf with four records, and three words left: as many as an insert of a short record takes, or as an update to a
@@ -137,8 +137,8 @@ fn the_call_without_the_last_words_copies_the_leaf(rt: HostRuntime) -> Result<()
     for acts in 0..1_100 {
         let mut world = crowded(&rt, rt.alloc(), long);
         let ends = race(&rt, rt.alloc(), &mut world, &calls, acts, acts);
-        assert_eq!(rt; ends.first.1, Some(Answer::Inserted), "{acts} acts");
-        assert_eq!(rt; ends.second.1, Some(Answer::Updated(long)), "{acts} acts");
+        same_at(&rt, ends.first.1, Some(Answer::Inserted), acts);
+        same_at(&rt, ends.second.1, Some(Answer::Updated(long)), acts);
     }
     Ok(())
 }
@@ -153,8 +153,8 @@ fn a_stopped_copy_holds_nobody_up(rt: HostRuntime) -> Result<(), Fail> {
     for acts in 0..1_100 {
         let mut world = crowded(&rt, rt.alloc(), long);
         let ends = race(&rt, rt.alloc(), &mut world, &calls, acts, MOST);
-        assert_eq!(rt; ends.first.1, Some(Answer::Updated(long)), "{acts} acts");
-        assert_eq!(rt; ends.second.1, Some(Answer::Inserted), "{acts} acts");
+        same_at(&rt, ends.first.1, Some(Answer::Updated(long)), acts);
+        same_at(&rt, ends.second.1, Some(Answer::Inserted), acts);
         assert!(rt; ends.second.0 <= 1_800, "{acts}: {:?}", ends.second);
     }
     Ok(())

@@ -1,7 +1,8 @@
 //! Power cuts, after every number of acts of a call, recoveries that are cut again, and the slots that are free afterwards.
 
 use super::bench::{
-    Answer, answered, applies, begin, has_pairs, has_power, numbered, open, payload, steps, whole,
+    Answer, answered, applies, begin, has_pairs, has_power, numbered, open, payload, same, steps,
+    whole,
 };
 use super::decode::decode;
 use super::map::count;
@@ -53,7 +54,7 @@ fn recover(world: &mut World, most: u32) -> bool {
 fn agrees(rt: &impl Abort, alloc: Global, world: &World) {
     let mut reader = Reader::open(alloc).expect(rt, "a reader");
     assert!(rt; reader.read_on(world).expect(rt, "room for the maps"));
-    assert_eq!(rt; decode(world), Some(reader.map()));
+    same(rt, decode(world), Some(reader.map()));
     has_pairs(rt, world, u64::from(count(&reader.map())));
 }
 
@@ -61,7 +62,7 @@ fn agrees(rt: &impl Abort, alloc: Global, world: &World) {
 fn begun(rt: &impl Abort, alloc: Global, kind: u32, acts: u32) -> (World, bool) {
     let mut world = open(alloc, 4, 16, 2).expect(rt, "a world");
     let had = Call::Insert(numbered(rt, 1), payload(rt, b"o"));
-    assert_eq!(rt; whole(&mut world, 2, had), Some(Answer::Inserted));
+    same(rt, whole(&mut world, 2, had), Some(Answer::Inserted));
     assert!(rt; begin(&mut world, 1, call_of(rt, kind)));
     let (_, answer) = steps(&mut world, 1, acts);
     (world, answer.is_some())
@@ -78,8 +79,8 @@ fn recovers(rt: &impl Abort, alloc: Global, world: &mut World) {
 fn gets_then(rt: &impl Abort, world: &mut World, ended: bool) {
     let got = whole(world, 1, Call::Get(numbered(rt, 1)));
     assert!(rt; got.is_some());
-    assert_eq!(rt; answered(world, 1, 2), got);
-    assert_eq!(rt; answered(world, 1, 1).is_some(), ended);
+    same(rt, answered(world, 1, 2), got);
+    same(rt, answered(world, 1, 1).is_some(), ended);
 }
 
 // A call of this kind is cut after so many acts. Whether it had ended.
@@ -111,7 +112,7 @@ fn a_call_that_is_cut_is_whole_or_nothing(rt: HostRuntime) {
     for kind in 0..3 {
         let acts = cut_at_will(&rt, rt.alloc(), kind, false);
         assert!(rt; acts >= 30 && acts < 200, "{acts}");
-        assert_eq!(rt; cut_at_will(&rt, rt.alloc(), kind, true), acts);
+        same(&rt, cut_at_will(&rt, rt.alloc(), kind, true), acts);
     }
 }
 
@@ -153,7 +154,7 @@ fn updates(rt: &impl Abort, world: &mut World, update: &Call) -> u32 {
         match whole(world, 1, *update) {
             Some(Answer::Updated(_)) => {}
             answer => {
-                assert_eq!(rt; answer, Some(Answer::FullNodes));
+                same(rt, answer, Some(Answer::FullNodes));
                 return made;
             }
         }
@@ -165,13 +166,14 @@ fn updates(rt: &impl Abort, world: &mut World, update: &Call) -> u32 {
 fn slots_that_the_tree_does_not_reach_serve_again(rt: HostRuntime) -> Result<(), Fail> {
     let (k, v) = (numbered(&rt, 0), payload(&rt, b"v"));
     let mut world = open(rt.alloc(), 2, 512, 1)?;
-    assert_eq!(rt;
+    same(
+        &rt,
         whole(&mut world, 1, Call::Insert(k, v)),
-        Some(Answer::Inserted)
+        Some(Answer::Inserted),
     );
     // two slots, and then one of them again
     for made in [114, 57, 57] {
-        assert_eq!(rt; updates(&rt, &mut world, &Call::Update(k, v)), made);
+        same(&rt, updates(&rt, &mut world, &Call::Update(k, v)), made);
         restart(&rt, &mut world);
         assert!(rt; recover(&mut world, 4_000));
     }
@@ -208,15 +210,15 @@ fn a_hundred_power_cuts_in_one_journal(rt: HostRuntime) {
 fn an_open_call_has_its_number_until_a_cut(rt: HostRuntime) {
     let mut world = open(rt.alloc(), 1, 1, 2).expect(&rt, "a world");
     assert!(rt; begin(&mut world, 1, Call::Get(numbered(&rt, 0))));
-    assert_eq!(rt; world.open_call(1), Some(1));
-    assert_eq!(rt; world.open_call(2), None);
+    same(&rt, world.open_call(1), Some(1));
+    same(&rt, world.open_call(2), None);
     restart(&rt, &mut world);
-    assert_eq!(rt; world.open_call(1), None);
+    same(&rt, world.open_call(1), None);
 }
 
 // A begin of worker 1 is answered so.
 fn begins(rt: &impl Abort, world: &mut World, begun: Begun) {
-    assert_eq!(rt; world.begin(1, Call::Get(numbered(rt, 0))), begun);
+    same(rt, world.begin(1, Call::Get(numbered(rt, 0))), begun);
 }
 
 // While the power is off nothing happens, until it comes on.

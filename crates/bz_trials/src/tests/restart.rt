@@ -1,6 +1,6 @@
 //! A page beside two changes of its leaf.
 
-use super::bench::{Answer, begin, mark, numbered, open, payload, steps, whole};
+use super::bench::{Answer, begin, mark, numbered, open, payload, same, steps, whole};
 use super::reader::Reader;
 use bz_call::Call;
 use bz_key::{Key, Payload};
@@ -33,18 +33,18 @@ fn status_loads(world: &World) -> u32 {
 // The pairs of the first page.
 fn first_page<'a>(rt: &impl Abort, world: &'a World) -> &'a [(Key, Payload)] {
     let journal = world.journal();
-    assert_eq!(rt; journal.page_count(), 1);
+    same(rt, journal.page_count(), 1);
     journal.page(0)
 }
 
 // Makes a call of worker 1 whole, which is answered so.
 fn makes(rt: &impl Abort, world: &mut World, call: Call, answer: Answer) {
-    assert_eq!(rt; whole(world, 1, call), Some(answer));
+    same(rt, whole(world, 1, call), Some(answer));
 }
 
 // The first page has these pairs, and the reader explains it.
 fn shows(rt: &impl Abort, alloc: Global, world: &World, pairs: &[(Key, Payload)]) {
-    assert_eq!(rt; first_page(rt, world), pairs);
+    same(rt, first_page(rt, world), pairs);
     let mut reader = Reader::open(alloc).expect(rt, "a reader");
     assert!(rt; reader.read_on(world).expect(rt, "room for the maps"));
 }
@@ -62,7 +62,7 @@ fn stopped(rt: &impl Abort, alloc: Global, acts: u32) -> (World, bool) {
 // The rest of a page that had loaded the status so often: where its second load found another one, it began again.
 fn goes_on(rt: &impl Abort, world: &mut World, loads: u32) {
     steps(world, 2, 1_000);
-    assert_eq!(rt; status_loads(world), if loads == 1 { 4 } else { 2 });
+    same(rt, status_loads(world), if loads == 1 { 4 } else { 2 });
 }
 
 // A page of which so many acts come before an insert and an update: whether these came between its two loads of the

@@ -1,6 +1,8 @@
 //! Calls that are ended by a worker alone, in worlds of 64 workers of which others have stopped in the middle of an insert.
 
-use super::bench::{Answer, answered, begin, has_pairs, marks, numbered, payload, steps, whole};
+use super::bench::{
+    Answer, answered, begin, has_pairs, marks, numbered, payload, same, steps, whole,
+};
 use super::reader::Reader;
 use bz_call::Call;
 use bz_key::Key;
@@ -28,11 +30,11 @@ fn crowded(rt: &impl Abort, alloc: Global) -> World {
     let long = payload(rt, &[b'x'; 28]);
     for number in 0..4 {
         let call = Call::Insert(numbered(rt, number), long);
-        assert_eq!(rt; whole(&mut world, 1, call), Some(Answer::Inserted));
+        same(rt, whole(&mut world, 1, call), Some(Answer::Inserted));
     }
     for _ in 0..19 {
         let call = Call::Update(numbered(rt, 0), long);
-        assert_eq!(rt; whole(&mut world, 1, call), Some(Answer::Updated(long)));
+        same(rt, whole(&mut world, 1, call), Some(Answer::Updated(long)));
     }
     world
 }

@@ -1,6 +1,8 @@
 //! Nodes and swaps that run out.
 
-use super::bench::{Answer, applies, begin, key, last_answer, numbered, open, payload, whole};
+use super::bench::{
+    Answer, applies, begin, key, last_answer, numbered, open, payload, same, whole,
+};
 use bz_call::Call;
 use bz_world::{Applied, Event, World};
 use std::process::Abort;
@@ -8,17 +10,17 @@ use std::test::Fail;
 
 // A call of worker 1 is answered so.
 fn answers(rt: &impl Abort, world: &mut World, call: Call, answer: Answer) {
-    assert_eq!(rt; whole(world, 1, call), Some(answer));
+    same(rt, whole(world, 1, call), Some(answer));
 }
 
 // So many descriptors are taken.
 fn has_taken(rt: &impl Abort, world: &World, taken: u32) {
-    assert_eq!(rt; world.taken(), taken);
+    same(rt, world.taken(), taken);
 }
 
 // So many slots are left.
 fn has_left(rt: &impl Abort, world: &World, left: u32) {
-    assert_eq!(rt; world.left(), left);
+    same(rt, world.left(), left);
 }
 
 #[test]
@@ -37,7 +39,7 @@ fn a_leaf_has_room_for_thirty_nine_small_records(rt: HostRuntime) -> Result<(), 
     answers(&rt, &mut world, Call::Upsert(past, v), Answer::FullNodes);
     answers(&rt, &mut world, Call::Delete(past), Answer::Missing);
     answers(&rt, &mut world, Call::Page(first), Answer::Page(0, false));
-    assert_eq!(rt; page_length(&world), 39);
+    same(&rt, page_length(&world), 39);
     Ok(())
 }
 
@@ -95,7 +97,7 @@ fn crowd(rt: &impl Abort, world: &mut World) -> u32 {
                 open = open.saturating_sub(1);
                 match last_answer(world) {
                     Some(Answer::Inserted) => inserted = inserted.saturating_add(1),
-                    answer => assert_eq!(rt; answer, Some(Answer::FullSwaps)),
+                    answer => same(rt, answer, Some(Answer::FullSwaps)),
                 }
             }
         }
@@ -103,7 +105,7 @@ fn crowd(rt: &impl Abort, world: &mut World) -> u32 {
             break;
         }
     }
-    assert_eq!(rt; open, 0);
+    same(rt, open, 0);
     inserted
 }
 
@@ -117,7 +119,7 @@ fn sixty_four_workers_use_up_the_swaps(rt: HostRuntime) -> Result<(), Fail> {
     let inserted = crowd(&rt, &mut world);
     let page = Call::Page(numbered(&rt, 0));
     answers(&rt, &mut world, page, Answer::Page(0, false));
-    assert_eq!(rt; page_length(&world), inserted as usize);
+    same(&rt, page_length(&world), inserted as usize);
     assert!(rt; inserted >= 1 && inserted <= 50, "{inserted}");
     Ok(())
 }

@@ -1,6 +1,6 @@
 //! An insert, a delete and an update, word for word.
 
-use super::bench::{Answer, begin, cached, durable, key, open, payload, steps};
+use super::bench::{Answer, begin, cached, durable, key, open, payload, same, same_at, steps};
 use bz_call::Call;
 use bz_world::World;
 use std::alloc::Global;
@@ -58,8 +58,8 @@ const DELETED: [(u32, u64); 2] = [
 // Whether each address has its word in the caches, and in the memory itself the same word, which may be dirty there.
 fn has(rt: &impl Abort, world: &World, words: &[(u32, u64)]) {
     for (a, word) in words {
-        assert_eq!(rt; cached(world, *a), *word, "cached at {a}");
-        assert_eq!(rt; durable(world, *a) % DIRTY, *word, "durable at {a}");
+        same_at(rt, cached(world, *a), *word, a);
+        same_at(rt, durable(world, *a) % DIRTY, *word, a);
     }
 }
 
@@ -72,8 +72,8 @@ fn after_first(rt: &impl Abort, world: &mut World, (a, word): (u32, u64), words:
         }
         steps(world, 1, 1);
     }
-    assert_eq!(rt; cached(world, a), word);
-    assert_eq!(rt; durable(world, a), 0);
+    same(rt, cached(world, a), word);
+    same(rt, durable(world, a), 0);
     has(rt, world, words);
 }
 
@@ -84,7 +84,7 @@ fn begins(rt: &impl Abort, world: &mut World, call: Call) {
 
 // Makes the rest of the call, which is answered so, and finds these words then.
 fn ends(rt: &impl Abort, world: &mut World, answer: Answer, words: &[(u32, u64)]) {
-    assert_eq!(rt; steps(world, 1, 1_000).1, Some(answer));
+    same(rt, steps(world, 1, 1_000).1, Some(answer));
     has(rt, world, words);
 }
 
@@ -115,7 +115,7 @@ fn inserted(rt: &impl Abort, alloc: Global) -> World {
 fn an_insert_leaves_the_words_that_the_format_gives(rt: HostRuntime) {
     let world = inserted(&rt, rt.alloc());
     // the line of the status word is flushed before its dirty bit is cleared
-    assert_eq!(rt; durable(&world, STATUS), DIRTY + 0x0010_0800_0000_0002);
+    same(&rt, durable(&world, STATUS), DIRTY + 0x0010_0800_0000_0002);
 }
 
 #[test]
