@@ -9,3 +9,4 @@ mod Beginning
 mod Lacking
 mod Ends
 mod Going
+mod Nexting
