@@ -4,7 +4,7 @@ use bz_machine::Done;
 
 /// A memory act of one worker. Addresses count words and lines count eight words each, from the memory's start;
 /// words are as they stand in the memory, with their control bits.
-#[derive(Clone, Copy, Debug, PartialEq, Eq)]
+#[derive(Clone, Copy)]
 pub enum Act {
     /// The word that was found.
     Load {
@@ -28,7 +28,7 @@ pub enum Act {
 }
 
 /// An act, and what it ends.
-#[derive(Clone, Copy, Debug, PartialEq, Eq)]
+#[derive(Clone, Copy)]
 pub struct Acted {
     pub act: Act,
     pub done: Done,

@@ -15,7 +15,7 @@ use bz_layout::LINE_WORDS;
 use bz_machine::SwapStatus;
 
 /// The status that a descriptor had, and the act that found it.
-#[derive(Clone, Copy, Debug)]
+#[derive(Clone, Copy)]
 pub(crate) struct FoundStatus {
     pub(crate) status: SwapStatus,
     pub(crate) act: Act,

@@ -11,7 +11,7 @@ use bz_cells::Cells;
 use bz_machine::{DescriptorWords, Verdict};
 
 /// What an act on an entry aims at, and the number of the swap's entries.
-#[derive(Clone, Copy, Debug)]
+#[derive(Clone, Copy)]
 pub(crate) struct Aim {
     pub(crate) count: u8,
     pub(crate) target: u32,

@@ -15,7 +15,7 @@ use bz_cells::Cells;
 use bz_machine::{DescriptorWords, HelpStep, Next, Worker};
 
 /// An act on the current swap, and what follows.
-#[derive(Clone, Copy, Debug)]
+#[derive(Clone, Copy)]
 pub(crate) struct Helped {
     pub(crate) act: Act,
     pub(crate) next: Next,

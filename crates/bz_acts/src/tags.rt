@@ -23,7 +23,7 @@ use bz_machine::{
 use bz_word::WordKind;
 
 /// A tag that was found: the entry that claims the word, and the worker that put it.
-#[derive(Clone, Copy, Debug)]
+#[derive(Clone, Copy)]
 pub(crate) struct OldTag {
     pub(crate) swap: u16,
     pub(crate) entry: u8,

@@ -17,7 +17,7 @@ use bz_layout::LINE_WORDS;
 use bz_word::{WordKind, word_of};
 
 /// What stood at an address, and the act that found it.
-#[derive(Clone, Copy, Debug)]
+#[derive(Clone, Copy)]
 pub(crate) struct FoundKind {
     pub(crate) kind: WordKind,
     pub(crate) act: Act,

@@ -2,7 +2,7 @@
 use crate::word_list::WordList;
 
 /// What the head of an image says of the memory.
-#[derive(Clone, Copy, Debug, PartialEq, Eq)]
+#[derive(Clone, Copy, PartialEq, Eq)]
 pub struct Head {
     /// How many node slots the memory has.
     pub nodes: u32,

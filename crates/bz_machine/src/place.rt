@@ -6,7 +6,7 @@ ghost use Rattle.bz_machine.specs.Flushes.{is_flush as flushes, helps_by_flush, 
 use crate::status::Verdict;
 
 /// Where a worker's next memory act is due. Of a line that holds an address, only the address is named.
-#[derive(Clone, Copy, Debug)]
+#[derive(Clone, Copy)]
 pub enum Place {
     Idle,
     /// On the descriptor of the own swap, which no other worker can reach yet.
@@ -30,7 +30,7 @@ pub enum Place {
 }
 
 /// What is due on a descriptor before its swap is published.
-#[derive(Clone, Copy, Debug)]
+#[derive(Clone, Copy)]
 pub enum PrepareStep {
     /// Store this word, counted from the number of entries.
     WriteWord(u8),
@@ -44,7 +44,7 @@ pub enum PrepareStep {
 
 /// What is due on a published swap. Entries count from 0. A tag is named by its worker and this worker's
 /// number for it; its swap is the current one and its entry the one at hand.
-#[derive(Clone, Copy, Debug)]
+#[derive(Clone, Copy)]
 pub enum HelpStep {
     /// Load the status.
     Look,
@@ -111,7 +111,7 @@ pub enum HelpStep {
 }
 
 /// What follows an act on the current swap.
-#[derive(Clone, Copy, Debug)]
+#[derive(Clone, Copy)]
 pub enum Next {
     /// The next act on the same swap.
     Step(HelpStep),

@@ -6,7 +6,7 @@ use crate::place::{HelpStep, Next, Place};
 use crate::status::Verdict;
 
 /// What a worker comes back to when it has helped.
-#[derive(Clone, Copy, Debug)]
+#[derive(Clone, Copy)]
 pub enum Operation {
     /// Nothing: the worker is idle, or its operation is one act.
     Nothing,
@@ -17,7 +17,7 @@ pub enum Operation {
 }
 
 /// What is kept of one worker beside the number of its next tag, of fixed size.
-#[derive(Clone, Copy, Debug)]
+#[derive(Clone, Copy)]
 pub struct Worker {
     pub operation: Operation,
     pub place: Place,

@@ -11,7 +11,7 @@ use bz_script::next_draw;
 use bz_world::{Applied, Event, LimitKind, World};
 
 /// A cut of the power in a run, or in a recovery.
-#[derive(Clone, Copy, Debug, PartialEq, Eq)]
+#[derive(Clone, Copy, PartialEq, Eq)]
 pub struct CutPlan {
     /// The flush before which the power is cut, counted from 1.
     pub flush: u32,

@@ -23,7 +23,7 @@ use bz_script::Plan;
 use bz_world::{LimitKind, World};
 
 /// How a run, or power on, ended.
-#[derive(Clone, Copy, Debug, PartialEq, Eq)]
+#[derive(Clone, Copy, PartialEq, Eq)]
 pub enum RunEnd {
     /// The plan is done, or the recovery has ended.
     Finished,

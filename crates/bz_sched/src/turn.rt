@@ -16,7 +16,7 @@ use crate::queue::Queue;
 use bz_world::{Applied, Begun, Event, LimitKind, World};
 
 /// Why the turns of a run stopped before its plan was done.
-#[derive(Clone, Copy, Debug, PartialEq, Eq)]
+#[derive(Clone, Copy, PartialEq, Eq)]
 pub(crate) enum Stop {
     /// The next act of this worker is the flush at which the power is cut.
     Due(u8),
@@ -26,7 +26,7 @@ pub(crate) enum Stop {
 }
 
 /// How the turns of a run, or a part of them, ended.
-#[derive(Clone, Copy, Debug, PartialEq, Eq)]
+#[derive(Clone, Copy, PartialEq, Eq)]
 pub(crate) enum Turned {
     Finished,
     Stopped(Stop),

@@ -5,7 +5,7 @@ ghost use Rattle.bz_script.specs.Order.{at_first as first, takes_no_cut as refus
 use crate::item::{Item, Plan};
 
 /// What the lines so far leave for the next one.
-#[derive(Clone, Copy, Debug, PartialEq, Eq)]
+#[derive(Clone, Copy, PartialEq, Eq)]
 pub(crate) struct Standing {
     /// A cut is armed, and no run and no power on has used it up.
     pub(crate) armed: bool,

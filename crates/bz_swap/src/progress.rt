@@ -4,7 +4,7 @@ use bz_acts::Act;
 use bz_machine::Done;
 
 /// A step: the one memory act that it made, what it answers, and the swap whose success it made durable.
-#[derive(Clone, Copy, Debug, PartialEq, Eq)]
+#[derive(Clone, Copy)]
 pub struct Progress {
     pub act: Act,
     pub done: Done,

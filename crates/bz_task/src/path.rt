@@ -3,7 +3,7 @@
 use bz_layout::MAX_LEVELS;
 
 /// A node on the way, and the link that led to it.
-#[derive(Clone, Copy, Debug, PartialEq, Eq)]
+#[derive(Clone, Copy, PartialEq, Eq)]
 pub struct Link {
     /// The node's slot.
     pub slot: u16,
@@ -16,7 +16,7 @@ pub struct Link {
 }
 
 /// The links from the root's to a leaf's.
-#[derive(Clone, Copy, Debug, PartialEq, Eq)]
+#[derive(Clone, Copy, PartialEq, Eq)]
 pub struct Path {
     /// The links, of which the first `depth` are meant.
     pub links: [Link; MAX_LEVELS as usize],

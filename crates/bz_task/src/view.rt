@@ -8,7 +8,7 @@ use bz_node::NodeImage;
 use bz_word::Status;
 
 /// The words of a leaf at one moment.
-#[derive(Clone, Copy, Debug, PartialEq, Eq)]
+#[derive(Clone, Copy, PartialEq, Eq)]
 pub struct LeafView {
     /// The leaf's slot.
     pub slot: u16,
@@ -46,7 +46,7 @@ pub struct Found {
 }
 
 /// What a leaf says of one key, at one moment.
-#[derive(Clone, Copy, Debug, PartialEq, Eq)]
+#[derive(Clone, Copy, PartialEq, Eq)]
 pub struct KeyView {
     /// The leaf's slot.
     pub slot: u16,

@@ -29,7 +29,7 @@ use std::alloc::Global;
 use std::collections::BTreeSet;
 
 /// Why the report is not written.
-#[derive(Clone, Copy, Debug, PartialEq, Eq)]
+#[derive(Clone, Copy, PartialEq, Eq)]
 pub enum TextError {
     /// The sink has failed; it has taken a part of the report.
     Write,

@@ -21,7 +21,7 @@ pub enum Command {
 }
 
 /// A command, and the limit on marks of the world that it opens.
-#[derive(Clone, Copy, Debug, PartialEq, Eq)]
+#[derive(Clone, Copy, PartialEq, Eq)]
 pub struct CommandLine {
     pub command: Command,
     pub marks: u32,
