@@ -1,6 +1,6 @@
 -- The laws of weights: what a task is told lowers its weight by what its next act takes, and no task weighs more than at its begin.
 use Rattle.std.specs.Prelude.{◌≡◌, ℕ, ◌+◌, ◌≤◌, Some}
-use Rattle.bz_ascent.specs.declared.ascent.Ascent.{Ascent}
+use Rattle.bz_running.specs.FromAscent.Ascent.{Ascent}
 use Rattle.bz_below.specs.Duties.{end_below}
 use Rattle.bz_below.specs.declared.split_below.SplitBelow.{SplitBelow}
 use Rattle.bz_fork.specs.Duties.{end_fork}

@@ -1,7 +1,7 @@
 -- What is still to come in a clean round while splits go up from a leaf: that of the leaf, which may find no room, and those of the nodes
 -- above, one after the other.
 use Rattle.std.specs.Prelude.{◌≡◌, ℕ, ◌+◌, ◌-◌, ◌*◌, ◌<◌, ◌≤◌, min, max, true, Some}
-use Rattle.bz_ascent.specs.declared.ascent.Ascent.{Ascent}
+use Rattle.bz_running.specs.FromAscent.Ascent.{Ascent}
 use Rattle.bz_below.specs.Duties.{end_below}
 use Rattle.bz_below.specs.declared.split_below.SplitBelow.{SplitBelow}
 use Rattle.bz_fork.specs.Duties.{end_fork}

@@ -4,8 +4,8 @@ use Rattle.std.specs.Prelude.{Option, Some, if◌then◌else◌, nat_lt}
 use Rattle.std.proofs.lemmas.Bool.{cases_lt}
 use Rattle.std.proofs.lemmas.Bool.Decides.{nat_tests}
 use Rattle.bz_joined.specs.FromAlone.Alone.{IsAlone}
-use Rattle.bz_ascent.specs.Ascents.{IsOneUp}
-use Rattle.bz_ascent.specs.declared.ascent.Ascent.{Ascent}
+use Rattle.bz_running.specs.FromAscent.Ascents.{IsOneUp}
+use Rattle.bz_running.specs.FromAscent.Ascent.{Ascent}
 use Rattle.bz_costs.specs.Laws.{LostSplitsCostLittle}
 use Rattle.bz_costs.specs.Resources.{Resource, Marks}
 use Rattle.bz_costs.specs.Costs.{RoundsArePaid}

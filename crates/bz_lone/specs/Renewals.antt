@@ -1,8 +1,8 @@
 -- What is done to a leaf that has no room, and to the nodes above it, is paid for by the stage of the key.
 use Rattle.std.specs.Prelude.{◌≡◌, ◌⊎◌, ℕ, ◌+◌, ◌<◌, ◌≤◌, true, false, Some}
 use Rattle.bz_joined.specs.FromAlone.Alone.{IsAlone}
-use Rattle.bz_ascent.specs.Ascents.{IsOneUp}
-use Rattle.bz_ascent.specs.declared.ascent.Ascent.{Ascent}
+use Rattle.bz_running.specs.FromAscent.Ascents.{IsOneUp}
+use Rattle.bz_running.specs.FromAscent.Ascent.{Ascent}
 use Rattle.bz_call.specs.Map.{key_of}
 use Rattle.bz_content.specs.Content.{image_of}
 use Rattle.bz_costs.specs.Resources.{Resource}

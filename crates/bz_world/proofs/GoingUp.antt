@@ -2,8 +2,8 @@
 use Rattle.std.proofs.Common.{◌≡◌, ◌≢◌, ◌⊎◌, ℕ, ◌+◌, ◌-◌, ◌<◌, ◌≤◌, slice_get, true, false, List, arith, refl, sym, ap, subst, ◌∙◌, inl, inr, Some, None, is_some}
 use Rattle.std.proofs.lemmas.Bool.{true≢false}
 use Rattle.bz_lone.specs.FromAlone.Alone.{IsAlone}
-use Rattle.bz_ascent.specs.Ascents.{IsAscent, IsOneUp}
-use Rattle.bz_ascent.specs.declared.ascent.Ascent.{Ascent}
+use Rattle.bz_running.specs.FromAscent.Ascents.{IsAscent, IsOneUp}
+use Rattle.bz_running.specs.FromAscent.Ascent.{Ascent}
 use Rattle.bz_call.specs.Map.{key_of}
 use Rattle.bz_call.specs.declared.calls.Call.{Call}
 use Rattle.bz_lone.specs.FromCosts.Most.{IsWithinItsActs}

@@ -1,7 +1,7 @@
 -- A leaf that is made anew: the task that does it.
 use Rattle.std.proofs.Common.{◌≡◌, ◌≢◌, ℕ, suc, ◌+◌, if◌then◌else◌, Bool, true, false, List, arith, refl, sym, ap, subst, ◌∙◌, inl, inr, Option, None, is_some, length}
 use Rattle.std.proofs.lemmas.Bool.{true≢false}
-use Rattle.bz_ascent.specs.declared.ascent.Ascent.{Ascent}
+use Rattle.bz_running.specs.FromAscent.Ascent.{Ascent}
 use Rattle.bz_call.specs.Map.{key_of}
 use Rattle.bz_lone.specs.FromCosts.Most.{most_of_freeze, most_of_copy, most_of_merge, most_of_root, most_of_below, IsWithinItsActs}
 use Rattle.bz_layout.specs.declared.config.Config.{Config}

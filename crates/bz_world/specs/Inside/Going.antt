@@ -25,8 +25,8 @@ use Rattle.bz_lone.specs.FromAlone.Counts.{HasOthers}
 use Rattle.bz_lone.specs.FromAlone.Reads.{get_reads}
 use Rattle.bz_lone.specs.FromJoined.Neighbours.{MayBeMerged}
 use Rattle.bz_running.specs.Duties.{config_of, asks_of, end_of, made_of, ascent_of, change_swaps, needs_of, wants_of, facts_of, means_of, makes_no_change}
-use Rattle.bz_ascent.specs.Ascents.{IsOneUp}
-use Rattle.bz_ascent.specs.declared.ascent.Ascent.{Ascent}
+use Rattle.bz_running.specs.FromAscent.Ascents.{IsOneUp}
+use Rattle.bz_running.specs.FromAscent.Ascent.{Ascent}
 use Rattle.bz_running.specs.GoingUp.{GoesUp, HasOneUp, IsInScene, MayBeSplit}
 use Rattle.bz_running.specs.Kinds as kinds
 use Rattle.bz_running.specs.Kinds.{Kind, kind_of}
