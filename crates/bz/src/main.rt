@@ -1,6 +1,9 @@
 //! The program `bz`: the real source, the real sink, no gate, and one call.
 #![tactic(auto)]
 
+#[cfg(test)]
+mod tests;
+
 use bz_io::{RealSink, RealSource, Sink, write_all};
 use bz_top::{NoGate, top};
 use std::alloc::{Alloc, Global};

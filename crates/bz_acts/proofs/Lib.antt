@@ -1,3 +1,2 @@
 pub mod Exchanges
 pub mod Found
-pub mod Zeros

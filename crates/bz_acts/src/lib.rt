@@ -9,8 +9,6 @@ mod places;
 mod prepare;
 mod reading;
 mod tags;
-#[cfg(test)]
-mod tests;
 mod values;
 mod verdicts;
 mod words;

@@ -7,4 +7,3 @@ pub mod Readers
 pub mod Rooms
 pub mod Stores
 pub mod Typed
-pub mod Zeros

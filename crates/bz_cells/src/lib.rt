@@ -8,8 +8,6 @@ mod counts;
 mod meaning;
 mod raw;
 mod tables;
-#[cfg(test)]
-mod tests;
 
 pub use address::{field_at, swap_at};
 pub use cells::Cells;

@@ -7,8 +7,6 @@ mod form;
 mod image;
 pub mod laws;
 mod read;
-#[cfg(test)]
-mod tests;
 mod word_list;
 mod write;
 

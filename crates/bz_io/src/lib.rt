@@ -9,8 +9,6 @@ mod plan;
 mod reading;
 mod real;
 mod store;
-#[cfg(test)]
-mod tests;
 mod writing;
 
 pub use ends::{Sink, Source};

@@ -8,15 +8,9 @@ mod lawful;
 mod node;
 mod resolving;
 mod root;
-#[cfg(test)]
-mod rule_tests;
 mod scan;
-#[cfg(test)]
-mod tests;
 mod visit;
 mod walk;
-#[cfg(test)]
-mod word_tests;
 mod words;
 
 pub use content::pairs;

@@ -11,8 +11,6 @@ mod payload;
 mod reading;
 mod short_bytes;
 mod spelling;
-#[cfg(test)]
-mod tests;
 
 pub use error::{KeyError, PayloadError};
 pub use key::Key;

@@ -11,8 +11,6 @@ mod slot_laws;
 mod slots;
 mod superblock;
 mod swaps;
-#[cfg(test)]
-mod tests;
 mod thresholds;
 
 pub use address_laws::{

@@ -5,8 +5,6 @@ mod compact;
 mod journal;
 pub mod laws;
 mod marks;
-#[cfg(test)]
-mod tests;
 
 pub use journal::Journal;
 pub use marks::Mark;

@@ -10,6 +10,5 @@ pub mod MadeLeaves
 pub mod MadePairs
 pub mod MadeInners
 pub mod Unique
-pub mod Checks
 pub mod MadeNodes
 pub mod MadePlaces

@@ -11,8 +11,6 @@ mod ordering;
 mod reading;
 mod record;
 mod shared;
-#[cfg(test)]
-mod tests;
 mod writing;
 
 pub use child::Child;

@@ -3,7 +3,5 @@
 
 pub mod laws;
 mod pages;
-#[cfg(test)]
-mod tests;
 
 pub use pages::{collect, find, live_words};

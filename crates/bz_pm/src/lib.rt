@@ -4,7 +4,5 @@
 pub mod laws;
 mod line;
 mod pm;
-#[cfg(test)]
-mod tests;
 
 pub use pm::Pm;

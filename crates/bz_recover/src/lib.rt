@@ -6,11 +6,7 @@ pub mod laws;
 mod phase;
 mod recover;
 mod sweep;
-#[cfg(test)]
-mod tests;
 mod walk;
-#[cfg(test)]
-mod walk_tests;
 
 pub use recover::Recover;
 pub use walk::Walk;

@@ -13,8 +13,6 @@ mod power_forms;
 mod read;
 mod run_forms;
 mod script;
-#[cfg(test)]
-mod tests;
 mod turn_list;
 mod words;
 

@@ -11,8 +11,6 @@ mod metas;
 mod order;
 mod place;
 mod records;
-#[cfg(test)]
-mod tests;
 
 pub use fault::node_fault;
 pub use place::Place;

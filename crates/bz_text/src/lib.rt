@@ -16,8 +16,3 @@ pub use counts::Counts;
 pub use ended::EndedCall;
 pub use report::{TextError, write_report};
 pub use summary::write_summary;
-
-#[cfg(test)]
-mod summary_tests;
-#[cfg(test)]
-mod tests;

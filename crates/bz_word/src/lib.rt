@@ -8,8 +8,6 @@ mod kind;
 pub mod laws;
 mod meta;
 mod status;
-#[cfg(test)]
-mod tests;
 
 pub use entry::Entry;
 pub use header::Header;

@@ -7,8 +7,6 @@ mod error;
 pub mod laws;
 mod parser;
 mod read;
-#[cfg(test)]
-mod tests;
 
 pub use command::{Command, CommandLine, RUN_MARKS, WORK_MARKS};
 pub use error::WordsError;

@@ -1,6 +1,6 @@
 //! The same calls cut after each number of their acts, and their recoveries before a flush, with words evicted before both cuts.
 
-use super::bench::{acts, begin, booted, evict, find, recover};
+use super::bench::{acts, begin, booted, evict, find, holds, recover, same};
 use super::rows::{Row, copy, merge, split};
 use super::table::{Verdict, verdict_of};
 use std::alloc::Global;
@@ -30,10 +30,10 @@ fn cut_after(rt: &impl Abort, alloc: Global, row: &Row, made: u16, again: u8) ->
 // With the call cut after so many acts, a cut of the recovery does not change how it ends.
 fn one_verdict(rt: &impl Abort, alloc: Global, row: &Row, made: u16) -> Option<Verdict> {
     let first = cut_after(rt, alloc, row, made, 0);
-    assert!(rt; first.is_some(), "{}, cut after {made}", row.name);
+    holds(rt, first.is_some());
     let again = (made % FLUSHES) as u8 + 1;
     let other = cut_after(rt, alloc, row, made, again);
-    assert_eq!(rt; other, first, "{}, cut after {made}", row.name);
+    same(rt, other, first);
     first
 }
 

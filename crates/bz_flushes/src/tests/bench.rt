@@ -49,6 +49,11 @@ pub(super) fn booted(rt: &impl Abort, alloc: Global, image: &[u64]) -> World {
     World::boot(alloc, &config, image).expect(rt, "a world")
 }
 
+/// It is so.
+pub(crate) fn holds(rt: &impl Abort, told: bool) {
+    assert!(rt; told);
+}
+
 /// Two values are the same.
 pub(crate) fn same<T: PartialEq + Debug + Drop>(rt: &impl Abort, got: T, want: T) {
     assert_eq!(rt; got, want);

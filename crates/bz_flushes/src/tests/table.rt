@@ -1,7 +1,7 @@
 //! For every flush from the first on a call is cut before it, its recovery before each of its own, and the power comes on once more:
 //! the pairs and the value are those of the table, and how often the recovery is cut makes no difference.
 
-use super::bench::{Found, booted, call, find, recover, same_at};
+use super::bench::{Found, booted, call, find, holds, recover, same, same_at};
 use super::rows::{Row, answer_of, copy, merge, split};
 use bz_call::Reply;
 use std::alloc::Global;
@@ -47,15 +47,10 @@ fn cut_twice(rt: &impl Abort, alloc: Global, row: &Row, cut: u8, again: u8) -> O
 // With the call cut before this flush, no cut of the recovery changes how it ends.
 fn one_verdict(rt: &impl Abort, alloc: Global, row: &Row, cut: u8) -> Option<Verdict> {
     let first = cut_twice(rt, alloc, row, cut, 0);
-    assert!(rt; first.is_some(), "{}, cut before flush {cut}", row.name);
+    holds(rt, first.is_some());
     for again in 1..=AGAIN {
         let other = cut_twice(rt, alloc, row, cut, again);
-        assert_eq!(rt;
-            other,
-            first,
-            "{}, cut before flush {cut}, and {again}",
-            row.name
-        );
+        same(rt, other, first);
     }
     first
 }
@@ -66,7 +61,7 @@ fn each_cut(rt: &impl Abort, alloc: Global, row: &Row) {
     same_at(rt, last, Some(Verdict::Lost), row.name);
     for cut in 2..=CUTS {
         let next = one_verdict(rt, alloc, row, cut);
-        assert!(rt; next >= last, "{}, cut before flush {cut}", row.name);
+        holds(rt, next >= last);
         last = next;
     }
     same_at(rt, last, Some(Verdict::Answered), row.name);

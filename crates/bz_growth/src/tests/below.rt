@@ -1,6 +1,6 @@
 //! Leaves below a parent that are split, and trees of two levels.
 
-use super::bench::{Answer, begin, finish, key, open, payload, same, same_at, steps, whole};
+use super::bench::{Answer, begin, finish, holds, key, open, payload, same, same_at, steps, whole};
 use super::pages::read_page;
 use bz_call::Call;
 use bz_key::Key;
@@ -47,7 +47,7 @@ fn walk(rt: &impl Abort, world: &mut World) -> [usize; 12] {
         *length = count;
         from = next;
     }
-    assert!(rt; from.is_none());
+    holds(rt, from.is_none());
     lengths
 }
 
@@ -122,7 +122,7 @@ fn right_full(rt: &impl Abort, alloc: Global) -> World {
 // A worker begins to insert the key with this number.
 fn begins(rt: &impl Abort, world: &mut World, w: u8, number: u32) {
     let call = Call::Insert(numbered(rt, number), payload(rt, b"v"));
-    assert!(rt; begin(world, w, call));
+    holds(rt, begin(world, w, call));
 }
 
 // An insert has ended, and its key was new.
@@ -130,17 +130,21 @@ fn is_inserted(rt: &impl Abort, ended: Option<Answer>, acts: u32) {
     same_at(rt, ended, Some(Answer::Inserted), acts);
 }
 
-// The right one of two leaves is full. Worker 1 stops after so many acts of an insert that splits it; worker 2 makes its own, into the
-// left half, the right half or the other leaf; and then worker 1 makes the rest.
+// Worker 1 stops after so many acts of an insert; worker 2 makes its own; and then worker 1 makes the rest.
+fn race(rt: &impl Abort, world: &mut World, acts: u32, other: u32) {
+    begins(rt, world, 1, 62);
+    let (_, first) = steps(world, 1, acts);
+    begins(rt, world, 2, other);
+    let (_, second) = steps(world, 2, MOST);
+    is_inserted(rt, second, acts);
+    let first = finish(world, 1, first, MOST);
+    is_inserted(rt, first, acts);
+}
+
+// The right one of two leaves is full, and worker 1 splits it; worker 2 inserts into the left half, the right half or the other leaf.
 fn beside(rt: &impl Abort, alloc: Global, acts: u32, other: u32) {
     let mut world = right_full(rt, alloc);
-    begins(rt, &mut world, 1, 62);
-    let (_, first) = steps(&mut world, 1, acts);
-    begins(rt, &mut world, 2, other);
-    let (_, second) = steps(&mut world, 2, MOST);
-    is_inserted(rt, second, acts);
-    let first = finish(&mut world, 1, first, MOST);
-    is_inserted(rt, first, acts);
+    race(rt, &mut world, acts, other);
     same_at(rt, count_pairs(rt, &mut world), 61, other);
 }
 

@@ -1,7 +1,7 @@
 //! Power cuts after every number of acts of calls that have a leaf copied or split.
 
 use super::bench::{
-    Answer, begin, evict_all, numbered, open, payload, recover, restart, same, steps, whole,
+    Answer, begin, evict_all, holds, numbered, open, payload, recover, restart, same, steps, whole,
 };
 use super::decode::decode_keys;
 use bz_call::Call;
@@ -68,32 +68,32 @@ fn ready(rt: &impl Abort, alloc: Global, kind: Kind) -> World {
 }
 
 // The durable words have the keys from 1 to the last one, and one more at most: as many as are counted.
-fn holds(rt: &impl Abort, world: &World, last: u8) {
+fn holds_keys(rt: &impl Abort, world: &World, last: u8) {
     let seen = decode_keys(world).expect(rt, "a tree");
     let mut count = 0u32;
     for (number, found) in seen.iter().enumerate() {
         if *found {
             count = count.saturating_add(1);
         } else {
-            assert!(rt; number == 0 || number > last as usize, "{number}");
+            holds(rt, number == 0 || number > last as usize);
         }
     }
     same(rt, u64::from(count), world.pairs());
-    assert!(rt; count <= u32::from(last) + 1, "{count}");
+    holds(rt, count <= u32::from(last) + 1);
 }
 
 // The call is cut after so many acts. Whether it had ended.
 fn cut_after(rt: &impl Abort, alloc: Global, kind: Kind, acts: u32, evicts: bool) -> bool {
     let mut world = ready(rt, alloc, kind);
-    assert!(rt; begin(&mut world, 1, call_of(rt, kind)));
+    holds(rt, begin(&mut world, 1, call_of(rt, kind)));
     let (_, answer) = steps(&mut world, 1, acts);
     if evicts {
         evict_all(&mut world);
     }
     restart(rt, &mut world);
-    holds(rt, &world, keys_of(kind));
-    assert!(rt; recover(&mut world, MOST));
-    holds(rt, &world, keys_of(kind));
+    holds_keys(rt, &world, keys_of(kind));
+    holds(rt, recover(&mut world, MOST));
+    holds_keys(rt, &world, keys_of(kind));
     answer.is_some()
 }
 
@@ -111,7 +111,7 @@ fn cut_at_will(rt: &impl Abort, alloc: Global, kind: Kind, evicts: bool) -> u32 
 fn is_whole_or_nothing(rt: &impl Abort, alloc: Global, kind: Kind, least: u32) {
     for evicts in [false, true] {
         let acts = cut_at_will(rt, alloc, kind, evicts);
-        assert!(rt; acts >= least && acts < MOST, "{acts}");
+        holds(rt, acts >= least && acts < MOST);
     }
 }
 

@@ -1,7 +1,7 @@
 //! Inner nodes that are split, and trees of three levels.
 
 use super::below::digit;
-use super::bench::{Answer, begin, finish, key, payload, same, same_at, steps};
+use super::bench::{Answer, begin, finish, holds, key, payload, same, same_at, steps};
 use super::decode::decode_root;
 use super::pages::read_page;
 use bz_call::Call;
@@ -46,7 +46,7 @@ pub(super) fn insert(rt: &impl Abort, number: u32) -> Call {
 
 /// Inserts the key with this number, which is new.
 pub(super) fn inserts(rt: &impl Abort, world: &mut World, w: u8, number: u32) {
-    assert!(rt; begin(world, w, insert(rt, number)));
+    holds(rt, begin(world, w, insert(rt, number)));
     let answer = steps(world, w, MOST).1;
     same_at(rt, answer, Some(Answer::Inserted), number);
 }
@@ -63,13 +63,13 @@ pub(super) fn count_pairs(rt: &impl Abort, world: &mut World, first: u32) -> usi
         count = count.saturating_add(more);
         from = next;
     }
-    assert!(rt; from.is_none());
+    holds(rt, from.is_none());
     count
 }
 
 // The tree has three levels, and all of the keys from 1 on.
 fn is_tall(rt: &impl Abort, world: &mut World) {
-    assert!(rt; decode_root(world).is_some_and(|root| root.0 == 2));
+    holds(rt, decode_root(world).is_some_and(|root| root.0 == 2));
     same(rt, count_pairs(rt, world, 1), MANY as usize);
 }
 
@@ -121,11 +121,11 @@ fn beside(
 ) -> [Option<(u32, u32)>; 2] {
     let mut world = risen(rt, alloc, last);
     let before = decode_root(&world);
-    assert!(rt; begin(&mut world, 1, insert(rt, last.saturating_add(1))));
+    holds(rt, begin(&mut world, 1, insert(rt, last.saturating_add(1))));
     let (_, ended) = steps(&mut world, 1, acts);
     inserts(rt, &mut world, 2, other);
     let ended = finish(&mut world, 1, ended, MOST);
-    assert_eq!(rt; ended, Some(Answer::Inserted), "{acts} {other}");
+    same(rt, ended, Some(Answer::Inserted));
     let first = if other == 0 { 0 } else { 1 };
     same(
         rt,

@@ -3,7 +3,7 @@
 
 ghost use Rattle.std.specs.Prelude.{◌<◌, IfSome};
 
-use super::bench::{begin, mark, payload, restart};
+use super::bench::{begin, holds, mark, payload, restart};
 use super::decode::{child_of, decode_root, resolve, root, words};
 use super::inner::{inserts, long};
 use super::neighbours::evict_written;
@@ -133,7 +133,7 @@ impl Effects {
     /// The memory has the keys.
     pub(super) fn agree(&mut self, rt: &impl Abort, world: &World) {
         self.read_on(world);
-        assert!(rt; decode_long(world) == Some(self.keys));
+        holds(rt, decode_long(world) == Some(self.keys));
     }
 }
 
@@ -204,7 +204,7 @@ fn run(rt: &impl Abort, alloc: Global, growth: Growth) {
     restart(rt, &mut world);
     effects.agree(rt, &world);
     let root = decode_root(&world).expect(rt, "a root");
-    assert!(rt; root.0 == 2 && root.1 >= growth.widest, "{root:?}");
+    holds(rt, root.0 == 2 && root.1 >= growth.widest);
 }
 
 #[test]

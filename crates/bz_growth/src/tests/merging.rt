@@ -2,8 +2,8 @@
 
 use super::below::numbered;
 use super::bench::{
-    Answer, begin, evict_all, finish, has_pairs, open, payload, recover, restart, same, same_at,
-    steps, whole,
+    Answer, begin, evict_all, finish, has_pairs, holds, open, payload, recover, restart, same,
+    same_at, steps, whole,
 };
 use super::decode::decode_root;
 use super::pages::last_page;
@@ -60,7 +60,7 @@ fn lengths(rt: &impl Abort, world: &mut World) -> [usize; 4] {
         *length = journal.page(page).len();
         from = next;
     }
-    assert!(rt; from.is_none());
+    holds(rt, from.is_none());
     lengths
 }
 
@@ -73,16 +73,21 @@ fn count_pairs(rt: &impl Abort, world: &mut World) -> u64 {
     count
 }
 
+// How long the leaves of a world with so many pairs are.
+fn leaves(rt: &impl Abort, world: &mut World, pairs: u32) -> [usize; 4] {
+    let children = lengths(rt, world);
+    let count = children.iter().filter(|length| **length > 0).count() as u32;
+    same(rt, decode_root(world), Some((1, count)));
+    has_pairs(rt, world, u64::from(pairs));
+    children
+}
+
 // Of three leaves of twenty keys, the last of which has so many more, these keys are deleted. How long the leaves are then.
 fn after(rt: &impl Abort, alloc: Global, last: u32, first: u32, end: u32) -> [usize; 4] {
     let mut world = grown(rt, alloc, 32, 400, last);
     deletes(rt, &mut world, first, end);
-    let children = lengths(rt, &mut world);
-    let count = children.iter().filter(|length| **length > 0).count() as u32;
-    same(rt, decode_root(&world), Some((1, count)));
     let gone = end.saturating_add(1).saturating_sub(first);
-    has_pairs(rt, &world, u64::from(last.saturating_sub(gone)));
-    children
+    leaves(rt, &mut world, last.saturating_sub(gone))
 }
 
 // The right neighbour is tried first, then the left one; where neither has room the leaf stays alone.
@@ -98,7 +103,7 @@ fn a_leaf_is_merged_with_a_neighbour_that_has_room(rt: HostRuntime) {
         (62, 43, 62, [20, 22, 0, 0]),
     ] {
         let found = after(&rt, rt.alloc(), last, first, end);
-        assert_eq!(rt; found, lengths, "{last} {first} {end}");
+        same(&rt, found, lengths);
     }
 }
 
@@ -161,7 +166,7 @@ fn beside(rt: &impl Abort, alloc: Global, acts: u32, call: Call) {
     let gone = Some(Answer::Deleted(payload(rt, b"v")));
     let answer = answer_of(rt, &call);
     let mut world = ready(rt, alloc);
-    assert!(rt; begin(&mut world, 1, delete(rt, 10)));
+    holds(rt, begin(&mut world, 1, delete(rt, 10)));
     let (_, ended) = steps(&mut world, 1, acts);
     same_at(rt, whole(&mut world, 2, call), answer, acts);
     let ended = finish(&mut world, 1, ended, MOST);
@@ -197,7 +202,7 @@ fn three_small(rt: &impl Abort, alloc: Global) -> World {
 // A delete in the first leaf is stopped after so many acts, while another one in the last leaf is made whole: one of the two merges.
 fn merge_at_once(rt: &impl Abort, alloc: Global, acts: u32) {
     let mut world = three_small(rt, alloc);
-    assert!(rt; begin(&mut world, 1, delete(rt, 1)));
+    holds(rt, begin(&mut world, 1, delete(rt, 1)));
     let (_, ended) = steps(&mut world, 1, acts);
     same_at(rt, whole(&mut world, 2, delete(rt, 41)), gone(rt), acts);
     let ended = finish(&mut world, 1, ended, MOST);
@@ -209,7 +214,7 @@ fn merge_at_once(rt: &impl Abort, alloc: Global, acts: u32) {
 fn is_one_merge(rt: &impl Abort, world: &mut World, acts: u32) {
     let found = lengths(rt, world);
     let right = found == [10, 21, 0, 0];
-    assert!(rt; right || found == [21, 10, 0, 0], "{acts} {found:?}");
+    holds(rt, right || found == [21, 10, 0, 0]);
     has_pairs(rt, world, 31);
 }
 
@@ -223,16 +228,16 @@ fn two_merges_that_want_one_leaf(rt: HostRuntime) {
 // Its power fails after so many acts. Whether it had ended.
 fn cut_after(rt: &impl Abort, alloc: Global, acts: u32) -> bool {
     let mut world = ready(rt, alloc);
-    assert!(rt; begin(&mut world, 1, delete(rt, 10)));
+    holds(rt, begin(&mut world, 1, delete(rt, 10)));
     let ended = steps(&mut world, 1, acts).1.is_some();
     if acts % 2 == 0 {
         evict_all(&mut world);
     }
     restart(rt, &mut world);
-    assert!(rt; recover(&mut world, MOST));
+    holds(rt, recover(&mut world, MOST));
     let count = count_pairs(rt, &mut world);
     has_pairs(rt, &world, count);
-    assert!(rt; count == 20 || !ended && count == 21, "{acts}");
+    holds(rt, count == 20 || !ended && count == 21);
     merges_at_last(rt, &mut world, acts);
     ended
 }
@@ -255,5 +260,5 @@ fn a_merge_that_is_cut_is_whole_or_nothing(rt: HostRuntime) {
             break;
         }
     }
-    assert!(rt; made >= 400 && made < 1_200, "{made}");
+    holds(&rt, made >= 400 && made < 1_200);
 }

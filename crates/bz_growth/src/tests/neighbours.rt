@@ -1,6 +1,6 @@
 //! Two neighbours below the root, both full, that are split at once.
 
-use super::bench::{Answer, begin, mark, marks, same, same_at, steps};
+use super::bench::{Answer, begin, holds, mark, marks, same, same_at, steps};
 use super::decode::{child_of, decode_root, resolve, root};
 use super::inner::{MOST, count_pairs, insert, inserts, open};
 use bz_mark::Mark;
@@ -55,11 +55,11 @@ fn split_at_once(rt: &impl Abort, alloc: Global, acts: u32, evicts: bool) {
     let mut world = two_full(rt, alloc);
     same(rt, widths(&world), Some([20, 20]));
     let mut ends = [None, None];
-    assert!(rt; begin(&mut world, 1, insert(rt, 201)));
+    holds(rt, begin(&mut world, 1, insert(rt, 201)));
     for _ in 0..acts {
         go_on(&mut world, 1, evicts, &mut ends[0]);
     }
-    assert!(rt; begin(&mut world, 2, insert(rt, 640)));
+    holds(rt, begin(&mut world, 2, insert(rt, 640)));
     for _ in 0..MOST {
         go_on(&mut world, 1, evicts, &mut ends[0]);
         go_on(&mut world, 2, evicts, &mut ends[1]);

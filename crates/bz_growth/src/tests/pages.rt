@@ -1,6 +1,6 @@
 //! Pages, read one after the other.
 
-use super::bench::{mark, whole};
+use super::bench::{holds, mark, whole};
 use bz_call::{Call, Reply};
 use bz_key::Key;
 use bz_mark::Mark;
@@ -28,6 +28,6 @@ pub(super) fn read_page(rt: &impl Abort, world: &mut World, key: Key) -> (usize,
     let journal = world.journal();
     assert!(rt; page < journal.page_count());
     let pairs = journal.page(page);
-    assert!(rt; pairs.first().is_some_and(|pair| pair.0 == key));
+    holds(rt, pairs.first().is_some_and(|pair| pair.0 == key));
     (pairs.len(), next)
 }

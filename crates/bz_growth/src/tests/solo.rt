@@ -1,7 +1,7 @@
 //! Calls of eight workers over trees whose nodes are split and merged, stopped anywhere: each that is open is then ended by its worker alone,
 //! one after the other.
 
-use super::bench::{begin, mark, marks, payload};
+use super::bench::{begin, holds, mark, marks, payload};
 use super::decode::{child_of, decode_root, resolve, root};
 use super::inner::{inserts, long};
 use super::levels::Effects;
@@ -70,10 +70,10 @@ fn act(rt: &impl Abort, world: &mut World, random: &mut Random, plan: Plan) {
 // A worker's open call ends while it steps alone, within as many marks as the numbers of the world allow.
 fn ends_alone(rt: &impl Abort, world: &mut World, w: u8) {
     let before = marks(world);
-    assert!(rt; matches!(world.solo(w), Applied::Ended(_)), "worker {w}");
+    holds(rt, matches!(world.solo(w), Applied::Ended(_)));
     let made = marks(world).saturating_sub(before);
-    assert!(rt; made <= most_alone(world));
-    assert!(rt; world.open_call(w).is_none());
+    holds(rt, made <= most_alone(world));
+    holds(rt, world.open_call(w).is_none());
 }
 
 // How many marks the numbers of a world allow to a call that is ended alone.
@@ -172,14 +172,14 @@ fn calls_over_trees_that_grow_or_shrink_end_alone(rt: HostRuntime) {
         };
         let outcome = run(&rt, rt.alloc(), plan);
         let [before, after] = outcome.leaves;
-        assert!(rt; outcome.ended > 100 && outcome.full == 0, "{outcome:?}");
-        assert!(rt;
+        holds(&rt, outcome.ended > 100 && outcome.full == 0);
+        holds(
+            &rt,
             if deletes == 6 {
                 after < before
             } else {
                 after > before
             },
-            "{outcome:?}"
         );
     }
 }
@@ -196,6 +196,6 @@ fn calls_that_find_nothing_left_end_alone(rt: HostRuntime) {
             deletes: 1,
         };
         let outcome = run(&rt, rt.alloc(), plan);
-        assert!(rt; outcome.ended > 100 && outcome.full > 0, "{outcome:?}");
+        holds(&rt, outcome.ended > 100 && outcome.full > 0);
     }
 }

@@ -1,6 +1,8 @@
 //! A root leaf that is split, and a tree of two levels.
 
-use super::bench::{Answer, begin, finish, numbered, open, payload, same, same_at, steps, whole};
+use super::bench::{
+    Answer, begin, finish, holds, numbered, open, payload, same, same_at, steps, whole,
+};
 use super::decode::decode_keys;
 use super::pages::read_page;
 use bz_call::Call;
@@ -30,7 +32,7 @@ fn inserts(rt: &impl Abort, world: &mut World, numbers: &[u8]) {
 fn walk(rt: &impl Abort, world: &mut World, from: Key) -> [usize; 2] {
     let (first, next) = read_page(rt, world, from);
     let (second, end) = read_page(rt, world, next.expect(rt, "a second page"));
-    assert!(rt; end.is_none());
+    holds(rt, end.is_none());
     [first, second]
 }
 
@@ -143,7 +145,7 @@ fn fills(rt: &impl Abort, world: &mut World) {
 // A worker begins to insert the key with this number, with a record of six words.
 fn begins(rt: &impl Abort, world: &mut World, w: u8, number: u8) {
     let call = Call::Insert(numbered(rt, number), payload(rt, &[b'v'; 28]));
-    assert!(rt; begin(world, w, call));
+    holds(rt, begin(world, w, call));
 }
 
 // An insert has ended, and its key was new.

@@ -8,7 +8,7 @@
 ghost use Rattle.std.specs.Prelude.{◌≡◌, length};
 ghost use Rattle.bz_layout.specs.Addresses.{words_of};
 
-use super::bench::{Answer, applies, begin, has_pairs, key, payload, same, steps};
+use super::bench::{Answer, applies, begin, has_pairs, holds, key, payload, same, steps};
 use bz_call::Call;
 use bz_layout::{Config, MAX_LEVELS, NODE_WORDS, SPLIT_SLOTS};
 use bz_world::{Applied, Event, World};
@@ -245,7 +245,7 @@ fn while_recovering(rt: &impl Abort, world: &mut World) {
 // An insert into the full leaf is answered so, within so many acts.
 fn inserts(rt: &impl Abort, world: &mut World, most: u32, answer: Answer) {
     let insert = Call::Insert(key(rt, b"a40"), payload(rt, b"v"));
-    assert!(rt; begin(world, 1, insert));
+    holds(rt, begin(world, 1, insert));
     same(rt, steps(world, 1, most).1, Some(answer));
 }
 

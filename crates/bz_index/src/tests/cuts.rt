@@ -1,10 +1,15 @@
 //! A power cut, and power on, while threads have calls open.
 
+use super::bench::same;
 use super::reader::{NONE, Tally, read};
 use super::stages::{Hold, Until};
 use super::threads::{Case, Deed, Kind, Part, expect, run};
 use bz_layout::Config;
+use std::alloc::Global;
+use std::process::Abort;
+use std::sync::Wait;
 use std::test::*;
+use std::thread::Threads;
 
 const FOUR: Config = Config {
     nodes: 256,
@@ -65,6 +70,33 @@ fn calls_that_run_are_answered_off_and_those_that_begin_until_the_recovery_has_e
     Ok(())
 }
 
+// Four threads make these calls while the power is cut twice, once so many were answered, and recovered.
+fn cut_twice<R: Abort + Threads + Wait + Sync>(
+    rt: &R,
+    alloc: Global,
+    parts: &[Part],
+    answered: u32,
+) -> Result<Tally, Fail> {
+    let deeds = [
+        (Deed::Cut, Until::Answered(answered)),
+        (Deed::On, Until::Now),
+        (Deed::Recover, Until::Now),
+        (Deed::Cut, Until::Answered(answered.saturating_add(20))),
+        (Deed::On, Until::Now),
+        (Deed::Recover, Until::Now),
+    ];
+    let case = Case {
+        config: FOUR,
+        workers: &[1, 2, 3, 4],
+        one: parts,
+        others: parts,
+        deeds: &deeds,
+        hold: None,
+    };
+    let (world, told) = run(rt, alloc, &case)?;
+    Ok(read(rt, alloc, &world, &told)?)
+}
+
 #[test]
 fn a_cut_at_any_time_leaves_one_map(rt: HostRuntime) -> Result<(), Fail> {
     let parts = [
@@ -73,31 +105,10 @@ fn a_cut_at_any_time_leaves_one_map(rt: HostRuntime) -> Result<(), Fail> {
         calls(Kind::GetSame, 8, Until::Now),
     ];
     for answered in [0u32, 1, 3, 10, 30] {
-        let deeds = [
-            (Deed::Cut, Until::Answered(answered)),
-            (Deed::On, Until::Now),
-            (Deed::Recover, Until::Now),
-            (Deed::Cut, Until::Answered(answered.saturating_add(20))),
-            (Deed::On, Until::Now),
-            (Deed::Recover, Until::Now),
-        ];
-        let case = Case {
-            config: FOUR,
-            workers: &[1, 2, 3, 4],
-            one: &parts,
-            others: &parts,
-            deeds: &deeds,
-            hold: None,
-        };
-        let (world, told) = run(&rt, rt.alloc(), &case)?;
-        let tally = read(&rt, rt.alloc(), &world, &told)?;
+        let tally = cut_twice(&rt, rt.alloc(), &parts, answered)?;
         // After the last recovery each get is replied.
-        assert_eq!(rt;
-            tally.values.saturating_add(tally.missing),
-            4 * 32,
-            "{tally:?}"
-        );
-        assert_eq!(rt; tally.other, 0, "{tally:?}");
+        same(&rt, tally.values.saturating_add(tally.missing), 4 * 32);
+        same(&rt, tally.other, 0);
     }
     Ok(())
 }

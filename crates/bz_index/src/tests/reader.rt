@@ -1,7 +1,7 @@
 //! A plain reader of journals: a list of the pairs that Effects put, which explains each reply at the moment that its End
 //! names; and whether each thread was told what the journal says.
 
-use super::bench::{Said, said_by};
+use super::bench::{Said, holds, said_by};
 use super::threads::{Asked, Told};
 use bz_call::{Call, Reply};
 use bz_key::{Key, Payload};
@@ -234,7 +234,7 @@ impl Reader {
     fn read_all(&mut self, rt: &impl Abort, journal: &Journal) -> Result<(), Memory> {
         for read in 0..journal.length() {
             let may_come = self.read_mark(journal, journal.mark(read), read)?;
-            assert!(rt; may_come, "mark {read}");
+            holds(rt, may_come);
         }
         Ok(())
     }
@@ -348,11 +348,11 @@ impl Reader {
         let mut from = 0;
         for asked in &told.asked {
             let behind = self.place_behind(journal, worker, asked, from);
-            assert!(rt; behind.is_some(), "worker {worker}: {:?}", asked.said);
+            holds(rt, behind.is_some());
             from = behind.unwrap_or(0);
             tally.count(asked.said);
         }
-        assert!(rt; self.next_line(worker, from).is_none(), "worker {worker}");
+        holds(rt, self.next_line(worker, from).is_none());
     }
 }
 

@@ -25,6 +25,11 @@ pub(crate) enum Answer {
     FullHeight,
 }
 
+/// It is so.
+pub(crate) fn holds(rt: &impl Abort, told: bool) {
+    assert!(rt; told);
+}
+
 /// Two values are the same.
 pub(crate) fn same<T: PartialEq + Debug + Drop>(rt: &impl Abort, got: T, want: T) {
     assert_eq!(rt; got, want);

@@ -1,10 +1,12 @@
 //! Worlds over images: what a power cut leaves is booted, recovers, and goes on; and which images are refused.
 
-ghost use Rattle.std.specs.Prelude.{◌≡◌, length};
+ghost use Rattle.std.specs.Prelude.{◌≡◌, IfOk, length};
 ghost use Rattle.bz_layout.specs.Addresses.{words_of};
+ghost use Rattle.bz_layout.specs.Config.{IsConfig};
 
 use super::bench::{
-    Answer, applies, begin, has_pairs, has_power, numbered, open, payload, same, steps, whole,
+    Answer, applies, begin, has_pairs, has_power, holds, numbered, open, payload, same, steps,
+    whole,
 };
 use super::decode::decode;
 use super::map::{Map, count};
@@ -12,6 +14,7 @@ use super::random::{Random, act};
 use super::reader::Reader;
 use bz_call::Call;
 use bz_layout::{Config, ConfigError};
+use bz_memory::Memory;
 use bz_shape::{ShapeFault, ShapeRule};
 use bz_world::{Applied, Begun, BootError, Event, Power, World};
 use std::alloc::Global;
@@ -55,7 +58,7 @@ fn stopped(rt: &impl Abort, alloc: Global, acts: u32) -> World {
     let mut world = open(alloc, 4, 16, 2).expect(rt, "a world");
     let had = Call::Insert(numbered(rt, 1), payload(rt, b"o"));
     same(rt, whole(&mut world, 2, had), Some(Answer::Inserted));
-    assert!(rt; begin(&mut world, 1, inserting(rt)));
+    holds(rt, begin(&mut world, 1, inserting(rt)));
     steps(&mut world, 1, acts);
     world
 }
@@ -74,14 +77,25 @@ fn is_off(rt: &impl Abort, image: &mut World) {
     same(rt, image.begin(1, inserting(rt)), Begun::Off);
 }
 
+// The same world, off at first, and then recovered.
+fn restarted(rt: &impl Abort, alloc: Global, world: &World) -> World {
+    let mut image = booted(rt, alloc, world);
+    is_off(rt, &mut image);
+    come_on(rt, &mut image);
+    image
+}
+
+// A power cut, and the recovery.
+fn cut(rt: &impl Abort, world: &mut World) {
+    applies(rt, world, Event::Cut, Applied::Cut);
+    come_on(rt, world);
+}
+
 // Both go on alike.
 fn goes_on(rt: &impl Abort, alloc: Global, acts: u32) {
     let mut world = stopped(rt, alloc, acts);
-    let mut image = booted(rt, alloc, &world);
-    is_off(rt, &mut image);
-    come_on(rt, &mut image);
-    applies(rt, &mut world, Event::Cut, Applied::Cut);
-    come_on(rt, &mut world);
+    let mut image = restarted(rt, alloc, &world);
+    cut(rt, &mut world);
     same(rt, answers(&mut image, rt), answers(&mut world, rt));
 }
 
@@ -92,31 +106,53 @@ fn a_world_boots_from_what_a_cut_leaves(rt: HostRuntime) {
     }
 }
 
+// Why these words are no image of such a memory, if they are none.
+pub(super) fn refusal(alloc: Global, config: &Config, words: &[u64]) -> Option<BootError>
+    requires { IsConfig config.now → length words.now ≡ words_of config.now }
+{
+    match World::boot(alloc, config, words) {
+        Ok(_) => None,
+        Err(error) => Some(error),
+    }
+}
+
+// The words of the smallest memory, with another root.
+fn broken(alloc: Global, config: &Config) -> Result<Vec<u64>, Memory>
+    requires { IsConfig config.now }
+    ensures { IfOk result (λ words. length words.items ≡ words_of config.now) }
+{
+    let mut words = bz_layout::fresh(alloc, config)?;
+    if let Some(root) = words.get_mut(1) {
+        *root = 2;
+    }
+    Ok(words)
+}
+
+// They are refused for this.
+fn is_refused(rt: &impl Abort, alloc: Global, config: &Config, words: &[u64], error: BootError)
+    requires { IsConfig config.now → length words.now ≡ words_of config.now }
+{
+    same(rt, refusal(alloc, config, words), Some(error));
+}
+
 #[test]
 fn an_image_that_breaks_a_rule_is_refused(rt: HostRuntime) -> Result<(), Fail> {
     let config = open(rt.alloc(), 1, 1, 1)?.config();
-    let mut words = bz_layout::fresh(rt.alloc(), &config)?;
-    words[1] = 2;
+    let words = broken(rt.alloc(), &config)?;
     let fault = ShapeFault {
         rule: ShapeRule::Root,
         place: 0,
     };
-    assert!(rt;
-        matches!(World::boot(rt.alloc(), &config, &words), Err(BootError::Shape(told)) if told == fault)
-    );
+    is_refused(&rt, rt.alloc(), &config, &words, BootError::Shape(fault));
     let none = Config { nodes: 0, ..config };
-    assert!(rt;
-        matches!(
-            World::boot(rt.alloc(), &none, &words),
-            Err(BootError::Config(ConfigError::Nodes))
-        )
-    );
+    let no_nodes = BootError::Config(ConfigError::Nodes);
+    is_refused(&rt, rt.alloc(), &none, &words, no_nodes);
     Ok(())
 }
 
 // The reader explains the marks that it has not read yet.
 fn explains(rt: &impl Abort, reader: &mut Reader, world: &World) {
-    assert!(rt; reader.read_on(world).expect(rt, "room for the maps"));
+    holds(rt, reader.read_on(world).expect(rt, "room for the maps"));
 }
 
 // The memory itself has this map.
@@ -138,17 +174,29 @@ fn goes_on_from(rt: &impl Abort, alloc: Global, world: &World, map: Map, mut ran
     has(rt, &image, reader.map());
 }
 
+// Ten events, which the reader explains; and what a power cut would leave then goes on.
+fn ten_more(
+    rt: &impl Abort,
+    alloc: Global,
+    world: &mut World,
+    reader: &mut Reader,
+    random: &mut Random,
+    other: Random,
+) {
+    for _ in 0..10 {
+        act(rt, world, random);
+    }
+    explains(rt, reader, world);
+    goes_on_from(rt, alloc, world, reader.map(), other);
+}
+
 #[test]
 fn a_schedule_goes_on_from_every_tenth_event(rt: HostRuntime) {
     let mut world = open(rt.alloc(), 4, 48, 8).expect(&rt, "a world");
     let mut reader = Reader::open(rt.alloc()).expect(&rt, "a reader");
     let mut random = Random { state: 3 };
     for event in 0..200u64 {
-        for _ in 0..10 {
-            act(&rt, &mut world, &mut random);
-        }
-        explains(&rt, &mut reader, &world);
         let other = Random { state: event };
-        goes_on_from(&rt, rt.alloc(), &world, reader.map(), other);
+        ten_more(&rt, rt.alloc(), &mut world, &mut reader, &mut random, other);
     }
 }

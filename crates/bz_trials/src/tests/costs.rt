@@ -1,6 +1,6 @@
 //! What the calls cost beyond their lookup, which only loads.
 
-use super::bench::{Answer, begin, key, mark, open, payload, same, steps};
+use super::bench::{Answer, begin, holds, key, mark, open, payload, same, steps};
 use bz_call::Call;
 use bz_key::{Key, Payload};
 use bz_mark::Mark;
@@ -40,7 +40,7 @@ fn costs_from(world: &World, from: u32) -> Costs {
 // Makes a whole call of worker 1, which costs at most this; each of its flushes was foretold.
 fn costs_at_most(rt: &impl Abort, world: &mut World, call: Call, answer: Answer, most: Costs) {
     let from = world.journal().length();
-    assert!(rt; begin(world, 1, call));
+    holds(rt, begin(world, 1, call));
     let mut foretold = 0u32;
     for _ in 0..1_000 {
         assert!(rt; world.config().workers >= 1);
@@ -54,9 +54,9 @@ fn costs_at_most(rt: &impl Abort, world: &mut World, call: Call, answer: Answer,
     }
     let costs = costs_from(world, from);
     same(rt, costs.flushes, foretold);
-    assert!(rt; costs.stores <= most.stores, "{answer:?}: {costs:?}");
-    assert!(rt; costs.swaps <= most.swaps, "{answer:?}: {costs:?}");
-    assert!(rt; costs.flushes <= most.flushes, "{answer:?}: {costs:?}");
+    holds(rt, costs.stores <= most.stores);
+    holds(rt, costs.swaps <= most.swaps);
+    holds(rt, costs.flushes <= most.flushes);
 }
 
 const INSERT: Costs = Costs {

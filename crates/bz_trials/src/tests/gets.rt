@@ -1,5 +1,5 @@
 //! What gets cost that run alone: as many acts as their look-ups read words.
-use super::bench::{Answer, begin, key, open, payload, steps};
+use super::bench::{Answer, begin, holds, key, open, payload, same, steps};
 use bz_call::Call;
 use bz_key::Key;
 use bz_world::World;
@@ -22,32 +22,39 @@ fn numbered(rt: &impl Abort, number: u32) -> Key {
 
 // How many acts a call makes that runs alone.
 fn acts(rt: &impl Abort, world: &mut World, call: Call) -> u32 {
-    assert!(rt; begin(world, 1, call));
+    holds(rt, begin(world, 1, call));
     let (made, answer) = steps(world, 1, MOST);
-    assert!(rt; answer.is_some() && answer != Some(Answer::FullNodes));
+    holds(rt, answer.is_some() && answer != Some(Answer::FullNodes));
     made
+}
+
+// The keys with even numbers, in steps of so many.
+fn grown(rt: &impl Abort, alloc: Global, count: u32, step: u32) -> World {
+    let mut world = open(alloc, 64, 640, 1).expect(rt, "a world");
+    let v = payload(rt, b"v");
+    assert!(rt; count > 0);
+    for i in 0..count {
+        let number = (i.saturating_mul(step) % count).saturating_mul(2);
+        acts(rt, &mut world, Call::Insert(numbered(rt, number), v));
+    }
+    world
+}
+
+// How many acts gets make of keys with every second number from a first one on.
+fn of_keys(rt: &impl Abort, world: &mut World, count: u32, first: u32) -> u32 {
+    let mut sum = 0u32;
+    for i in 0..count {
+        let number = i.saturating_mul(2).saturating_add(first);
+        sum = sum.saturating_add(acts(rt, world, Call::Get(numbered(rt, number))));
+    }
+    sum
 }
 
 // How many acts gets make, of the keys with even numbers, which are there, and of those after them.
 fn of_gets(rt: &impl Abort, alloc: Global, count: u32, step: u32) -> (u32, u32) {
-    let mut world = open(alloc, 64, 640, 1).expect(rt, "a world");
-    assert!(rt; count > 0 && count <= 100);
-    for i in 0..count {
-        let number = (i.saturating_mul(step) % count).saturating_mul(2);
-        acts(
-            rt,
-            &mut world,
-            Call::Insert(numbered(rt, number), payload(rt, b"v")),
-        );
-    }
-    let (mut there, mut missing) = (0u32, 0u32);
-    for i in 0..count {
-        let number = i.saturating_mul(2);
-        there = there.saturating_add(acts(rt, &mut world, Call::Get(numbered(rt, number))));
-        let next = Call::Get(numbered(rt, number.saturating_add(1)));
-        missing = missing.saturating_add(acts(rt, &mut world, next));
-    }
-    (there, missing)
+    let mut world = grown(rt, alloc, count, step);
+    let there = of_keys(rt, &mut world, count, 0);
+    (there, of_keys(rt, &mut world, count, 1))
 }
 
 #[test]
@@ -58,10 +65,6 @@ fn gets_cost_what_their_look_ups_read(rt: HostRuntime) {
         (100, 1, (2_170, 2_226)),
         (100, 37, (2_905, 3_219)),
     ] {
-        assert_eq!(rt;
-            of_gets(&rt, rt.alloc(), count, step),
-            sums,
-            "{count} {step}"
-        );
+        same(&rt, of_gets(&rt, rt.alloc(), count, step), sums);
     }
 }

@@ -5,8 +5,8 @@ ghost use Rattle.std.specs.Prelude.{◌≡◌, length};
 ghost use Rattle.bz_layout.specs.Addresses.{words_of};
 ghost use Rattle.bz_layout.specs.Config.{IsConfig};
 
-use super::bench::{Answer, has_pairs, key, open, payload, whole};
-use super::boot::come_on;
+use super::bench::{Answer, has_pairs, key, open, payload, same, whole};
+use super::boot::{come_on, refusal};
 use bz_call::Call;
 use bz_layout::Config;
 use bz_shape::{ShapeFault, ShapeRule};
@@ -154,7 +154,7 @@ fn answers_of(rt: &impl Abort, is_there: bool) -> (u64, Answer, Answer) {
 
 // A call of a worker is answered so.
 fn answers(rt: &impl Abort, world: &mut World, w: u8, call: Call, answer: Answer, state: &State) {
-    assert_eq!(rt; whole(world, w, call), Some(answer), "{state:?}");
+    same(rt, whole(world, w, call), Some(answer));
 }
 
 // It boots, recovers and is read; and an insert finds both descriptors free.
@@ -183,11 +183,8 @@ fn is_refused(rt: &impl Abort, alloc: Global, rule: ShapeRule, place: u32, writt
     let config = numbers(rt, alloc);
     let mut words = tree(rt, alloc, &config);
     write(&mut words, written);
-    let fault = ShapeFault { rule, place };
-    assert!(rt;
-        matches!(World::boot(alloc, &config, &words), Err(BootError::Shape(told)) if told == fault),
-        "{fault:?}"
-    );
+    let fault = BootError::Shape(ShapeFault { rule, place });
+    same(rt, refusal(alloc, &config, &words), Some(fault));
 }
 
 #[test]

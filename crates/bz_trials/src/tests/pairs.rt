@@ -1,6 +1,6 @@
 //! Two calls, of which one stops after any number of acts.
 
-use super::bench::{Answer, begin, numbered, open, payload, same, same_at, steps, whole};
+use super::bench::{Answer, begin, holds, numbered, open, payload, same, steps, whole};
 use super::decode::decode;
 use super::reader::Reader;
 use bz_call::Call;
@@ -20,6 +20,22 @@ struct Outcome {
     second: (u32, Option<Answer>),
 }
 
+// Makes the rest of a worker's call, if it has not ended.
+fn rest(world: &mut World, w: u8, made: (u32, Option<Answer>)) -> (u32, Option<Answer>) {
+    if made.1.is_some() {
+        made
+    } else {
+        steps(world, w, MOST)
+    }
+}
+
+// The reader explains the journal, and the durable words are its map.
+fn explained(rt: &impl Abort, alloc: Global, world: &World) {
+    let mut reader = Reader::open(alloc).expect(rt, "a reader");
+    holds(rt, reader.read_on(world).expect(rt, "room for the maps"));
+    same(rt, decode(world), Some(reader.map()));
+}
+
 // Worker 1 makes so many acts of its call, then worker 2 so many of its own, then worker 1 the rest, and worker 2.
 fn race(
     rt: &impl Abort,
@@ -29,20 +45,13 @@ fn race(
     acts: u32,
     turn: u32,
 ) -> Outcome {
-    assert!(rt; begin(world, 1, calls[0]));
-    let mut first = steps(world, 1, acts);
-    assert!(rt; begin(world, 2, calls[1]));
-    let mut second = steps(world, 2, turn);
-    if first.1.is_none() {
-        first = steps(world, 1, MOST);
-    }
-    if second.1.is_none() {
-        second = steps(world, 2, MOST);
-    }
-    let mut reader = Reader::open(alloc).expect(rt, "a reader");
-    let read = reader.read_on(world).expect(rt, "room for the maps");
-    assert!(rt; read, "{acts} and {turn} acts");
-    assert_eq!(rt; decode(world), Some(reader.map()), "{acts} and {turn} acts");
+    holds(rt, begin(world, 1, calls[0]));
+    let first = steps(world, 1, acts);
+    holds(rt, begin(world, 2, calls[1]));
+    let second = steps(world, 2, turn);
+    let first = rest(world, 1, first);
+    let second = rest(world, 2, second);
+    explained(rt, alloc, world);
     Outcome { first, second }
 }
 
@@ -56,6 +65,18 @@ fn ends(rt: &impl Abort, alloc: Global, keys: &[Key; 2], acts: u32, turn: u32) -
     race(rt, alloc, &mut world, &calls, acts, turn)
 }
 
+// One of the two inserts, and the other finds the key.
+fn one_inserts(rt: &impl Abort, outcome: &Outcome) {
+    let first = outcome.first.1 == Some(Answer::Inserted);
+    let (one, other) = if first {
+        (outcome.first.1, outcome.second.1)
+    } else {
+        (outcome.second.1, outcome.first.1)
+    };
+    same(rt, one, Some(Answer::Inserted));
+    same(rt, other, Some(Answer::Exists));
+}
+
 #[test]
 fn one_of_two_inserts_of_a_key_finds_it(rt: HostRuntime) -> Result<(), Fail> {
     let key = numbered(&rt, 0);
@@ -64,15 +85,17 @@ fn one_of_two_inserts_of_a_key_finds_it(rt: HostRuntime) -> Result<(), Fail> {
     same(&rt, whole, 6 + 27 + 3 + 27);
     for acts in 0..=whole {
         for turn in [acts, MOST] {
-            let ends = ends(&rt, rt.alloc(), &[key, key], acts, turn);
-            match (ends.first.1, ends.second.1) {
-                (Some(Answer::Inserted), Some(Answer::Exists)) => {}
-                (Some(Answer::Exists), Some(Answer::Inserted)) => {}
-                answers => panic!(rt; "{acts} and {turn} acts: {answers:?}"),
-            }
+            one_inserts(&rt, &ends(&rt, rt.alloc(), &[key, key], acts, turn));
         }
     }
     Ok(())
+}
+
+// Both were answered so, and worker 2 made no more acts than these.
+fn both_end(rt: &impl Abort, outcome: &Outcome, first: Answer, second: Answer, most: u32) {
+    same(rt, outcome.first.1, Some(first));
+    same(rt, outcome.second.1, Some(second));
+    holds(rt, outcome.second.0 <= most);
 }
 
 #[test]
@@ -80,9 +103,7 @@ fn a_stopped_insert_holds_nobody_up(rt: HostRuntime) -> Result<(), Fail> {
     let keys = [numbered(&rt, 0), numbered(&rt, 1)];
     for acts in 0..=71 {
         let ends = ends(&rt, rt.alloc(), &keys, acts, MOST);
-        same_at(&rt, ends.first.1, Some(Answer::Inserted), acts);
-        same_at(&rt, ends.second.1, Some(Answer::Inserted), acts);
-        assert!(rt; ends.second.0 <= 200, "{acts}: {:?}", ends.second);
+        both_end(&rt, &ends, Answer::Inserted, Answer::Inserted, 200);
     }
     Ok(())
 }
@@ -137,8 +158,7 @@ fn the_call_without_the_last_words_copies_the_leaf(rt: HostRuntime) -> Result<()
     for acts in 0..1_100 {
         let mut world = crowded(&rt, rt.alloc(), long);
         let ends = race(&rt, rt.alloc(), &mut world, &calls, acts, acts);
-        same_at(&rt, ends.first.1, Some(Answer::Inserted), acts);
-        same_at(&rt, ends.second.1, Some(Answer::Updated(long)), acts);
+        both_end(&rt, &ends, Answer::Inserted, Answer::Updated(long), MOST);
     }
     Ok(())
 }
@@ -153,9 +173,7 @@ fn a_stopped_copy_holds_nobody_up(rt: HostRuntime) -> Result<(), Fail> {
     for acts in 0..1_100 {
         let mut world = crowded(&rt, rt.alloc(), long);
         let ends = race(&rt, rt.alloc(), &mut world, &calls, acts, MOST);
-        same_at(&rt, ends.first.1, Some(Answer::Updated(long)), acts);
-        same_at(&rt, ends.second.1, Some(Answer::Inserted), acts);
-        assert!(rt; ends.second.0 <= 1_800, "{acts}: {:?}", ends.second);
+        both_end(&rt, &ends, Answer::Updated(long), Answer::Inserted, 1_800);
     }
     Ok(())
 }

@@ -1,13 +1,14 @@
 //! Power cuts, after every number of acts of a call, recoveries that are cut again, and the slots that are free afterwards.
 
 use super::bench::{
-    Answer, answered, applies, begin, has_pairs, has_power, numbered, open, payload, same, steps,
-    whole,
+    Answer, answered, applies, begin, has_pairs, has_power, holds, numbered, open, payload, same,
+    steps, whole,
 };
 use super::decode::decode;
 use super::map::count;
 use super::reader::Reader;
 use bz_call::Call;
+use bz_key::{Key, Payload};
 use bz_world::{Applied, Begun, Event, Power, World};
 use std::alloc::Global;
 use std::process::Abort;
@@ -53,7 +54,7 @@ fn recover(world: &mut World, most: u32) -> bool {
 // The reader explains the journal, and the durable words are its map, of so many pairs.
 fn agrees(rt: &impl Abort, alloc: Global, world: &World) {
     let mut reader = Reader::open(alloc).expect(rt, "a reader");
-    assert!(rt; reader.read_on(world).expect(rt, "room for the maps"));
+    holds(rt, reader.read_on(world).expect(rt, "room for the maps"));
     same(rt, decode(world), Some(reader.map()));
     has_pairs(rt, world, u64::from(count(&reader.map())));
 }
@@ -63,14 +64,14 @@ fn begun(rt: &impl Abort, alloc: Global, kind: u32, acts: u32) -> (World, bool) 
     let mut world = open(alloc, 4, 16, 2).expect(rt, "a world");
     let had = Call::Insert(numbered(rt, 1), payload(rt, b"o"));
     same(rt, whole(&mut world, 2, had), Some(Answer::Inserted));
-    assert!(rt; begin(&mut world, 1, call_of(rt, kind)));
+    holds(rt, begin(&mut world, 1, call_of(rt, kind)));
     let (_, answer) = steps(&mut world, 1, acts);
     (world, answer.is_some())
 }
 
 // The recovery goes to its end, and agrees.
 fn recovers(rt: &impl Abort, alloc: Global, world: &mut World) {
-    assert!(rt; recover(world, 4_000));
+    holds(rt, recover(world, 4_000));
     has_power(rt, world, Power::On);
     agrees(rt, alloc, world);
 }
@@ -78,7 +79,7 @@ fn recovers(rt: &impl Abort, alloc: Global, world: &mut World) {
 // Worker 1 makes its second call; the first one has a reply where it had ended.
 fn gets_then(rt: &impl Abort, world: &mut World, ended: bool) {
     let got = whole(world, 1, Call::Get(numbered(rt, 1)));
-    assert!(rt; got.is_some());
+    holds(rt, got.is_some());
     same(rt, answered(world, 1, 2), got);
     same(rt, answered(world, 1, 1).is_some(), ended);
 }
@@ -111,7 +112,7 @@ fn cut_at_will(rt: &impl Abort, alloc: Global, kind: u32, evicts: bool) -> u32 {
 fn a_call_that_is_cut_is_whole_or_nothing(rt: HostRuntime) {
     for kind in 0..3 {
         let acts = cut_at_will(&rt, rt.alloc(), kind, false);
-        assert!(rt; acts >= 30 && acts < 200, "{acts}");
+        holds(&rt, acts >= 30 && acts < 200);
         same(&rt, cut_at_will(&rt, rt.alloc(), kind, true), acts);
     }
 }
@@ -125,7 +126,7 @@ fn cut_again(rt: &impl Abort, alloc: Global, kind: u32, acts: u32, more: u32) ->
     agrees(rt, alloc, &world);
     restart(rt, &mut world);
     agrees(rt, alloc, &world);
-    assert!(rt; recover(&mut world, 4_000));
+    holds(rt, recover(&mut world, 4_000));
     agrees(rt, alloc, &world);
     ended
 }
@@ -144,7 +145,7 @@ fn recovery_cut_at_will(rt: &impl Abort, alloc: Global, kind: u32, acts: u32) ->
 fn a_recovery_that_is_cut_begins_anew(rt: HostRuntime) {
     for kind in 0..3 {
         let acts = recovery_cut_at_will(&rt, rt.alloc(), kind, 50);
-        assert!(rt; acts >= 500 && acts < 1_000, "{acts}");
+        holds(&rt, acts >= 500 && acts < 1_000);
     }
 }
 
@@ -162,23 +163,30 @@ fn updates(rt: &impl Abort, world: &mut World, update: &Call) -> u32 {
     200
 }
 
+// So many updates of a key are made until no slot is left; then the power fails, and the recovery goes to its end.
+fn used_up(rt: &impl Abort, world: &mut World, update: &Call, made: u32) {
+    same(rt, updates(rt, world, update), made);
+    restart(rt, world);
+    holds(rt, recover(world, 4_000));
+}
+
+// A world with one key.
+fn with_key(rt: &impl Abort, alloc: Global, k: Key, v: Payload) -> World {
+    let mut world = open(alloc, 2, 512, 1).expect(rt, "a world");
+    let insert = Call::Insert(k, v);
+    same(rt, whole(&mut world, 1, insert), Some(Answer::Inserted));
+    world
+}
+
 #[test]
-fn slots_that_the_tree_does_not_reach_serve_again(rt: HostRuntime) -> Result<(), Fail> {
+fn slots_that_the_tree_does_not_reach_serve_again(rt: HostRuntime) {
     let (k, v) = (numbered(&rt, 0), payload(&rt, b"v"));
-    let mut world = open(rt.alloc(), 2, 512, 1)?;
-    same(
-        &rt,
-        whole(&mut world, 1, Call::Insert(k, v)),
-        Some(Answer::Inserted),
-    );
+    let mut world = with_key(&rt, rt.alloc(), k, v);
     // two slots, and then one of them again
     for made in [114, 57, 57] {
-        same(&rt, updates(&rt, &mut world, &Call::Update(k, v)), made);
-        restart(&rt, &mut world);
-        assert!(rt; recover(&mut world, 4_000));
+        used_up(&rt, &mut world, &Call::Update(k, v), made);
     }
     agrees(&rt, rt.alloc(), &world);
-    Ok(())
 }
 
 // An insert or a delete of one of five keys, cut after some of its acts, at times with all words evicted, and the recovery.
@@ -188,13 +196,13 @@ fn cut_and_recover(rt: &impl Abort, world: &mut World, number: u8) {
         2 => Call::Delete(k),
         _ => Call::Insert(k, payload(rt, b"n")),
     };
-    assert!(rt; begin(world, 1, call));
+    holds(rt, begin(world, 1, call));
     steps(world, 1, u32::from(number));
     if number % 4 == 0 {
         evict_all(world);
     }
     restart(rt, world);
-    assert!(rt; recover(world, 4_000));
+    holds(rt, recover(world, 4_000));
 }
 
 #[test]
@@ -206,14 +214,19 @@ fn a_hundred_power_cuts_in_one_journal(rt: HostRuntime) {
     agrees(&rt, rt.alloc(), &world);
 }
 
+// The open call of a worker has this number.
+fn has_open(rt: &impl Abort, world: &World, w: u8, number: Option<u32>) {
+    same(rt, world.open_call(w), number);
+}
+
 #[test]
 fn an_open_call_has_its_number_until_a_cut(rt: HostRuntime) {
     let mut world = open(rt.alloc(), 1, 1, 2).expect(&rt, "a world");
-    assert!(rt; begin(&mut world, 1, Call::Get(numbered(&rt, 0))));
-    same(&rt, world.open_call(1), Some(1));
-    same(&rt, world.open_call(2), None);
+    begins(&rt, &mut world, Begun::Begun(1));
+    has_open(&rt, &world, 1, Some(1));
+    has_open(&rt, &world, 2, None);
     restart(&rt, &mut world);
-    same(&rt, world.open_call(1), None);
+    has_open(&rt, &world, 1, None);
 }
 
 // A begin of worker 1 is answered so.
@@ -246,7 +259,7 @@ fn the_power_is_told_in_each_refusal(rt: HostRuntime) -> Result<(), Fail> {
     applies(&rt, &mut world, Event::Cut, Applied::Cut);
     refuses_off(&rt, &mut world);
     refuses_recovering(&rt, &mut world);
-    assert!(rt; recover(&mut world, 4_000));
+    holds(&rt, recover(&mut world, 4_000));
     applies(&rt, &mut world, Event::Step(1), Applied::Idle);
     begins(&rt, &mut world, Begun::Begun(2));
     Ok(())

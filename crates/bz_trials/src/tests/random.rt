@@ -3,7 +3,7 @@
 
 ghost use Rattle.std.specs.Prelude.{◌<◌};
 
-use super::bench::{Answer, answer_of, begin, mark, numbered, payload, same};
+use super::bench::{Answer, answer_of, begin, holds, mark, numbered, payload, same};
 use super::decode::decode;
 use super::map::KEYS;
 use super::reader::Reader;
@@ -100,9 +100,28 @@ fn tally(world: &World, counts: &mut [u32; 8]) {
     }
 }
 
-// One run: after every tenth event the reader explains the journal, and its map is the memory's own.
-fn run(rt: &impl Abort, alloc: Global, seed: u64) -> Result<World, Memory> {
-    // of every second run the nodes suffice, so that full leaves are copied, and the descriptors nearly do
+// The reader explains the marks that it has not read yet, and its map is the memory's own.
+fn explains(rt: &impl Abort, reader: &mut Reader, world: &World) -> Result<(), Memory> {
+    holds(rt, reader.read_on(world)?);
+    same(rt, decode(world), Some(reader.map()));
+    Ok(())
+}
+
+// A schedule of this seed, which the reader explains after every tenth event.
+fn follows(rt: &impl Abort, alloc: Global, world: &mut World, seed: u64) -> Result<(), Memory> {
+    let mut reader = Reader::open(alloc)?;
+    let mut random = Random { state: seed };
+    for event in 0..EVENTS {
+        act(rt, world, &mut random);
+        if event % 10 == 0 {
+            explains(rt, &mut reader, world)?;
+        }
+    }
+    Ok(())
+}
+
+// The world of a seed: of every second one the nodes suffice, so that full leaves are copied, and the descriptors nearly do.
+fn world_of(rt: &impl Abort, alloc: Global, seed: u64) -> World {
     let (nodes, swaps) = if seed % 2 == 0 { (1, 96) } else { (60, 500) };
     let config = Config {
         nodes,
@@ -112,21 +131,15 @@ fn run(rt: &impl Abort, alloc: Global, seed: u64) -> Result<World, Memory> {
         calls: 300,
         pages: 60,
     };
-    let mut world = World::open(alloc, &config).expect(rt, "a world");
-    let mut reader = Reader::open(alloc)?;
-    let mut random = Random { state: seed };
-    for event in 0..EVENTS {
-        act(rt, &mut world, &mut random);
-        if event % 10 == 0 {
-            assert!(rt; reader.read_on(&world)?, "seed {seed} event {event}");
-            assert_eq!(rt;
-                decode(&world),
-                Some(reader.map()),
-                "seed {seed} event {event}"
-            );
-        }
-    }
-    Ok(world)
+    World::open(alloc, &config).expect(rt, "a world")
+}
+
+// One run, and its replies.
+fn run(rt: &impl Abort, alloc: Global, seed: u64, counts: &mut [u32; 8]) -> Result<(), Memory> {
+    let mut world = world_of(rt, alloc, seed);
+    follows(rt, alloc, &mut world, seed)?;
+    tally(&world, counts);
+    Ok(())
 }
 
 #[test]
@@ -135,10 +148,9 @@ fn random_runs_are_explained_by_a_map(rt: HostRuntime) -> Result<(), Fail> {
     same(&rt, Random { state: 1 }.draw(), 1_817_669_548);
     let mut counts = [0; 8];
     for seed in 0..SEEDS {
-        let world = run(&rt, rt.alloc(), seed)?;
-        tally(&world, &mut counts);
+        run(&rt, rt.alloc(), seed, &mut counts)?;
     }
     // each kind of reply comes often
-    assert!(rt; counts.iter().all(|count| *count >= 10), "{counts:?}");
+    holds(&rt, counts.iter().all(|count| *count >= 10));
     Ok(())
 }

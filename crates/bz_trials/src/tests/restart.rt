@@ -1,6 +1,6 @@
 //! A page beside two changes of its leaf.
 
-use super::bench::{Answer, begin, mark, numbered, open, payload, same, steps, whole};
+use super::bench::{Answer, begin, holds, mark, numbered, open, payload, same, steps, whole};
 use super::reader::Reader;
 use bz_call::Call;
 use bz_key::{Key, Payload};
@@ -33,7 +33,7 @@ fn status_loads(world: &World) -> u32 {
 // The pairs of the first page.
 fn first_page<'a>(rt: &impl Abort, world: &'a World) -> &'a [(Key, Payload)] {
     let journal = world.journal();
-    same(rt, journal.page_count(), 1);
+    assert!(rt; journal.page_count() == 1);
     journal.page(0)
 }
 
@@ -46,7 +46,7 @@ fn makes(rt: &impl Abort, world: &mut World, call: Call, answer: Answer) {
 fn shows(rt: &impl Abort, alloc: Global, world: &World, pairs: &[(Key, Payload)]) {
     same(rt, first_page(rt, world), pairs);
     let mut reader = Reader::open(alloc).expect(rt, "a reader");
-    assert!(rt; reader.read_on(world).expect(rt, "room for the maps"));
+    holds(rt, reader.read_on(world).expect(rt, "room for the maps"));
 }
 
 // A world with one key, and so many acts of a page from it on. Whether the page has ended.
@@ -54,7 +54,7 @@ fn stopped(rt: &impl Abort, alloc: Global, acts: u32) -> (World, bool) {
     let (k, old) = (numbered(rt, 0), payload(rt, b"oo"));
     let mut world = open(alloc, 16, 64, 2).expect(rt, "a world");
     makes(rt, &mut world, Call::Insert(k, old), Answer::Inserted);
-    assert!(rt; begin(&mut world, 2, Call::Page(k)));
+    holds(rt, begin(&mut world, 2, Call::Page(k)));
     let (_, ended) = steps(&mut world, 2, acts);
     (world, ended.is_some())
 }
@@ -65,22 +65,35 @@ fn goes_on(rt: &impl Abort, world: &mut World, loads: u32) {
     same(rt, status_loads(world), if loads == 1 { 4 } else { 2 });
 }
 
+// An insert and an update by worker 1.
+fn changes(rt: &impl Abort, world: &mut World, old: Payload, new: Payload) {
+    let (k, l) = (numbered(rt, 0), numbered(rt, 1));
+    makes(rt, world, Call::Insert(l, old), Answer::Inserted);
+    makes(rt, world, Call::Update(k, new), Answer::Updated(old));
+}
+
+// What the page shows, if it had ended before the changes or ends after them.
+fn shown(rt: &impl Abort, alloc: Global, world: &World, ended: bool, old: Payload, new: Payload) {
+    let (k, l) = (numbered(rt, 0), numbered(rt, 1));
+    if ended {
+        shows(rt, alloc, world, &[(k, old)]);
+    } else {
+        shows(rt, alloc, world, &[(k, new), (l, old)]);
+    }
+}
+
 // A page of which so many acts come before an insert and an update: whether these came between its two loads of the
 // status.
 fn beside(rt: &impl Abort, alloc: Global, acts: u32) -> bool {
-    let (k, l) = (numbered(rt, 0), numbered(rt, 1));
     let (old, new) = (payload(rt, b"oo"), payload(rt, b"nn"));
     let (mut world, ended) = stopped(rt, alloc, acts);
     let loads = status_loads(&world);
-    makes(rt, &mut world, Call::Insert(l, old), Answer::Inserted);
-    makes(rt, &mut world, Call::Update(k, new), Answer::Updated(old));
-    if ended {
-        shows(rt, alloc, &world, &[(k, old)]);
-        return false;
+    changes(rt, &mut world, old, new);
+    if !ended {
+        goes_on(rt, &mut world, loads);
     }
-    goes_on(rt, &mut world, loads);
-    shows(rt, alloc, &world, &[(k, new), (l, old)]);
-    loads == 1
+    shown(rt, alloc, &world, ended, old, new);
+    !ended && loads == 1
 }
 
 #[test]
@@ -92,5 +105,5 @@ fn a_page_is_of_one_moment(rt: HostRuntime) {
         }
     }
     // from the first load of the status to the second
-    assert!(rt; torn >= 10, "{torn}");
+    holds(&rt, torn >= 10);
 }

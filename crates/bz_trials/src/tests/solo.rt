@@ -1,7 +1,7 @@
 //! Calls that are ended by a worker alone, in worlds of 64 workers of which others have stopped in the middle of an insert.
 
 use super::bench::{
-    Answer, answered, begin, has_pairs, marks, numbered, payload, same, steps, whole,
+    Answer, answered, begin, has_pairs, holds, marks, numbered, payload, same, steps, whole,
 };
 use super::reader::Reader;
 use bz_call::Call;
@@ -42,10 +42,10 @@ fn crowded(rt: &impl Abort, alloc: Global) -> World {
 // A worker's open call ends while it steps alone, within as many marks as the numbers of the world allow.
 fn ends_alone(rt: &impl Abort, world: &mut World, w: u8) {
     let before = marks(world);
-    assert!(rt; matches!(world.solo(w), Applied::Ended(_)), "worker {w}");
+    holds(rt, matches!(world.solo(w), Applied::Ended(_)));
     let made = marks(world).saturating_sub(before);
-    assert!(rt; made <= most_alone(world));
-    assert!(rt; world.open_call(w).is_none());
+    holds(rt, made <= most_alone(world));
+    holds(rt, world.open_call(w).is_none());
 }
 
 // How many marks the numbers of a world allow to a call that is ended alone.
@@ -56,25 +56,25 @@ fn most_alone(world: &World) -> u32 {
 // A plain map explains each reply.
 fn explained(rt: &impl Abort, alloc: Global, world: &World) {
     let mut reader = Reader::open(alloc).expect(rt, "a reader");
-    assert!(rt; reader.read_on(world).expect(rt, "room for the maps"));
+    holds(rt, reader.read_on(world).expect(rt, "room for the maps"));
 }
 
 // Worker 1 has made so many acts of its insert, or all of them, when worker 2 begins to get the key, and ends that alone. Then the
 // insert is ended alone too. Whether the get found the key.
 fn get_beside(rt: &impl Abort, alloc: Global, world: &mut World, acts: u32) -> bool {
     let (k, new) = (numbered(rt, 4), payload(rt, b"1"));
-    assert!(rt; begin(world, 1, Call::Insert(k, new)));
+    holds(rt, begin(world, 1, Call::Insert(k, new)));
     let (_, ended) = steps(world, 1, acts);
-    assert!(rt; begin(world, 2, Call::Get(k)));
+    holds(rt, begin(world, 2, Call::Get(k)));
     ends_alone(rt, world, 2);
     explained(rt, alloc, world);
     let found = answered(world, 2, 1) == Some(Answer::Value(new));
     if ended.is_none() {
-        assert!(rt; found || answered(world, 2, 1) == Some(Answer::Missing));
+        holds(rt, found || answered(world, 2, 1) == Some(Answer::Missing));
         ends_alone(rt, world, 1);
         explained(rt, alloc, world);
     } else {
-        assert!(rt; found);
+        holds(rt, found);
     }
     found
 }
@@ -102,14 +102,14 @@ fn a_get_beside_a_stopped_insert_ends_alone(rt: HostRuntime) {
     for (full, stops, step) in [(false, 200, 1), (true, 40, 40)] {
         let found = found_beside(&rt, rt.alloc(), full, stops, step);
         // it is not there at first, and is there once the insert has ended
-        assert!(rt; found > 0 && found < stops, "{full} {found}");
+        holds(&rt, found > 0 && found < stops);
     }
 }
 
 // Each of the first 63 workers stops in the middle of the insert of a key, one some acts after the other.
 fn stopped(rt: &impl Abort, world: &mut World, k: Key, acts: u32, apart: u32) {
     for w in 1..64u8 {
-        assert!(rt; begin(world, w, Call::Insert(k, payload(rt, &[w]))));
+        holds(rt, begin(world, w, Call::Insert(k, payload(rt, &[w]))));
         let more = u32::from(w).saturating_mul(apart) % 64;
         steps(world, w, acts.saturating_add(more));
     }
@@ -122,7 +122,7 @@ fn each_of_sixty_four_workers_ends_alone(rt: HostRuntime) {
             let mut world = open(&rt, rt.alloc());
             let k = numbered(&rt, 0);
             stopped(&rt, &mut world, k, 4 * acts, apart);
-            assert!(rt; begin(&mut world, 64, Call::Get(k)));
+            holds(&rt, begin(&mut world, 64, Call::Get(k)));
             for w in 1..65u8 {
                 if world.open_call(65 - w).is_some() {
                     ends_alone(&rt, &mut world, 65 - w);

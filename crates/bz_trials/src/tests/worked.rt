@@ -1,6 +1,8 @@
 //! An insert, a delete and an update, word for word.
 
-use super::bench::{Answer, begin, cached, durable, key, open, payload, same, same_at, steps};
+use super::bench::{
+    Answer, begin, cached, durable, holds, key, open, payload, same, same_at, steps,
+};
 use bz_call::Call;
 use bz_world::World;
 use std::alloc::Global;
@@ -79,7 +81,7 @@ fn after_first(rt: &impl Abort, world: &mut World, (a, word): (u32, u64), words:
 
 // Begins a call on the key a.
 fn begins(rt: &impl Abort, world: &mut World, call: Call) {
-    assert!(rt; begin(world, 1, call));
+    holds(rt, begin(world, 1, call));
 }
 
 // Makes the rest of the call, which is answered so, and finds these words then.
