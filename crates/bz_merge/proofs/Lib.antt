@@ -25,3 +25,4 @@ mod Viewing
 mod Ending
 mod Needing
 mod Beginning
+mod GoingOn
