@@ -1,7 +1,7 @@
 -- The rule of the simulated memory for an act.
 use Rattle.std.specs.Prelude.{◌≡◌, ℕ, ◌*◌, ◌<◌, Bool, true, false, slice_index}
-use Rattle.bz_pm.specs.Words.{Words}
-use Rattle.bz_pm.specs.Acts.{stored, compared, flushed}
+use Rattle.bz_cells.specs.FromPm.Words.{Words}
+use Rattle.bz_cells.specs.FromPm.Acts.{stored, compared, flushed}
 use Rattle.bz_machine.specs.declared.place.Place.{Place}
 use Rattle.bz_machine.specs.declared.place.Place.TheVariants as place
 use Rattle.bz_acts.specs.declared.acted.Act.{Act}

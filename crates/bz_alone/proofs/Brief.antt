@@ -3,7 +3,7 @@ use Rattle.std.proofs.Common.{◌≡◌, ◌≢◌, ℕ, zero, suc, ◌≤◌, �
 use Rattle.bz_content.specs.Content.{leaf_in}
 use Rattle.bz_content.specs.Image.{node}
 use Rattle.bz_content.specs.Resolving.{resolve}
-use Rattle.bz_find.specs.Facts.{find_reads}
+use Rattle.bz_running.specs.FromFind.Facts.{find_reads}
 use Rattle.bz_layout.specs.declared.config.Config.{Config}
 use Rattle.bz_machine.specs.Allowed.{sum_below, counted}
 use Rattle.bz_rivals.specs.Laws.{RivalsFall}

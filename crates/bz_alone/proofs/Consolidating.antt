@@ -1,10 +1,10 @@
 -- A consolidation goes on: the guard that it looks at again is as it was read, and so are both words of its swap.
 use Rattle.std.proofs.Common.{subst}
 use Rattle.bz_task.specs.Scene.{Scene, Waiting, IsScene}
-use Rattle.bz_consol.specs.Duties.{renewal_of}
-use Rattle.bz_consol.specs.Facts.{Renewal, consol_asks, consol_facts, consol_differs}
-use Rattle.bz_consol.specs.declared.phase.Phase.{Phase}
-use Rattle.bz_consol.specs.declared.phase.Phase.TheVariants.{Guard, Swap}
+use Rattle.bz_running.specs.FromConsol.Duties.{renewal_of}
+use Rattle.bz_running.specs.FromConsol.Facts.{Renewal, consol_asks, consol_facts, consol_differs}
+use Rattle.bz_running.specs.FromConsol.Phase.{Phase}
+use Rattle.bz_running.specs.FromConsol.Phase.TheVariants.{Guard, Swap}
 use Rattle.bz_renew.specs.Renewals.{renewal}
 use Rattle.bz_alone.specs.Alone.{GoesOn}
 use Rattle.bz_alone.specs.Laws.{ConsolidationsGoOn}

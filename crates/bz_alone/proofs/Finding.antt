@@ -7,11 +7,11 @@ use Rattle.bz_layout.specs.declared.sizes.TheConstants.{STATUS_AT}
 use Rattle.bz_task.specs.Outcomes.{IsPath}
 use Rattle.bz_task.specs.Scene.{Scene, Waiting, IsScene, here}
 use Rattle.bz_leaf.specs.Facts.{IsLastLink}
-use Rattle.bz_find.specs.Facts.{find_facts, find_differs}
-use Rattle.bz_find.specs.Phases.{find_asks}
-use Rattle.bz_find.specs.declared.find.Find.{Find}
-use Rattle.bz_find.specs.declared.phase.Phase.{Phase}
-use Rattle.bz_find.specs.declared.phase.Phase.TheVariants.{Again, Link as Of_link, Guard}
+use Rattle.bz_running.specs.FromFind.Facts.{find_facts, find_differs}
+use Rattle.bz_running.specs.FromFind.Phases.{find_asks}
+use Rattle.bz_running.specs.FromFind.Find.{Find}
+use Rattle.bz_running.specs.FromFind.Phase.{Phase}
+use Rattle.bz_running.specs.FromFind.Phase.TheVariants.{Again, Link as Of_link, Guard}
 use Rattle.bz_alone.specs.Alone.{GoesOn}
 use Rattle.bz_alone.specs.Lookups.{FindsGoOn}
 use Rattle.bz_alone.specs.Quiet.{IsQuietSince, ReadValuesStand, LonelyTimesAreQuiet}

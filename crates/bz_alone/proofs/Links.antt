@@ -12,9 +12,9 @@ use Rattle.bz_task.specs.declared.path.Link.{Link}
 use Rattle.bz_renew.proofs.TwoEntries.{all-two}
 use Rattle.bz_renew.specs.Freezings.{freezing_entry}
 use Rattle.bz_renew.specs.Renewals.{link_entry, guard_entry, renewal}
-use Rattle.bz_split.specs.BelowSplits.{AreLinksDown, parent_freezing, below_swap}
-use Rattle.bz_branch.specs.InnerSplits.{inner_swap}
-use Rattle.bz_branch.specs.Nodes.{IsOpenLink}
+use Rattle.bz_below.specs.FromSplit.BelowSplits.{AreLinksDown, parent_freezing, below_swap}
+use Rattle.bz_running.specs.FromBranch.InnerSplits.{inner_swap}
+use Rattle.bz_running.specs.FromBranch.Nodes.{IsOpenLink}
 use Rattle.bz_alone.specs.Quiet.{IsQuietSince, ReadValuesStand}
 use Rattle.bz_alone.proofs.Standing.{guard-stands, link-stands}
 

@@ -11,14 +11,14 @@ use Rattle.bz_renew.specs.Renewals.{link_entry, guard_entry, renewal}
 use Rattle.bz_task.specs.Scene.{Scene, Waiting, IsScene, here}
 use Rattle.bz_task.specs.Swaps.{Stand}
 use Rattle.bz_freeze.specs.Facts.{entry_of}
-use Rattle.bz_split.specs.BelowSplits.{AreLinksDown, parent_freezing, below_swap}
-use Rattle.bz_merge.specs.Counts.{merge_made}
-use Rattle.bz_merge.specs.Duties.{merging_of}
-use Rattle.bz_merge.specs.Facts.{merge_asks, merge_facts, merge_differs}
-use Rattle.bz_merge.specs.Plans.{Merging, viewed_leaf, beside_leaf}
-use Rattle.bz_merge.specs.Siblings.{SeenLeaf}
-use Rattle.bz_merge.specs.declared.phase.Phase.{Phase}
-use Rattle.bz_merge.specs.declared.phase.Phase.TheVariants.{Again, Parent, Still, Freeze, FreezeBeside, Guard, Swap}
+use Rattle.bz_below.specs.FromSplit.BelowSplits.{AreLinksDown, parent_freezing, below_swap}
+use Rattle.bz_running.specs.FromMerge.Counts.{merge_made}
+use Rattle.bz_running.specs.FromMerge.Duties.{merging_of}
+use Rattle.bz_running.specs.FromMerge.Facts.{merge_asks, merge_facts, merge_differs}
+use Rattle.bz_running.specs.FromMerge.Plans.{Merging, viewed_leaf, beside_leaf}
+use Rattle.bz_running.specs.FromMerge.Siblings.{SeenLeaf}
+use Rattle.bz_running.specs.FromMerge.Phase.{Phase}
+use Rattle.bz_running.specs.FromMerge.Phase.TheVariants.{Again, Parent, Still, Freeze, FreezeBeside, Guard, Swap}
 use Rattle.bz_alone.specs.Alone.{IsAlone, GoesOn}
 use Rattle.bz_alone.specs.Changes.{MergesGoOn}
 use Rattle.bz_alone.specs.Quiet.{IsQuietSince, IsRead}

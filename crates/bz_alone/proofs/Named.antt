@@ -11,10 +11,10 @@ use Rattle.bz_task.specs.Laws.{KeepsFront, FrontsStay, HasHeader, HeadersSayTheL
 use Rattle.bz_task.specs.Outcomes.{IsUnderNode, IsGuarded}
 use Rattle.bz_task.specs.Scene.{Past, Scene, IsScene, here}
 use Rattle.bz_task.specs.declared.path.Link.{Link}
-use Rattle.bz_split.specs.BelowSplits.{AreLinksDown}
-use Rattle.bz_merge.specs.OwnFreezes.{FrozeAfter}
-use Rattle.bz_merge.specs.Plans.{Merging, viewed_leaf, beside_leaf, first_of, second_of, IsPair, IsPlanned}
-use Rattle.bz_merge.specs.Siblings.{SeenLeaf, WasSeen}
+use Rattle.bz_below.specs.FromSplit.BelowSplits.{AreLinksDown}
+use Rattle.bz_running.specs.FromMerge.OwnFreezes.{FrozeAfter}
+use Rattle.bz_running.specs.FromMerge.Plans.{Merging, viewed_leaf, beside_leaf, first_of, second_of, IsPair, IsPlanned}
+use Rattle.bz_running.specs.FromMerge.Siblings.{SeenLeaf, WasSeen}
 use Rattle.bz_alone.specs.Quiet.{IsQuietSince, EffectsNeverFall, IsRead}
 use Rattle.bz_alone.proofs.Basis.{Laws}
 use Rattle.bz_alone.proofs.Standing.{reached-in, status-stands, guard-stands, link-stands}

@@ -7,11 +7,11 @@ use Rattle.bz_layout.specs.declared.sizes.TheConstants.{STATUS_AT}
 use Rattle.bz_word.specs.Statuses.{status}
 use Rattle.bz_task.specs.Instant.{Instant}
 use Rattle.bz_task.specs.Scene.{Past, Scene, IsScene, here}
-use Rattle.bz_split.specs.BelowSplits.{AreLinksDown}
-use Rattle.bz_merge.specs.Counts.{freezes_of, both_freezes}
-use Rattle.bz_merge.specs.OwnFreezes.{FrozeAfter, FrozeViewed, ViewedWasFrozen, FrozeBeside, BothWereFrozen}
-use Rattle.bz_merge.specs.Plans.{Merging, viewed_leaf, beside_leaf}
-use Rattle.bz_merge.specs.Siblings.{SeenLeaf}
+use Rattle.bz_below.specs.FromSplit.BelowSplits.{AreLinksDown}
+use Rattle.bz_running.specs.FromMerge.Counts.{freezes_of, both_freezes}
+use Rattle.bz_running.specs.FromMerge.OwnFreezes.{FrozeAfter, FrozeViewed, ViewedWasFrozen, FrozeBeside, BothWereFrozen}
+use Rattle.bz_running.specs.FromMerge.Plans.{Merging, viewed_leaf, beside_leaf}
+use Rattle.bz_running.specs.FromMerge.Siblings.{SeenLeaf}
 use Rattle.bz_alone.specs.Alone.{IsAlone}
 use Rattle.bz_alone.specs.Quiet.{IsQuietSince, HadEffects, IsRead}
 use Rattle.bz_alone.proofs.Named.{WasSeenOnce, both-seen, pair-apart, AsRead, FreezeLaws, leaf-as-seen, quiet-as-read, guard-now, link-now, left-as-read}

@@ -4,33 +4,33 @@ use Rattle.bz_word.specs.declared.entry.Entry.{Entry}
 use Rattle.bz_below.specs.Facts.{below_differs}
 use Rattle.bz_below.specs.declared.phase.Phase.{Phase as BelowPhase}
 use Rattle.bz_below.specs.declared.phase.Phase.TheVariants as below
-use Rattle.bz_consol.specs.Facts.{consol_differs}
-use Rattle.bz_consol.specs.declared.phase.Phase.{Phase as ConsolPhase}
-use Rattle.bz_consol.specs.declared.phase.Phase.TheVariants as consol
-use Rattle.bz_crown.specs.Facts.{crown_differs}
-use Rattle.bz_crown.specs.declared.phase.Phase.{Phase as CrownPhase}
-use Rattle.bz_crown.specs.declared.phase.Phase.TheVariants as crown
+use Rattle.bz_running.specs.FromConsol.Facts.{consol_differs}
+use Rattle.bz_running.specs.FromConsol.Phase.{Phase as ConsolPhase}
+use Rattle.bz_running.specs.FromConsol.Phase.TheVariants as consol
+use Rattle.bz_running.specs.FromCrown.Facts.{crown_differs}
+use Rattle.bz_running.specs.FromCrown.Phase.{Phase as CrownPhase}
+use Rattle.bz_running.specs.FromCrown.Phase.TheVariants as crown
 use Rattle.bz_descend.specs.SeekFacts.{seek_differs}
 use Rattle.bz_descend.specs.declared.sight.Way.{Way}
 use Rattle.bz_descend.specs.declared.sight.Way.TheVariants as way
-use Rattle.bz_find.specs.Facts.{find_differs}
-use Rattle.bz_find.specs.declared.find.Find.{Find}
-use Rattle.bz_find.specs.declared.phase.Phase.{Phase as FindPhase}
-use Rattle.bz_find.specs.declared.phase.Phase.TheVariants as find
-use Rattle.bz_fork.specs.Facts.{fork_differs}
-use Rattle.bz_fork.specs.declared.phase.Phase.{Phase as ForkPhase}
-use Rattle.bz_fork.specs.declared.phase.Phase.TheVariants as fork
+use Rattle.bz_running.specs.FromFind.Facts.{find_differs}
+use Rattle.bz_running.specs.FromFind.Find.{Find}
+use Rattle.bz_running.specs.FromFind.Phase.{Phase as FindPhase}
+use Rattle.bz_running.specs.FromFind.Phase.TheVariants as find
+use Rattle.bz_running.specs.FromFork.Facts.{fork_differs}
+use Rattle.bz_running.specs.FromFork.Phase.{Phase as ForkPhase}
+use Rattle.bz_running.specs.FromFork.Phase.TheVariants as fork
 use Rattle.bz_leaf.specs.Facts.{leaf_differs}
 use Rattle.bz_leaf.specs.declared.phase.Phase.{Phase as LeafPhase}
 use Rattle.bz_leaf.specs.declared.phase.Phase.TheVariants as leaf
-use Rattle.bz_merge.specs.Duties.{merging_of}
-use Rattle.bz_merge.specs.Facts.{merge_differs}
-use Rattle.bz_merge.specs.Plans.{Merging}
-use Rattle.bz_merge.specs.declared.phase.Phase.{Phase as MergePhase}
-use Rattle.bz_merge.specs.declared.phase.Phase.TheVariants as merge
-use Rattle.bz_split.specs.Facts.{split_differs}
-use Rattle.bz_split.specs.declared.phase.Phase.{Phase as SplitPhase}
-use Rattle.bz_split.specs.declared.phase.Phase.TheVariants as split
+use Rattle.bz_running.specs.FromMerge.Duties.{merging_of}
+use Rattle.bz_running.specs.FromMerge.Facts.{merge_differs}
+use Rattle.bz_running.specs.FromMerge.Plans.{Merging}
+use Rattle.bz_running.specs.FromMerge.Phase.{Phase as MergePhase}
+use Rattle.bz_running.specs.FromMerge.Phase.TheVariants as merge
+use Rattle.bz_below.specs.FromSplit.Facts.{split_differs}
+use Rattle.bz_below.specs.FromSplit.Phase.{Phase as SplitPhase}
+use Rattle.bz_below.specs.FromSplit.Phase.TheVariants as split
 use Rattle.bz_task.specs.Requests.{Tells}
 use Rattle.bz_task.specs.Scene.{Scene, Stage, Waiting, Took}
 use Rattle.bz_task.specs.declared.path.Link.{Link}

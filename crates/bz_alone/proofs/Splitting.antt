@@ -2,10 +2,10 @@
 use Rattle.std.proofs.Common.{subst}
 use Rattle.bz_task.specs.Scene.{Scene, Waiting, IsScene}
 use Rattle.bz_renew.specs.Renewals.{renewal}
-use Rattle.bz_split.specs.Duties.{split_of}
-use Rattle.bz_split.specs.Facts.{Split, split_asks, split_facts, split_differs}
-use Rattle.bz_split.specs.declared.phase.Phase.{Phase}
-use Rattle.bz_split.specs.declared.phase.Phase.TheVariants.{Guard, Swap}
+use Rattle.bz_below.specs.FromSplit.Duties.{split_of}
+use Rattle.bz_below.specs.FromSplit.Facts.{Split, split_asks, split_facts, split_differs}
+use Rattle.bz_below.specs.FromSplit.Phase.{Phase}
+use Rattle.bz_below.specs.FromSplit.Phase.TheVariants.{Guard, Swap}
 use Rattle.bz_alone.specs.Alone.{GoesOn}
 use Rattle.bz_alone.specs.Laws.{RootSplitsGoOn}
 use Rattle.bz_alone.specs.Quiet.{IsQuietSince}

@@ -12,7 +12,7 @@ use Rattle.bz_below.specs.Facts.{Below, below_nodes, below_asks, below_facts, be
 use Rattle.bz_below.specs.Guards.{with_guard, WasNamed}
 use Rattle.bz_below.specs.declared.phase.Phase.{Phase}
 use Rattle.bz_below.specs.declared.phase.Phase.TheVariants.{Room, Again, Guard, Named, Swap}
-use Rattle.bz_split.specs.BelowSplits.{below_swap}
+use Rattle.bz_below.specs.FromSplit.BelowSplits.{below_swap}
 use Rattle.bz_alone.specs.Alone.{GoesOn}
 use Rattle.bz_alone.specs.Laws.{SplitsBelowGoOn}
 use Rattle.bz_alone.specs.Quiet.{IsQuietSince}

@@ -2,11 +2,11 @@
 -- of its swap.
 use Rattle.std.proofs.Common.{subst}
 use Rattle.bz_task.specs.Scene.{Scene, Waiting, IsScene}
-use Rattle.bz_branch.specs.InnerSplits.{inner_swap}
-use Rattle.bz_fork.specs.Duties.{fork_of}
-use Rattle.bz_fork.specs.Facts.{Fork, fork_asks, fork_facts, fork_differs}
-use Rattle.bz_fork.specs.declared.phase.Phase.{Phase}
-use Rattle.bz_fork.specs.declared.phase.Phase.TheVariants.{Unread, Tight, Again, Room, Check, Guard, Swap}
+use Rattle.bz_running.specs.FromBranch.InnerSplits.{inner_swap}
+use Rattle.bz_running.specs.FromFork.Duties.{fork_of}
+use Rattle.bz_running.specs.FromFork.Facts.{Fork, fork_asks, fork_facts, fork_differs}
+use Rattle.bz_running.specs.FromFork.Phase.{Phase}
+use Rattle.bz_running.specs.FromFork.Phase.TheVariants.{Unread, Tight, Again, Room, Check, Guard, Swap}
 use Rattle.bz_alone.specs.Alone.{GoesOn}
 use Rattle.bz_alone.specs.Laws.{InnerSplitsGoOn}
 use Rattle.bz_alone.specs.Quiet.{IsQuietSince}

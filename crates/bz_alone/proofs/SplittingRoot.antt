@@ -1,11 +1,11 @@
 -- The split of an inner root goes on: both guards that it looks at again are as they were read, and so are the words of its swap.
 use Rattle.std.proofs.Common.{subst}
 use Rattle.bz_task.specs.Scene.{Scene, Waiting, IsScene}
-use Rattle.bz_crown.specs.Duties.{crown_of}
-use Rattle.bz_crown.specs.Facts.{Crown, crown_asks, crown_facts, crown_differs}
-use Rattle.bz_crown.specs.declared.phase.Phase.{Phase}
-use Rattle.bz_crown.specs.declared.phase.Phase.TheVariants.{Again, Guard, Swap}
-use Rattle.bz_split.specs.BelowSplits.{below_swap}
+use Rattle.bz_running.specs.FromCrown.Duties.{crown_of}
+use Rattle.bz_running.specs.FromCrown.Facts.{Crown, crown_asks, crown_facts, crown_differs}
+use Rattle.bz_running.specs.FromCrown.Phase.{Phase}
+use Rattle.bz_running.specs.FromCrown.Phase.TheVariants.{Again, Guard, Swap}
+use Rattle.bz_below.specs.FromSplit.BelowSplits.{below_swap}
 use Rattle.bz_alone.specs.Alone.{GoesOn}
 use Rattle.bz_alone.specs.Laws.{InnerRootSplitsGoOn}
 use Rattle.bz_alone.specs.Quiet.{IsQuietSince}

@@ -4,8 +4,8 @@ use Rattle.std.specs.Prelude.{ℕ, List}
 use Rattle.bz_word.specs.declared.meta.Extent.{Extent}
 use Rattle.bz_insert.specs.Duties as insert
 use Rattle.bz_insert.specs.declared.insert.Insert.{Insert}
-use Rattle.bz_merge.specs.Duties as merge
-use Rattle.bz_merge.specs.declared.merge.Merge.{Merge}
+use Rattle.bz_running.specs.FromMerge.Duties as merge
+use Rattle.bz_running.specs.FromMerge.Merge.{Merge}
 use Rattle.bz_mutate.specs.UpdateDuties as update
 use Rattle.bz_mutate.specs.declared.update.Update.{Update}
 use Rattle.bz_record.specs.Leaves.{WasReserved}

@@ -1,18 +1,18 @@
 -- Tasks that ask for one swap at most go on where their worker is alone.
 use Rattle.bz_below.specs.Duties.{asks_below, facts_below, differs_below}
 use Rattle.bz_below.specs.declared.split_below.SplitBelow.{SplitBelow}
-use Rattle.bz_consol.specs.Duties as consol
-use Rattle.bz_consol.specs.declared.consolidate.Consolidate.{Consolidate}
-use Rattle.bz_crown.specs.Duties.{asks_crown, facts_crown, differs_crown}
-use Rattle.bz_crown.specs.declared.split_inner_root.SplitInnerRoot.{SplitInnerRoot}
-use Rattle.bz_fork.specs.Duties.{asks_fork, facts_fork, differs_fork}
-use Rattle.bz_fork.specs.declared.split_inner.SplitInner.{SplitInner}
+use Rattle.bz_running.specs.FromConsol.Duties as consol
+use Rattle.bz_running.specs.FromConsol.Consolidate.{Consolidate}
+use Rattle.bz_running.specs.FromCrown.Duties.{asks_crown, facts_crown, differs_crown}
+use Rattle.bz_running.specs.FromCrown.SplitInnerRoot.{SplitInnerRoot}
+use Rattle.bz_running.specs.FromFork.Duties.{asks_fork, facts_fork, differs_fork}
+use Rattle.bz_running.specs.FromFork.SplitInner.{SplitInner}
 use Rattle.bz_freeze.specs.Facts.{freeze_asks, freeze_facts}
 use Rattle.bz_freeze.specs.declared.freeze.Freeze.{Freeze}
 use Rattle.bz_mutate.specs.DeleteDuties as delete
 use Rattle.bz_mutate.specs.declared.delete.Delete.{Delete}
-use Rattle.bz_split.specs.Duties as split
-use Rattle.bz_split.specs.declared.split_root.SplitRoot.{SplitRoot}
+use Rattle.bz_below.specs.FromSplit.Duties as split
+use Rattle.bz_below.specs.FromSplit.SplitRoot.{SplitRoot}
 use Rattle.bz_alone.specs.Alone.{GoesOnAlone}
 
 abbrev pub FreezesGoOn : Type 0

@@ -10,3 +10,7 @@ pub mod Reads
 pub mod Restarts
 pub mod Tasks
 pub mod Trees
+pub mod FromMerge
+pub mod FromFork
+pub mod FromCrown
+pub mod FromConsol

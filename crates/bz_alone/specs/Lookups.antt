@@ -1,8 +1,8 @@
 -- Look-ups go on where their worker is alone: a descent, a look-up of a key in a leaf, a reading of a leaf.
 use Rattle.bz_descend.specs.SeekDuties as seek
 use Rattle.bz_descend.specs.declared.seek.Seek.{Seek}
-use Rattle.bz_find.specs.Duties as find
-use Rattle.bz_find.specs.declared.find.Find.{Find}
+use Rattle.bz_running.specs.FromFind.Duties as find
+use Rattle.bz_running.specs.FromFind.Find.{Find}
 use Rattle.bz_leaf.specs.Duties as leaf
 use Rattle.bz_leaf.specs.declared.read_leaf.ReadLeaf.{ReadLeaf}
 use Rattle.bz_alone.specs.Alone.{GoesOnAlone}

@@ -5,7 +5,7 @@ use Rattle.bz_content.specs.Content.{view_in, leaf_in}
 use Rattle.bz_content.specs.Image.{node}
 use Rattle.bz_content.specs.Resolving.{resolve}
 use Rattle.bz_descend.specs.SeekFacts.{reads_of, path_reads}
-use Rattle.bz_find.specs.Facts.{find_reads}
+use Rattle.bz_running.specs.FromFind.Facts.{find_reads}
 use Rattle.bz_layout.specs.declared.config.Config.{Config}
 use Rattle.bz_layout.specs.declared.thresholds.TheConstants.{DESCEND_READS_AT_ROOT}
 use Rattle.bz_shape.specs.Form.{Form}

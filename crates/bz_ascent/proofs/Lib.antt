@@ -2,3 +2,4 @@ mod Staying
 mod Places
 mod Parents
 mod Rising
+pub mod FromBranch

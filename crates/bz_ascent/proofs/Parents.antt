@@ -22,7 +22,7 @@ use Rattle.bz_task.specs.Instant.{Instant, durable, page_at, form_at}
 use Rattle.bz_task.specs.Laws.{HeadersSayTheLevel}
 use Rattle.bz_task.specs.Scene.{Past}
 use Rattle.bz_task.specs.declared.path.Link.{Link}
-use Rattle.bz_below.specs.Parents.{WasParent}
+use Rattle.bz_branch.specs.FromBelow.Parents.{WasParent}
 
 pub record Laws : Type 0 where
   pub formed : WellFormedImagesHaveNoFault

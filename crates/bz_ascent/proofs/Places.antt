@@ -7,7 +7,7 @@ use Rattle.bz_task.specs.Laws.{RangesStay, SamePlace}
 use Rattle.bz_task.specs.Outcomes.{IsPath}
 use Rattle.bz_task.specs.Scene.{Scene, IsScene}
 use Rattle.bz_task.specs.declared.path.Path.{Path}
-use Rattle.bz_renew.specs.FrozenLeaves.{ViewsShowFrozenLeaves, ShowsFrozenLeaf}
+use Rattle.bz_branch.specs.FromRenew.FrozenLeaves.{ViewsShowFrozenLeaves, ShowsFrozenLeaf}
 use Rattle.bz_ascent.specs.Full.{AreFullUpTo}
 use Rattle.bz_ascent.specs.Laws.{AscentsBegin, AscentsEnd}
 

@@ -12,7 +12,7 @@ use Rattle.bz_task.specs.Outcomes.{IsLink, IsPath}
 use Rattle.bz_task.specs.Scene.{Scene, IsScene}
 use Rattle.bz_task.specs.declared.path.Link.{Link}
 use Rattle.bz_task.specs.declared.path.Path.{Path}
-use Rattle.bz_below.specs.Facts.{LackedRoom}
+use Rattle.bz_branch.specs.FromBelow.Facts.{LackedRoom}
 use Rattle.bz_ascent.specs.Ascents.{IsAscent, IsOneUp}
 use Rattle.bz_ascent.specs.Full.{WasFull, WasLevelFull, AreFullUpTo}
 use Rattle.bz_ascent.specs.Laws.{AscentsRise}

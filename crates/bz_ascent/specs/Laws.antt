@@ -7,8 +7,8 @@ use Rattle.bz_task.specs.Outcomes.{IsPath, IsView}
 use Rattle.bz_task.specs.Scene.{Past, Scene, Continues, IsScene}
 use Rattle.bz_task.specs.declared.path.Path.{Path}
 use Rattle.bz_task.specs.declared.view.LeafView.{LeafView}
-use Rattle.bz_renew.specs.Due.{LeadsTo}
-use Rattle.bz_below.specs.Facts.{LackedRoom}
+use Rattle.bz_branch.specs.FromRenew.Due.{LeadsTo}
+use Rattle.bz_branch.specs.FromBelow.Facts.{LackedRoom}
 use Rattle.bz_ascent.specs.Ascents.{IsAscent, IsAtLeaf, IsOneUp}
 use Rattle.bz_ascent.specs.Full.{AreAllFull}
 use Rattle.bz_ascent.specs.declared.ascent.Ascent.{Ascent}

@@ -2,8 +2,8 @@
 
 ghost use Rattle.bz_ascent.specs.Laws.{AscentsStay, AscentsBegin, AscentsRise, AscentsEnd};
 
+use bz_branch::renew_laws as renew;
 use bz_content::laws as content;
-use bz_renew::laws as renew;
 use bz_shape::laws as shape;
 use bz_task::laws;
 

@@ -6,4 +6,4 @@ mod ascent;
 pub mod laws;
 
 pub use ascent::Ascent;
-pub use bz_below::{SplitBelow, is_due as is_due_below};
+pub use bz_branch::{SplitBelow, is_due_below};

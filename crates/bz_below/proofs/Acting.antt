@@ -12,7 +12,7 @@ use Rattle.bz_shape.specs.Split.{AreThree}
 use Rattle.bz_slotted.specs.Readers.{found_of}
 use Rattle.bz_slotted.specs.ReadingLaws.{node_of}
 use Rattle.bz_slotted.specs.Rules.{node_fault}
-use Rattle.bz_swap.proofs.EntryLists.{All-inserted}
+use Rattle.bz_task.proofs.FromSwap.EntryLists.{All-inserted}
 use Rattle.bz_word.specs.Statements.{IsCodec}
 use Rattle.bz_word.specs.Statuses.{status_word, status, IsStatus, IsStatusWord}
 use Rattle.bz_word.specs.declared.entry.Entry.{Entry}

@@ -31,7 +31,7 @@ use Rattle.bz_word.specs.Statuses.{status}
 use Rattle.bz_renew.specs.Due.{IsStatusOf}
 use Rattle.bz_renew.specs.FrozenLeaves.{WasFrozenLeaf}
 use Rattle.bz_renew.specs.Renewals.{renewal}
-use Rattle.bz_swap.specs.SwapMemory.{is_target}
+use Rattle.bz_task.specs.FromSwap.SwapMemory.{is_target}
 use Rattle.bz_renew.specs.Nodes.{Nodes, word_address, word_value, line_number, AreWriting, ArePlain, HaveSlots, HasFilledBegun, AreSlotsTaken}
 use Rattle.bz_split.specs.BelowSplits.{AreLinksDown, below_swap}
 use Rattle.bz_split.specs.Facts.{SPLIT_WORDS, SPLIT_LINES, StoodFresh}

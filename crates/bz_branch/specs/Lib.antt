@@ -5,3 +5,5 @@ pub mod Parts
 pub mod RootSplits
 pub mod FromBelow
 pub mod FromSplit
+pub mod FromRenew
+pub mod FromContent

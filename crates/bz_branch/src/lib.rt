@@ -9,7 +9,8 @@ mod parts;
 mod reading;
 mod swaps;
 
-pub use bz_below::leaves_room;
+pub use bz_below::{SplitBelow, is_due as is_due_below, leaves_room};
+pub use bz_renew::laws as renew_laws;
 pub use front::{level_of, low_fence};
 pub use links::{is_full, is_thawed, link_at};
 pub use parts::parts_of;

@@ -3,15 +3,14 @@
 ghost use Rattle.std.specs.Prelude.{◌≡◌, ◌≢◌, ◌+◌, ◌<◌, ◌^◌, false, [], ◌∷◌};
 ghost use Rattle.bz_layout.specs.Addresses.{node_address};
 ghost use Rattle.bz_layout.specs.Config.{IsConfig};
-ghost use Rattle.bz_swap.specs.SwapMemory.{is_target};
+ghost use Rattle.bz_task.specs.FromSwap.SwapMemory.{is_target};
 ghost use Rattle.bz_task.specs.Steps.{next_stamp, frozen_word};
 ghost use Rattle.bz_renew.specs.Freezings.{Freezing, renewal_with};
 ghost use Rattle.bz_renew.specs.Renewals.{renewal};
 
 use bz_layout::{Config, STATUS_AT};
 use bz_renew::swap_freezing;
-use bz_swap::EntryList;
-use bz_task::Link;
+use bz_task::{EntryList, Link};
 use bz_word::{Entry, Status};
 
 /// The swap by which a link goes to another slot, and its guard gets the next stamp, and the nodes of the slots to which two links

@@ -4,5 +4,6 @@
 mod calls;
 mod replies;
 
+pub use bz_key::Payload;
 pub use calls::Call;
 pub use replies::{Reply, Spent};

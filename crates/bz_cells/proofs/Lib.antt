@@ -7,3 +7,4 @@ pub mod Readers
 pub mod Rooms
 pub mod Stores
 pub mod Typed
+pub mod FromPm

@@ -1,7 +1,7 @@
 //! The copy of a leaf: its visible records alone, in the order of their keys.
 
 ghost use Rattle.std.specs.Prelude.{◌≡◌, ◌<◌, ◌^◌, ℕ, List, Option, None, All};
-ghost use Rattle.bz_page.specs.Pages.{IsLeafByItself};
+ghost use Rattle.bz_renew.specs.FromPage.Pages.{IsLeafByItself};
 ghost use Rattle.bz_slotted.specs.ReadingLaws.{node_of};
 ghost use Rattle.bz_slotted.specs.Rules.{node_fault};
 ghost use Rattle.bz_task.specs.Laws.{SaysAlike};

@@ -19,7 +19,7 @@ use Rattle.bz_word.specs.Kinds.{kind}
 use Rattle.bz_word.specs.Statuses.{status}
 use Rattle.bz_word.specs.Headers.{header}
 use Rattle.bz_word.specs.Metas.{meta}
-use Rattle.bz_key.specs.Packing.{packed, packed_word, packed_byte, unpacked, unpacked_key, unpacked_payload}
+use Rattle.bz_slotted.specs.FromKey.Packing.{packed, packed_word, packed_byte, unpacked, unpacked_key, unpacked_payload}
 
 pub worked-insert : WorkedInsert
 unfolding image_fault is_super node is_lawful first_unlawful resolve entry_for root_fault word_at descend pick is_before first_fault visits kids over level_of count_of child_of key_of found_of node_fault fence_test first_of every words_at meta_of visible held used extent_of live_block search_to kind status header meta packed packed_word packed_byte unpacked unpacked_key unpacked_payload

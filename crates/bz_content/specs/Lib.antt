@@ -11,3 +11,4 @@ pub mod Swaps
 pub mod TwoLevels
 pub mod View
 pub mod WorkedInsert
+pub mod FromSlotted

@@ -4,4 +4,5 @@
 pub mod laws;
 mod outcomes;
 
+pub use bz_slotted::{NodeImage, laws as slotted_laws};
 pub use outcomes::{CheckError, Shape};

@@ -2,29 +2,29 @@
 use Rattle.std.proofs.Common.{ℕ, ◌≤◌, arith}
 use Rattle.bz_below.specs.Duties.{below_of}
 use Rattle.bz_below.specs.Facts.{Below, below_asks, below_swaps}
-use Rattle.bz_consol.specs.Duties.{renewal_of}
-use Rattle.bz_consol.specs.Facts.{Renewal, consol_asks, consol_swaps}
-use Rattle.bz_crown.specs.Duties.{crown_of}
-use Rattle.bz_crown.specs.Facts.{Crown, crown_asks, crown_swaps}
+use Rattle.bz_running.specs.FromConsol.Duties.{renewal_of}
+use Rattle.bz_running.specs.FromConsol.Facts.{Renewal, consol_asks, consol_swaps}
+use Rattle.bz_running.specs.FromCrown.Duties.{crown_of}
+use Rattle.bz_running.specs.FromCrown.Facts.{Crown, crown_asks, crown_swaps}
 use Rattle.bz_descend.specs.SeekFacts.{seek_asks}
-use Rattle.bz_find.specs.Phases.{find_asks}
-use Rattle.bz_find.specs.declared.find.Find.{Find}
-use Rattle.bz_fork.specs.Duties.{fork_of}
-use Rattle.bz_fork.specs.Facts.{Fork, fork_asks, fork_swaps}
+use Rattle.bz_running.specs.FromFind.Phases.{find_asks}
+use Rattle.bz_running.specs.FromFind.Find.{Find}
+use Rattle.bz_running.specs.FromFork.Duties.{fork_of}
+use Rattle.bz_running.specs.FromFork.Facts.{Fork, fork_asks, fork_swaps}
 use Rattle.bz_freeze.specs.Facts.{freeze_asks, freeze_swaps}
-use Rattle.bz_insert.specs.Facts.{insert_asks, insert_swaps}
+use Rattle.bz_running.specs.FromInsert.Facts.{insert_asks, insert_swaps}
 use Rattle.bz_layout.specs.declared.config.Config.{Config}
 use Rattle.bz_leaf.specs.Facts.{leaf_asks}
-use Rattle.bz_merge.specs.Counts.{merge_swaps}
-use Rattle.bz_merge.specs.Duties.{merging_of}
-use Rattle.bz_merge.specs.Facts.{merge_asks}
-use Rattle.bz_merge.specs.Plans.{Merging as Merge}
+use Rattle.bz_running.specs.FromMerge.Counts.{merge_swaps}
+use Rattle.bz_running.specs.FromMerge.Duties.{merging_of}
+use Rattle.bz_running.specs.FromMerge.Facts.{merge_asks}
+use Rattle.bz_running.specs.FromMerge.Plans.{Merging as Merge}
 use Rattle.bz_mutate.specs.DeleteFacts.{delete_asks, delete_swaps}
 use Rattle.bz_mutate.specs.UpdateFacts.{update_asks, update_swaps}
 use Rattle.bz_node.specs.declared.image.NodeImage.{NodeImage}
-use Rattle.bz_record.specs.declared.new_record.NewRecord.{NewRecord}
-use Rattle.bz_split.specs.Duties.{split_of}
-use Rattle.bz_split.specs.Facts.{Split, split_asks, split_swaps}
+use Rattle.bz_running.specs.FromInsert.NewRecord.{NewRecord}
+use Rattle.bz_below.specs.FromSplit.Duties.{split_of}
+use Rattle.bz_below.specs.FromSplit.Facts.{Split, split_asks, split_swaps}
 use Rattle.bz_task.specs.Requests.{swaps_in}
 use Rattle.bz_task.specs.declared.path.Link.{Link}
 use Rattle.bz_task.specs.declared.view.KeyView.{KeyView}
@@ -33,30 +33,30 @@ use Rattle.bz_running.specs.declared.running.AnyTask.TheVariants.{Seeking, Findi
 use Rattle.bz_costs.specs.Laws.{AskedSwapsAreCounted}
 use Rattle.bz_descend.specs.declared.sight.Way.{Way as SeekPhase}
 use Rattle.bz_descend.specs.declared.sight.Way.TheVariants as seek
-use Rattle.bz_find.specs.declared.phase.Phase.{Phase as FindPhase}
-use Rattle.bz_find.specs.declared.phase.Phase.TheVariants as find
+use Rattle.bz_running.specs.FromFind.Phase.{Phase as FindPhase}
+use Rattle.bz_running.specs.FromFind.Phase.TheVariants as find
 use Rattle.bz_leaf.specs.declared.phase.Phase.{Phase as LeafPhase}
 use Rattle.bz_leaf.specs.declared.phase.Phase.TheVariants as leaf
-use Rattle.bz_insert.specs.declared.phase.Phase.{Phase as InsertPhase}
-use Rattle.bz_insert.specs.declared.phase.Phase.TheVariants as insert
+use Rattle.bz_running.specs.FromInsert.Phase.{Phase as InsertPhase}
+use Rattle.bz_running.specs.FromInsert.Phase.TheVariants as insert
 use Rattle.bz_mutate.specs.declared.update_phase.UpdatePhase.{UpdatePhase as UpdatePhase}
 use Rattle.bz_mutate.specs.declared.update_phase.UpdatePhase.TheVariants as update
 use Rattle.bz_mutate.specs.declared.delete_phase.DeletePhase.{DeletePhase as DeletePhase}
 use Rattle.bz_mutate.specs.declared.delete_phase.DeletePhase.TheVariants as delete
 use Rattle.bz_freeze.specs.declared.phase.Phase.{Phase as FreezePhase}
 use Rattle.bz_freeze.specs.declared.phase.Phase.TheVariants as freeze
-use Rattle.bz_consol.specs.declared.phase.Phase.{Phase as ConsolPhase}
-use Rattle.bz_consol.specs.declared.phase.Phase.TheVariants as consol
-use Rattle.bz_split.specs.declared.phase.Phase.{Phase as SplitPhase}
-use Rattle.bz_split.specs.declared.phase.Phase.TheVariants as split
+use Rattle.bz_running.specs.FromConsol.Phase.{Phase as ConsolPhase}
+use Rattle.bz_running.specs.FromConsol.Phase.TheVariants as consol
+use Rattle.bz_below.specs.FromSplit.Phase.{Phase as SplitPhase}
+use Rattle.bz_below.specs.FromSplit.Phase.TheVariants as split
 use Rattle.bz_below.specs.declared.phase.Phase.{Phase as BelowPhase}
 use Rattle.bz_below.specs.declared.phase.Phase.TheVariants as below
-use Rattle.bz_crown.specs.declared.phase.Phase.{Phase as CrownPhase}
-use Rattle.bz_crown.specs.declared.phase.Phase.TheVariants as crown
-use Rattle.bz_fork.specs.declared.phase.Phase.{Phase as ForkPhase}
-use Rattle.bz_fork.specs.declared.phase.Phase.TheVariants as fork
-use Rattle.bz_merge.specs.declared.phase.Phase.{Phase as MergePhase}
-use Rattle.bz_merge.specs.declared.phase.Phase.TheVariants as merge
+use Rattle.bz_running.specs.FromCrown.Phase.{Phase as CrownPhase}
+use Rattle.bz_running.specs.FromCrown.Phase.TheVariants as crown
+use Rattle.bz_running.specs.FromFork.Phase.{Phase as ForkPhase}
+use Rattle.bz_running.specs.FromFork.Phase.TheVariants as fork
+use Rattle.bz_running.specs.FromMerge.Phase.{Phase as MergePhase}
+use Rattle.bz_running.specs.FromMerge.Phase.TheVariants as merge
 
 seek-counted : (c : Config) (p : SeekPhase) → swaps_in (seek_asks c p) ≤ 0
 seek-counted c seek.Fresh = omega arith

@@ -1,21 +1,21 @@
 -- No task has more acts left, more swaps among them, or more slots to take, than at its begin.
 use Rattle.std.proofs.Common.{ℕ, ◌-◌, ◌≤◌, Bool, true, false, arith}
 use Rattle.bz_below.specs.Facts.{below_needs, below_swaps}
-use Rattle.bz_consol.specs.Facts.{consol_acts, consol_left, consol_needs, consol_swaps}
-use Rattle.bz_crown.specs.Facts.{crown_acts, crown_left, crown_needs, crown_swaps}
+use Rattle.bz_running.specs.FromConsol.Facts.{consol_acts, consol_left, consol_needs, consol_swaps}
+use Rattle.bz_running.specs.FromCrown.Facts.{crown_acts, crown_left, crown_needs, crown_swaps}
 use Rattle.bz_descend.specs.SeekFacts.{asks_one}
-use Rattle.bz_find.specs.Phases.{reads_of}
-use Rattle.bz_fork.specs.Facts.{fork_acts, fork_left, fork_needs, fork_swaps}
+use Rattle.bz_running.specs.FromFind.Phases.{reads_of}
+use Rattle.bz_running.specs.FromFork.Facts.{fork_acts, fork_left, fork_needs, fork_swaps}
 use Rattle.bz_freeze.specs.Facts.{freeze_left, freeze_swaps}
-use Rattle.bz_insert.specs.Facts.{insert_acts, insert_left, insert_swaps}
+use Rattle.bz_running.specs.FromInsert.Facts.{insert_acts, insert_left, insert_swaps}
 use Rattle.bz_layout.specs.declared.swaps.TheConstants.{DELETE_SWAPS, FREEZE_SWAPS, INSERT_SWAPS, MERGE_SWAPS, RENEWAL_SWAPS, UPDATE_SWAPS}
 use Rattle.bz_layout.specs.declared.thresholds.TheConstants.{CONSOLIDATION_SLOTS, MERGE_SLOTS, SPLIT_SLOTS}
 use Rattle.bz_leaf.specs.Facts.{leaf_acts, leaf_left}
-use Rattle.bz_merge.specs.Counts.{merge_swaps}
-use Rattle.bz_merge.specs.Facts.{merge_acts, merge_left, merge_needs}
+use Rattle.bz_running.specs.FromMerge.Counts.{merge_swaps}
+use Rattle.bz_running.specs.FromMerge.Facts.{merge_acts, merge_left, merge_needs}
 use Rattle.bz_mutate.specs.DeleteFacts.{delete_left, delete_swaps}
 use Rattle.bz_mutate.specs.UpdateFacts.{update_acts, update_left, update_swaps}
-use Rattle.bz_split.specs.Facts.{split_acts, split_left, split_needs, split_swaps}
+use Rattle.bz_below.specs.FromSplit.Facts.{split_acts, split_left, split_needs, split_swaps}
 use Rattle.bz_running.specs.Duties.{asks_of, left_of, needs_of, swaps_of}
 use Rattle.bz_running.specs.declared.running.AnyTask.TheVariants.{Seeking, Finding, Reading, Inserting, Updating, Deleting, Freezing, Consolidating, Splitting, SplittingBelow, SplittingInner, SplittingInnerRoot, Merging}
 use Rattle.bz_costs.specs.Resources.{Resource, Marks, Descriptors, Slots}
@@ -23,30 +23,30 @@ use Rattle.bz_costs.specs.Laws.{TasksWeighLittle}
 use Rattle.bz_costs.specs.Weights.{weight}
 use Rattle.bz_descend.specs.declared.sight.Way.{Way as SeekPhase}
 use Rattle.bz_descend.specs.declared.sight.Way.TheVariants as seek
-use Rattle.bz_find.specs.declared.phase.Phase.{Phase as FindPhase}
-use Rattle.bz_find.specs.declared.phase.Phase.TheVariants as find
+use Rattle.bz_running.specs.FromFind.Phase.{Phase as FindPhase}
+use Rattle.bz_running.specs.FromFind.Phase.TheVariants as find
 use Rattle.bz_leaf.specs.declared.phase.Phase.{Phase as LeafPhase}
 use Rattle.bz_leaf.specs.declared.phase.Phase.TheVariants as leaf
-use Rattle.bz_insert.specs.declared.phase.Phase.{Phase as InsertPhase}
-use Rattle.bz_insert.specs.declared.phase.Phase.TheVariants as insert
+use Rattle.bz_running.specs.FromInsert.Phase.{Phase as InsertPhase}
+use Rattle.bz_running.specs.FromInsert.Phase.TheVariants as insert
 use Rattle.bz_mutate.specs.declared.update_phase.UpdatePhase.{UpdatePhase as UpdatePhase}
 use Rattle.bz_mutate.specs.declared.update_phase.UpdatePhase.TheVariants as update
 use Rattle.bz_mutate.specs.declared.delete_phase.DeletePhase.{DeletePhase as DeletePhase}
 use Rattle.bz_mutate.specs.declared.delete_phase.DeletePhase.TheVariants as delete
 use Rattle.bz_freeze.specs.declared.phase.Phase.{Phase as FreezePhase}
 use Rattle.bz_freeze.specs.declared.phase.Phase.TheVariants as freeze
-use Rattle.bz_consol.specs.declared.phase.Phase.{Phase as ConsolPhase}
-use Rattle.bz_consol.specs.declared.phase.Phase.TheVariants as consol
-use Rattle.bz_split.specs.declared.phase.Phase.{Phase as SplitPhase}
-use Rattle.bz_split.specs.declared.phase.Phase.TheVariants as split
+use Rattle.bz_running.specs.FromConsol.Phase.{Phase as ConsolPhase}
+use Rattle.bz_running.specs.FromConsol.Phase.TheVariants as consol
+use Rattle.bz_below.specs.FromSplit.Phase.{Phase as SplitPhase}
+use Rattle.bz_below.specs.FromSplit.Phase.TheVariants as split
 use Rattle.bz_below.specs.declared.phase.Phase.{Phase as BelowPhase}
 use Rattle.bz_below.specs.declared.phase.Phase.TheVariants as below
-use Rattle.bz_crown.specs.declared.phase.Phase.{Phase as CrownPhase}
-use Rattle.bz_crown.specs.declared.phase.Phase.TheVariants as crown
-use Rattle.bz_fork.specs.declared.phase.Phase.{Phase as ForkPhase}
-use Rattle.bz_fork.specs.declared.phase.Phase.TheVariants as fork
-use Rattle.bz_merge.specs.declared.phase.Phase.{Phase as MergePhase}
-use Rattle.bz_merge.specs.declared.phase.Phase.TheVariants as merge
+use Rattle.bz_running.specs.FromCrown.Phase.{Phase as CrownPhase}
+use Rattle.bz_running.specs.FromCrown.Phase.TheVariants as crown
+use Rattle.bz_running.specs.FromFork.Phase.{Phase as ForkPhase}
+use Rattle.bz_running.specs.FromFork.Phase.TheVariants as fork
+use Rattle.bz_running.specs.FromMerge.Phase.{Phase as MergePhase}
+use Rattle.bz_running.specs.FromMerge.Phase.TheVariants as merge
 
 -- each act of the two look-ups is counted as it is asked for
 seek-one : (p : SeekPhase) → asks_one p ≤ 1

@@ -4,10 +4,10 @@ use Rattle.bz_below.specs.Duties.{below_of}
 use Rattle.bz_below.specs.Facts.{Below, below_asks, below_end, below_left, below_needs, below_swaps}
 use Rattle.bz_below.specs.declared.phase.Phase.{Phase as BelowPhase}
 use Rattle.bz_below.specs.declared.phase.Phase.TheVariants as below
-use Rattle.bz_fork.specs.Duties.{fork_of}
-use Rattle.bz_fork.specs.Facts.{Fork, fork_asks, fork_end, fork_left, fork_needs, fork_swaps}
-use Rattle.bz_fork.specs.declared.phase.Phase.{Phase as ForkPhase}
-use Rattle.bz_fork.specs.declared.phase.Phase.TheVariants as fork
+use Rattle.bz_running.specs.FromFork.Duties.{fork_of}
+use Rattle.bz_running.specs.FromFork.Facts.{Fork, fork_asks, fork_end, fork_left, fork_needs, fork_swaps}
+use Rattle.bz_running.specs.FromFork.Phase.{Phase as ForkPhase}
+use Rattle.bz_running.specs.FromFork.Phase.TheVariants as fork
 use Rattle.bz_layout.specs.declared.config.Config.{Config}
 use Rattle.bz_running.specs.Duties.{asks_of, left_of, needs_of, swaps_of}
 use Rattle.bz_task.specs.Requests.{swaps_in}

@@ -8,3 +8,6 @@ pub mod Splits
 pub mod Laws
 pub mod Costs
 pub mod Examples
+pub mod FromRunning
+pub mod FromMerge
+pub mod FromDescend

@@ -2,22 +2,22 @@
 use Rattle.std.specs.Prelude.{ℕ, ◌+◌, ◌≤◌}
 use Rattle.bz_below.specs.Duties.{left_below}
 use Rattle.bz_below.specs.Facts.{below_acts}
-use Rattle.bz_consol.specs.Facts.{consol_acts}
-use Rattle.bz_crown.specs.Facts.{crown_acts}
+use Rattle.bz_running.specs.FromConsol.Facts.{consol_acts}
+use Rattle.bz_running.specs.FromCrown.Facts.{crown_acts}
 use Rattle.bz_descend.specs.SeekFacts.{seek_reads}
-use Rattle.bz_find.specs.Facts.{find_acts}
-use Rattle.bz_fork.specs.Facts.{fork_acts}
+use Rattle.bz_running.specs.FromFind.Facts.{find_acts}
+use Rattle.bz_running.specs.FromFork.Facts.{fork_acts}
 use Rattle.bz_freeze.specs.Facts.{freeze_left}
 use Rattle.bz_freeze.specs.declared.phase.Phase.TheVariants as freeze
-use Rattle.bz_insert.specs.Facts.{insert_acts}
+use Rattle.bz_running.specs.FromInsert.Facts.{insert_acts}
 use Rattle.bz_layout.specs.declared.swaps.TheConstants.{DELETE_SWAPS, FREEZE_SWAPS, INSERT_SWAPS, MERGE_SWAPS, RENEWAL_SWAPS, UPDATE_SWAPS}
 use Rattle.bz_layout.specs.declared.thresholds.TheConstants.{CONSOLIDATION_SLOTS, MERGE_SLOTS, SPLIT_SLOTS}
 use Rattle.bz_leaf.specs.Facts.{leaf_acts}
-use Rattle.bz_merge.specs.Facts.{merge_acts}
+use Rattle.bz_running.specs.FromMerge.Facts.{merge_acts}
 use Rattle.bz_mutate.specs.DeleteFacts.{delete_left}
 use Rattle.bz_mutate.specs.UpdateFacts.{update_acts}
 use Rattle.bz_mutate.specs.declared.delete_phase.DeletePhase.TheVariants as delete
-use Rattle.bz_split.specs.Facts.{split_acts}
+use Rattle.bz_below.specs.FromSplit.Facts.{split_acts}
 use Rattle.bz_running.specs.declared.running.AnyTask.{AnyTask}
 use Rattle.bz_running.specs.declared.running.AnyTask.TheVariants.{Seeking, Finding, Reading, Inserting, Updating, Deleting, Freezing, Consolidating, Splitting, SplittingBelow, SplittingInner, SplittingInnerRoot, Merging}
 use Rattle.bz_costs.specs.Resources.{Resource}

@@ -4,8 +4,8 @@ use Rattle.std.specs.Prelude.{◌≡◌, ℕ, ◌+◌, ◌-◌, ◌*◌, ◌<◌
 use Rattle.bz_running.specs.FromAscent.Ascent.{Ascent}
 use Rattle.bz_below.specs.Duties.{end_below}
 use Rattle.bz_below.specs.declared.split_below.SplitBelow.{SplitBelow}
-use Rattle.bz_fork.specs.Duties.{end_fork}
-use Rattle.bz_fork.specs.declared.split_inner.SplitInner.{SplitInner}
+use Rattle.bz_running.specs.FromFork.Duties.{end_fork}
+use Rattle.bz_running.specs.FromFork.SplitInner.{SplitInner}
 use Rattle.bz_task.specs.declared.todo.Outcome.TheVariants.{NeedsRoom}
 use Rattle.bz_running.specs.declared.running.AnyTask.TheVariants.{SplittingBelow, SplittingInner}
 use Rattle.bz_costs.specs.Resources.{Resource}

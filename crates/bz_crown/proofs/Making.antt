@@ -9,8 +9,8 @@ use Rattle.bz_node.specs.Records.{IsChild}
 use Rattle.bz_task.specs.Laws.{NothingIsGained}
 use Rattle.bz_task.specs.OwnActs.{AreUnreached, gained}
 use Rattle.bz_task.specs.Scene.{Scene, Waiting, IsScene, HasFilled}
-use Rattle.bz_halves.specs.Roots.{root_children}
-use Rattle.bz_halves.proofs.Roots.{root-room}
+use Rattle.bz_parted.specs.FromHalves.Roots.{root_children}
+use Rattle.bz_parted.proofs.FromHalves.Roots.{root-room}
 use Rattle.bz_parted.specs.Roots.{tall_root_words}
 use Rattle.bz_renew.specs.Guards.{WasAsRead}
 use Rattle.bz_renew.specs.Nodes.{ArePlain, HaveSlots, HasFilledBegun}

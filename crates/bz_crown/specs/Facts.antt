@@ -9,7 +9,7 @@ use Rattle.bz_layout.specs.declared.thresholds.TheConstants.{INNER_LIMIT, MAX_LE
 use Rattle.bz_node.specs.Reading.{children_in}
 use Rattle.bz_slotted.specs.ReadingLaws.{node_of}
 use Rattle.bz_slotted.specs.Rules.{node_fault}
-use Rattle.bz_swap.specs.SwapMemory.{is_target}
+use Rattle.bz_task.specs.FromSwap.SwapMemory.{is_target}
 use Rattle.bz_word.specs.Statuses.{status}
 use Rattle.bz_task.specs.Outcomes.{IsUnderRoot, IsGuarded}
 use Rattle.bz_task.specs.Scene.{Past, Scene, Stage, Waiting, Took, HasFilled}

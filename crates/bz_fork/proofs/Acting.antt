@@ -12,12 +12,12 @@ use Rattle.bz_halves.specs.Parents.{HasRoomToPart, IsPartedParent, ParentsOfHalv
 use Rattle.bz_shape.specs.Split.{AreThree}
 use Rattle.bz_slotted.specs.ReadingLaws.{node_of}
 use Rattle.bz_slotted.specs.Rules.{node_fault}
-use Rattle.bz_swap.proofs.EntryLists.{All-inserted}
+use Rattle.bz_task.proofs.FromSwap.EntryLists.{All-inserted}
 use Rattle.bz_word.specs.Statements.{IsCodec}
 use Rattle.bz_word.specs.Statuses.{status_word, status, IsStatus, IsStatusWord}
 use Rattle.bz_word.specs.declared.entry.Entry.{Entry}
 use Rattle.bz_word.specs.declared.status.Status.{Status}
-use Rattle.bz_content.specs.Restructures.{children_of}
+use Rattle.bz_branch.specs.FromContent.Restructures.{children_of}
 use Rattle.bz_task.specs.Instant.{Instant, words}
 use Rattle.bz_task.specs.OwnActs.{Stores, Flushes}
 use Rattle.bz_task.specs.Requests.{IsEntryToAsk, IsAskable, IsReadable, IsTarget, IsCause}

@@ -10,7 +10,7 @@ use Rattle.bz_task.specs.Scene.{Scene, Stage, Waiting, Took, IsScene}
 use Rattle.bz_task.specs.declared.todo.Seen.{Seen}
 use Rattle.bz_task.specs.declared.todo.Seen.TheVariants.{Stored, Flushed}
 use Rattle.bz_shape.specs.Walk.{is_among}
-use Rattle.bz_swap.specs.SwapMemory.{is_target}
+use Rattle.bz_task.specs.FromSwap.SwapMemory.{is_target}
 use Rattle.bz_task.specs.declared.path.Link.{Link}
 use Rattle.bz_renew.specs.Freezings.{renewal_with}
 use Rattle.bz_renew.specs.Nodes.{HaveSlots}

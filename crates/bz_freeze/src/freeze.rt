@@ -16,8 +16,7 @@ use crate::laws::freezes_are_good;
 use crate::phase::Phase;
 use bz_call::Spent;
 use bz_layout::{Config, STATUS_AT, Slots};
-use bz_swap::EntryList;
-use bz_task::{LeafView, Outcome, Path, Seen, Task, Todo, laws};
+use bz_task::{EntryList, LeafView, Outcome, Path, Seen, Task, Todo, laws};
 use bz_word::{Entry, Status};
 
 /// The freeze of the leaf that a view shows. It ends with Done where the swap took effect, with Restart where the leaf's

@@ -8,7 +8,7 @@ use Rattle.bz_layout.specs.declared.limits.TheConstants.{MAX_NODES}
 use Rattle.bz_node.specs.Layout.{bound_of}
 use Rattle.bz_node.specs.Records.{IsChild}
 use Rattle.bz_node.specs.declared.child.Child.{Child}
-use Rattle.bz_shape.specs.Slots.{Wider}
+use Rattle.bz_slotted.specs.FromShape.Slots.{Wider}
 use Rattle.bz_slotted.specs.Page.{page}
 use Rattle.bz_slotted.specs.Readers.{count_of, child_of, key_of}
 use Rattle.bz_slotted.specs.ReadingLaws.{node_of, IsInnerOf, MadeInnersAreWhole}

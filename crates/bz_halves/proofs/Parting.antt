@@ -11,7 +11,7 @@ use Rattle.bz_key.specs.Bytes.{IsKey}
 use Rattle.bz_layout.specs.Rooms.{LeafSplitsInHalves}
 use Rattle.bz_node.specs.Records.{keys_of, IsPair, IsBefore, IsAtLeast, IsAbove, IsBelow, AreRising, IsLeafList}
 use Rattle.bz_node.proofs.Orders.{IsBefore-trans, IsBefore-other, is_before_other, get_or-keys_of, length-keys_of}
-use Rattle.bz_shape.specs.Order.{is_before}
+use Rattle.bz_slotted.specs.FromShape.Order.{is_before}
 use Rattle.bz_slotted.specs.ReadingLaws.{node_of, IsLeafOf, MadeLeavesAreWhole}
 use Rattle.bz_slotted.proofs.MadeLeaves.{before-test, test-before}
 use Rattle.bz_halves.specs.Halves.{IsCut, separator_of, left_words, right_words}

@@ -13,7 +13,7 @@ use Rattle.bz_node.specs.Layout.{bound_of}
 use Rattle.bz_node.specs.Reading.{children_in}
 use Rattle.bz_node.specs.Records.{IsChild, IsBound, IsChildList, IsAbove, IsBelow, IsBefore, AreRising, separators_of}
 use Rattle.bz_node.specs.declared.child.Child.{Child}
-use Rattle.bz_shape.specs.Order.{is_above, is_below}
+use Rattle.bz_slotted.specs.FromShape.Order.{is_above, is_below}
 use Rattle.bz_slotted.specs.Laws.{InnerRulesAreFacts, InnerKeysRise, RisesBetween}
 use Rattle.bz_slotted.specs.Page.{words_at, extent_of, page}
 use Rattle.bz_slotted.specs.Readers.{count_of, child_of, key_of}

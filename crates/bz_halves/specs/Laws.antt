@@ -9,8 +9,8 @@ use Rattle.bz_layout.specs.declared.sizes.TheConstants.{SHARED_WORDS}
 use Rattle.bz_layout.specs.declared.thresholds.TheConstants.{SPLIT_ABOVE, INNER_LIMIT}
 use Rattle.bz_node.specs.Layout.{needed}
 use Rattle.bz_node.specs.Records.{child_entry, IsPair, IsBound, IsLeafList, IsAbove, IsBelow}
-use Rattle.bz_shape.specs.Order.{is_before}
-use Rattle.bz_shape.specs.Slots.{AreTwo}
+use Rattle.bz_slotted.specs.FromShape.Order.{is_before}
+use Rattle.bz_slotted.specs.FromShape.Slots.{AreTwo}
 use Rattle.bz_slotted.specs.Readers.{count_of, child_of, key_of, found_of}
 use Rattle.bz_slotted.specs.ReadingLaws.{node_of, IsLeafOf}
 use Rattle.bz_slotted.specs.Rules.{node_fault}

@@ -10,7 +10,7 @@ use Rattle.bz_node.specs.Layout.{bound_of, needed}
 use Rattle.bz_node.specs.Reading.{children_in, IsReadableInner}
 use Rattle.bz_node.specs.Records.{child_entry, inner_words, IsChild, IsBound, IsChildList, IsAbove, IsBelow}
 use Rattle.bz_node.specs.declared.child.Child.{Child}
-use Rattle.bz_shape.specs.Slots.{Children, Wider}
+use Rattle.bz_slotted.specs.FromShape.Slots.{Children, Wider}
 use Rattle.bz_slotted.specs.Readers.{count_of, child_of, key_of}
 use Rattle.bz_slotted.specs.ReadingLaws.{node_of, IsInnerOf}
 use Rattle.bz_slotted.specs.Rules.{node_fault}

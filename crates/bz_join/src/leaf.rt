@@ -1,7 +1,7 @@
 //! The leaf that has the records of two.
 
 ghost use Rattle.std.specs.Prelude.{◌≡◌, ◌+◌, ◌≤◌, ◌++◌, length};
-ghost use Rattle.bz_page.specs.Pages.{IsLeafByItself};
+ghost use Rattle.bz_renew.specs.FromPage.Pages.{IsLeafByItself};
 ghost use Rattle.bz_renew.specs.Sorted.{IsSortedLeaf};
 ghost use Rattle.bz_join.specs.Leaves.{MayJoin, IsOneOf};
 
@@ -31,7 +31,7 @@ fn sorted(image: &NodeImage) -> SortedLeaf
     slotted::live_words_fit();
     slotted::whole_leaves_are_readable();
     slotted::high_fences_are_read();
-    bz_page::laws::ordered_pairs_are_found();
+    bz_renew::ordered_pairs_are_found();
     SortedLeaf {
         records: records_of(&image.0),
         low: low_fence(image),

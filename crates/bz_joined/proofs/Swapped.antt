@@ -13,7 +13,7 @@ use Rattle.bz_renew.proofs.Words.{and-left, and-right}
 use Rattle.bz_shape.specs.Form.{Holds}
 use Rattle.bz_shape.specs.TreeLaws.{LeavesTileTheKeys}
 use Rattle.bz_slotted.specs.Page.{page}
-use Rattle.bz_split.specs.BelowSplits.{below_swap}
+use Rattle.bz_merge.specs.FromSplit.BelowSplits.{below_swap}
 use Rattle.bz_word.specs.Statuses.{status}
 use Rattle.bz_word.specs.declared.entry.Entry.{Entry}
 use Rattle.bz_content.specs.Content.{image_of, leaf_in, view_in}

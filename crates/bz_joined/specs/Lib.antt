@@ -6,3 +6,4 @@ pub mod SmallLeaves
 pub mod FromRounds
 pub mod FromAlone
 pub mod FromTally
+pub mod FromStage

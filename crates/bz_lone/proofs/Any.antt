@@ -9,10 +9,10 @@ use Rattle.bz_costs.specs.Weights.{weigh}
 use Rattle.bz_machine.specs.Allowed.{for_worker, sum_below}
 use Rattle.bz_rivals.specs.Laws.{RivalsAreFew}
 use Rattle.bz_rivals.specs.Rivals.{rivals}
-use Rattle.bz_running.specs.Kinds as kinds
-use Rattle.bz_running.specs.Kinds.{Kind, kind_of}
-use Rattle.bz_running.specs.declared.running.AnyTask.{AnyTask}
-use Rattle.bz_running.specs.declared.running.AnyTask.TheVariants.{Seeking}
+use Rattle.bz_costs.specs.FromRunning.Kinds as kinds
+use Rattle.bz_costs.specs.FromRunning.Kinds.{Kind, kind_of}
+use Rattle.bz_costs.specs.FromRunning.AnyTask.{AnyTask}
+use Rattle.bz_costs.specs.FromRunning.AnyTask.TheVariants.{Seeking}
 use Rattle.bz_swap.specs.Alone.{allowed_while, left_to}
 use Rattle.bz_swap.specs.LoneRuns.{LoneStepsAreAllowed}
 use Rattle.bz_swap.specs.SwapMemory.{SwapMemory, Doing, Idle, doing_of}

@@ -8,13 +8,13 @@ use Rattle.bz_costs.specs.Resources.{Resource, Marks, Descriptors, Slots}
 use Rattle.bz_costs.specs.Laws.{TasksWeighLittle}
 use Rattle.bz_costs.specs.Most.{most_of, most_of_seek}
 use Rattle.bz_costs.specs.Weights.{start_takes, weigh}
-use Rattle.bz_descend.specs.SeekFacts.{seek_reads}
+use Rattle.bz_costs.specs.FromDescend.SeekFacts.{seek_reads}
 use Rattle.bz_layout.specs.declared.config.Config.{Config}
-use Rattle.bz_running.specs.Duties.{end_of, left_of, made_of, needs_of, swaps_of}
-use Rattle.bz_running.specs.Kinds as kinds
-use Rattle.bz_running.specs.Kinds.{Kind, kind_of}
-use Rattle.bz_running.specs.declared.running.AnyTask.{AnyTask}
-use Rattle.bz_running.specs.declared.running.AnyTask.TheVariants.{Seeking}
+use Rattle.bz_costs.specs.FromRunning.Duties.{end_of, left_of, made_of, needs_of, swaps_of}
+use Rattle.bz_costs.specs.FromRunning.Kinds as kinds
+use Rattle.bz_costs.specs.FromRunning.Kinds.{Kind, kind_of}
+use Rattle.bz_costs.specs.FromRunning.AnyTask.{AnyTask}
+use Rattle.bz_costs.specs.FromRunning.AnyTask.TheVariants.{Seeking}
 use Rattle.bz_swap.specs.SwapMemory.{SwapMemory}
 use Rattle.bz_task.specs.Scene.{Past}
 use Rattle.bz_task.specs.declared.todo.Outcome.{Outcome}

@@ -4,8 +4,8 @@ use Rattle.std.specs.Prelude.{Option, Some, if◌then◌else◌, nat_lt}
 use Rattle.std.proofs.lemmas.Bool.{cases_lt}
 use Rattle.std.proofs.lemmas.Bool.Decides.{nat_tests}
 use Rattle.bz_joined.specs.FromAlone.Alone.{IsAlone}
-use Rattle.bz_running.specs.FromAscent.Ascents.{IsOneUp}
-use Rattle.bz_running.specs.FromAscent.Ascent.{Ascent}
+use Rattle.bz_costs.specs.FromRunning.Ascents.{IsOneUp}
+use Rattle.bz_costs.specs.FromRunning.Ascent.{Ascent}
 use Rattle.bz_costs.specs.Laws.{LostSplitsCostLittle}
 use Rattle.bz_costs.specs.Resources.{Resource, Marks}
 use Rattle.bz_costs.specs.Costs.{RoundsArePaid}
@@ -15,11 +15,11 @@ use Rattle.bz_costs.specs.Splits.{cost_after_below, cost_after_inner, most_of_hi
 use Rattle.bz_costs.specs.Stretches.{cost_once_viewed, cost_from, top_stage}
 use Rattle.bz_costs.specs.Weights.{weigh}
 use Rattle.bz_layout.specs.declared.thresholds.TheConstants.{MAX_LEVELS}
-use Rattle.bz_running.specs.Duties.{end_of}
-use Rattle.bz_running.specs.Kinds as kinds
-use Rattle.bz_running.specs.Kinds.{Kind, kind_of, level_of}
-use Rattle.bz_running.specs.declared.running.AnyTask.{AnyTask}
-use Rattle.bz_running.specs.declared.running.AnyTask.TheVariants.{SplittingBelow, SplittingInner, SplittingInnerRoot}
+use Rattle.bz_costs.specs.FromRunning.Duties.{end_of}
+use Rattle.bz_costs.specs.FromRunning.Kinds as kinds
+use Rattle.bz_costs.specs.FromRunning.Kinds.{Kind, kind_of, level_of}
+use Rattle.bz_costs.specs.FromRunning.AnyTask.{AnyTask}
+use Rattle.bz_costs.specs.FromRunning.AnyTask.TheVariants.{SplittingBelow, SplittingInner, SplittingInnerRoot}
 use Rattle.bz_swap.specs.SwapMemory.{SwapMemory}
 use Rattle.bz_task.specs.Scene.{Past}
 use Rattle.bz_task.specs.declared.path.Path.{Path}

@@ -1,6 +1,6 @@
 -- What may come after a task, of each sort of call.
 use Rattle.std.proofs.Common.{◌≡◌, ℕ, ◌≤◌, if◌then◌else◌, Bool, true, false, ap, refl, ◌∙◌}
-use Rattle.bz_running.specs.Kinds.{Kind}
+use Rattle.bz_costs.specs.FromRunning.Kinds.{Kind}
 use Rattle.bz_lone.specs.Errands.{Errand, is_read}
 use Rattle.bz_lone.specs.Prices.{Prices, coming_to_read, coming_to_write, coming_after, coming}
 use Rattle.bz_costs.specs.Resources.{Resource}

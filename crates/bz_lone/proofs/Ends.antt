@@ -7,9 +7,9 @@ use Rattle.bz_costs.specs.Resources.{Resource, Marks, Descriptors, Slots}
 use Rattle.bz_costs.specs.Stretches.{lone_stretch}
 use Rattle.bz_costs.specs.Weights.{weigh}
 use Rattle.bz_rivals.specs.Rivals.{rivals}
-use Rattle.bz_running.specs.Duties.{end_of}
-use Rattle.bz_running.specs.Kinds.{kind_of}
-use Rattle.bz_running.specs.declared.running.AnyTask.{AnyTask}
+use Rattle.bz_costs.specs.FromRunning.Duties.{end_of}
+use Rattle.bz_costs.specs.FromRunning.Kinds.{kind_of}
+use Rattle.bz_costs.specs.FromRunning.AnyTask.{AnyTask}
 use Rattle.bz_swap.specs.SwapMemory.{SwapMemory}
 use Rattle.bz_task.specs.Scene.{Past}
 use Rattle.bz_task.specs.declared.todo.Outcome.{Outcome}

@@ -9,10 +9,10 @@ use Rattle.bz_costs.specs.Costs.{HigherStagesCostMore, StretchesAreTheMost}
 use Rattle.bz_costs.specs.Most.{most_of_seek}
 use Rattle.bz_costs.specs.Stretches.{lone_stretch}
 use Rattle.bz_rivals.specs.Rivals.{rivals}
-use Rattle.bz_running.specs.Kinds as kinds
-use Rattle.bz_running.specs.Kinds.{kind_of}
-use Rattle.bz_running.specs.declared.running.AnyTask.{AnyTask}
-use Rattle.bz_stage.specs.Stages.{leaf_page, stage_in}
+use Rattle.bz_costs.specs.FromRunning.Kinds as kinds
+use Rattle.bz_costs.specs.FromRunning.Kinds.{kind_of}
+use Rattle.bz_costs.specs.FromRunning.AnyTask.{AnyTask}
+use Rattle.bz_joined.specs.FromStage.Stages.{leaf_page, stage_in}
 use Rattle.bz_swap.specs.SwapMemory.{SwapMemory}
 use Rattle.bz_task.specs.Scene.{Past}
 use Rattle.bz_lone.specs.Errands.{Errand, words_asked, after}

@@ -8,11 +8,11 @@ use Rattle.bz_costs.specs.Weights.{slots_gone, start_takes, weigh}
 use Rattle.bz_costs.specs.Stretches.{lone_stretch}
 use Rattle.bz_layout.specs.Slots.{FreeSlots}
 use Rattle.bz_rivals.specs.Rivals.{rivals}
-use Rattle.bz_running.specs.Duties.{asks_of, end_of, made_of}
-use Rattle.bz_running.specs.Hearing.{HasHeard}
-use Rattle.bz_running.specs.Kinds.{kind_of}
-use Rattle.bz_running.specs.Laws.{AreLaws}
-use Rattle.bz_running.specs.declared.running.AnyTask.{AnyTask}
+use Rattle.bz_costs.specs.FromRunning.Duties.{asks_of, end_of, made_of}
+use Rattle.bz_costs.specs.FromRunning.Hearing.{HasHeard}
+use Rattle.bz_costs.specs.FromRunning.Kinds.{kind_of}
+use Rattle.bz_costs.specs.FromRunning.Laws.{AreLaws}
+use Rattle.bz_costs.specs.FromRunning.AnyTask.{AnyTask}
 use Rattle.bz_swap.specs.SwapMemory.{SwapMemory}
 use Rattle.bz_task.specs.Requests.{Hears, effects_in, swaps_in}
 use Rattle.bz_task.specs.Scene.{Past}

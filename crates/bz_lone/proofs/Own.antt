@@ -16,14 +16,14 @@ use Rattle.bz_layout.specs.declared.thresholds.TheConstants.{LEAF_RECORD_WORDS}
 use Rattle.bz_rivals.specs.Rivals.{rivals}
 use Rattle.bz_joined.specs.FromRounds.Left.{LoneSwapsLeave}
 use Rattle.bz_joined.specs.FromRounds.Lone.{IsLoneSwap}
-use Rattle.bz_running.specs.Duties.{config_of, end_of, made_of, facts_of, asks_of, swaps_of, change_swaps, publishing_of, makes_no_change}
-use Rattle.bz_running.specs.Kinds as kinds
-use Rattle.bz_running.specs.Kinds.{Kind, kind_of, is_look}
-use Rattle.bz_running.specs.MadeFor.{IsMadeFor, IsMergeFor}
-use Rattle.bz_running.specs.declared.running.AnyTask.{AnyTask}
+use Rattle.bz_costs.specs.FromRunning.Duties.{config_of, end_of, made_of, facts_of, asks_of, swaps_of, change_swaps, publishing_of, makes_no_change}
+use Rattle.bz_costs.specs.FromRunning.Kinds as kinds
+use Rattle.bz_costs.specs.FromRunning.Kinds.{Kind, kind_of, is_look}
+use Rattle.bz_costs.specs.FromRunning.MadeFor.{IsMadeFor, IsMergeFor}
+use Rattle.bz_costs.specs.FromRunning.AnyTask.{AnyTask}
 use Rattle.bz_slotted.specs.Page.{Page}
-use Rattle.bz_stage.specs.Rooms.{is_crowded}
-use Rattle.bz_stage.specs.Stages.{leaf_page}
+use Rattle.bz_joined.specs.FromStage.Rooms.{is_crowded}
+use Rattle.bz_joined.specs.FromStage.Stages.{leaf_page}
 use Rattle.bz_swap.specs.SwapMemory.{SwapMemory}
 use Rattle.bz_task.specs.Instant.{Instant}
 use Rattle.bz_task.specs.Requests.{swaps_in}

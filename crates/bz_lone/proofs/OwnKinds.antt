@@ -2,13 +2,13 @@
 use Rattle.std.proofs.Common.{◌≡◌, ℕ, ◌<◌, Bool, true, false, List, Option, Some, None, IsSome, arith, refl, sym, ap, subst, ◌∙◌, inl, inr}
 use Rattle.bz_call.specs.declared.calls.Call.{Call}
 use Rattle.bz_call.specs.declared.calls.Call.TheVariants as call
-use Rattle.bz_running.specs.Duties.{asks_of, end_of, change_swaps, publishing_of, makes_no_change}
-use Rattle.bz_running.specs.Kinds as kinds
-use Rattle.bz_running.specs.Kinds.{Kind, kind_of, is_look, is_renewal}
-use Rattle.bz_running.specs.Laws.{AreLaws}
-use Rattle.bz_running.specs.MadeFor.{IsMadeFor}
-use Rattle.bz_running.specs.declared.running.AnyTask.{AnyTask}
-use Rattle.bz_running.specs.declared.running.AnyTask.TheVariants.{Seeking, Finding, Reading, Inserting, Updating, Deleting, Merging}
+use Rattle.bz_costs.specs.FromRunning.Duties.{asks_of, end_of, change_swaps, publishing_of, makes_no_change}
+use Rattle.bz_costs.specs.FromRunning.Kinds as kinds
+use Rattle.bz_costs.specs.FromRunning.Kinds.{Kind, kind_of, is_look, is_renewal}
+use Rattle.bz_costs.specs.FromRunning.Laws.{AreLaws}
+use Rattle.bz_costs.specs.FromRunning.MadeFor.{IsMadeFor}
+use Rattle.bz_costs.specs.FromRunning.AnyTask.{AnyTask}
+use Rattle.bz_costs.specs.FromRunning.AnyTask.TheVariants.{Seeking, Finding, Reading, Inserting, Updating, Deleting, Merging}
 use Rattle.bz_task.specs.Scene.{Past}
 use Rattle.bz_task.specs.declared.todo.Outcome.{Outcome}
 use Rattle.bz_task.specs.declared.todo.Todo.TheVariants.{Swap, Finish}

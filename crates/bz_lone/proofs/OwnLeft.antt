@@ -1,6 +1,6 @@
 -- The own swap of a task that was made for the key and the words of its call leaves what the next round costs.
 use Rattle.std.proofs.Common.{◌≡◌, ℕ, ◌<◌, ◌≤◌, true, false, List, arith, refl, subst}
-use Rattle.bz_running.specs.FromAscent.Ascent.{Ascent}
+use Rattle.bz_costs.specs.FromRunning.Ascent.{Ascent}
 use Rattle.bz_call.specs.Map.{key_of}
 use Rattle.bz_content.specs.Content.{image_of}
 use Rattle.bz_costs.specs.Resources.{Resource}
@@ -9,13 +9,13 @@ use Rattle.bz_joined.specs.Lone.{LoneFreezesFreezeTheLeaf}
 use Rattle.bz_layout.specs.declared.config.Config.{Config}
 use Rattle.bz_joined.specs.FromRounds.Left.{HasSplit, IsLeft}
 use Rattle.bz_joined.specs.FromRounds.Lone.{IsLoneSwap}
-use Rattle.bz_running.specs.Duties.{config_of, asks_of, facts_of}
-use Rattle.bz_running.specs.Kinds as kinds
-use Rattle.bz_running.specs.Kinds.{Kind, kind_of, is_look, level_of}
-use Rattle.bz_running.specs.MadeFor.{HasFoot, IsMadeFor}
-use Rattle.bz_running.specs.declared.running.AnyTask.{AnyTask}
-use Rattle.bz_running.specs.declared.running.AnyTask.TheVariants.{Freezing, SplittingInner, SplittingInnerRoot}
-use Rattle.bz_stage.specs.Stages.{leaf_page, full_above, stage_in}
+use Rattle.bz_costs.specs.FromRunning.Duties.{config_of, asks_of, facts_of}
+use Rattle.bz_costs.specs.FromRunning.Kinds as kinds
+use Rattle.bz_costs.specs.FromRunning.Kinds.{Kind, kind_of, is_look, level_of}
+use Rattle.bz_costs.specs.FromRunning.MadeFor.{HasFoot, IsMadeFor}
+use Rattle.bz_costs.specs.FromRunning.AnyTask.{AnyTask}
+use Rattle.bz_costs.specs.FromRunning.AnyTask.TheVariants.{Freezing, SplittingInner, SplittingInnerRoot}
+use Rattle.bz_joined.specs.FromStage.Stages.{leaf_page, full_above, stage_in}
 use Rattle.bz_task.specs.Instant.{Instant}
 use Rattle.bz_task.specs.Scene.{Past, Scene}
 use Rattle.bz_word.specs.declared.entry.Entry.{Entry}

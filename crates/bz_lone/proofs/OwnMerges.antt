@@ -6,18 +6,18 @@ use Rattle.bz_content.specs.Content.{image_of}
 use Rattle.bz_joined.specs.Lone.{LoneFreezesBesideKeepTheLeaf, MergeSwapsGiveRoom}
 use Rattle.bz_layout.specs.declared.config.Config.{Config}
 use Rattle.bz_layout.specs.declared.thresholds.TheConstants.{LEAF_RECORD_WORDS}
-use Rattle.bz_merge.specs.Counts.{freezes_of, merge_made, merge_swaps}
-use Rattle.bz_merge.specs.Duties.{merging_of}
-use Rattle.bz_merge.specs.Facts.{merge_asks, merge_facts}
-use Rattle.bz_merge.specs.Plans.{Merging as Plan}
-use Rattle.bz_merge.specs.declared.phase.Phase.{Phase}
-use Rattle.bz_merge.specs.declared.phase.Phase.TheVariants.{Freeze, FreezeBeside, Swap}
-use Rattle.bz_running.specs.Duties.{config_of, asks_of, facts_of, made_of, swaps_of, makes_no_change}
-use Rattle.bz_running.specs.Kinds.{Merge, kind_of}
-use Rattle.bz_running.specs.MadeFor.{IsMergeFor}
-use Rattle.bz_running.specs.declared.running.AnyTask.{AnyTask}
-use Rattle.bz_running.specs.declared.running.AnyTask.TheVariants.{Merging}
-use Rattle.bz_stage.specs.Stages.{leaf_page, stage_in}
+use Rattle.bz_costs.specs.FromMerge.Counts.{freezes_of, merge_made, merge_swaps}
+use Rattle.bz_costs.specs.FromMerge.Duties.{merging_of}
+use Rattle.bz_costs.specs.FromMerge.Facts.{merge_asks, merge_facts}
+use Rattle.bz_costs.specs.FromMerge.Plans.{Merging as Plan}
+use Rattle.bz_costs.specs.FromMerge.Phase.{Phase}
+use Rattle.bz_costs.specs.FromMerge.Phase.TheVariants.{Freeze, FreezeBeside, Swap}
+use Rattle.bz_costs.specs.FromRunning.Duties.{config_of, asks_of, facts_of, made_of, swaps_of, makes_no_change}
+use Rattle.bz_costs.specs.FromRunning.Kinds.{Merge, kind_of}
+use Rattle.bz_costs.specs.FromRunning.MadeFor.{IsMergeFor}
+use Rattle.bz_costs.specs.FromRunning.AnyTask.{AnyTask}
+use Rattle.bz_costs.specs.FromRunning.AnyTask.TheVariants.{Merging}
+use Rattle.bz_joined.specs.FromStage.Stages.{leaf_page, stage_in}
 use Rattle.bz_task.specs.Instant.{Instant}
 use Rattle.bz_task.specs.Scene.{Scene, Waiting, IsScene, here}
 use Rattle.bz_task.specs.Swaps.{Stand, SwapsTo}

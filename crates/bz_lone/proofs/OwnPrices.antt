@@ -6,11 +6,11 @@ use Rattle.bz_costs.specs.Costs.{HigherStagesCostMore, RoundsArePaid}
 use Rattle.bz_costs.specs.Most.{most_of_seek, most_of_find, most_of_leaf, most_of_freeze, most_of_copy}
 use Rattle.bz_costs.specs.Splits.{cost_after_below, cost_after_inner, SplitsArePaid}
 use Rattle.bz_costs.specs.Stretches.{cost_of_view, cost_of_change, cost_of_renewal, cost_once_viewed, cost_from, cost_at, cost_viewed_at, top_stage}
-use Rattle.bz_running.specs.Kinds as kinds
-use Rattle.bz_running.specs.Kinds.{Kind}
+use Rattle.bz_costs.specs.FromRunning.Kinds as kinds
+use Rattle.bz_costs.specs.FromRunning.Kinds.{Kind}
 use Rattle.bz_slotted.specs.Page.{Page}
-use Rattle.bz_stage.specs.Rooms.{is_crowded}
-use Rattle.bz_stage.specs.Stages.{stage_of}
+use Rattle.bz_joined.specs.FromStage.Rooms.{is_crowded}
+use Rattle.bz_joined.specs.FromStage.Stages.{stage_of}
 use Rattle.bz_lone.specs.Errands.{Errand, is_read, is_freeze, after}
 use Rattle.bz_lone.specs.Prices.{Prices, clean_prices, viewed_price, way_price, round_price}
 use Rattle.bz_lone.proofs.Pricing.{frozen-lacks, less}

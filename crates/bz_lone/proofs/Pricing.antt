@@ -10,10 +10,10 @@ use Rattle.bz_costs.specs.Most.{most_of_find, most_of_leaf, most_of_freeze, most
 use Rattle.bz_costs.specs.Stretches.{cost_of_look_up, cost_of_view, cost_of_change, cost_from, top_stage, cost_viewed_at, lone_stretch}
 use Rattle.bz_layout.specs.declared.config.Config.{Config}
 use Rattle.bz_layout.specs.declared.sizes.TheConstants.{SHARED_WORDS}
-use Rattle.bz_running.specs.Kinds as kinds
+use Rattle.bz_costs.specs.FromRunning.Kinds as kinds
 use Rattle.bz_slotted.specs.Page.{Page}
-use Rattle.bz_stage.specs.Rooms.{words_taken, is_crowded}
-use Rattle.bz_stage.specs.Stages.{leaf_page, frozen_stage, stage_of, stage_in}
+use Rattle.bz_joined.specs.FromStage.Rooms.{words_taken, is_crowded}
+use Rattle.bz_joined.specs.FromStage.Stages.{leaf_page, frozen_stage, stage_of, stage_in}
 use Rattle.bz_lone.proofs.Coming.{either, two-ways, comes-within}
 use Rattle.bz_lone.specs.Errands.{Errand, words_asked}
 use Rattle.bz_lone.specs.Prices.{Prices, viewed_price, clean_prices, prices_in, way_price, round_price}

@@ -7,8 +7,8 @@ use Rattle.bz_costs.specs.Weights.{weigh}
 use Rattle.bz_costs.specs.Stretches.{lone_stretch}
 use Rattle.bz_rivals.specs.Rivals.{rivals}
 use Rattle.bz_joined.specs.FromRounds.Stands.{StagesStand}
-use Rattle.bz_running.specs.Kinds.{kind_of}
-use Rattle.bz_running.specs.declared.running.AnyTask.{AnyTask}
+use Rattle.bz_costs.specs.FromRunning.Kinds.{kind_of}
+use Rattle.bz_costs.specs.FromRunning.AnyTask.{AnyTask}
 use Rattle.bz_task.specs.Scene.{Past}
 use Rattle.bz_lone.specs.Errands.{Errand, after}
 use Rattle.bz_lone.specs.Prices.{coming, round_price}

@@ -6,9 +6,9 @@ use Rattle.bz_content.specs.Content.{image_of}
 use Rattle.bz_costs.specs.Resources.{Resource}
 use Rattle.bz_costs.specs.Most.{most_of_leaf}
 use Rattle.bz_costs.specs.Stretches.{cost_once_viewed, cost_from, cost_viewed_at, lone_stretch}
-use Rattle.bz_running.specs.Kinds as kinds
+use Rattle.bz_costs.specs.FromRunning.Kinds as kinds
 use Rattle.bz_slotted.specs.Page.{Page}
-use Rattle.bz_stage.specs.Stages.{leaf_page, full_above}
+use Rattle.bz_joined.specs.FromStage.Stages.{leaf_page, full_above}
 use Rattle.bz_swap.specs.SwapMemory.{SwapMemory}
 use Rattle.bz_task.specs.Scene.{Past}
 use Rattle.bz_lone.proofs.Coming.{comes-to-write}

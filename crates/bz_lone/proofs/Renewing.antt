@@ -8,7 +8,7 @@ use Rattle.bz_costs.specs.Resources.{Resource, Marks}
 use Rattle.bz_costs.specs.Costs.{RoundsArePaid}
 use Rattle.bz_costs.specs.Most.{most_of_freeze, most_of_copy, most_of_merge, most_of_root, most_of_below}
 use Rattle.bz_costs.specs.Stretches.{cost_of_view, cost_once_viewed, cost_from, top_stage, cost_viewed_at, cost_at}
-use Rattle.bz_stage.specs.Stages.{full_above}
+use Rattle.bz_joined.specs.FromStage.Stages.{full_above}
 use Rattle.bz_swap.specs.SwapMemory.{SwapMemory}
 use Rattle.bz_task.specs.Scene.{Past}
 use Rattle.bz_lone.proofs.Pricing.{frozen-lacks, viewed-thawed, viewed-large, viewed-small}

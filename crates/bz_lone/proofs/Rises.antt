@@ -11,8 +11,8 @@ use Rattle.bz_costs.specs.Most.{most_of_seek, most_of_find, most_of_leaf, most_o
 use Rattle.bz_costs.specs.Splits.{cost_after_inner}
 use Rattle.bz_costs.specs.Stretches.{cost_of_change, cost_once_viewed, cost_from, cost_at, top_stage}
 use Rattle.bz_layout.specs.declared.thresholds.TheConstants.{MAX_LEVELS}
-use Rattle.bz_running.specs.Kinds as kinds
-use Rattle.bz_running.specs.Kinds.{Kind, level_of}
+use Rattle.bz_costs.specs.FromRunning.Kinds as kinds
+use Rattle.bz_costs.specs.FromRunning.Kinds.{Kind, level_of}
 use Rattle.bz_slotted.specs.Page.{Page}
 use Rattle.bz_lone.specs.Errands.{Errand, is_read, after}
 use Rattle.bz_lone.specs.Prices.{Prices, disturbed_prices, viewed_price, clean_prices, way_price, coming_to_read, coming_to_write, coming_after, coming}

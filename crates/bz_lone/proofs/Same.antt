@@ -10,8 +10,8 @@ use Rattle.bz_costs.specs.Splits.{cost_after_below, cost_after_inner}
 use Rattle.bz_costs.specs.Stretches.{cost_of_view, cost_from, cost_at, cost_viewed_at, top_stage}
 use Rattle.bz_joined.specs.FromRounds.Stands.{SameStage, StagesStand}
 use Rattle.bz_slotted.specs.Page.{Page}
-use Rattle.bz_stage.specs.Rooms.{is_crowded}
-use Rattle.bz_stage.specs.Stages.{leaf_page, stage_in}
+use Rattle.bz_joined.specs.FromStage.Rooms.{is_crowded}
+use Rattle.bz_joined.specs.FromStage.Stages.{leaf_page, stage_in}
 use Rattle.bz_task.specs.Instant.{Instant}
 use Rattle.bz_task.specs.Scene.{Past, Scene, IsScene, here}
 use Rattle.bz_call.specs.Map.{key_of}

@@ -2,9 +2,9 @@
 use Rattle.std.proofs.Common.{◌≡◌, ◌⊎◌, ◌+◌, ◌≤◌, if◌then◌else◌, Bool, true, false, arith, ap, inl, inr}
 use Rattle.bz_costs.specs.Resources.{Resource}
 use Rattle.bz_costs.specs.Most.{most_of_find, most_of_leaf}
-use Rattle.bz_running.specs.Kinds as kinds
-use Rattle.bz_running.specs.Kinds.{kind_of}
-use Rattle.bz_running.specs.declared.running.AnyTask.TheVariants.{Inserting, Updating, Deleting}
+use Rattle.bz_costs.specs.FromRunning.Kinds as kinds
+use Rattle.bz_costs.specs.FromRunning.Kinds.{kind_of}
+use Rattle.bz_costs.specs.FromRunning.AnyTask.TheVariants.{Inserting, Updating, Deleting}
 use Rattle.bz_lone.proofs.Coming.{two-ways, comes-after, comes-to-write, comes-to-read}
 use Rattle.bz_lone.specs.Errands.{Errand, is_read}
 use Rattle.bz_lone.specs.Prices.{Prices, found_price, way_price, coming}

@@ -2,9 +2,9 @@
 use Rattle.std.specs.Prelude.{◌≡◌, ◌⊎◌, ◌<◌}
 use Rattle.bz_call.specs.Map.{key_of}
 use Rattle.bz_call.specs.declared.calls.Call.{Call}
-use Rattle.bz_running.specs.Duties.{swaps_of, change_swaps, wants_of}
-use Rattle.bz_running.specs.MadeFor.{IsMadeFor, IsMergeFor}
-use Rattle.bz_running.specs.declared.running.AnyTask.{AnyTask}
+use Rattle.bz_costs.specs.FromRunning.Duties.{swaps_of, change_swaps, wants_of}
+use Rattle.bz_costs.specs.FromRunning.MadeFor.{IsMadeFor, IsMergeFor}
+use Rattle.bz_costs.specs.FromRunning.AnyTask.{AnyTask}
 use Rattle.bz_task.specs.Scene.{Past}
 use Rattle.bz_lone.specs.Errands.{words_asked}
 

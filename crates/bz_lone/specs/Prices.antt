@@ -10,11 +10,11 @@ use Rattle.bz_costs.specs.Splits.{cost_after_below, cost_after_inner}
 use Rattle.bz_costs.specs.Stretches.{cost_of_view, cost_of_change, cost_once_viewed, cost_from, cost_at, cost_viewed_at, top_stage}
 use Rattle.bz_layout.specs.declared.config.Config.{Config}
 use Rattle.bz_layout.specs.declared.thresholds.TheConstants.{MAX_LEVELS}
-use Rattle.bz_running.specs.Kinds as kinds
-use Rattle.bz_running.specs.Kinds.{Kind, level_of}
+use Rattle.bz_costs.specs.FromRunning.Kinds as kinds
+use Rattle.bz_costs.specs.FromRunning.Kinds.{Kind, level_of}
 use Rattle.bz_slotted.specs.Page.{Page}
-use Rattle.bz_stage.specs.Rooms.{is_crowded}
-use Rattle.bz_stage.specs.Stages.{leaf_page, stage_in}
+use Rattle.bz_joined.specs.FromStage.Rooms.{is_crowded}
+use Rattle.bz_joined.specs.FromStage.Stages.{leaf_page, stage_in}
 use Rattle.bz_lone.specs.Errands.{Errand, words_asked, is_read}
 
 -- what comes: once a leaf without room was read whole; once a leaf was read whole, whatever room it has; after a freeze; after a copy, or the split

@@ -1,20 +1,20 @@
 -- What is done to a leaf that has no room, and to the nodes above it, is paid for by the stage of the key.
 use Rattle.std.specs.Prelude.{◌≡◌, ◌⊎◌, ℕ, ◌+◌, ◌<◌, ◌≤◌, true, false, Some}
 use Rattle.bz_joined.specs.FromAlone.Alone.{IsAlone}
-use Rattle.bz_running.specs.FromAscent.Ascents.{IsOneUp}
-use Rattle.bz_running.specs.FromAscent.Ascent.{Ascent}
+use Rattle.bz_costs.specs.FromRunning.Ascents.{IsOneUp}
+use Rattle.bz_costs.specs.FromRunning.Ascent.{Ascent}
 use Rattle.bz_call.specs.Map.{key_of}
 use Rattle.bz_content.specs.Content.{image_of}
 use Rattle.bz_costs.specs.Resources.{Resource}
 use Rattle.bz_costs.specs.Most.{most_of, most_of_freeze, most_of_copy, most_of_merge, most_of_root, most_of_below}
 use Rattle.bz_layout.specs.declared.thresholds.TheConstants.{MAX_LEVELS}
-use Rattle.bz_running.specs.Duties.{end_of}
-use Rattle.bz_running.specs.Kinds as kinds
-use Rattle.bz_running.specs.Kinds.{kind_of, level_of}
-use Rattle.bz_running.specs.declared.running.AnyTask.{AnyTask}
+use Rattle.bz_costs.specs.FromRunning.Duties.{end_of}
+use Rattle.bz_costs.specs.FromRunning.Kinds as kinds
+use Rattle.bz_costs.specs.FromRunning.Kinds.{kind_of, level_of}
+use Rattle.bz_costs.specs.FromRunning.AnyTask.{AnyTask}
 use Rattle.bz_slotted.specs.Page.{Page}
-use Rattle.bz_stage.specs.Rooms.{is_crowded}
-use Rattle.bz_stage.specs.Stages.{leaf_page}
+use Rattle.bz_joined.specs.FromStage.Rooms.{is_crowded}
+use Rattle.bz_joined.specs.FromStage.Stages.{leaf_page}
 use Rattle.bz_swap.specs.SwapMemory.{SwapMemory}
 use Rattle.bz_task.specs.Scene.{Past}
 use Rattle.bz_task.specs.declared.todo.Outcome.TheVariants.{NeedsRoom}

@@ -12,11 +12,11 @@ use Rattle.bz_layout.specs.declared.config.Config.{Config}
 use Rattle.bz_layout.specs.declared.thresholds.TheConstants.{LEAF_RECORD_WORDS}
 use Rattle.bz_rivals.specs.Notes.{SwapsNothing}
 use Rattle.bz_rivals.specs.Rivals.{rivals}
-use Rattle.bz_running.specs.Duties.{config_of, asks_of, end_of, made_of, publishing_of, facts_of}
-use Rattle.bz_running.specs.Hearing.{HasHeard}
-use Rattle.bz_running.specs.Kinds.{kind_of}
-use Rattle.bz_running.specs.Laws.{AreLaws}
-use Rattle.bz_running.specs.declared.running.AnyTask.{AnyTask}
+use Rattle.bz_costs.specs.FromRunning.Duties.{config_of, asks_of, end_of, made_of, publishing_of, facts_of}
+use Rattle.bz_costs.specs.FromRunning.Hearing.{HasHeard}
+use Rattle.bz_costs.specs.FromRunning.Kinds.{kind_of}
+use Rattle.bz_costs.specs.FromRunning.Laws.{AreLaws}
+use Rattle.bz_costs.specs.FromRunning.AnyTask.{AnyTask}
 use Rattle.bz_swap.specs.Alone.{left_to}
 use Rattle.bz_swap.specs.SwapMemory.{SwapMemory, Idle, doing_of}
 use Rattle.bz_task.specs.Instant.{Instant}

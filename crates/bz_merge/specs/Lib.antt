@@ -8,3 +8,4 @@ pub mod Plans
 pub mod Siblings
 pub mod Thawed
 pub mod FromSplit
+pub mod FromPage

@@ -5,8 +5,8 @@ use Rattle.std.proofs.lemmas.List.FromFn.{length-map-range_with_len}
 use Rattle.bz_key.specs.Packing.{packed, packed_len, unpacked}
 use Rattle.bz_layout.specs.declared.sizes.TheConstants.{SHARED_WORDS}
 use Rattle.bz_node.specs.Reading.{extent_words, payload_len}
-use Rattle.bz_slotted.specs.Page.{extent_of, meta_of}
-use Rattle.bz_slotted.specs.Records.{key_words, payload_words}
+use Rattle.bz_record.specs.FromSlotted.Page.{extent_of, meta_of}
+use Rattle.bz_record.specs.FromSlotted.Records.{key_words, payload_words}
 use Rattle.bz_word.specs.Statuses.{status}
 use Rattle.bz_word.specs.declared.meta.Extent.{Extent}
 use Rattle.bz_task.specs.Instant.{durable}

@@ -1,6 +1,6 @@
 -- A viewed leaf that has the key, and the record that was found there.
 use Rattle.std.specs.Prelude.{◌≡◌, ◌≢◌, ℕ, true, false, List, Some, None}
-use Rattle.bz_slotted.specs.Page.{visible, meta_of}
+use Rattle.bz_record.specs.FromSlotted.Page.{visible, meta_of}
 use Rattle.bz_task.specs.Outcomes.{IsKeyView}
 use Rattle.bz_task.specs.Scene.{Scene}
 use Rattle.bz_task.specs.declared.view.Found.{Found}

@@ -9,10 +9,10 @@ use Rattle.std.proofs.lemmas.Bool.{true≢false}
 use Rattle.std.proofs.lemmas.Cmp.{nat_list_cmp_total, tied_itself}
 use Rattle.std.proofs.lemmas.List.{get_or-map, length-map}
 use Rattle.std.proofs.lemmas.Slice.Eq.{bytes_eq-Decides}
-use Rattle.bz_call.specs.Pages.{is_from}
+use Rattle.bz_task.specs.FromCall.Pages.{is_from}
 use Rattle.bz_task.specs.FromContent.Content.{content_in}
-use Rattle.bz_layout.specs.declared.sizes.TheConstants.{NODE_WORDS}
-use Rattle.bz_node.specs.Records.{IsBefore, AreRising, keys_of}
+use Rattle.bz_slotted.specs.FromLayout.TheConstants.{NODE_WORDS}
+use Rattle.bz_slotted.specs.FromNode.Records.{IsBefore, AreRising, keys_of}
 use Rattle.bz_slotted.specs.Page.{page}
 use Rattle.bz_slotted.specs.ReadingLaws.{node_of, WholeLeavesAreReadable, ReadsAsPairs}
 use Rattle.bz_slotted.specs.Readers.{found_of}

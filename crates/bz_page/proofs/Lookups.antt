@@ -13,7 +13,7 @@ use Rattle.std.proofs.lemmas.Bool.{true≢false}
 use Rattle.std.proofs.lemmas.Cmp.{nat_list_cmp_total, tied_itself}
 use Rattle.std.proofs.lemmas.List.{get_or-map, length-map}
 use Rattle.std.proofs.lemmas.List.Sorted.{Contains-permutation, IsPermutation-sym}
-use Rattle.bz_node.specs.Records.{IsBefore, AreRising, keys_of}
+use Rattle.bz_slotted.specs.FromNode.Records.{IsBefore, AreRising, keys_of}
 
 equal : (o : Ordering) → is_eq o ≡ true → o ≡ Equal
 equal Less h = absurd (true≢false (sym h))

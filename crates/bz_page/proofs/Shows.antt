@@ -8,10 +8,10 @@ use Rattle.std.specs.Ordering.{nat_cmp, is_ge, is_lt}
 use Rattle.std.specs.declared.cmp.Ordering.{Ordering}
 use Rattle.std.specs.declared.cmp.Ordering.TheVariants.{Less, Equal, Greater}
 use Rattle.std.proofs.lemmas.Bool.{true≢false}
-use Rattle.bz_call.specs.Pages.{is_from}
+use Rattle.bz_task.specs.FromCall.Pages.{is_from}
 use Rattle.bz_task.specs.FromContent.Content.{content_in}
-use Rattle.bz_layout.specs.declared.sizes.TheConstants.{NODE_WORDS}
-use Rattle.bz_node.specs.Reading.{AreInKeyOrder, pairs_in, high_in}
+use Rattle.bz_slotted.specs.FromLayout.TheConstants.{NODE_WORDS}
+use Rattle.bz_slotted.specs.FromNode.Reading.{AreInKeyOrder, pairs_in, high_in}
 use Rattle.bz_shape.specs.Form.{Holds}
 use Rattle.bz_shape.specs.Order.{is_before, is_at_least, is_below}
 use Rattle.bz_shape.proofs.OrderLaws.{before-after}

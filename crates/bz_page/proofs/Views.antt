@@ -2,8 +2,8 @@
 use Rattle.std.proofs.Common.{◌≡◌, ℕ, ◌<◌, ◌==◌, if◌then◌else◌, true, false, zero, suc, ◌+◌, List, arith, refl, sym, ap, ◌∙◌, inl, inr, Option}
 use Rattle.std.specs.Prelude.{None}
 use Rattle.std.proofs.lemmas.Bool.Decides.{nat_tests}
-use Rattle.bz_layout.specs.declared.config.Config.{Config}
-use Rattle.bz_layout.specs.declared.sizes.TheConstants.{NODE_WORDS, STATUS_AT, META_AT}
+use Rattle.bz_slotted.specs.FromLayout.Config.{Config}
+use Rattle.bz_slotted.specs.FromLayout.TheConstants.{NODE_WORDS, STATUS_AT, META_AT}
 use Rattle.bz_shape.specs.Form.{Holds}
 use Rattle.bz_shape.specs.TreeLaws.{LeavesTileTheKeys}
 use Rattle.bz_shape.specs.Walk.{IsTree}

@@ -3,10 +3,10 @@ use Rattle.std.specs.Prelude.{◌≡◌, ℕ, ◌&&◌, if◌then◌else◌, tru
 use Rattle.std.specs.Cmp.Lexicographic.{slice_cmp}
 use Rattle.std.specs.FinMap.{find, is_sorted}
 use Rattle.std.specs.Ordering.{nat_cmp}
-use Rattle.bz_call.specs.Pages.{is_from}
+use Rattle.bz_task.specs.FromCall.Pages.{is_from}
 use Rattle.bz_task.specs.FromContent.Content.{content_in, leaf_end_in}
-use Rattle.bz_layout.specs.declared.config.Config.{Config}
-use Rattle.bz_node.specs.Reading.{AreInKeyOrder}
+use Rattle.bz_slotted.specs.FromLayout.Config.{Config}
+use Rattle.bz_slotted.specs.FromNode.Reading.{AreInKeyOrder}
 use Rattle.bz_shape.specs.Order.{is_below}
 use Rattle.bz_slotted.specs.ReadingLaws.{node_of}
 use Rattle.bz_slotted.specs.Rules.{node_fault}

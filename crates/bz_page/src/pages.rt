@@ -1,7 +1,7 @@
 //! The page of a leaf, and one pair of it.
 
 ghost use Rattle.std.specs.Prelude.{◌≡◌, ℕ, List, Option, None, length, slice_get};
-ghost use Rattle.bz_layout.specs.declared.sizes.TheConstants.{NODE_WORDS};
+ghost use Rattle.bz_slotted.specs.FromLayout.TheConstants.{NODE_WORDS};
 ghost use Rattle.bz_task.specs.FromContent.Content.{content_in};
 ghost use Rattle.bz_slotted.specs.Page.{page as page_of};
 ghost use Rattle.bz_slotted.specs.ReadingLaws.{node_of};
@@ -14,7 +14,7 @@ ghost use Rattle.bz_task.specs.Scene.{Past};
 ghost use Rattle.bz_page.specs.Pages.{IsLeafByItself, AreRecordsFrom, IsPageOf, payload_for};
 
 use bz_key::{Key, PageBuf, Payload};
-use bz_node::NodeImage;
+use bz_slotted::NodeImage;
 use bz_task::{LeafView, laws};
 
 // An image has its 128 words. Does nothing.

@@ -4,3 +4,4 @@ mod Nodes
 mod Roots
 mod ReadNodes
 mod Rows
+pub mod FromHalves

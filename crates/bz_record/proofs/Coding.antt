@@ -4,7 +4,7 @@ use Rattle.std.specs.Prelude.{length}
 use Rattle.std.proofs.lemmas.Bool.Decides.{nat_tests}
 use Rattle.bz_key.specs.Laws.{PackingIsSmall}
 use Rattle.bz_key.specs.Packing.{packed, packed_len}
-use Rattle.bz_node.specs.Reading.{extent_words}
+use Rattle.bz_slotted.specs.FromNode.Reading.{extent_words}
 use Rattle.bz_slotted.specs.Page.{is_meta_word, meta_of, held, visible, used, extent_of}
 use Rattle.bz_slotted.specs.Whole.{IsLeafRecord}
 use Rattle.bz_word.specs.Metas.{meta_word, meta, IsMeta, IsMetaWord, IsExtent}

@@ -5,7 +5,7 @@ use Rattle.std.proofs.lemmas.Bool.Decides.{nat_tests}
 use Rattle.bz_layout.specs.Addresses.{node_address}
 use Rattle.bz_layout.specs.declared.config.Config.{Config}
 use Rattle.bz_layout.specs.declared.sizes.TheConstants.{NODE_WORDS, STATUS_AT, META_AT}
-use Rattle.bz_swap.specs.SwapMemory.{is_target}
+use Rattle.bz_task.specs.FromSwap.SwapMemory.{is_target}
 use Rattle.bz_word.specs.Statuses.{status}
 use Rattle.bz_word.specs.declared.entry.Entry.{Entry}
 use Rattle.bz_content.specs.Image.{node}

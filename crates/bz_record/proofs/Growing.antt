@@ -7,7 +7,7 @@ use Rattle.bz_layout.specs.declared.sizes.TheConstants.{NODE_WORDS, STATUS_AT, H
 use Rattle.bz_slotted.specs.Changes.{Grows}
 use Rattle.bz_slotted.specs.LeafLaws.{AnswersAlike, GrowthIsQuiet}
 use Rattle.bz_slotted.specs.Page.{page}
-use Rattle.bz_swap.specs.SwapMemory.{is_target}
+use Rattle.bz_task.specs.FromSwap.SwapMemory.{is_target}
 use Rattle.bz_word.specs.Headers.{header}
 use Rattle.bz_word.specs.Statements.{IsCodec}
 use Rattle.bz_word.specs.Statuses.{status_word, status, IsStatus, IsStatusWord}

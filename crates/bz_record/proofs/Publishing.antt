@@ -7,7 +7,7 @@ use Rattle.bz_key.specs.Laws.{PackingIsSmall}
 use Rattle.bz_layout.specs.Addresses.{node_address}
 use Rattle.bz_layout.specs.declared.config.Config.{Config}
 use Rattle.bz_layout.specs.declared.sizes.TheConstants.{NODE_WORDS, STATUS_AT, HEADER_AT, META_AT}
-use Rattle.bz_node.specs.Reading.{extent_words}
+use Rattle.bz_slotted.specs.FromNode.Reading.{extent_words}
 use Rattle.bz_slotted.specs.Laws.{LeafRulesAreFacts}
 use Rattle.bz_slotted.specs.Page.{meta_of, visible, held, extent_of, page}
 use Rattle.bz_slotted.specs.Readers.{found_of}

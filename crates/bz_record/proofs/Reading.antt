@@ -9,7 +9,7 @@ use Rattle.bz_key.specs.Laws.{PackingIsSmall}
 use Rattle.bz_key.specs.Packing.{packed, packed_len, unpacked, unpacked_key, unpacked_payload}
 use Rattle.bz_key.proofs.PackingLaws.{unpacked-packed}
 use Rattle.bz_key.proofs.UnpackingLaws.{unpacked_key-complete, unpacked_payload-complete}
-use Rattle.bz_node.specs.Reading.{payload_at, payload_len}
+use Rattle.bz_slotted.specs.FromNode.Reading.{payload_at, payload_len}
 use Rattle.bz_slotted.specs.Page.{words_at, visible, extent_of}
 use Rattle.bz_slotted.specs.Records.{key_words, payload_words, key_in, payload_in, search_to}
 use Rattle.bz_slotted.specs.Whole.{IsPlainKey, IsPlainPayload}

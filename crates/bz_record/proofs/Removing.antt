@@ -1,6 +1,6 @@
 -- A removal is lawful for everybody and deletes the key.
 use Rattle.std.proofs.Common.{◌≡◌, ℕ, ◌+◌, true, false, List, arith, refl, sym, ap, ◌∙◌}
-use Rattle.bz_node.specs.Reading.{extent_words}
+use Rattle.bz_slotted.specs.FromNode.Reading.{extent_words}
 use Rattle.bz_slotted.specs.Laws.{LeafRulesAreFacts}
 use Rattle.bz_slotted.specs.Page.{meta_of, visible, held, used, extent_of, page}
 use Rattle.bz_slotted.specs.Records.{shown}

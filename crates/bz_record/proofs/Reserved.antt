@@ -3,7 +3,7 @@ use Rattle.std.proofs.Common.{◌≡◌, ◌≢◌, ℕ, ◌+◌, ◌^◌, ◌<�
 use Rattle.std.proofs.lemmas.Bool.{cases_lt, true≢false}
 use Rattle.bz_key.specs.Laws.{PackingIsSmall}
 use Rattle.bz_layout.specs.declared.sizes.TheConstants.{NODE_WORDS, STATUS_AT, HEADER_AT, META_AT}
-use Rattle.bz_node.specs.Reading.{extent_words}
+use Rattle.bz_slotted.specs.FromNode.Reading.{extent_words}
 use Rattle.bz_slotted.specs.Changes.{Reserves}
 use Rattle.bz_slotted.specs.LeafLaws.{AnswersAlike, ReservationIsQuiet}
 use Rattle.bz_slotted.specs.Page.{meta_of, visible, extent_of, page}

@@ -1,7 +1,7 @@
 -- A reservation is lawful for everybody and changes no content.
 use Rattle.std.proofs.Common.{◌≡◌, ℕ, ◌+◌, ◌<◌, true, false, arith, refl, inl, inr}
 use Rattle.bz_layout.specs.declared.sizes.TheConstants.{STATUS_AT, META_AT, SHARED_WORDS}
-use Rattle.bz_swap.specs.SwapMemory.{is_target}
+use Rattle.bz_task.specs.FromSwap.SwapMemory.{is_target}
 use Rattle.bz_word.specs.Statuses.{status}
 use Rattle.bz_task.specs.Instant.{Instant}
 use Rattle.bz_task.specs.LeafSwaps.{IsLeafSwap, LeafSwapsAreGood}

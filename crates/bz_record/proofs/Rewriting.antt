@@ -13,7 +13,7 @@ use Rattle.bz_slotted.specs.Page.{meta_of, visible, extent_of, page}
 use Rattle.bz_slotted.specs.Readers.{found_of}
 use Rattle.bz_slotted.specs.Records.{key_in, payload_in, key_at, weight, shown}
 use Rattle.bz_slotted.specs.Whole.{Whole}
-use Rattle.bz_swap.specs.SwapMemory.{is_target}
+use Rattle.bz_task.specs.FromSwap.SwapMemory.{is_target}
 use Rattle.bz_word.specs.Headers.{header}
 use Rattle.bz_word.specs.Statuses.{status}
 use Rattle.bz_word.specs.declared.meta.Meta.{Meta}

@@ -6,3 +6,4 @@ pub mod Laws
 pub mod Replacing
 pub mod Finding
 pub mod ReplacingLaws
+pub mod FromSlotted

@@ -5,7 +5,7 @@ ghost use Rattle.bz_key.specs.Packing.{packed_len};
 ghost use Rattle.bz_slotted.specs.Page.{meta_of, visible, extent_of as extent_in};
 ghost use Rattle.bz_word.specs.Metas.{IsExtent};
 ghost use Rattle.bz_word.specs.Statuses.{status};
-ghost use Rattle.bz_node.specs.Reading.{extent_words};
+ghost use Rattle.bz_slotted.specs.FromNode.Reading.{extent_words};
 ghost use Rattle.bz_record.specs.Records.{Fits};
 ghost use Rattle.bz_record.specs.Replacing.{removal, replacement, status_grown};
 ghost use Rattle.bz_record.specs.Swaps.{counted_status};

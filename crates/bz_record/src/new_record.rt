@@ -13,7 +13,7 @@ ghost use Rattle.bz_record.specs.Swaps.{reservation, publication, status_reserve
 use crate::record_swap::RecordSwap;
 use bz_key::{Key, Payload};
 use bz_layout::{Config, LINE_WORDS, NODE_WORDS, SHARED_WORDS, STATUS_AT};
-use bz_swap::EntryList;
+use bz_task::EntryList;
 use bz_word::{Entry, Extent, Meta, Status};
 
 /// A record that is to be put into a leaf, directly before the leaf's block.

@@ -5,7 +5,7 @@ ghost use Rattle.bz_layout.specs.Config.{IsConfig};
 ghost use Rattle.bz_record.specs.Swaps.{entries_of};
 
 use bz_layout::{Config, META_AT, SHARED_WORDS, STATUS_AT};
-use bz_swap::EntryList;
+use bz_task::EntryList;
 use bz_word::Entry;
 
 /// A swap of a leaf's status and of one of its metadata words: their places, and what is expected and what is new in each.

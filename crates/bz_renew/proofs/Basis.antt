@@ -7,8 +7,8 @@ use Rattle.bz_slotted.specs.Laws.{InnerRulesAreFacts}
 use Rattle.bz_word.specs.Statements.{IsCodec}
 use Rattle.bz_word.specs.Statuses.{status_word, status, IsStatus, IsStatusWord}
 use Rattle.bz_word.specs.declared.status.Status.{Status}
-use Rattle.bz_content.specs.Content.{IsWellFormed, view_in}
-use Rattle.bz_content.specs.Laws.{WellFormedImagesHaveNoFault}
+use Rattle.bz_task.specs.FromContent.Content.{IsWellFormed, view_in}
+use Rattle.bz_task.specs.FromContent.Laws.{WellFormedImagesHaveNoFault}
 use Rattle.bz_task.specs.Good.{IsGood}
 use Rattle.bz_task.specs.Instant.{Instant, form_at}
 use Rattle.bz_task.specs.Laws.{NodesStay, FrontsStay, SeparatorsStay, HeadersSayTheLevel, SwapsShowInSlots, SameRecordsShowTheSame}

@@ -5,11 +5,11 @@ use Rattle.std.proofs.lemmas.Bool.{true≢false, cases_lt}
 use Rattle.bz_layout.specs.Addresses.{node_address}
 use Rattle.bz_layout.specs.declared.sizes.TheConstants.{NODE_WORDS}
 use Rattle.bz_shape.specs.Walk.{is_among}
-use Rattle.bz_swap.specs.SwapMemory.{is_target}
+use Rattle.bz_task.specs.FromSwap.SwapMemory.{is_target}
 use Rattle.bz_word.specs.declared.entry.Entry.{Entry}
-use Rattle.bz_content.specs.Image.{node}
-use Rattle.bz_content.specs.Laws.{PlainWordsStandForThemselves}
-use Rattle.bz_content.specs.Resolving.{resolve}
+use Rattle.bz_task.specs.FromContent.Image.{node}
+use Rattle.bz_task.specs.FromContent.Laws.{PlainWordsStandForThemselves}
+use Rattle.bz_task.specs.FromContent.Resolving.{resolve}
 use Rattle.bz_task.specs.Good.{IsGood}
 use Rattle.bz_task.specs.Instant.{Instant, words, durable, is_inside}
 use Rattle.bz_task.specs.Scene.{Scene, IsScene, here}

@@ -11,8 +11,8 @@ use Rattle.bz_slotted.specs.Readers.{count_of, child_of}
 use Rattle.bz_slotted.specs.Records.{pointer_at}
 use Rattle.bz_slotted.specs.Rules.{node_fault}
 use Rattle.bz_slotted.specs.Whole.{WholeInner}
-use Rattle.bz_content.specs.Content.{view_in}
-use Rattle.bz_content.specs.Image.{node}
+use Rattle.bz_task.specs.FromContent.Content.{view_in}
+use Rattle.bz_task.specs.FromContent.Image.{node}
 use Rattle.bz_task.specs.Good.{IsGood}
 use Rattle.bz_task.specs.Instant.{Instant, words, durable, page_at, form_at, is_inside}
 use Rattle.bz_renew.proofs.Basis.{Laws, fits}

@@ -3,8 +3,8 @@ use Rattle.std.proofs.Common.{◌≡◌, ◌≢◌, ℕ, ◌==◌, ◌||◌, if�
 use Rattle.std.specs.Prelude.{nat_lt, All}
 use Rattle.std.proofs.lemmas.Bool.Decides.{nat_tests}
 use Rattle.std.proofs.lemmas.List.Elements.{All-cons, All-head, All-tail}
-use Rattle.bz_swap.specs.EntryLists.{inserted}
-use Rattle.bz_swap.specs.SwapMemory.{is_target}
+use Rattle.bz_task.specs.FromSwap.EntryLists.{inserted}
+use Rattle.bz_task.specs.FromSwap.SwapMemory.{is_target}
 use Rattle.bz_word.specs.declared.entry.Entry.{Entry}
 use Rattle.bz_task.specs.Swaps.{swapped}
 

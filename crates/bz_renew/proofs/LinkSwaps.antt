@@ -8,9 +8,9 @@ use Rattle.bz_layout.specs.declared.sizes.TheConstants.{NODE_WORDS, SUPERBLOCK_W
 use Rattle.bz_shape.specs.Walk.{is_among}
 use Rattle.bz_slotted.specs.Page.{page}
 use Rattle.bz_word.specs.declared.entry.Entry.{Entry}
-use Rattle.bz_content.specs.Content.{IsWellFormed}
-use Rattle.bz_content.specs.Laws.{WellFormedImagesHaveNoFault, PlainWordsStandForThemselves}
-use Rattle.bz_content.specs.Resolving.{resolve}
+use Rattle.bz_task.specs.FromContent.Content.{IsWellFormed}
+use Rattle.bz_task.specs.FromContent.Laws.{WellFormedImagesHaveNoFault, PlainWordsStandForThemselves}
+use Rattle.bz_task.specs.FromContent.Resolving.{resolve}
 use Rattle.bz_task.specs.Good.{IsGood}
 use Rattle.bz_task.specs.Instant.{Instant, words, durable, page_at, is_inside}
 use Rattle.bz_task.specs.Scene.{Scene, IsScene, here}

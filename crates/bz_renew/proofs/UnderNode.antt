@@ -10,15 +10,15 @@ use Rattle.bz_shape.specs.Walk.{is_among}
 use Rattle.bz_slotted.specs.InnerChanges.{PointerSwap}
 use Rattle.bz_slotted.specs.Page.{meta_of, extent_of, page}
 use Rattle.bz_slotted.specs.Records.{pointer_at}
-use Rattle.bz_swap.specs.SwapMemory.{is_target}
+use Rattle.bz_task.specs.FromSwap.SwapMemory.{is_target}
 use Rattle.bz_word.specs.declared.entry.Entry.{Entry}
 use Rattle.bz_word.specs.Headers.{header}
 use Rattle.bz_word.specs.Statuses.{status}
-use Rattle.bz_content.specs.Changes.{SameNode, SameRoot}
-use Rattle.bz_content.specs.Content.{image_of, view_in}
-use Rattle.bz_content.specs.Image.{node}
-use Rattle.bz_content.specs.Resolving.{resolve}
-use Rattle.bz_content.specs.Swaps.{TurnsLink}
+use Rattle.bz_task.specs.FromContent.Changes.{SameNode, SameRoot}
+use Rattle.bz_task.specs.FromContent.Content.{image_of, view_in}
+use Rattle.bz_task.specs.FromContent.Image.{node}
+use Rattle.bz_task.specs.FromContent.Resolving.{resolve}
+use Rattle.bz_task.specs.FromContent.Swaps.{TurnsLink}
 use Rattle.bz_task.specs.Good.{IsGood}
 use Rattle.bz_task.specs.Instant.{Instant, words, durable, page_at, form_at}
 use Rattle.bz_task.specs.Laws.{AreMoments, SlotWords}

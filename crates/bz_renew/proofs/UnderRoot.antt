@@ -9,13 +9,13 @@ use Rattle.bz_layout.specs.declared.sizes.TheConstants.{NODE_WORDS, STATUS_AT, R
 use Rattle.bz_shape.specs.Form.{Fits, Stands}
 use Rattle.bz_shape.specs.declared.rule.ShapeRule.TheVariants.{Root}
 use Rattle.bz_shape.specs.Walk.{is_among}
-use Rattle.bz_swap.specs.SwapMemory.{is_target}
+use Rattle.bz_task.specs.FromSwap.SwapMemory.{is_target}
 use Rattle.bz_word.specs.declared.entry.Entry.{Entry}
-use Rattle.bz_content.specs.Changes.{SameNode}
-use Rattle.bz_content.specs.Content.{image_of, view_in}
-use Rattle.bz_content.specs.Resolving.{resolve}
-use Rattle.bz_content.specs.Swaps.{TurnsLink}
-use Rattle.bz_content.specs.View.{root_fault}
+use Rattle.bz_task.specs.FromContent.Changes.{SameNode}
+use Rattle.bz_task.specs.FromContent.Content.{image_of, view_in}
+use Rattle.bz_task.specs.FromContent.Resolving.{resolve}
+use Rattle.bz_task.specs.FromContent.Swaps.{TurnsLink}
+use Rattle.bz_task.specs.FromContent.View.{root_fault}
 use Rattle.bz_task.specs.Good.{IsGood}
 use Rattle.bz_task.specs.Instant.{Instant, page_at, form_at}
 use Rattle.bz_task.specs.Outcomes.{IsUnderRoot}

@@ -8,10 +8,10 @@ use Rattle.bz_layout.specs.declared.config.Config.{Config}
 use Rattle.bz_layout.specs.declared.sizes.TheConstants.{NODE_WORDS, SUPERBLOCK_WORDS}
 use Rattle.bz_shape.specs.Walk.{is_among}
 use Rattle.bz_slotted.specs.Tests.{every}
-use Rattle.bz_swap.specs.SwapMemory.{is_target}
+use Rattle.bz_task.specs.FromSwap.SwapMemory.{is_target}
 use Rattle.bz_word.specs.declared.entry.Entry.{Entry}
-use Rattle.bz_content.specs.Content.{is_super}
-use Rattle.bz_content.specs.Image.{node}
+use Rattle.bz_task.specs.FromContent.Content.{is_super}
+use Rattle.bz_task.specs.FromContent.Image.{node}
 use Rattle.bz_task.specs.Swaps.{swapped}
 
 -- what swaps leave and what they set

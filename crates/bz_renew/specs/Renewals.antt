@@ -1,6 +1,6 @@
 -- The swap of a renewal: a link goes to another slot, and its guard gets the next stamp.
 use Rattle.std.specs.Prelude.{◌≡◌, ◌≢◌, ℕ, ◌+◌, ◌^◌, ◌<◌, false, List, [], ◌∷◌}
-use Rattle.bz_swap.specs.EntryLists.{inserted}
+use Rattle.bz_task.specs.FromSwap.EntryLists.{inserted}
 use Rattle.bz_word.specs.Statuses.{status, status_word}
 use Rattle.bz_word.specs.declared.entry.Entry.{Entry}
 use Rattle.bz_task.specs.Outcomes.{IsGuarded}

@@ -2,7 +2,7 @@
 use Rattle.std.specs.Prelude.{◌≡◌, ℕ, ◌<◌, true, false}
 use Rattle.bz_shape.specs.Form.{Stands}
 use Rattle.bz_word.specs.Statuses.{status}
-use Rattle.bz_content.specs.Content.{view_in}
+use Rattle.bz_task.specs.FromContent.Content.{view_in}
 use Rattle.bz_task.specs.Instant.{page_at, form_at, is_inside}
 use Rattle.bz_task.specs.Outcomes.{IsUnderNode, IsGuarded}
 use Rattle.bz_task.specs.Scene.{Scene, IsScene, here}

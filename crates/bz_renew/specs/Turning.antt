@@ -3,10 +3,10 @@ use Rattle.std.specs.Prelude.{◌≡◌, ℕ, ◌+◌, ◌<◌, true, false, Lis
 use Rattle.bz_layout.specs.Addresses.{node_address}
 use Rattle.bz_layout.specs.declared.sizes.TheConstants.{NODE_WORDS}
 use Rattle.bz_shape.specs.Walk.{is_among}
-use Rattle.bz_swap.specs.SwapMemory.{is_target}
+use Rattle.bz_task.specs.FromSwap.SwapMemory.{is_target}
 use Rattle.bz_word.specs.Statuses.{status}
-use Rattle.bz_content.specs.Content.{image_of}
-use Rattle.bz_content.specs.Swaps.{TurnsLink}
+use Rattle.bz_task.specs.FromContent.Content.{image_of}
+use Rattle.bz_task.specs.FromContent.Swaps.{TurnsLink}
 use Rattle.bz_task.specs.Instant.{Instant, page_at, form_at, is_inside}
 use Rattle.bz_task.specs.Outcomes.{IsUnderRoot, IsUnderNode, IsGuarded}
 use Rattle.bz_task.specs.Requests.{IsTarget}

@@ -6,10 +6,9 @@ ghost use Rattle.bz_renew.specs.Renewals.{LinksMayBeTurned};
 ghost use Rattle.bz_renew.specs.Standing.{GuardedLinksStand};
 ghost use Rattle.bz_renew.specs.Turning.{RootLinksTurn, ChildLinksTurn, RootLinksTurnWith, ChildLinksTurnWith};
 
-use bz_content::laws as content;
 use bz_shape::laws as shape;
 use bz_slotted::laws as slotted;
-use bz_task::laws;
+use bz_task::{content_laws as content, laws};
 
 /// A swap of a link that leaves the image well formed with the same content is lawful for everybody.
 pub fn link_swaps_are_good()

@@ -9,6 +9,7 @@ mod slot;
 mod sorted;
 mod swaps;
 
+pub use bz_page::laws::ordered_pairs_are_found;
 pub use due::is_due;
 pub use links::last_link;
 pub use slot::{take_one, take_three};

@@ -21,10 +21,10 @@ use Rattle.bz_renew.specs.LinkSwaps.{IsFresh}
 use Rattle.bz_renew.specs.Renewals.{renewal}
 use Rattle.bz_renew.specs.Turning.{TurnsAt, RootLinksTurn, ChildLinksTurn}
 use Rattle.bz_renew.proofs.FreshSlots.{outside-tree, raw-is, durable-is}
-use Rattle.bz_consol.specs.Duties.{renewal_of}
-use Rattle.bz_consol.specs.Facts.{Renewal, IsCopying, consol_asks, consol_facts}
-use Rattle.bz_consol.specs.declared.phase.Phase.{Phase}
-use Rattle.bz_consol.specs.declared.phase.Phase.TheVariants.{Swap}
+use Rattle.bz_alone.specs.FromConsol.Duties.{renewal_of}
+use Rattle.bz_alone.specs.FromConsol.Facts.{Renewal, IsCopying, consol_asks, consol_facts}
+use Rattle.bz_alone.specs.FromConsol.Phase.{Phase}
+use Rattle.bz_alone.specs.FromConsol.Phase.TheVariants.{Swap}
 use Rattle.bz_stage.specs.Laws.{CopiesGiveRoom}
 use Rattle.bz_stage.specs.Made.{MadeLeavesAreRoomy}
 use Rattle.bz_stage.specs.Swaps.{IsRoomy}

@@ -4,7 +4,7 @@ use Rattle.std.specs.Prelude.{slice_get}
 use Rattle.bz_ascent.specs.Ascents.{IsAscent}
 use Rattle.bz_ascent.specs.Full.{WasLevelFull}
 use Rattle.bz_ascent.specs.declared.ascent.Ascent.{Ascent}
-use Rattle.bz_branch.specs.Due.{IsFullStatus}
+use Rattle.bz_ascent.specs.FromBranch.Due.{IsFullStatus}
 use Rattle.bz_layout.specs.Addresses.{node_address}
 use Rattle.bz_layout.specs.declared.config.Config.{Config}
 use Rattle.bz_layout.specs.declared.sizes.TheConstants.{STATUS_AT}

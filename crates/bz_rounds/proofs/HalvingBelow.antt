@@ -23,15 +23,15 @@ use Rattle.bz_renew.specs.FrozenLeaves.{StandsStill, FrozenLeavesStandStill}
 use Rattle.bz_renew.specs.Standing.{StillLeads}
 use Rattle.bz_renew.specs.Turning.{TurnsWith, AreGoing, RootLinksTurnWith, ChildLinksTurnWith}
 use Rattle.bz_renew.proofs.Words.{or-right}
-use Rattle.bz_split.specs.BelowSplits.{AreLinksDown, parent_freezing, below_swap}
-use Rattle.bz_split.specs.Facts.{SPLIT_WORDS, SPLIT_LINES}
-use Rattle.bz_below.specs.Duties.{below_of}
-use Rattle.bz_below.specs.Facts.{Below, below_nodes, IsSplittingBelow, below_asks, below_facts, parent_words}
-use Rattle.bz_below.specs.Guards.{with_guard, WasNamed}
-use Rattle.bz_below.specs.declared.phase.Phase.{Phase}
-use Rattle.bz_below.specs.declared.phase.Phase.TheVariants.{Swap}
-use Rattle.bz_branch.specs.Nodes.{IsOpenLink}
-use Rattle.bz_branch.proofs.Standing.{node-below}
+use Rattle.bz_tally.specs.FromSplit.BelowSplits.{AreLinksDown, parent_freezing, below_swap}
+use Rattle.bz_tally.specs.FromSplit.Facts.{SPLIT_WORDS, SPLIT_LINES}
+use Rattle.bz_tally.specs.FromBelow.Duties.{below_of}
+use Rattle.bz_tally.specs.FromBelow.Facts.{Below, below_nodes, IsSplittingBelow, below_asks, below_facts, parent_words}
+use Rattle.bz_tally.specs.FromBelow.Guards.{with_guard, WasNamed}
+use Rattle.bz_tally.specs.FromBelow.Phase.{Phase}
+use Rattle.bz_tally.specs.FromBelow.Phase.TheVariants.{Swap}
+use Rattle.bz_ascent.specs.FromBranch.Nodes.{IsOpenLink}
+use Rattle.bz_ascent.proofs.FromBranch.Standing.{node-below}
 use Rattle.bz_stage.specs.Laws.{LeafSplitsGiveRoom}
 use Rattle.bz_stage.specs.Made.{MadeLeavesAreRoomy}
 use Rattle.bz_stage.specs.Swaps.{IsRoomy, IsRoomyLeaf}

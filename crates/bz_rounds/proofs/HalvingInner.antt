@@ -21,16 +21,16 @@ use Rattle.bz_halves.specs.Parents.{HasRoomToPart, IsPartedParent, ParentsOfHalv
 use Rattle.bz_parted.specs.Laws.{ChildrenPartInHalves}
 use Rattle.bz_renew.specs.Standing.{StillLeads}
 use Rattle.bz_renew.specs.Turning.{TurnsWith, AreGoing, RootLinksTurnWith, ChildLinksTurnWith}
-use Rattle.bz_split.specs.BelowSplits.{AreLinksDown}
-use Rattle.bz_split.specs.Facts.{SPLIT_WORDS, SPLIT_LINES}
-use Rattle.bz_branch.specs.InnerSplits.{both_freezings, inner_swap}
-use Rattle.bz_branch.specs.Nodes.{IsOpenLink}
-use Rattle.bz_branch.proofs.Standing.{node-below}
-use Rattle.bz_fork.specs.Duties.{asks_fork, facts_fork, fork_of}
-use Rattle.bz_fork.specs.Facts.{Fork, IsSplitting, fork_asks, fork_facts, parent_words}
-use Rattle.bz_fork.specs.declared.phase.Phase.{Phase}
-use Rattle.bz_fork.specs.declared.phase.Phase.TheVariants.{Swap}
-use Rattle.bz_fork.specs.declared.split_inner.SplitInner.{SplitInner}
+use Rattle.bz_tally.specs.FromSplit.BelowSplits.{AreLinksDown}
+use Rattle.bz_tally.specs.FromSplit.Facts.{SPLIT_WORDS, SPLIT_LINES}
+use Rattle.bz_ascent.specs.FromBranch.InnerSplits.{both_freezings, inner_swap}
+use Rattle.bz_ascent.specs.FromBranch.Nodes.{IsOpenLink}
+use Rattle.bz_ascent.proofs.FromBranch.Standing.{node-below}
+use Rattle.bz_alone.specs.FromFork.Duties.{asks_fork, facts_fork, fork_of}
+use Rattle.bz_alone.specs.FromFork.Facts.{Fork, IsSplitting, fork_asks, fork_facts, parent_words}
+use Rattle.bz_alone.specs.FromFork.Phase.{Phase}
+use Rattle.bz_alone.specs.FromFork.Phase.TheVariants.{Swap}
+use Rattle.bz_alone.specs.FromFork.SplitInner.{SplitInner}
 use Rattle.bz_stage.specs.Laws.{InnerSplitsLowerTheStage, LeavesALevel, SplitsLeaveALevel, PathsAreOfKeys}
 use Rattle.bz_stage.specs.Made.{MadeInnersTakeTheirEntries}
 use Rattle.bz_stage.specs.Paths.{on_path}

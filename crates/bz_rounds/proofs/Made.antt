@@ -2,8 +2,8 @@
 use Rattle.std.proofs.Common.{◌≡◌, ℕ, ◌<◌, ◌≤◌, List, take, drop, arith, sym, subst, Option}
 use Rattle.std.specs.Prelude.{Some}
 use Rattle.std.proofs.lemmas.List.Elements.{All-take, All-drop}
-use Rattle.bz_branch.specs.Nodes.{IsInnerNode}
-use Rattle.bz_branch.specs.Parts.{AreHalvesOfNode}
+use Rattle.bz_ascent.specs.FromBranch.Nodes.{IsInnerNode}
+use Rattle.bz_ascent.specs.FromBranch.Parts.{AreHalvesOfNode}
 use Rattle.bz_halves.specs.Halves.{separator_of}
 use Rattle.bz_halves.specs.Laws.{AreLeafHalves, LeavesPartInHalves}
 use Rattle.bz_layout.specs.declared.thresholds.TheConstants.{INNER_LIMIT}
@@ -13,7 +13,7 @@ use Rattle.bz_parted.specs.Laws.{AreInnerHalves, ChildrenPartInHalves}
 use Rattle.bz_parted.specs.Parting.{child_words, right_half, separator_of as separator_in}
 use Rattle.bz_slotted.specs.Page.{page}
 use Rattle.bz_slotted.specs.ReadingLaws.{node_of}
-use Rattle.bz_split.specs.Parts.{AreHalvesFrom}
+use Rattle.bz_tally.specs.FromSplit.Parts.{AreHalvesFrom}
 use Rattle.bz_stage.specs.Made.{MadeLeavesAreRoomy, MadeInnersTakeTheirEntries}
 use Rattle.bz_stage.specs.Rooms.{words_taken}
 use Rattle.bz_stage.specs.Swaps.{IsRoomy}

@@ -11,9 +11,9 @@ use Rattle.bz_task.specs.declared.path.Link.{Link}
 use Rattle.bz_renew.specs.Freezings.{IsFreezable}
 use Rattle.bz_renew.specs.Renewals.{LinksMayBeTurned}
 use Rattle.bz_renew.specs.Standing.{StillLeads, GuardedLinksStand}
-use Rattle.bz_split.specs.BelowSplits.{AreLinksDown}
-use Rattle.bz_branch.specs.Nodes.{IsOpenLink}
-use Rattle.bz_branch.proofs.Standing as open_link
+use Rattle.bz_tally.specs.FromSplit.BelowSplits.{AreLinksDown}
+use Rattle.bz_ascent.specs.FromBranch.Nodes.{IsOpenLink}
+use Rattle.bz_ascent.proofs.FromBranch.Standing as open_link
 use Rattle.bz_alone.specs.Quiet.{IsQuietSince, IsRead, ReadValuesStand}
 
 -- the laws on which it rests

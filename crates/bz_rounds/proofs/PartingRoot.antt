@@ -32,15 +32,15 @@ use Rattle.bz_renew.specs.Turning.{TurnsWith, AreGoing, RootLinksTurnWith}
 use Rattle.bz_renew.proofs.Freezings.{renewal-holds}
 use Rattle.bz_renew.proofs.FreshSlots.{outside-tree}
 use Rattle.bz_renew.proofs.TwoEntries.{both-stand}
-use Rattle.bz_split.specs.BelowSplits.{parent_freezing, below_swap}
-use Rattle.bz_split.specs.Facts.{SPLIT_WORDS, SPLIT_LINES}
-use Rattle.bz_branch.specs.Nodes.{IsOpenLink}
-use Rattle.bz_branch.proofs.Standing.{node-below}
-use Rattle.bz_crown.specs.Duties.{asks_crown, facts_crown, crown_of}
-use Rattle.bz_crown.specs.Facts.{Crown, IsSplitting, crown_asks, crown_facts}
-use Rattle.bz_crown.specs.declared.phase.Phase.{Phase}
-use Rattle.bz_crown.specs.declared.phase.Phase.TheVariants.{Swap}
-use Rattle.bz_crown.specs.declared.split_inner_root.SplitInnerRoot.{SplitInnerRoot}
+use Rattle.bz_tally.specs.FromSplit.BelowSplits.{parent_freezing, below_swap}
+use Rattle.bz_tally.specs.FromSplit.Facts.{SPLIT_WORDS, SPLIT_LINES}
+use Rattle.bz_ascent.specs.FromBranch.Nodes.{IsOpenLink}
+use Rattle.bz_ascent.proofs.FromBranch.Standing.{node-below}
+use Rattle.bz_alone.specs.FromCrown.Duties.{asks_crown, facts_crown, crown_of}
+use Rattle.bz_alone.specs.FromCrown.Facts.{Crown, IsSplitting, crown_asks, crown_facts}
+use Rattle.bz_alone.specs.FromCrown.Phase.{Phase}
+use Rattle.bz_alone.specs.FromCrown.Phase.TheVariants.{Swap}
+use Rattle.bz_alone.specs.FromCrown.SplitInnerRoot.{SplitInnerRoot}
 use Rattle.bz_stage.specs.Laws.{RootSplitsLowerTheStage, LeavesALevel, SplitsLeaveALevel}
 use Rattle.bz_stage.specs.Made.{MadeInnersTakeTheirEntries}
 use Rattle.bz_stage.specs.Stages.{root_level}

@@ -29,10 +29,10 @@ use Rattle.bz_renew.specs.FrozenLeaves.{FrozenLeavesStandStill}
 use Rattle.bz_renew.specs.Renewals.{renewal}
 use Rattle.bz_renew.specs.Turning.{TurnsAt, RootLinksTurn}
 use Rattle.bz_renew.proofs.FreshSlots.{durable-is}
-use Rattle.bz_split.specs.Duties.{split_of}
-use Rattle.bz_split.specs.Facts.{Split, SPLIT_WORDS, SPLIT_LINES, IsSplitting, split_asks, split_facts}
-use Rattle.bz_split.specs.declared.phase.Phase.{Phase}
-use Rattle.bz_split.specs.declared.phase.Phase.TheVariants.{Swap}
+use Rattle.bz_tally.specs.FromSplit.Duties.{split_of}
+use Rattle.bz_tally.specs.FromSplit.Facts.{Split, SPLIT_WORDS, SPLIT_LINES, IsSplitting, split_asks, split_facts}
+use Rattle.bz_tally.specs.FromSplit.Phase.{Phase}
+use Rattle.bz_tally.specs.FromSplit.Phase.TheVariants.{Swap}
 use Rattle.bz_stage.proofs.Leaves.{roomy-ready}
 use Rattle.bz_stage.specs.Made.{MadeLeavesAreRoomy}
 use Rattle.bz_stage.specs.Stages.{leaf_page, full_above}

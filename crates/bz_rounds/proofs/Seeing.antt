@@ -2,7 +2,7 @@
 use Rattle.std.proofs.Common.{◌≡◌, ℕ, ◌+◌, ◌<◌, ◌≤◌, Bool, true, false, List, None, arith, refl, sym, ap, subst, ◌∙◌, inl, inr}
 use Rattle.bz_layout.specs.declared.config.Config.{Config}
 use Rattle.bz_layout.specs.declared.sizes.TheConstants.{STATUS_AT, SHARED_WORDS}
-use Rattle.bz_record.specs.Records.{HasRoom, LacksRoom}
+use Rattle.bz_tally.specs.FromRecord.Records.{HasRoom, LacksRoom}
 use Rattle.bz_shape.specs.Form.{Holds}
 use Rattle.bz_shape.specs.TreeLaws.{LeavesTileTheKeys}
 use Rattle.bz_slotted.specs.Laws.{LeafRulesAreFacts}

@@ -3,8 +3,8 @@
 use Rattle.std.specs.Prelude.{◌≡◌, ℕ, ◌+◌, ◌<◌, ◌≤◌, true, false, List, Some, slice_get}
 use Rattle.bz_ascent.specs.Ascents.{IsAscent}
 use Rattle.bz_ascent.specs.declared.ascent.Ascent.{Ascent}
-use Rattle.bz_below.specs.Facts.{IsThawedAbove}
-use Rattle.bz_merge.specs.Thawed.{IsLedTo}
+use Rattle.bz_tally.specs.FromBelow.Facts.{IsThawedAbove}
+use Rattle.bz_alone.specs.FromMerge.Thawed.{IsLedTo}
 use Rattle.bz_renew.specs.Due.{IsStatusOf, IsDue}
 use Rattle.bz_word.specs.Statuses.{status}
 use Rattle.bz_task.specs.Outcomes.{IsPath, IsView}

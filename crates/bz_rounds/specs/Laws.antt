@@ -2,19 +2,19 @@
 use Rattle.std.specs.Prelude.{ℕ, ◌+◌, ◌≤◌, List}
 use Rattle.bz_ascent.specs.Ascents.{IsAscent}
 use Rattle.bz_ascent.specs.declared.ascent.Ascent.{Ascent}
-use Rattle.bz_below.specs.Duties.{asks_below, facts_below}
-use Rattle.bz_below.specs.declared.split_below.SplitBelow.{SplitBelow}
-use Rattle.bz_consol.specs.Duties as consol
-use Rattle.bz_consol.specs.declared.consolidate.Consolidate.{Consolidate}
-use Rattle.bz_crown.specs.Duties.{asks_crown, facts_crown}
-use Rattle.bz_crown.specs.declared.split_inner_root.SplitInnerRoot.{SplitInnerRoot}
-use Rattle.bz_fork.specs.Duties.{asks_fork, facts_fork}
-use Rattle.bz_fork.specs.declared.split_inner.SplitInner.{SplitInner}
+use Rattle.bz_tally.specs.FromBelow.Duties.{asks_below, facts_below}
+use Rattle.bz_tally.specs.FromBelow.SplitBelow.{SplitBelow}
+use Rattle.bz_alone.specs.FromConsol.Duties as consol
+use Rattle.bz_alone.specs.FromConsol.Consolidate.{Consolidate}
+use Rattle.bz_alone.specs.FromCrown.Duties.{asks_crown, facts_crown}
+use Rattle.bz_alone.specs.FromCrown.SplitInnerRoot.{SplitInnerRoot}
+use Rattle.bz_alone.specs.FromFork.Duties.{asks_fork, facts_fork}
+use Rattle.bz_alone.specs.FromFork.SplitInner.{SplitInner}
 use Rattle.bz_freeze.specs.Facts.{freeze_asks, freeze_facts}
 use Rattle.bz_freeze.specs.declared.freeze.Freeze.{Freeze}
 use Rattle.bz_layout.specs.declared.thresholds.TheConstants.{LEAF_RECORD_WORDS}
-use Rattle.bz_split.specs.Duties as split
-use Rattle.bz_split.specs.declared.split_root.SplitRoot.{SplitRoot}
+use Rattle.bz_tally.specs.FromSplit.Duties as split
+use Rattle.bz_tally.specs.FromSplit.SplitRoot.{SplitRoot}
 use Rattle.bz_task.specs.Instant.{Instant}
 use Rattle.bz_task.specs.Scene.{Scene, here}
 use Rattle.bz_word.specs.declared.entry.Entry.{Entry}

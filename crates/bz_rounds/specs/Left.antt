@@ -2,10 +2,10 @@
 use Rattle.std.specs.Prelude.{◌≡◌, ℕ, ◌+◌, ◌-◌, ◌≤◌, List, Some, slice_get}
 use Rattle.bz_ascent.specs.Ascents.{IsAscent}
 use Rattle.bz_ascent.specs.declared.ascent.Ascent.{Ascent}
-use Rattle.bz_crown.specs.Duties.{asks_crown, facts_crown}
-use Rattle.bz_crown.specs.declared.split_inner_root.SplitInnerRoot.{SplitInnerRoot}
-use Rattle.bz_fork.specs.Duties.{asks_fork, facts_fork}
-use Rattle.bz_fork.specs.declared.split_inner.SplitInner.{SplitInner}
+use Rattle.bz_alone.specs.FromCrown.Duties.{asks_crown, facts_crown}
+use Rattle.bz_alone.specs.FromCrown.SplitInnerRoot.{SplitInnerRoot}
+use Rattle.bz_alone.specs.FromFork.Duties.{asks_fork, facts_fork}
+use Rattle.bz_alone.specs.FromFork.SplitInner.{SplitInner}
 use Rattle.bz_layout.specs.declared.config.Config.{Config}
 use Rattle.bz_layout.specs.declared.thresholds.TheConstants.{LEAF_RECORD_WORDS, MAX_LEVELS}
 use Rattle.bz_word.specs.declared.entry.Entry.{Entry}

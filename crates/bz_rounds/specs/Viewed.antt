@@ -1,6 +1,6 @@
 -- What was viewed of the key's leaf, while nobody's swap takes effect: it is so now, and tells whether the stage of the key is 0.
 use Rattle.std.specs.Prelude.{◌≡◌, ℕ, ◌+◌, ◌<◌, true, false, List}
-use Rattle.bz_record.specs.Records.{HasRoom, LacksRoom}
+use Rattle.bz_tally.specs.FromRecord.Records.{HasRoom, LacksRoom}
 use Rattle.bz_stage.specs.Stages.{stage_in}
 use Rattle.bz_word.specs.Statuses.{status}
 use Rattle.bz_task.specs.Outcomes.{IsView, IsKeyView}

@@ -13,7 +13,7 @@ use Rattle.bz_merge.specs.Facts.{merge_means}
 use Rattle.bz_merge.specs.FromSplit.Facts.{split_means}
 use Rattle.bz_mutate.specs.DeleteFacts.{delete_means}
 use Rattle.bz_mutate.specs.UpdateFacts.{update_means}
-use Rattle.bz_record.specs.declared.new_record.NewRecord.{NewRecord}
+use Rattle.bz_insert.specs.FromRecord.NewRecord.{NewRecord}
 use Rattle.bz_task.specs.Scene.{Scene}
 use Rattle.bz_task.specs.declared.path.Link.{Link}
 use Rattle.bz_task.specs.declared.path.Path.{Path as Way}

@@ -10,3 +10,10 @@ pub mod GoingUp
 pub mod FromAscent
 pub mod FromBelow
 pub mod FromConsol
+pub mod FromMerge
+pub mod FromBranch
+pub mod FromCrown
+pub mod FromFork
+pub mod FromDescend
+pub mod FromInsert
+pub mod FromFind

@@ -10,3 +10,7 @@ pub mod Records
 pub mod Rules
 pub mod Tests
 pub mod Whole
+pub mod FromKey
+pub mod FromNode
+pub mod FromLayout
+pub mod FromShape

@@ -12,5 +12,6 @@ mod order;
 mod place;
 mod records;
 
+pub use bz_node::NodeImage;
 pub use fault::node_fault;
 pub use place::Place;

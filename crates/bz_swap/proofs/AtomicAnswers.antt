@@ -2,8 +2,8 @@
 use Rattle.std.specs.Prelude.{◌≡◌, ◌≢◌, ◌==◌, ℕ, ◌*◌, ◌/◌, ◌<◌, Bool, true, false, length, slice_index}
 use Rattle.std.proofs.Common.{arith, refl, ap, sym, subst, ◌∙◌}
 use Rattle.std.proofs.lemmas.Grind.{common_steps}
-use Rattle.bz_pm.proofs.Lemmas.{flush}
-use Rattle.bz_pm.specs.Words.{Words}
+use Rattle.bz_cells.proofs.FromPm.Lemmas.{flush}
+use Rattle.bz_cells.specs.FromPm.Words.{Words}
 use Rattle.bz_acts.specs.declared.acted.Act.{Act}
 use Rattle.bz_acts.specs.declared.acted.Act.TheVariants.{Load, Flush}
 use Rattle.bz_acts.specs.Rule.{after_act, FoundRightly, IsWithin, IsActOf}

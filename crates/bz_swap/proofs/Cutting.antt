@@ -4,7 +4,7 @@ use Rattle.std.proofs.Common.{refl, ap, sym, ◌∙◌}
 use Rattle.std.proofs.lemmas.List.{length-replicate, length-map}
 use Rattle.bz_machine.specs.declared.place.Place.TheVariants as place
 use Rattle.bz_machine.specs.declared.worker.Operation.TheVariants as operation
-use Rattle.bz_pm.specs.Acts.{after_cut as words_after_cut}
+use Rattle.bz_cells.specs.FromPm.Acts.{after_cut as words_after_cut}
 use Rattle.bz_cells.specs.Store.{Store, HasRoom, store_words, with_words}
 use Rattle.bz_swap.specs.declared.phase.Phase.TheVariants.{Recovering}
 use Rattle.bz_swap.specs.Power.{after_cut}

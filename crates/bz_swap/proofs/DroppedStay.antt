@@ -5,7 +5,7 @@ use Rattle.std.proofs.Common.{arith, refl, sym, subst, inl, inr}
 use Rattle.std.proofs.lemmas.Bool.{cases_lt}
 use Rattle.std.proofs.lemmas.Grind.{common_steps}
 use Rattle.bz_layout.specs.Addresses.{swap_address}
-use Rattle.bz_pm.specs.Words.{Words, IsMemory}
+use Rattle.bz_cells.specs.FromPm.Words.{Words, IsMemory}
 use Rattle.bz_acts.specs.Rule.{after_act}
 use Rattle.bz_acts.specs.declared.acted.Act.{Act}
 use Rattle.bz_acts.specs.declared.acted.Act.TheVariants.{Load, Store, Cas, Flush}

@@ -2,7 +2,7 @@
 use Rattle.std.specs.Prelude.{◌≡◌, ◌≢◌, ℕ, length}
 use Rattle.std.proofs.Common.{refl, sym, subst}
 use Rattle.std.specs.declared.option.Option.{Option}
-use Rattle.bz_pm.specs.Acts.{evicted}
+use Rattle.bz_cells.specs.FromPm.Acts.{evicted}
 use Rattle.bz_machine.specs.declared.worker.Worker.{Worker}
 use Rattle.bz_machine.specs.Machine.{Entries}
 use Rattle.bz_machine.specs.Budgets.{IsBounded, IsAmong}

@@ -14,7 +14,7 @@ use Rattle.bz_cells.specs.Store.{Store, store_words}
 use Rattle.bz_acts.specs.Rule.{IsWithin, after_act, is_flush_act}
 use Rattle.bz_acts.specs.declared.acted.Act.{Act}
 use Rattle.bz_acts.specs.declared.acted.Act.TheVariants.{Load, Store as StoreAct, Cas, Flush}
-use Rattle.bz_pm.specs.Words.{Words}
+use Rattle.bz_cells.specs.FromPm.Words.{Words}
 use Rattle.bz_acts.specs.declared.acted.Acted.{Acted}
 use Rattle.bz_swap.specs.declared.phase.Phase.{Phase}
 use Rattle.bz_swap.specs.declared.phase.Phase.TheVariants.{Opened, Running, Recovering}

@@ -2,7 +2,7 @@
 use Rattle.std.specs.Prelude.{◌≡◌, ◌≢◌, ◌&&◌, if◌then◌else◌, not, ℕ, Bool, true, false, List, [], ◌∷◌, slice_index, None, Some}
 use Rattle.std.specs.declared.option.Option.{Option}
 use Rattle.std.proofs.Common.{refl, ap, sym, subst, ◌∙◌}
-use Rattle.bz_pm.specs.Acts.{evicted}
+use Rattle.bz_cells.specs.FromPm.Acts.{evicted}
 use Rattle.bz_machine.specs.declared.worker.Worker.{Worker}
 use Rattle.bz_machine.specs.Machine.{Memory, is_succeeded, entries_in}
 use Rattle.bz_machine.specs.Promise.{EffectIs as MachineEffectIs}

@@ -5,8 +5,8 @@ use Rattle.std.proofs.lemmas.Bool.{cases_eq, cases_lt}
 use Rattle.std.proofs.lemmas.List.{places, get_or_past, get_or-set_same, get_or-set_other, length-set, take_more}
 use Rattle.bz_word.specs.declared.entry.Entry.{Entry}
 use Rattle.bz_layout.specs.Addresses.{swap_address}
-use Rattle.bz_pm.specs.Words.{Words}
-use Rattle.bz_pm.specs.Acts.{with_range, with_line}
+use Rattle.bz_cells.specs.FromPm.Words.{Words}
+use Rattle.bz_cells.specs.FromPm.Acts.{with_range, with_line}
 use Rattle.bz_acts.specs.Rule.{after_act}
 use Rattle.bz_acts.specs.declared.acted.Act.{Act}
 use Rattle.bz_acts.specs.declared.acted.Act.TheVariants.{Load, Store, Cas, Flush}

@@ -4,9 +4,9 @@ use Rattle.std.specs.declared.option.Option.{Option}
 use Rattle.std.proofs.Common.{arith, refl, ap, sym, subst, inl, inr}
 use Rattle.std.proofs.lemmas.Bool.{cases_lt}
 use Rattle.std.proofs.lemmas.List.{length-set}
-use Rattle.bz_pm.specs.Acts.{flushed}
-use Rattle.bz_pm.proofs.Lemmas.{flush}
-use Rattle.bz_pm.specs.Words.{Words, IsMemory}
+use Rattle.bz_cells.specs.FromPm.Acts.{flushed}
+use Rattle.bz_cells.proofs.FromPm.Lemmas.{flush}
+use Rattle.bz_cells.specs.FromPm.Words.{Words, IsMemory}
 use Rattle.bz_acts.specs.Rule.{after_act}
 use Rattle.bz_acts.specs.declared.acted.Act.{Act}
 use Rattle.bz_acts.specs.declared.acted.Act.TheVariants.{Load, Store, Cas, Flush}

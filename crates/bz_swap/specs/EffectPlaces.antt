@@ -1,7 +1,7 @@
 -- Where in the memory a swap takes effect: in its descriptor alone.
 use Rattle.std.specs.Prelude.{◌≡◌, ℕ, ◌/◌, ◌<◌, slice_index, Some}
 use Rattle.bz_layout.specs.Addresses.{swap_address}
-use Rattle.bz_pm.specs.Words.{IsMemory}
+use Rattle.bz_cells.specs.FromPm.Words.{IsMemory}
 use Rattle.bz_acts.specs.declared.acted.Act.{Act}
 use Rattle.bz_acts.specs.declared.acted.Act.TheVariants.{Flush}
 use Rattle.bz_cells.specs.Store.{IsOutside, status_word}

@@ -1,6 +1,6 @@
 -- What an eviction does.
 use Rattle.std.specs.Prelude.{◌≡◌, ℕ, Option, None}
-use Rattle.bz_pm.specs.Acts.{evicted}
+use Rattle.bz_cells.specs.FromPm.Acts.{evicted}
 use Rattle.bz_swap.specs.declared.phase.Phase.{Phase}
 use Rattle.bz_swap.specs.declared.phase.Phase.TheVariants.{Opened, Running, Recovering}
 use Rattle.bz_swap.specs.SwapMemory.{SwapMemory, memory_words}

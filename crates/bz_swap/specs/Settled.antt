@@ -3,7 +3,7 @@ use Rattle.std.specs.Prelude.{◌≡◌, ◌≢◌, ℕ, ◌<◌, Bool, true, fa
 use Rattle.std.specs.declared.option.Option.{Option}
 use Rattle.bz_word.specs.declared.entry.Entry.{Entry}
 use Rattle.bz_layout.specs.Addresses.{swap_address}
-use Rattle.bz_pm.specs.Words.{IsMemory}
+use Rattle.bz_cells.specs.FromPm.Words.{IsMemory}
 use Rattle.bz_acts.specs.declared.acted.Act.{Act}
 use Rattle.bz_acts.specs.declared.acted.Act.TheVariants.{Load, Store, Cas, Flush}
 use Rattle.bz_cells.specs.Store.{status_at, status_word}

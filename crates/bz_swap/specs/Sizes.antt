@@ -1,7 +1,7 @@
 -- A swap memory has a durable word for each cached one, in whole lines, whatever happens.
 use Rattle.std.specs.Prelude.{◌≡◌, ℕ, ◌%◌, ◌^◌, ◌<◌, List, length}
 use Rattle.std.specs.declared.option.Option.{Option}
-use Rattle.bz_pm.specs.Words.{IsMemory}
+use Rattle.bz_cells.specs.FromPm.Words.{IsMemory}
 use Rattle.bz_acts.specs.declared.acted.Act.{Act}
 use Rattle.bz_machine.specs.declared.done.Done.{Done}
 use Rattle.bz_swap.specs.declared.phase.Phase.{Phase}

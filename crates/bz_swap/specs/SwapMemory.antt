@@ -2,7 +2,7 @@
 -- doing.
 use Rattle.std.specs.Prelude.{◌||◌, ◌==◌, ℕ, Bool, false, List, [], ◌∷◌, get_or}
 use Rattle.bz_word.specs.declared.entry.Entry.{Entry}
-use Rattle.bz_pm.specs.Words.{Words}
+use Rattle.bz_cells.specs.FromPm.Words.{Words}
 use Rattle.bz_machine.specs.Machine.{is_succeeded}
 use Rattle.bz_cells.specs.Store.{status_at}
 use Rattle.bz_swap.specs.Resolve.{resolve}

@@ -1,9 +1,9 @@
 -- The swap of a consolidation puts the copy in the place of the leaf.
 use Rattle.std.proofs.Common.{◌≡◌, ℕ, List, [], ◌∷◌, Some, sym, ap, subst, ◌∙◌, inl, inr}
-use Rattle.bz_consol.specs.Duties.{renewal_of}
-use Rattle.bz_consol.specs.Facts.{Renewal, IsCopying, consol_asks, consol_facts}
-use Rattle.bz_consol.specs.declared.phase.Phase.{Phase}
-use Rattle.bz_consol.specs.declared.phase.Phase.TheVariants.{Swap}
+use Rattle.bz_running.specs.FromConsol.Duties.{renewal_of}
+use Rattle.bz_running.specs.FromConsol.Facts.{Renewal, IsCopying, consol_asks, consol_facts}
+use Rattle.bz_running.specs.FromConsol.Phase.{Phase}
+use Rattle.bz_running.specs.FromConsol.Phase.TheVariants.{Swap}
 use Rattle.bz_layout.specs.declared.config.Config.{Config}
 use Rattle.bz_layout.specs.declared.sizes.TheConstants.{NODE_WORDS, NODE_LINES}
 use Rattle.bz_leaves.proofs.Consolidations.{only-one}

@@ -1,10 +1,10 @@
 -- The swap of a leaf's split below a parent puts its halves in its place.
 use Rattle.std.proofs.Common.{◌≡◌, ◌≢◌, ℕ, ◌+◌, ◌<◌, ◌==◌, List, [], ◌∷◌, Some, arith, refl, sym, ap, subst, ◌∙◌, inl, inr}
-use Rattle.bz_below.specs.Duties.{below_of}
-use Rattle.bz_below.specs.Facts.{Below, below_nodes, IsSplittingBelow, below_asks, below_facts, parent_words}
-use Rattle.bz_below.specs.Guards.{with_guard, WasNamed}
-use Rattle.bz_below.specs.declared.phase.Phase.{Phase}
-use Rattle.bz_below.specs.declared.phase.Phase.TheVariants.{Swap}
+use Rattle.bz_branch.specs.FromBelow.Duties.{below_of}
+use Rattle.bz_branch.specs.FromBelow.Facts.{Below, below_nodes, IsSplittingBelow, below_asks, below_facts, parent_words}
+use Rattle.bz_branch.specs.FromBelow.Guards.{with_guard, WasNamed}
+use Rattle.bz_branch.specs.FromBelow.Phase.{Phase}
+use Rattle.bz_branch.specs.FromBelow.Phase.TheVariants.{Swap}
 use Rattle.bz_branch.specs.Nodes.{IsOpenLink}
 use Rattle.bz_branch.proofs.Standing.{node-below}
 use Rattle.bz_halves.specs.Parents.{HasRoomToPart, IsPartedParent, ParentsOfHalvesAreWhole}

@@ -6,10 +6,10 @@ use Rattle.bz_branch.specs.FromSplit.Facts.{SPLIT_WORDS, SPLIT_LINES}
 use Rattle.bz_branch.specs.InnerSplits.{both_freezings, inner_swap}
 use Rattle.bz_branch.specs.Nodes.{IsOpenLink}
 use Rattle.bz_branch.proofs.Standing.{node-below}
-use Rattle.bz_fork.specs.Duties.{fork_of}
-use Rattle.bz_fork.specs.Facts.{Fork, IsSplitting, fork_asks, fork_facts, parent_words}
-use Rattle.bz_fork.specs.declared.phase.Phase.{Phase}
-use Rattle.bz_fork.specs.declared.phase.Phase.TheVariants.{Swap}
+use Rattle.bz_running.specs.FromFork.Duties.{fork_of}
+use Rattle.bz_running.specs.FromFork.Facts.{Fork, IsSplitting, fork_asks, fork_facts, parent_words}
+use Rattle.bz_running.specs.FromFork.Phase.{Phase}
+use Rattle.bz_running.specs.FromFork.Phase.TheVariants.{Swap}
 use Rattle.bz_halves.specs.Parents.{HasRoomToPart, IsPartedParent, ParentsOfHalvesAreWhole}
 use Rattle.bz_layout.specs.Addresses.{node_address}
 use Rattle.bz_layout.specs.declared.config.Config.{Config}

@@ -1,13 +1,13 @@
 -- A merge asks for the swap of the link where it can ask for no other any more, and for its freezes before.
 use Rattle.std.proofs.Common.{◌≡◌, ◌<◌, ◌≤◌, ◌+◌, List, Some, arith}
 use Rattle.bz_layout.specs.declared.config.Config.{Config}
-use Rattle.bz_merge.specs.Counts.{merge_swaps}
-use Rattle.bz_merge.specs.Duties.{merging_of}
-use Rattle.bz_merge.specs.Facts.{merge_asks}
-use Rattle.bz_merge.specs.Plans.{Merging as MergePlan}
-use Rattle.bz_merge.specs.declared.merge.Merge.{Merge}
-use Rattle.bz_merge.specs.declared.phase.Phase.{Phase}
-use Rattle.bz_merge.specs.declared.phase.Phase.TheVariants.{Freeze, FreezeBeside, Swap}
+use Rattle.bz_running.specs.FromMerge.Counts.{merge_swaps}
+use Rattle.bz_running.specs.FromMerge.Duties.{merging_of}
+use Rattle.bz_running.specs.FromMerge.Facts.{merge_asks}
+use Rattle.bz_running.specs.FromMerge.Plans.{Merging as MergePlan}
+use Rattle.bz_running.specs.FromMerge.Merge.{Merge}
+use Rattle.bz_running.specs.FromMerge.Phase.{Phase}
+use Rattle.bz_running.specs.FromMerge.Phase.TheVariants.{Freeze, FreezeBeside, Swap}
 use Rattle.bz_running.specs.Duties.{config_of, asks_of, facts_of, swaps_of}
 use Rattle.bz_running.specs.Kinds.{kind_of}
 use Rattle.bz_running.specs.Kinds as kinds

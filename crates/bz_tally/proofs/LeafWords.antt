@@ -5,7 +5,7 @@ use Rattle.bz_layout.specs.Addresses.{node_address, IsOutsideSwaps, SlotsApart}
 use Rattle.bz_layout.specs.declared.config.Config.{Config}
 use Rattle.bz_layout.specs.declared.sizes.TheConstants.{NODE_WORDS, SUPERBLOCK_WORDS, STATUS_AT, HEADER_AT, META_AT, ROOT_AT, ROOT_STATUS_AT}
 use Rattle.bz_leaves.specs.Laws.{KeepsSlots, OnLeaves, WordsOfLeavesDoNotCount}
-use Rattle.bz_merge.specs.Merges.{WasLeafOnce}
+use Rattle.bz_running.specs.FromMerge.Merges.{WasLeafOnce}
 use Rattle.bz_record.specs.Swaps.{entries_of}
 use Rattle.bz_record.specs.declared.record_swap.RecordSwap.{RecordSwap}
 use Rattle.bz_slotted.specs.Readers.{level_of}

@@ -5,12 +5,12 @@ use Rattle.bz_layout.specs.declared.config.Config.{Config}
 use Rattle.bz_layout.specs.declared.sizes.TheConstants.{STATUS_AT}
 use Rattle.bz_layout.specs.declared.thresholds.TheConstants.{MERGE_SLOTS}
 use Rattle.bz_leaves.specs.Laws.{MergesTakeOne}
-use Rattle.bz_merge.specs.Duties.{merging_of}
-use Rattle.bz_merge.specs.Facts.{MERGE_WORDS, MERGE_LINES, IsMerging, merge_asks, merge_facts}
-use Rattle.bz_merge.specs.Plans.{beside_leaf, sep_of, viewed_leaf, first_of, second_of, Merging}
-use Rattle.bz_merge.specs.declared.merge.Merge.{Merge}
-use Rattle.bz_merge.specs.declared.phase.Phase.{Phase}
-use Rattle.bz_merge.specs.declared.phase.Phase.TheVariants.{Freeze, FreezeBeside, Swap}
+use Rattle.bz_running.specs.FromMerge.Duties.{merging_of}
+use Rattle.bz_running.specs.FromMerge.Facts.{MERGE_WORDS, MERGE_LINES, IsMerging, merge_asks, merge_facts}
+use Rattle.bz_running.specs.FromMerge.Plans.{beside_leaf, sep_of, viewed_leaf, first_of, second_of, Merging}
+use Rattle.bz_running.specs.FromMerge.Merge.{Merge}
+use Rattle.bz_running.specs.FromMerge.Phase.{Phase}
+use Rattle.bz_running.specs.FromMerge.Phase.TheVariants.{Freeze, FreezeBeside, Swap}
 use Rattle.bz_split.specs.BelowSplits.{below_swap}
 use Rattle.bz_word.specs.declared.entry.Entry.{Entry}
 use Rattle.std.specs.Prelude.{slice_index}
@@ -29,7 +29,7 @@ use Rattle.bz_tally.proofs.Pairs.{apart-of, other-once, own-once, room-of, to-ot
 use Rattle.bz_tally.proofs.Stored.{each-fresh}
 use Rattle.bz_tally.specs.Counts.{IsLeafNow, KeepsTheLeaves, MergesLeaves}
 use Rattle.bz_tally.specs.Laws.{MergeCounts, MergesCount}
-use Rattle.bz_merge.specs.Siblings.{SeenLeaf}
+use Rattle.bz_running.specs.FromMerge.Siblings.{SeenLeaf}
 
 -- the laws on which it rests
 pub record Laws : Type 0 where

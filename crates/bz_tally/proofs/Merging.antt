@@ -9,10 +9,10 @@ use Rattle.bz_layout.specs.Addresses.{node_address}
 use Rattle.bz_layout.specs.declared.config.Config.{Config}
 use Rattle.bz_layout.specs.declared.sizes.TheConstants.{STATUS_AT}
 use Rattle.bz_layout.specs.declared.thresholds.TheConstants.{MERGE_SLOTS}
-use Rattle.bz_merge.specs.Facts.{MERGE_WORDS, MERGE_LINES, IsMerging}
-use Rattle.bz_merge.specs.Merges.{StoodFrozen}
-use Rattle.bz_merge.specs.Plans.{beside_leaf, first_of, second_of, sep_of, viewed_leaf, IsPlanned, Merging}
-use Rattle.bz_merge.specs.Siblings.{SeenLeaf}
+use Rattle.bz_running.specs.FromMerge.Facts.{MERGE_WORDS, MERGE_LINES, IsMerging}
+use Rattle.bz_running.specs.FromMerge.Merges.{StoodFrozen}
+use Rattle.bz_running.specs.FromMerge.Plans.{beside_leaf, first_of, second_of, sep_of, viewed_leaf, IsPlanned, Merging}
+use Rattle.bz_running.specs.FromMerge.Siblings.{SeenLeaf}
 use Rattle.bz_node.specs.Reading.{children_in}
 use Rattle.bz_renew.specs.Freezings.{freezing_entry}
 use Rattle.bz_renew.specs.LinkSwaps.{IsFresh}

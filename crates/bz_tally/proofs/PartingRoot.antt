@@ -3,10 +3,10 @@ use Rattle.std.proofs.Common.{◌≡◌, ℕ, ◌+◌, ◌-◌, ◌<◌, List, [
 use Rattle.std.specs.Prelude.{None}
 use Rattle.bz_branch.specs.Nodes.{IsOpenLink}
 use Rattle.bz_branch.proofs.Standing.{node-below}
-use Rattle.bz_crown.specs.Duties.{crown_of}
-use Rattle.bz_crown.specs.Facts.{Crown, IsSplitting, crown_asks, crown_facts}
-use Rattle.bz_crown.specs.declared.phase.Phase.{Phase}
-use Rattle.bz_crown.specs.declared.phase.Phase.TheVariants.{Swap}
+use Rattle.bz_running.specs.FromCrown.Duties.{crown_of}
+use Rattle.bz_running.specs.FromCrown.Facts.{Crown, IsSplitting, crown_asks, crown_facts}
+use Rattle.bz_running.specs.FromCrown.Phase.{Phase}
+use Rattle.bz_running.specs.FromCrown.Phase.TheVariants.{Swap}
 use Rattle.bz_layout.specs.Addresses.{node_address}
 use Rattle.bz_layout.specs.declared.config.Config.{Config}
 use Rattle.bz_layout.specs.declared.sizes.TheConstants.{ROOT_AT, STATUS_AT}

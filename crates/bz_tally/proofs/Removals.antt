@@ -7,7 +7,7 @@ use Rattle.bz_layout.specs.declared.config.Config.{Config}
 use Rattle.bz_layout.specs.declared.sizes.TheConstants.{NODE_WORDS, STATUS_AT, META_AT}
 use Rattle.bz_layout.specs.declared.thresholds.TheConstants.{LEAF_RECORD_WORDS}
 use Rattle.bz_leaves.specs.Laws.{KeepsSlots}
-use Rattle.bz_merge.specs.Merges.{WasLeafOnce}
+use Rattle.bz_running.specs.FromMerge.Merges.{WasLeafOnce}
 use Rattle.bz_node.specs.Reading.{extent_words}
 use Rattle.bz_record.specs.Laws.{SameLeaf, LeavesStay}
 use Rattle.bz_record.specs.Replacing.{WasRecord, removal}

@@ -1,19 +1,19 @@
 -- Whichever task it is: what its swap makes of the leaves.
 use Rattle.std.proofs.Common.{◌≡◌, ◌⊎◌, List, Some, refl, inl, inr}
-use Rattle.bz_descend.specs.SeekFacts.{seek_asks}
-use Rattle.bz_descend.specs.declared.sight.Way.{Way}
-use Rattle.bz_descend.specs.declared.sight.Way.TheVariants as way
-use Rattle.bz_find.specs.Phases.{find_asks}
-use Rattle.bz_find.specs.declared.find.Find.{Find}
-use Rattle.bz_find.specs.declared.phase.Phase.{Phase as FindPhase}
-use Rattle.bz_find.specs.declared.phase.Phase.TheVariants as find
+use Rattle.bz_running.specs.FromDescend.SeekFacts.{seek_asks}
+use Rattle.bz_running.specs.FromDescend.Way.{Way}
+use Rattle.bz_running.specs.FromDescend.Way.TheVariants as way
+use Rattle.bz_running.specs.FromFind.Phases.{find_asks}
+use Rattle.bz_running.specs.FromFind.Find.{Find}
+use Rattle.bz_running.specs.FromFind.Phase.{Phase as FindPhase}
+use Rattle.bz_running.specs.FromFind.Phase.TheVariants as find
 use Rattle.bz_layout.specs.declared.config.Config.{Config}
 use Rattle.bz_leaf.specs.Facts.{leaf_asks}
 use Rattle.bz_leaf.specs.declared.phase.Phase.{Phase as LeafPhase}
 use Rattle.bz_leaf.specs.declared.phase.Phase.TheVariants as leaf
-use Rattle.bz_merge.specs.declared.merge.Merge.{Merge}
-use Rattle.bz_merge.specs.declared.phase.Phase.{Phase}
-use Rattle.bz_merge.specs.declared.phase.Phase.TheVariants.{Swap}
+use Rattle.bz_running.specs.FromMerge.Merge.{Merge}
+use Rattle.bz_running.specs.FromMerge.Phase.{Phase}
+use Rattle.bz_running.specs.FromMerge.Phase.TheVariants.{Swap}
 use Rattle.bz_node.specs.declared.image.NodeImage.{NodeImage}
 use Rattle.bz_running.specs.Duties.{config_of, asks_of, facts_of}
 use Rattle.bz_running.specs.declared.running.AnyTask.{AnyTask}

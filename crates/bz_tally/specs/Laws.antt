@@ -1,21 +1,21 @@
 -- What the swap of each task makes of the number of leaves.
 use Rattle.std.specs.Prelude.{◌≡◌, ◌⊎◌, ℕ, ◌+◌, ◌<◌, ◌≤◌, List}
-use Rattle.bz_below.specs.Duties.{asks_below, facts_below}
-use Rattle.bz_below.specs.declared.split_below.SplitBelow.{SplitBelow}
-use Rattle.bz_consol.specs.Duties as consol
-use Rattle.bz_consol.specs.declared.consolidate.Consolidate.{Consolidate}
-use Rattle.bz_crown.specs.Duties.{asks_crown, facts_crown}
-use Rattle.bz_crown.specs.declared.split_inner_root.SplitInnerRoot.{SplitInnerRoot}
-use Rattle.bz_fork.specs.Duties.{asks_fork, facts_fork}
-use Rattle.bz_fork.specs.declared.split_inner.SplitInner.{SplitInner}
+use Rattle.bz_branch.specs.FromBelow.Duties.{asks_below, facts_below}
+use Rattle.bz_branch.specs.FromBelow.SplitBelow.{SplitBelow}
+use Rattle.bz_running.specs.FromConsol.Duties as consol
+use Rattle.bz_running.specs.FromConsol.Consolidate.{Consolidate}
+use Rattle.bz_running.specs.FromCrown.Duties.{asks_crown, facts_crown}
+use Rattle.bz_running.specs.FromCrown.SplitInnerRoot.{SplitInnerRoot}
+use Rattle.bz_running.specs.FromFork.Duties.{asks_fork, facts_fork}
+use Rattle.bz_running.specs.FromFork.SplitInner.{SplitInner}
 use Rattle.bz_freeze.specs.Facts.{freeze_asks, freeze_facts}
 use Rattle.bz_freeze.specs.declared.freeze.Freeze.{Freeze}
 use Rattle.bz_insert.specs.Duties as insert
 use Rattle.bz_insert.specs.declared.insert.Insert.{Insert}
-use Rattle.bz_merge.specs.Duties as merge
-use Rattle.bz_merge.specs.declared.merge.Merge.{Merge}
-use Rattle.bz_merge.specs.declared.phase.Phase.{Phase}
-use Rattle.bz_merge.specs.declared.phase.Phase.TheVariants.{Swap}
+use Rattle.bz_running.specs.FromMerge.Duties as merge
+use Rattle.bz_running.specs.FromMerge.Merge.{Merge}
+use Rattle.bz_running.specs.FromMerge.Phase.{Phase}
+use Rattle.bz_running.specs.FromMerge.Phase.TheVariants.{Swap}
 use Rattle.bz_mutate.specs.DeleteDuties as delete
 use Rattle.bz_mutate.specs.UpdateDuties as update
 use Rattle.bz_mutate.specs.declared.delete.Delete.{Delete}

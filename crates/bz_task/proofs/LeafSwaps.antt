@@ -12,9 +12,9 @@ use Rattle.bz_shape.specs.Order.{is_at_least, is_below, is_within}
 use Rattle.bz_shape.specs.Outcomes.{SameTree}
 use Rattle.bz_shape.specs.TreeLaws.{LeavesTileTheKeys}
 use Rattle.bz_shape.specs.Walk.{form_of}
-use Rattle.bz_slotted.specs.Page.{page}
-use Rattle.bz_slotted.specs.Readers.{found_of}
-use Rattle.bz_slotted.specs.Tests.{every}
+use Rattle.bz_content.specs.FromSlotted.Page.{page}
+use Rattle.bz_content.specs.FromSlotted.Readers.{found_of}
+use Rattle.bz_content.specs.FromSlotted.Tests.{every}
 use Rattle.bz_swap.specs.SwapMemory.{is_target}
 use Rattle.bz_word.specs.declared.entry.Entry.{Entry}
 use Rattle.bz_content.specs.Content.{image_of, is_super, content_in, view_in, IsWellFormed}

@@ -15,3 +15,4 @@ mod Settled
 mod Separators
 mod Resting
 mod Targeting
+pub mod FromSwap

@@ -2,15 +2,15 @@
 use Rattle.std.proofs.Common.{◌≡◌, ◌≢◌, ℕ, zero, suc, ◌+◌, ◌^◌, ◌<◌, ◌≤◌, ◌==◌, true, false, List, arith, refl, sym, ap, subst, ◌∙◌, Option}
 use Rattle.std.specs.Prelude.{Some, None}
 use Rattle.std.proofs.lemmas.Bool.Decides.{nat_tests}
-use Rattle.bz_key.specs.Packing.{packed_len, unpacked_key}
-use Rattle.bz_key.proofs.UnpackingLaws.{unpacked_key-sound}
+use Rattle.bz_call.specs.FromKey.Packing.{packed_len, unpacked_key}
+use Rattle.bz_call.proofs.FromKey.UnpackingLaws.{unpacked_key-sound}
 use Rattle.bz_layout.specs.declared.config.Config.{Config}
 use Rattle.bz_layout.specs.declared.sizes.TheConstants.{STATUS_AT, HEADER_AT, LOW_FENCE_AT, HIGH_FENCE_AT, FENCE_WORDS, META_AT}
 use Rattle.bz_shape.specs.TreeLaws.{TreesHaveForms}
-use Rattle.bz_slotted.specs.Laws.{LeafRulesAreFacts, InnerRulesAreFacts}
-use Rattle.bz_slotted.specs.Page.{words_at, page}
-use Rattle.bz_slotted.specs.Rules.{node_fault}
-use Rattle.bz_slotted.specs.Whole.{IsFence, HasFences}
+use Rattle.bz_content.specs.FromSlotted.Laws.{LeafRulesAreFacts, InnerRulesAreFacts}
+use Rattle.bz_content.specs.FromSlotted.Page.{words_at, page}
+use Rattle.bz_content.specs.FromSlotted.Rules.{node_fault}
+use Rattle.bz_content.specs.FromSlotted.Whole.{IsFence, HasFences}
 use Rattle.bz_word.specs.Headers.{header}
 use Rattle.bz_content.specs.Image.{node}
 use Rattle.bz_content.specs.Laws.{WellFormedImagesHaveNoFault}

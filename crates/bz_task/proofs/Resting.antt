@@ -12,19 +12,19 @@ use Rattle.bz_shape.specs.Slots.{SameSlot, SameTop}
 use Rattle.bz_shape.specs.SwapLaws.{QuietSlotsKeepTheTree}
 use Rattle.bz_shape.specs.TreeLaws.{TreesHaveForms}
 use Rattle.bz_shape.specs.Walk.{form, form_of}
-use Rattle.bz_slotted.specs.Changes.{StoresBeside}
-use Rattle.bz_slotted.specs.InnerChanges.{StandsAlike, StandingIsQuiet}
-use Rattle.bz_slotted.specs.Laws.{LeafRulesAreFacts}
-use Rattle.bz_slotted.specs.LeafLaws.{AnswersAlike, StoresAreQuiet}
-use Rattle.bz_slotted.specs.Page.{page, extent_of}
-use Rattle.bz_slotted.specs.Records.{pointer_at}
-use Rattle.bz_slotted.specs.Readers.{level_of, count_of, child_of, key_of, found_of}
-use Rattle.bz_slotted.specs.Rules.{node_fault}
-use Rattle.bz_slotted.specs.Whole.{Whole}
+use Rattle.bz_content.specs.FromSlotted.Changes.{StoresBeside}
+use Rattle.bz_content.specs.FromSlotted.InnerChanges.{StandsAlike, StandingIsQuiet}
+use Rattle.bz_content.specs.FromSlotted.Laws.{LeafRulesAreFacts}
+use Rattle.bz_content.specs.FromSlotted.LeafLaws.{AnswersAlike, StoresAreQuiet}
+use Rattle.bz_content.specs.FromSlotted.Page.{page, extent_of}
+use Rattle.bz_content.specs.FromSlotted.Records.{pointer_at}
+use Rattle.bz_content.specs.FromSlotted.Readers.{level_of, count_of, child_of, key_of, found_of}
+use Rattle.bz_content.specs.FromSlotted.Rules.{node_fault}
+use Rattle.bz_content.specs.FromSlotted.Whole.{Whole}
 use Rattle.bz_word.specs.Headers.{header}
 use Rattle.bz_word.specs.Statuses.{status}
 use Rattle.bz_word.specs.declared.meta.Meta.{Meta}
-use Rattle.bz_node.specs.Reading.{payload_at}
+use Rattle.bz_content.specs.FromSlotted.Reading.{payload_at}
 use Rattle.bz_content.specs.Content.{image_of, view_in, is_super, IsWellFormed}
 use Rattle.bz_content.specs.Image.{node, root}
 use Rattle.bz_content.specs.Laws.{WellFormedImagesHaveNoFault, ViewsAreHonest}

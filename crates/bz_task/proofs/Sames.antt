@@ -1,8 +1,8 @@
 -- Words that readers see: where they are the same, the same places are seen.
 use Rattle.std.proofs.Common.{◌≡◌, ℕ, ◌+◌, ◌<◌, ◌≤◌, true, arith, refl, sym, ap, subst, ◌∙◌, inl, inr}
 use Rattle.bz_layout.specs.declared.sizes.TheConstants.{STATUS_AT, HEADER_AT, META_AT}
-use Rattle.bz_slotted.specs.Page.{meta_of, visible, extent_of, page}
-use Rattle.bz_slotted.specs.Records.{weight}
+use Rattle.bz_content.specs.FromSlotted.Page.{meta_of, visible, extent_of, page}
+use Rattle.bz_content.specs.FromSlotted.Records.{weight}
 use Rattle.bz_word.specs.Statuses.{status}
 use Rattle.bz_word.specs.Headers.{header}
 use Rattle.bz_task.specs.Laws.{SameRecordsShowTheSame}

@@ -1,15 +1,15 @@
 -- Words that are those of a leaf to its readers are a leaf by themselves.
 use Rattle.std.proofs.Common.{◌≡◌, ℕ, zero, suc, ◌+◌, ◌^◌, ◌<◌, ◌≤◌, ◌&&◌, if◌then◌else◌, Bool, true, false, List, arith, refl, sym, ap, subst, ◌∙◌, inl, inr, Option}
 use Rattle.std.specs.Prelude.{bytes_eq, Some, None, IsSome}
-use Rattle.bz_key.specs.Packing.{packed_len, unpacked, unpacked_key, unpacked_payload}
-use Rattle.bz_key.proofs.UnpackingLaws.{unpacked_key-sound}
+use Rattle.bz_call.specs.FromKey.Packing.{packed_len, unpacked, unpacked_key, unpacked_payload}
+use Rattle.bz_call.proofs.FromKey.UnpackingLaws.{unpacked_key-sound}
 use Rattle.bz_layout.specs.declared.sizes.TheConstants.{STATUS_AT, HEADER_AT, LOW_FENCE_AT, HIGH_FENCE_AT, META_AT}
-use Rattle.bz_node.specs.Reading.{payload_at, payload_len}
-use Rattle.bz_slotted.specs.Laws.{LeafRulesAreFacts}
-use Rattle.bz_slotted.specs.Page.{words_at, visible, held, used, extent_of, page}
-use Rattle.bz_slotted.specs.Readers.{found_of}
-use Rattle.bz_slotted.specs.Records.{key_words, payload_words, key_in, payload_in, key_at, weight, live_block, search_to}
-use Rattle.bz_slotted.specs.Whole.{Whole, IsFence, IsInBlock, IsLeafRecord, IsPlainKey, IsPlainPayload}
+use Rattle.bz_content.specs.FromSlotted.Reading.{payload_at, payload_len}
+use Rattle.bz_content.specs.FromSlotted.Laws.{LeafRulesAreFacts}
+use Rattle.bz_content.specs.FromSlotted.Page.{words_at, visible, held, used, extent_of, page}
+use Rattle.bz_content.specs.FromSlotted.Readers.{found_of}
+use Rattle.bz_content.specs.FromSlotted.Records.{key_words, payload_words, key_in, payload_in, key_at, weight, live_block, search_to}
+use Rattle.bz_content.specs.FromSlotted.Whole.{Whole, IsFence, IsInBlock, IsLeafRecord, IsPlainKey, IsPlainPayload}
 use Rattle.bz_word.specs.Headers.{header}
 use Rattle.bz_word.specs.Statuses.{status}
 use Rattle.bz_word.specs.declared.meta.Meta.{Meta}

@@ -2,9 +2,9 @@
 use Rattle.std.proofs.Common.{◌≡◌, ℕ, ◌+◌, ◌<◌, true, arith, refl, ap, ◌∙◌, inl, inr}
 use Rattle.bz_layout.specs.declared.config.Config.{Config}
 use Rattle.bz_layout.specs.declared.sizes.TheConstants.{HEADER_AT, META_AT}
-use Rattle.bz_node.specs.Reading.{payload_at}
-use Rattle.bz_slotted.specs.Page.{meta_of, extent_of, page}
-use Rattle.bz_slotted.specs.Records.{pointer_at}
+use Rattle.bz_content.specs.FromSlotted.Reading.{payload_at}
+use Rattle.bz_content.specs.FromSlotted.Page.{meta_of, extent_of, page}
+use Rattle.bz_content.specs.FromSlotted.Records.{pointer_at}
 use Rattle.bz_word.specs.Headers.{header}
 use Rattle.bz_task.specs.Instant.{Instant, words, page_at}
 use Rattle.bz_task.specs.Laws.{SeparatorsStay}

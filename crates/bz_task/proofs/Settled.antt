@@ -8,9 +8,9 @@ use Rattle.bz_layout.specs.declared.sizes.TheConstants.{ROOT_AT, ROOT_STATUS_AT}
 use Rattle.bz_shape.specs.Form.{Fits, Hangs}
 use Rattle.bz_shape.specs.TreeLaws.{TreesHaveForms}
 use Rattle.bz_shape.specs.Walk.{form}
-use Rattle.bz_slotted.specs.Laws.{RisesBetween, InnerKeysRise}
-use Rattle.bz_slotted.specs.Readers.{count_of, child_of}
-use Rattle.bz_slotted.specs.Rules.{node_fault}
+use Rattle.bz_content.specs.FromSlotted.Laws.{RisesBetween, InnerKeysRise}
+use Rattle.bz_content.specs.FromSlotted.Readers.{count_of, child_of}
+use Rattle.bz_content.specs.FromSlotted.Rules.{node_fault}
 use Rattle.bz_content.specs.Content.{image_fault, view_in, IsWellFormed}
 use Rattle.bz_content.specs.Image.{node}
 use Rattle.bz_content.specs.Laws.{WellFormedImagesHaveNoFault}

@@ -3,10 +3,10 @@ use Rattle.std.proofs.Common.{◌≡◌, ◌≢◌, ℕ, ◌+◌, ◌<◌, ◌�
 use Rattle.std.proofs.lemmas.Bool.{cases_eq}
 use Rattle.bz_layout.specs.declared.config.Config.{Config}
 use Rattle.bz_layout.specs.declared.sizes.TheConstants.{META_AT, SHARED_WORDS, HEADER_AT}
-use Rattle.bz_node.specs.Reading.{payload_at}
-use Rattle.bz_slotted.specs.Laws.{LeafRulesAreFacts}
-use Rattle.bz_slotted.specs.Page.{page, extent_of, meta_of, Page}
-use Rattle.bz_slotted.specs.Whole.{Whole}
+use Rattle.bz_content.specs.FromSlotted.Reading.{payload_at}
+use Rattle.bz_content.specs.FromSlotted.Laws.{LeafRulesAreFacts}
+use Rattle.bz_content.specs.FromSlotted.Page.{page, extent_of, meta_of, Page}
+use Rattle.bz_content.specs.FromSlotted.Whole.{Whole}
 use Rattle.bz_word.specs.Headers.{header}
 use Rattle.bz_content.specs.Image.{node}
 use Rattle.bz_task.specs.Good.{IsGood}

@@ -5,11 +5,11 @@ use Rattle.std.proofs.lemmas.Bool.{true≢false}
 use Rattle.std.proofs.lemmas.Bool.Decides.{nat_tests}
 use Rattle.bz_layout.specs.declared.config.Config.{Config}
 use Rattle.bz_shape.specs.TreeLaws.{TreesHaveForms}
-use Rattle.bz_node.specs.Reading.{payload_at}
-use Rattle.bz_slotted.specs.Page.{extent_of, page}
-use Rattle.bz_slotted.specs.Readers.{count_of, child_of}
-use Rattle.bz_slotted.specs.Records.{pointer_at}
-use Rattle.bz_slotted.specs.Rules.{node_fault}
+use Rattle.bz_content.specs.FromSlotted.Reading.{payload_at}
+use Rattle.bz_content.specs.FromSlotted.Page.{extent_of, page}
+use Rattle.bz_content.specs.FromSlotted.Readers.{count_of, child_of}
+use Rattle.bz_content.specs.FromSlotted.Records.{pointer_at}
+use Rattle.bz_content.specs.FromSlotted.Rules.{node_fault}
 use Rattle.bz_word.specs.Statuses.{status}
 use Rattle.bz_content.specs.Content.{view_in}
 use Rattle.bz_content.specs.Image.{node}

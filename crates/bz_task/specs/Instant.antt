@@ -3,7 +3,7 @@ use Rattle.std.specs.Prelude.{ℕ, Bool}
 use Rattle.bz_layout.specs.declared.config.Config.{Config}
 use Rattle.bz_shape.specs.Form.{Form}
 use Rattle.bz_shape.specs.Walk.{form}
-use Rattle.bz_slotted.specs.Page.{Page, page}
+use Rattle.bz_content.specs.FromSlotted.Page.{Page, page}
 use Rattle.bz_content.specs.Content.{view_in}
 use Rattle.bz_content.specs.Image.{node}
 use Rattle.bz_content.specs.Resolving.{resolve}

@@ -4,9 +4,9 @@ use Rattle.bz_layout.specs.Addresses.{node_address}
 use Rattle.bz_layout.specs.Slots.{FreeSlots}
 use Rattle.bz_layout.specs.declared.config.Config.{Config}
 use Rattle.bz_layout.specs.declared.sizes.TheConstants.{NODE_WORDS, STATUS_AT, HEADER_AT, META_AT, ROOT_AT}
-use Rattle.bz_slotted.specs.Readers.{found_of}
-use Rattle.bz_slotted.specs.Records.{pointer_at}
-use Rattle.bz_slotted.specs.Rules.{node_fault}
+use Rattle.bz_content.specs.FromSlotted.Readers.{found_of}
+use Rattle.bz_content.specs.FromSlotted.Records.{pointer_at}
+use Rattle.bz_content.specs.FromSlotted.Rules.{node_fault}
 use Rattle.bz_word.specs.declared.entry.Entry.{Entry}
 use Rattle.bz_content.specs.Image.{node}
 use Rattle.bz_content.specs.Resolving.{resolve}

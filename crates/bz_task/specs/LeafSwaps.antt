@@ -4,8 +4,8 @@ use Rattle.std.specs.Prelude.{◌≡◌, ℕ, ◌+◌, ◌<◌, ◌⊎◌, bytes
 use Rattle.bz_layout.specs.Addresses.{node_address}
 use Rattle.bz_layout.specs.declared.sizes.TheConstants.{NODE_WORDS}
 use Rattle.bz_shape.specs.Order.{is_within}
-use Rattle.bz_slotted.specs.Readers.{found_of}
-use Rattle.bz_slotted.specs.Rules.{node_fault}
+use Rattle.bz_content.specs.FromSlotted.Readers.{found_of}
+use Rattle.bz_content.specs.FromSlotted.Rules.{node_fault}
 use Rattle.bz_swap.specs.SwapMemory.{is_target}
 use Rattle.bz_word.specs.declared.entry.Entry.{Entry}
 use Rattle.bz_content.specs.Image.{node}

@@ -15,3 +15,5 @@ pub mod Settled
 pub mod Resting
 pub mod Targets
 pub mod FromContent
+pub mod FromSwap
+pub mod FromCall

@@ -4,11 +4,11 @@ use Rattle.bz_layout.specs.Addresses.{node_address}
 use Rattle.bz_layout.specs.declared.sizes.TheConstants.{NODE_WORDS, STATUS_AT, META_AT, ROOT_AT, ROOT_STATUS_AT}
 use Rattle.bz_layout.specs.declared.thresholds.TheConstants.{MAX_LEVELS}
 use Rattle.bz_shape.specs.Order.{is_within}
-use Rattle.bz_slotted.specs.Page.{visible, meta_of, extent_of, page}
-use Rattle.bz_slotted.specs.Readers.{found_of}
-use Rattle.bz_slotted.specs.ReadingLaws.{node_of}
-use Rattle.bz_slotted.specs.Records.{key_in, payload_in}
-use Rattle.bz_slotted.specs.Rules.{node_fault}
+use Rattle.bz_content.specs.FromSlotted.Page.{visible, meta_of, extent_of, page}
+use Rattle.bz_content.specs.FromSlotted.Readers.{found_of}
+use Rattle.bz_content.specs.FromSlotted.ReadingLaws.{node_of}
+use Rattle.bz_content.specs.FromSlotted.Records.{key_in, payload_in}
+use Rattle.bz_content.specs.FromSlotted.Rules.{node_fault}
 use Rattle.bz_content.specs.Content.{leaf_in}
 use Rattle.bz_task.specs.Instant.{words, durable, page_at, form_at, is_inside}
 use Rattle.bz_task.specs.Requests.{IsPointerPlace}

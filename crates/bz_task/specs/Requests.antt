@@ -3,8 +3,8 @@ use Rattle.std.specs.Prelude.{◌≡◌, ℕ, zero, ◌+◌, ◌*◌, ◌^◌, �
 use Rattle.bz_layout.specs.Addresses.{node_address, words_of, IsOutsideSwaps}
 use Rattle.bz_layout.specs.declared.config.Config.{Config}
 use Rattle.bz_layout.specs.declared.sizes.TheConstants.{LINE_WORDS, NODE_WORDS, STATUS_AT, META_AT, ROOT_AT, ROOT_STATUS_AT}
-use Rattle.bz_slotted.specs.Page.{Page}
-use Rattle.bz_slotted.specs.Records.{pointer_at}
+use Rattle.bz_content.specs.FromSlotted.Page.{Page}
+use Rattle.bz_content.specs.FromSlotted.Records.{pointer_at}
 use Rattle.bz_word.specs.Statuses.{status}
 use Rattle.bz_word.specs.declared.entry.Entry.{Entry}
 use Rattle.bz_task.specs.Instant.{page_at}

@@ -3,7 +3,7 @@ use Rattle.std.specs.Prelude.{◌≡◌, ◌≢◌, ℕ, ◌+◌, ◌<◌, ◌�
 use Rattle.bz_layout.specs.Addresses.{words_of}
 use Rattle.bz_layout.specs.declared.config.Config.{Config}
 use Rattle.bz_layout.specs.declared.sizes.TheConstants.{META_AT, ROOT_AT, ROOT_STATUS_AT}
-use Rattle.bz_slotted.specs.Records.{pointer_at}
+use Rattle.bz_content.specs.FromSlotted.Records.{pointer_at}
 use Rattle.bz_content.specs.Content.{content_in, leaf_in}
 use Rattle.bz_content.specs.Image.{node}
 use Rattle.bz_content.specs.Lawful.{is_fixed, is_lawful}

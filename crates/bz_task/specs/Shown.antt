@@ -2,8 +2,8 @@
 use Rattle.std.specs.Prelude.{◌≡◌, ◌≢◌, ℕ, ◌+◌, ◌<◌, ◌≤◌, ◌⊎◌, true}
 use Rattle.bz_layout.specs.declared.config.Config.{Config}
 use Rattle.bz_layout.specs.declared.sizes.TheConstants.{NODE_WORDS, STATUS_AT, META_AT, ROOT_AT, ROOT_STATUS_AT}
-use Rattle.bz_slotted.specs.Page.{visible, extent_of, page}
-use Rattle.bz_slotted.specs.Records.{weight, pointer_at}
+use Rattle.bz_content.specs.FromSlotted.Page.{visible, extent_of, page}
+use Rattle.bz_content.specs.FromSlotted.Records.{weight, pointer_at}
 use Rattle.bz_task.specs.Instant.{Instant, words}
 
 -- place i is one of the block words of record j, which is visible

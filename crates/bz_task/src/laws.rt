@@ -7,9 +7,8 @@ ghost use Rattle.bz_task.specs.Settled.{SettledMemoriesAreGood};
 ghost use Rattle.bz_task.specs.Targets.{TargetsAreOfTheMemory, TargetsStay, OwnWordsAreNoTargets};
 ghost use Rattle.bz_task.specs.Others.{SharersOfNothingAreApart, QuietActsAreLawful, StoresAreLawful, EffectsAreLawful};
 
-use bz_content::laws as content;
+use bz_content::{laws as content, slotted_laws as slotted};
 use bz_shape::laws as shape;
-use bz_slotted::laws as slotted;
 
 /// While its status has the value that was read, a reached node is as it was.
 pub fn nodes_stay()

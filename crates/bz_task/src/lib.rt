@@ -9,6 +9,7 @@ mod todo;
 mod view;
 
 pub use bz_content::laws as content_laws;
+pub use bz_swap::EntryList;
 pub use path::{Link, Path};
 pub use task::Task;
 pub use todo::{Outcome, Seen, Todo};

@@ -3,8 +3,8 @@
 ghost use Rattle.std.specs.Prelude.{◌≡◌, ◌<◌, ◌^◌};
 ghost use Rattle.bz_word.specs.Statuses.{status};
 
-use bz_key::Payload;
-use bz_node::NodeImage;
+use bz_call::Payload;
+use bz_content::NodeImage;
 use bz_word::Status;
 
 /// The words of a leaf at one moment.

@@ -6,7 +6,7 @@ use Rattle.bz_call.specs.Map.{key_of}
 use Rattle.bz_call.specs.declared.calls.Call.{Call}
 use Rattle.bz_call.specs.declared.calls.Call.TheVariants as call
 use Rattle.bz_content.specs.Content.{leaf_in, view_in}
-use Rattle.bz_descend.specs.SeekFacts.{reads_through}
+use Rattle.bz_running.specs.FromDescend.SeekFacts.{reads_through}
 use Rattle.bz_layout.specs.declared.config.Config.{Config}
 use Rattle.bz_layout.specs.declared.thresholds.TheConstants.{MERGE_BELOW}
 use Rattle.bz_lone.specs.FromAlone.Alone.{IsAlone}

@@ -1,7 +1,7 @@
 -- The eviction of a word as an event of the machine.
 use Rattle.std.specs.Prelude.{◌≡◌, if◌then◌else◌, ◌==◌, ◌&&◌, not, ℕ, Some, None}
 use Rattle.std.specs.declared.option.Option.{Option}
-use Rattle.bz_pm.specs.Acts.{evicted}
+use Rattle.bz_cells.specs.FromPm.Acts.{evicted}
 use Rattle.bz_machine.specs.Machine.{Memory, is_succeeded}
 use Rattle.bz_machine.specs.Changes.{with_copies, with_durable_status, with_durable_fields}
 use Rattle.bz_machine.specs.State.{Event, Evict, EvictStatus, EvictField}

@@ -1,0 +1,3 @@
+-- What crates above take of bz_renew by this one.
+pub use Rattle.bz_renew.specs.Due
+pub use Rattle.bz_renew.specs.FrozenLeaves

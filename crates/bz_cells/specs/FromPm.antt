@@ -1,0 +1,3 @@
+-- What crates above take of bz_pm by this one.
+pub use Rattle.bz_pm.specs.Acts
+pub use Rattle.bz_pm.specs.Words

@@ -1,0 +1,3 @@
+-- What crates above take of bz_record by this one.
+pub use Rattle.bz_record.specs.Records
+pub use Rattle.bz_record.specs.declared.new_record.NewRecord

@@ -1,0 +1,3 @@
+-- What crates above take of bz_stage by this one.
+pub use Rattle.bz_stage.specs.Rooms
+pub use Rattle.bz_stage.specs.Stages

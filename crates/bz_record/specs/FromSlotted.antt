@@ -1,0 +1,3 @@
+-- What crates above take of bz_slotted by this one.
+pub use Rattle.bz_slotted.specs.Page
+pub use Rattle.bz_slotted.specs.Records

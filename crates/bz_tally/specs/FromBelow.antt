@@ -1,0 +1,6 @@
+-- What crates above take of bz_below by this one.
+pub use Rattle.bz_branch.specs.FromBelow.Duties
+pub use Rattle.bz_branch.specs.FromBelow.Facts
+pub use Rattle.bz_branch.specs.FromBelow.Guards
+pub use Rattle.bz_branch.specs.FromBelow.Phase
+pub use Rattle.bz_branch.specs.FromBelow.SplitBelow
