@@ -8,8 +8,6 @@ mod index;
 pub mod laws;
 mod replies;
 mod shared;
-#[cfg(test)]
-mod tests;
 mod turns;
 
 pub use answer::Answer;

@@ -7,6 +7,7 @@ mod costs;
 mod decode;
 mod gets;
 mod images;
+mod index;
 mod limits;
 mod map;
 mod pairs;

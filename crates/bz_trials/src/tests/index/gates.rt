@@ -1,0 +1,82 @@
+//! A gate that lets a whole call of one thread happen between two acts of another's: the acts of a call are made in turns of
+//! their own, and the bus is free between them.
+
+use super::reader::{NONE, Tally, read};
+use super::stages::{Hold, Until};
+use super::threads::{Case, Kind, Part, run};
+use crate::tests::bench::{same, same_at};
+use bz_layout::Config;
+use bz_mark::Mark;
+use bz_world::World;
+use std::test::*;
+
+const TWO: Config = Config {
+    nodes: 4,
+    swaps: 64,
+    workers: 2,
+    marks: 1 << 12,
+    calls: 2,
+    pages: 0,
+};
+
+// The workers of the Begins and Ends of a journal, in their order.
+fn ends_of(world: &World) -> [Option<(u8, bool)>; 4] {
+    let journal = world.journal();
+    let mut ends = [None; 4];
+    let mut many = 0;
+    for i in 0..journal.length() {
+        let end = match journal.mark(i) {
+            Mark::Begin { w, .. } => (w, false),
+            Mark::End { w, .. } => (w, true),
+            _ => continue,
+        };
+        if let Some(place) = ends.get_mut(many) {
+            *place = Some(end);
+        }
+        many = many.saturating_add(1);
+    }
+    ends
+}
+
+#[test]
+fn a_whole_call_happens_between_two_acts_of_another(rt: HostRuntime) -> Result<(), Fail> {
+    // Each makes one insert; that of worker 2 is held after so many acts until the one of worker 1 was answered.
+    let one = [Part {
+        kind: Kind::Own,
+        many: 1,
+        after: Until::Held(1),
+    }];
+    let others = [Part {
+        kind: Kind::Own,
+        many: 1,
+        after: Until::Now,
+    }];
+    let tally = Tally {
+        inserted: 2,
+        ..NONE
+    };
+    for acts in [1, 2, 5, 6, 7, 22, 37, 52, 62] {
+        let case = Case {
+            config: TWO,
+            workers: &[1, 2],
+            one: &one,
+            others: &others,
+            deeds: &[],
+            hold: Some(Hold {
+                worker: 2,
+                acts,
+                until: Until::Answered(1),
+            }),
+        };
+        let (world, told) = run(&rt, rt.alloc(), &case)?;
+        same(&rt, read(&rt, rt.alloc(), &world, &told)?, tally);
+        let ends = [
+            Some((2, false)),
+            Some((1, false)),
+            Some((1, true)),
+            Some((2, true)),
+        ];
+        same_at(&rt, ends_of(&world), ends, acts);
+    }
+    Ok(())
+}
