@@ -161,6 +161,13 @@ pub(crate) fn applies(rt: &impl Abort, world: &mut World, event: Event, applied:
     assert_eq!(rt; world.apply(event), applied, "{event:?}");
 }
 
+/// Events, one after the other, are answered so.
+pub(crate) fn applies_all(rt: &impl Abort, world: &mut World, events: &[(Event, Applied)]) {
+    for (event, applied) in events {
+        applies(rt, world, *event, *applied);
+    }
+}
+
 /// What the power of a world is.
 pub(crate) fn has_power(rt: &impl Abort, world: &World, power: Power) {
     same(rt, world.power(), power);
@@ -183,4 +190,16 @@ pub(crate) fn whole(world: &mut World, w: u8, call: Call) -> Option<Answer> {
     }
     let (_, answer) = steps(world, w, 4_000);
     answer
+}
+
+/// A call of worker 1 is answered so.
+pub(crate) fn answers(rt: &impl Abort, world: &mut World, call: Call, answer: Answer) {
+    same(rt, whole(world, 1, call), Some(answer));
+}
+
+/// Calls of worker 1, one after the other, are answered so.
+pub(crate) fn answers_all(rt: &impl Abort, world: &mut World, asked: &[(Call, Answer)]) {
+    for (call, answer) in asked {
+        answers(rt, world, *call, *answer);
+    }
 }

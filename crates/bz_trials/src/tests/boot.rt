@@ -1,6 +1,6 @@
 //! Worlds over images: what a power cut leaves is booted, recovers, and goes on; and which images are refused.
 
-ghost use Rattle.std.specs.Prelude.{◌≡◌, IfOk, length};
+ghost use Rattle.std.specs.Prelude.{◌≡◌, length};
 ghost use Rattle.bz_layout.specs.Addresses.{words_of};
 ghost use Rattle.bz_layout.specs.Config.{IsConfig};
 
@@ -14,12 +14,10 @@ use super::random::{Random, act};
 use super::reader::Reader;
 use bz_call::Call;
 use bz_layout::{Config, ConfigError};
-use bz_memory::Memory;
 use bz_shape::{ShapeFault, ShapeRule};
 use bz_world::{Applied, Begun, BootError, Event, Power, World};
 use std::alloc::Global;
 use std::process::Abort;
-use std::test::Fail;
 
 // The words of a world, as a power cut would leave them.
 fn copy_durable(world: &World, words: &mut Vec<u64>)
@@ -53,14 +51,12 @@ fn inserting(rt: &impl Abort) -> Call {
     Call::Insert(numbered(rt, 0), payload(rt, b"n"))
 }
 
-// A world with one key, and so many acts of an insert of the other.
-fn stopped(rt: &impl Abort, alloc: Global, acts: u32) -> World {
-    let mut world = open(alloc, 4, 16, 2).expect(rt, "a world");
+// One key comes, and so many acts of an insert of the other.
+fn stop(rt: &impl Abort, world: &mut World, acts: u32) {
     let had = Call::Insert(numbered(rt, 1), payload(rt, b"o"));
-    same(rt, whole(&mut world, 2, had), Some(Answer::Inserted));
-    holds(rt, begin(&mut world, 1, inserting(rt)));
-    steps(&mut world, 1, acts);
-    world
+    same(rt, whole(world, 2, had), Some(Answer::Inserted));
+    holds(rt, begin(world, 1, inserting(rt)));
+    steps(world, 1, acts);
 }
 
 // A world over what a power cut would leave of another.
@@ -77,12 +73,12 @@ fn is_off(rt: &impl Abort, image: &mut World) {
     same(rt, image.begin(1, inserting(rt)), Begun::Off);
 }
 
-// The same world, off at first, and then recovered.
-fn restarted(rt: &impl Abort, alloc: Global, world: &World) -> World {
+// What both keys have in the same world, which is off at first, and then recovered.
+fn restarted(rt: &impl Abort, alloc: Global, world: &World) -> (Option<Answer>, Option<Answer>) {
     let mut image = booted(rt, alloc, world);
     is_off(rt, &mut image);
     come_on(rt, &mut image);
-    image
+    answers(&mut image, rt)
 }
 
 // A power cut, and the recovery.
@@ -93,10 +89,11 @@ fn cut(rt: &impl Abort, world: &mut World) {
 
 // Both go on alike.
 fn goes_on(rt: &impl Abort, alloc: Global, acts: u32) {
-    let mut world = stopped(rt, alloc, acts);
-    let mut image = restarted(rt, alloc, &world);
+    let mut world = open(alloc, 4, 16, 2).expect(rt, "a world");
+    stop(rt, &mut world, acts);
+    let told = restarted(rt, alloc, &world);
     cut(rt, &mut world);
-    same(rt, answers(&mut image, rt), answers(&mut world, rt));
+    same(rt, told, answers(&mut world, rt));
 }
 
 #[test]
@@ -116,16 +113,23 @@ pub(super) fn refusal(alloc: Global, config: &Config, words: &[u64]) -> Option<B
     }
 }
 
-// The words of the smallest memory, with another root.
-fn broken(alloc: Global, config: &Config) -> Result<Vec<u64>, Memory>
-    requires { IsConfig config.now }
-    ensures { IfOk result (λ words. length words.items ≡ words_of config.now) }
+// The numbers of the smallest memory.
+fn smallest(rt: &impl Abort, alloc: Global) -> Config
+    ensures { IsConfig result }
 {
-    let mut words = bz_layout::fresh(alloc, config)?;
+    open(alloc, 1, 1, 1).expect(rt, "a world").config()
+}
+
+// Its words, with another root.
+fn broken(rt: &impl Abort, alloc: Global, config: &Config) -> Vec<u64>
+    requires { IsConfig config.now }
+    ensures { length result.items ≡ words_of config.now }
+{
+    let mut words = bz_layout::fresh(alloc, config).expect(rt, "the words");
     if let Some(root) = words.get_mut(1) {
         *root = 2;
     }
-    Ok(words)
+    words
 }
 
 // They are refused for this.
@@ -135,19 +139,21 @@ fn is_refused(rt: &impl Abort, alloc: Global, config: &Config, words: &[u64], er
     same(rt, refusal(alloc, config, words), Some(error));
 }
 
+// Words with another root, and then a memory of no nodes.
+const ROOT: BootError = BootError::Shape(ShapeFault {
+    rule: ShapeRule::Root,
+    place: 0,
+});
+
+const NO_NODES: BootError = BootError::Config(ConfigError::Nodes);
+
 #[test]
-fn an_image_that_breaks_a_rule_is_refused(rt: HostRuntime) -> Result<(), Fail> {
-    let config = open(rt.alloc(), 1, 1, 1)?.config();
-    let words = broken(rt.alloc(), &config)?;
-    let fault = ShapeFault {
-        rule: ShapeRule::Root,
-        place: 0,
-    };
-    is_refused(&rt, rt.alloc(), &config, &words, BootError::Shape(fault));
+fn an_image_that_breaks_a_rule_is_refused(rt: HostRuntime) {
+    let config = smallest(&rt, rt.alloc());
+    let words = broken(&rt, rt.alloc(), &config);
+    is_refused(&rt, rt.alloc(), &config, &words, ROOT);
     let none = Config { nodes: 0, ..config };
-    let no_nodes = BootError::Config(ConfigError::Nodes);
-    is_refused(&rt, rt.alloc(), &none, &words, no_nodes);
-    Ok(())
+    is_refused(&rt, rt.alloc(), &none, &words, NO_NODES);
 }
 
 // The reader explains the marks that it has not read yet.
@@ -160,18 +166,28 @@ fn has(rt: &impl Abort, world: &World, map: Map) {
     same(rt, decode(world), Some(map));
 }
 
+// So many events.
+fn act_often(rt: &impl Abort, world: &mut World, random: &mut Random, many: u32) {
+    for _ in 0..many {
+        act(rt, world, random);
+    }
+}
+
+// A world that began with this map has it now by its reader.
+fn is_explained(rt: &impl Abort, alloc: Global, world: &World, map: Map) {
+    let mut reader = Reader::over(alloc, map).expect(rt, "a reader");
+    explains(rt, &mut reader, world);
+    has(rt, world, reader.map());
+}
+
 // What a power cut would leave of a world with this map goes on for so many events, which the reader explains.
 fn goes_on_from(rt: &impl Abort, alloc: Global, world: &World, map: Map, mut random: Random) {
     let mut image = booted(rt, alloc, world);
     has_pairs(rt, &image, u64::from(count(&map)));
     has(rt, &image, map);
     come_on(rt, &mut image);
-    let mut reader = Reader::over(alloc, map).expect(rt, "a reader");
-    for _ in 0..500 {
-        act(rt, &mut image, &mut random);
-    }
-    explains(rt, &mut reader, &image);
-    has(rt, &image, reader.map());
+    act_often(rt, &mut image, &mut random, 500);
+    is_explained(rt, alloc, &image, map);
 }
 
 // Ten events, which the reader explains; and what a power cut would leave then goes on.
@@ -183,20 +199,23 @@ fn ten_more(
     random: &mut Random,
     other: Random,
 ) {
-    for _ in 0..10 {
-        act(rt, world, random);
-    }
+    act_often(rt, world, random, 10);
     explains(rt, reader, world);
     goes_on_from(rt, alloc, world, reader.map(), other);
+}
+
+// A schedule of a world, and what follows each ten of its events.
+fn goes_on_often(rt: &impl Abort, alloc: Global, world: &mut World) {
+    let mut reader = Reader::open(alloc).expect(rt, "a reader");
+    let mut random = Random { state: 3 };
+    for event in 0..200u64 {
+        let other = Random { state: event };
+        ten_more(rt, alloc, world, &mut reader, &mut random, other);
+    }
 }
 
 #[test]
 fn a_schedule_goes_on_from_every_tenth_event(rt: HostRuntime) {
     let mut world = open(rt.alloc(), 4, 48, 8).expect(&rt, "a world");
-    let mut reader = Reader::open(rt.alloc()).expect(&rt, "a reader");
-    let mut random = Random { state: 3 };
-    for event in 0..200u64 {
-        let other = Random { state: event };
-        ten_more(&rt, rt.alloc(), &mut world, &mut reader, &mut random, other);
-    }
+    goes_on_often(&rt, rt.alloc(), &mut world);
 }

@@ -1,15 +1,11 @@
 //! The six calls, made by one worker.
 
-use super::bench::{Answer, key, open, payload, same, whole};
+use super::bench::{Answer, answers, answers_all, key, open, payload, same};
 use bz_call::Call;
 use bz_key::{Key, Payload};
 use bz_world::World;
+use std::alloc::Global;
 use std::process::Abort;
-use std::test::Fail;
-
-fn answers(rt: &impl Abort, world: &mut World, call: Call, answer: Answer) {
-    same(rt, whole(world, 1, call), Some(answer));
-}
 
 // A payload of so many bytes, which are this one.
 fn filled(rt: &impl Abort, byte: u8, length: usize) -> Payload {
@@ -27,19 +23,25 @@ fn shows(rt: &impl Abort, world: &mut World, page: u32, from: Key, pairs: &[(Key
 
 // Changes the payload of a key from one to another and back, by each call that may.
 fn exchange(rt: &impl Abort, world: &mut World, k: Key, old: Payload, new: Payload) {
-    answers(rt, world, Call::Update(k, new), Answer::Updated(old));
-    answers(rt, world, Call::Get(k), Answer::Value(new));
-    answers(rt, world, Call::Insert(k, old), Answer::Exists);
-    answers(rt, world, Call::Upsert(k, old), Answer::Updated(new));
-    answers(rt, world, Call::Get(k), Answer::Value(old));
+    let asked = [
+        (Call::Update(k, new), Answer::Updated(old)),
+        (Call::Get(k), Answer::Value(new)),
+        (Call::Insert(k, old), Answer::Exists),
+        (Call::Upsert(k, old), Answer::Updated(new)),
+        (Call::Get(k), Answer::Value(old)),
+    ];
+    answers_all(rt, world, &asked);
 }
 
 // A key that is absent, by each call.
 fn is_missing(rt: &impl Abort, world: &mut World, k: Key) {
     let new = filled(rt, b'n', 1);
-    answers(rt, world, Call::Get(k), Answer::Missing);
-    answers(rt, world, Call::Update(k, new), Answer::Missing);
-    answers(rt, world, Call::Delete(k), Answer::Missing);
+    let asked = [
+        (Call::Get(k), Answer::Missing),
+        (Call::Update(k, new), Answer::Missing),
+        (Call::Delete(k), Answer::Missing),
+    ];
+    answers_all(rt, world, &asked);
 }
 
 // The first key into an empty world, with each length of another payload.
@@ -54,8 +56,11 @@ fn first_comes(rt: &impl Abort, world: &mut World, b: Key, old: Payload) {
 
 // Two more.
 fn others_come(rt: &impl Abort, world: &mut World, (a, b, c): (Key, Key, Key), old: Payload) {
-    answers(rt, world, Call::Upsert(c, old), Answer::Inserted);
-    answers(rt, world, Call::Insert(a, old), Answer::Inserted);
+    let asked = [
+        (Call::Upsert(c, old), Answer::Inserted),
+        (Call::Insert(a, old), Answer::Inserted),
+    ];
+    answers_all(rt, world, &asked);
     shows(rt, world, 1, a, &[(a, old), (b, old), (c, old)]);
     shows(rt, world, 2, key(rt, b"aa"), &[(b, old), (c, old)]);
 }
@@ -69,15 +74,24 @@ fn first_goes(rt: &impl Abort, world: &mut World, b: Key, c: Key, old: Payload) 
     shows(rt, world, 4, c, &[(c, old)]);
 }
 
+// Three keys come, of payloads of this length, and one goes.
+fn is_a_map(rt: &impl Abort, world: &mut World, length: usize) {
+    let (a, b, c) = (key(rt, b"a"), key(rt, b"b"), key(rt, &[b'c'; 28]));
+    let old = filled(rt, b'o', length);
+    first_comes(rt, world, b, old);
+    others_come(rt, world, (a, b, c), old);
+    first_goes(rt, world, b, c, old);
+}
+
+// A world whose payloads have this length.
+fn answers_as_a_map(rt: &impl Abort, alloc: Global, length: usize) {
+    let mut world = open(alloc, 16, 128, 1).expect(rt, "a world");
+    is_a_map(rt, &mut world, length);
+}
+
 #[test]
-fn calls_answer_as_a_map_does(rt: HostRuntime) -> Result<(), Fail> {
-    let (a, b, c) = (key(&rt, b"a"), key(&rt, b"b"), key(&rt, &[b'c'; 28]));
+fn calls_answer_as_a_map_does(rt: HostRuntime) {
     for length in [0, 7, 8, 28] {
-        let old = filled(&rt, b'o', length);
-        let mut world = open(rt.alloc(), 16, 128, 1)?;
-        first_comes(&rt, &mut world, b, old);
-        others_come(&rt, &mut world, (a, b, c), old);
-        first_goes(&rt, &mut world, b, c, old);
+        answers_as_a_map(&rt, rt.alloc(), length);
     }
-    Ok(())
 }

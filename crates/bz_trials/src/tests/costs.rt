@@ -6,7 +6,6 @@ use bz_key::{Key, Payload};
 use bz_mark::Mark;
 use bz_world::World;
 use std::process::Abort;
-use std::test::Fail;
 
 // Acts by their kinds.
 #[derive(Clone, Copy, Debug, PartialEq, Eq)]
@@ -37,14 +36,23 @@ fn costs_from(world: &World, from: u32) -> Costs {
     costs
 }
 
+// Whether the next act of worker 1 is a flush, as the world foretells it.
+fn flushes_next(rt: &impl Abort, world: &World) -> bool {
+    assert!(rt; world.config().workers >= 1);
+    world.flush_next(1)
+}
+
+fn is_at_most(costs: &Costs, most: &Costs) -> bool {
+    costs.stores <= most.stores && costs.swaps <= most.swaps && costs.flushes <= most.flushes
+}
+
 // Makes a whole call of worker 1, which costs at most this; each of its flushes was foretold.
 fn costs_at_most(rt: &impl Abort, world: &mut World, call: Call, answer: Answer, most: Costs) {
     let from = world.journal().length();
     holds(rt, begin(world, 1, call));
     let mut foretold = 0u32;
     for _ in 0..1_000 {
-        assert!(rt; world.config().workers >= 1);
-        if world.flush_next(1) {
+        if flushes_next(rt, world) {
             foretold = foretold.saturating_add(1);
         }
         if let (_, Some(ended)) = steps(world, 1, 1) {
@@ -54,9 +62,14 @@ fn costs_at_most(rt: &impl Abort, world: &mut World, call: Call, answer: Answer,
     }
     let costs = costs_from(world, from);
     same(rt, costs.flushes, foretold);
-    holds(rt, costs.stores <= most.stores);
-    holds(rt, costs.swaps <= most.swaps);
-    holds(rt, costs.flushes <= most.flushes);
+    holds(rt, is_at_most(&costs, &most));
+}
+
+// Whole calls of worker 1, one after the other, cost at most so much.
+fn cost_at_most(rt: &impl Abort, world: &mut World, asked: &[(Call, Answer, Costs)]) {
+    for (call, answer, most) in asked {
+        costs_at_most(rt, world, *call, *answer, *most);
+    }
 }
 
 const INSERT: Costs = Costs {
@@ -79,46 +92,47 @@ const DELETE: Costs = Costs {
 
 // Two keys come, of which one is updated.
 fn comes(rt: &impl Abort, world: &mut World, (a, b): (Key, Key), (one, two): (Payload, Payload)) {
-    costs_at_most(rt, world, Call::Insert(a, one), Answer::Inserted, INSERT);
-    costs_at_most(
-        rt,
-        world,
-        Call::Update(a, two),
-        Answer::Updated(one),
-        UPDATE,
-    );
-    costs_at_most(
-        rt,
-        world,
-        Call::Upsert(a, one),
-        Answer::Updated(two),
-        UPDATE,
-    );
-    costs_at_most(rt, world, Call::Upsert(b, one), Answer::Inserted, INSERT);
+    let asked = [
+        (Call::Insert(a, one), Answer::Inserted, INSERT),
+        (Call::Update(a, two), Answer::Updated(one), UPDATE),
+        (Call::Upsert(a, one), Answer::Updated(two), UPDATE),
+        (Call::Upsert(b, one), Answer::Inserted, INSERT),
+    ];
+    cost_at_most(rt, world, &asked);
 }
 
 // Calls that change nothing.
 fn stays(rt: &impl Abort, world: &mut World, a: Key, (one, two): (Payload, Payload)) {
-    costs_at_most(rt, world, Call::Get(a), Answer::Value(one), NONE);
-    costs_at_most(rt, world, Call::Insert(a, two), Answer::Exists, NONE);
-    costs_at_most(rt, world, Call::Page(a), Answer::Page(0, false), NONE);
+    let asked = [
+        (Call::Get(a), Answer::Value(one), NONE),
+        (Call::Insert(a, two), Answer::Exists, NONE),
+        (Call::Page(a), Answer::Page(0, false), NONE),
+    ];
+    cost_at_most(rt, world, &asked);
 }
 
 // A key goes, and is missing.
 fn goes(rt: &impl Abort, world: &mut World, b: Key, one: Payload) {
-    costs_at_most(rt, world, Call::Delete(b), Answer::Deleted(one), DELETE);
-    costs_at_most(rt, world, Call::Delete(b), Answer::Missing, NONE);
-    costs_at_most(rt, world, Call::Update(b, one), Answer::Missing, NONE);
-    costs_at_most(rt, world, Call::Get(b), Answer::Missing, NONE);
+    let asked = [
+        (Call::Delete(b), Answer::Deleted(one), DELETE),
+        (Call::Delete(b), Answer::Missing, NONE),
+        (Call::Update(b, one), Answer::Missing, NONE),
+        (Call::Get(b), Answer::Missing, NONE),
+    ];
+    cost_at_most(rt, world, &asked);
+}
+
+// Keys come, stay and go.
+fn come_and_go(rt: &impl Abort, world: &mut World) {
+    let (a, b) = (key(rt, b"a"), key(rt, b"b"));
+    let (one, two) = (payload(rt, b"1"), payload(rt, b"2"));
+    comes(rt, world, (a, b), (one, two));
+    stays(rt, world, a, (one, two));
+    goes(rt, world, b, one);
 }
 
 #[test]
-fn changes_cost_no_more_than_two_swaps_and_their_record(rt: HostRuntime) -> Result<(), Fail> {
-    let (a, b) = (key(&rt, b"a"), key(&rt, b"b"));
-    let (one, two) = (payload(&rt, b"1"), payload(&rt, b"2"));
-    let mut world = open(rt.alloc(), 16, 64, 1)?;
-    comes(&rt, &mut world, (a, b), (one, two));
-    stays(&rt, &mut world, a, (one, two));
-    goes(&rt, &mut world, b, one);
-    Ok(())
+fn changes_cost_no_more_than_two_swaps_and_their_record(rt: HostRuntime) {
+    let mut world = open(rt.alloc(), 16, 64, 1).expect(&rt, "a world");
+    come_and_go(&rt, &mut world);
 }

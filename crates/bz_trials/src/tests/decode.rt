@@ -47,18 +47,32 @@ fn words(world: &World, at: u32) -> [u64; 4] {
     words
 }
 
+// The place of the key of so many bytes at an address.
+fn place_at(world: &World, at: u32, length: u32) -> Option<usize>
+    ensures { IfSome result (λ place. place < 6) }
+{
+    let length = length as usize;
+    let words = words(world, at);
+    let key = Key::from_words(length, words.get(..length.div_ceil(7))?)?;
+    place_of(&key)
+}
+
+// The number of the payload of so many bytes at an address.
+fn number_at(world: &World, at: u32, length: u32) -> Option<u32> {
+    let length = length as usize;
+    let words = words(world, at);
+    let payload = Payload::from_words(length, words.get(..length.div_ceil(7))?)?;
+    Some(number_of(&payload))
+}
+
 // The record at an address, with lengths of its key, and of key and payload.
 fn record(world: &World, at: u32, key: u32, total: u32) -> Option<(usize, u32)>
     ensures { IfSome result (λ read. read.0 < 6) }
 {
-    let length = key as usize;
-    let first = words(world, at);
-    let read = Key::from_words(length, first.get(..length.div_ceil(7))?)?;
-    let place = place_of(&read)?;
-    let length = total.checked_sub(key)? as usize;
-    let second = words(world, at.saturating_add(key.div_ceil(7)));
-    let payload = Payload::from_words(length, second.get(..length.div_ceil(7))?)?;
-    Some((place, number_of(&payload)))
+    let place = place_at(world, at, key)?;
+    let length = total.checked_sub(key)?;
+    let number = number_at(world, at.saturating_add(key.div_ceil(7)), length)?;
+    Some((place, number))
 }
 
 // Where the slot begins to which a pointer leads.

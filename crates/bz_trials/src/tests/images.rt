@@ -143,38 +143,53 @@ fn booted(rt: &impl Abort, alloc: Global, state: State) -> World {
     World::boot(alloc, &config, &words).expect(rt, "a world")
 }
 
-// How many pairs there are where `a` is one or not, and what a get of it answers, and then an insert.
-fn answers_of(rt: &impl Abort, is_there: bool) -> (u64, Answer, Answer) {
+// What a get of `a` answers, and then an insert.
+fn answers_of(rt: &impl Abort, is_there: bool) -> (Answer, Answer) {
     if is_there {
-        (2, Answer::Value(payload(rt, b"1")), Answer::Exists)
+        (Answer::Value(payload(rt, b"1")), Answer::Exists)
     } else {
-        (1, Answer::Missing, Answer::Inserted)
+        (Answer::Missing, Answer::Inserted)
     }
 }
 
 // A call of a worker is answered so.
-fn answers(rt: &impl Abort, world: &mut World, w: u8, call: Call, answer: Answer, state: &State) {
+fn answers(rt: &impl Abort, world: &mut World, w: u8, call: Call, answer: Answer) {
     same(rt, whole(world, w, call), Some(answer));
 }
 
-// It boots, recovers and is read; and an insert finds both descriptors free.
-fn is_read(rt: &impl Abort, alloc: Global, state: State) {
-    let (a, z) = (key(rt, b"a"), key(rt, b"z"));
-    let (one, two) = (payload(rt, b"1"), payload(rt, b"2"));
-    let (pairs, got, put) = answers_of(rt, state.3);
+// `a` is there or not, and an insert of it finds both descriptors free.
+fn finds(rt: &impl Abort, world: &mut World, is_there: bool) {
+    let (a, one) = (key(rt, b"a"), payload(rt, b"1"));
+    let (got, put) = answers_of(rt, is_there);
+    answers(rt, world, 1, Call::Get(a), got);
+    answers(rt, world, 2, Call::Insert(a, one), put);
+}
+
+// `z` is there.
+fn finds_other(rt: &impl Abort, world: &mut World) {
+    let (z, two) = (key(rt, b"z"), payload(rt, b"2"));
+    answers(rt, world, 1, Call::Get(z), Answer::Value(two));
+}
+
+// It recovers and is read.
+fn is_read(rt: &impl Abort, world: &mut World, is_there: bool) {
+    has_pairs(rt, world, if is_there { 2 } else { 1 });
+    come_on(rt, world);
+    finds(rt, world, is_there);
+    finds_other(rt, world);
+    has_pairs(rt, world, 2);
+}
+
+// It boots in this state.
+fn is_resolved(rt: &impl Abort, alloc: Global, state: State) {
     let mut world = booted(rt, alloc, state);
-    has_pairs(rt, &world, pairs);
-    come_on(rt, &mut world);
-    answers(rt, &mut world, 1, Call::Get(a), got, &state);
-    answers(rt, &mut world, 2, Call::Insert(a, one), put, &state);
-    answers(rt, &mut world, 1, Call::Get(z), Answer::Value(two), &state);
-    has_pairs(rt, &world, 2);
+    is_read(rt, &mut world, state.3);
 }
 
 #[test]
 fn a_swap_in_each_state_of_its_life_is_resolved(rt: HostRuntime) {
     for state in STATES {
-        is_read(&rt, rt.alloc(), state);
+        is_resolved(&rt, rt.alloc(), state);
     }
 }
 
@@ -187,29 +202,33 @@ fn is_refused(rt: &impl Abort, alloc: Global, rule: ShapeRule, place: u32, writt
     same(rt, refusal(alloc, &config, &words), Some(fault));
 }
 
+// A rule, the place of the fault, and the word that makes it.
+const FAULTS: [(ShapeRule, u32, Written); 10] = [
+    (ShapeRule::Super, 0, (0, 2)),
+    (ShapeRule::Word, 60, (60, 3 << 62)),
+    (ShapeRule::Root, 0, (1, 4)),
+    (ShapeRule::Twice, 0, (302, 1)),
+    (ShapeRule::Level, 0, (49, 0x0001_0001)),
+    (ShapeRule::Fence, 0, (49, 0x0002_0000)),
+    (ShapeRule::Status, 0, (60, 1)),
+    (ShapeRule::Record, 0, (58, 0x1000_007D_0001_0002)),
+    (ShapeRule::Key, 0, (174, 0x007A << 48)),
+    (ShapeRule::Child, 1, (302, 4)),
+];
+
+// Two records of slot 2 in the wrong order.
+const UNSORTED: [Written; 5] = [
+    (304, 0x0020_1000_0000_0002),
+    (305, 0x0200_0100),
+    (315, 0x1000_007C_0001_0002),
+    (428, 0x0079 << 48),
+    (429, 0x0033 << 48),
+];
+
 #[test]
 fn an_image_is_refused_by_each_rule(rt: HostRuntime) {
-    let unsorted: [Written; 5] = [
-        (304, 0x0020_1000_0000_0002),
-        (305, 0x0200_0100),
-        (315, 0x1000_007C_0001_0002),
-        (428, 0x0079 << 48),
-        (429, 0x0033 << 48),
-    ];
-    let rows: [(ShapeRule, u32, Written); 10] = [
-        (ShapeRule::Super, 0, (0, 2)),
-        (ShapeRule::Word, 60, (60, 3 << 62)),
-        (ShapeRule::Root, 0, (1, 4)),
-        (ShapeRule::Twice, 0, (302, 1)),
-        (ShapeRule::Level, 0, (49, 0x0001_0001)),
-        (ShapeRule::Fence, 0, (49, 0x0002_0000)),
-        (ShapeRule::Status, 0, (60, 1)),
-        (ShapeRule::Record, 0, (58, 0x1000_007D_0001_0002)),
-        (ShapeRule::Key, 0, (174, 0x007A << 48)),
-        (ShapeRule::Child, 1, (302, 4)),
-    ];
-    for (rule, place, written) in rows {
+    for (rule, place, written) in FAULTS {
         is_refused(&rt, rt.alloc(), rule, place, &[written]);
     }
-    is_refused(&rt, rt.alloc(), ShapeRule::Order, 2, &unsorted);
+    is_refused(&rt, rt.alloc(), ShapeRule::Order, 2, &UNSORTED);
 }

@@ -1,11 +1,10 @@
 //! What a world refuses.
 
-use super::bench::{applies, begin, key, marks, payload, same, same_at, steps};
+use super::bench::{applies_all, begin, key, marks, payload, same, same_at, steps};
 use bz_call::Call;
 use bz_layout::{Config, ConfigError};
 use bz_world::{Applied, Begun, Event, LimitKind, OpenError, World};
 use std::process::Abort;
-use std::test::Fail;
 
 const SMALL: Config = Config {
     nodes: 1,
@@ -41,37 +40,38 @@ fn a_world_of_no_nodes_is_not_opened(rt: HostRuntime) {
 }
 
 // Events that a world without a call refuses, and an eviction of its last word.
-fn names_events(rt: &impl Abort, world: &mut World) {
-    applies(rt, world, Event::Step(5), Applied::NoWorker);
-    applies(rt, world, Event::Step(2), Applied::Idle);
-    applies(rt, world, Event::Step(0), Applied::Idle);
-    applies(rt, world, Event::Evict(272), Applied::NoWord);
-    applies(rt, world, Event::Evict(271), Applied::Evicted);
-}
+const EVENTS: [(Event, Applied); 5] = [
+    (Event::Step(5), Applied::NoWorker),
+    (Event::Step(2), Applied::Idle),
+    (Event::Step(0), Applied::Idle),
+    (Event::Evict(272), Applied::NoWord),
+    (Event::Evict(271), Applied::Evicted),
+];
 
-// Begins that it refuses, among others.
-fn names_begins(rt: &impl Abort, world: &mut World) {
-    begins(rt, world, 0, false, Begun::NoWorker);
-    begins(rt, world, 5, false, Begun::NoWorker);
-    begins(rt, world, 2, true, Begun::Begun(1));
-    begins(rt, world, 2, false, Begun::Busy);
-    begins(rt, world, 1, true, Begun::Limit(LimitKind::Pages));
-}
+// Begins that it refuses, among others; and then each other worker may begin a call.
+const BEGINS: [(u8, bool, Begun); 8] = [
+    (0, false, Begun::NoWorker),
+    (5, false, Begun::NoWorker),
+    (2, true, Begun::Begun(1)),
+    (2, false, Begun::Busy),
+    (1, true, Begun::Limit(LimitKind::Pages)),
+    (1, false, Begun::Begun(1)),
+    (3, false, Begun::Begun(1)),
+    (4, false, Begun::Begun(1)),
+];
 
-// Each other worker may begin a call.
-fn others_begin(rt: &impl Abort, world: &mut World) {
-    begins(rt, world, 1, false, Begun::Begun(1));
-    begins(rt, world, 3, false, Begun::Begun(1));
-    begins(rt, world, 4, false, Begun::Begun(1));
+// Begins are answered so.
+fn begins_all(rt: &impl Abort, world: &mut World) {
+    for (w, page, begun) in BEGINS {
+        begins(rt, world, w, page, begun);
+    }
 }
 
 #[test]
-fn a_world_names_what_it_refuses(rt: HostRuntime) -> Result<(), Fail> {
-    let mut world = World::open(rt.alloc(), &SMALL)?;
-    names_events(&rt, &mut world);
-    names_begins(&rt, &mut world);
-    others_begin(&rt, &mut world);
-    Ok(())
+fn a_world_names_what_it_refuses(rt: HostRuntime) {
+    let mut world = World::open(rt.alloc(), &SMALL).expect(&rt, "a world");
+    applies_all(&rt, &mut world, &EVENTS);
+    begins_all(&rt, &mut world);
 }
 
 // Four inserts of worker 1, one after the other.
@@ -91,22 +91,26 @@ fn fills(world: &mut World) {
 }
 
 // What a world answers whose journal has no more room.
-fn is_full(rt: &impl Abort, world: &mut World) {
-    applies(rt, world, Event::Step(1), Applied::Limit);
-    applies(rt, world, Event::Step(5), Applied::NoWorker);
-    applies(rt, world, Event::Evict(0), Applied::Limit);
-    applies(rt, world, Event::Evict(272), Applied::NoWord);
-    begins(rt, world, 2, false, Begun::Limit(LimitKind::Marks));
+const FULL: [(Event, Applied); 4] = [
+    (Event::Step(1), Applied::Limit),
+    (Event::Step(5), Applied::NoWorker),
+    (Event::Evict(0), Applied::Limit),
+    (Event::Evict(272), Applied::NoWord),
+];
+
+// Its calls are used up, and then its journal.
+fn is_filled(rt: &impl Abort, world: &mut World) {
+    inserts(rt, world);
+    begins(rt, world, 2, false, Begun::Limit(LimitKind::Calls));
+    fills(world);
+    // an act, an effect and an end have no more room
+    same(rt, marks(world), 1_022);
 }
 
 #[test]
-fn a_journal_that_is_full_ends_the_world(rt: HostRuntime) -> Result<(), Fail> {
-    let mut world = World::open(rt.alloc(), &SMALL)?;
-    inserts(&rt, &mut world);
-    begins(&rt, &mut world, 2, false, Begun::Limit(LimitKind::Calls));
-    fills(&mut world);
-    // an act, an effect and an end have no more room
-    same(&rt, marks(&world), 1_022);
-    is_full(&rt, &mut world);
-    Ok(())
+fn a_journal_that_is_full_ends_the_world(rt: HostRuntime) {
+    let mut world = World::open(rt.alloc(), &SMALL).expect(&rt, "a world");
+    is_filled(&rt, &mut world);
+    applies_all(&rt, &mut world, &FULL);
+    begins(&rt, &mut world, 2, false, Begun::Limit(LimitKind::Marks));
 }

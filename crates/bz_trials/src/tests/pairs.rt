@@ -8,7 +8,6 @@ use bz_key::{Key, Payload};
 use bz_world::World;
 use std::alloc::Global;
 use std::process::Abort;
-use std::test::Fail;
 
 // More acts than any of these calls makes.
 const MOST: u32 = 4_000;
@@ -57,11 +56,11 @@ fn race(
 
 // Two inserts into an empty leaf.
 fn ends(rt: &impl Abort, alloc: Global, keys: &[Key; 2], acts: u32, turn: u32) -> Outcome {
-    let mut world = open(alloc, 16, 256, 2).expect(rt, "a world");
     let calls = [
         Call::Insert(keys[0], payload(rt, b"1")),
         Call::Insert(keys[1], payload(rt, b"2")),
     ];
+    let mut world = open(alloc, 16, 256, 2).expect(rt, "a world");
     race(rt, alloc, &mut world, &calls, acts, turn)
 }
 
@@ -78,7 +77,7 @@ fn one_inserts(rt: &impl Abort, outcome: &Outcome) {
 }
 
 #[test]
-fn one_of_two_inserts_of_a_key_finds_it(rt: HostRuntime) -> Result<(), Fail> {
+fn one_of_two_inserts_of_a_key_finds_it(rt: HostRuntime) {
     let key = numbered(&rt, 0);
     let (whole, _) = ends(&rt, rt.alloc(), &[key, key], MOST, MOST).first;
     // a lookup of 6 loads, two swaps of two words, and the two words of the record and their flush
@@ -88,7 +87,6 @@ fn one_of_two_inserts_of_a_key_finds_it(rt: HostRuntime) -> Result<(), Fail> {
             one_inserts(&rt, &ends(&rt, rt.alloc(), &[key, key], acts, turn));
         }
     }
-    Ok(())
 }
 
 // Both were answered so, and worker 2 made no more acts than these.
@@ -99,13 +97,12 @@ fn both_end(rt: &impl Abort, outcome: &Outcome, first: Answer, second: Answer, m
 }
 
 #[test]
-fn a_stopped_insert_holds_nobody_up(rt: HostRuntime) -> Result<(), Fail> {
+fn a_stopped_insert_holds_nobody_up(rt: HostRuntime) {
     let keys = [numbered(&rt, 0), numbered(&rt, 1)];
     for acts in 0..=71 {
         let ends = ends(&rt, rt.alloc(), &keys, acts, MOST);
         both_end(&rt, &ends, Answer::Inserted, Answer::Inserted, 200);
     }
-    Ok(())
 }
 
 // Makes a whole call of worker 1, which is answered so.
@@ -115,65 +112,55 @@ fn makes(rt: &impl Abort, world: &mut World, call: Call, answer: Answer) {
 
 // A leaf with four records, and three words left: as many as an insert of a short record takes, or as an update to a
 // short payload asks for.
-fn crowded(rt: &impl Abort, alloc: Global, long: Payload) -> World {
-    let mut world = open(alloc, 16, 256, 2).expect(rt, "a world");
-    let first = numbered(rt, 0);
-    makes(rt, &mut world, Call::Insert(first, long), Answer::Inserted);
-    makes(
-        rt,
-        &mut world,
-        Call::Insert(numbered(rt, 1), long),
-        Answer::Inserted,
-    );
-    makes(
-        rt,
-        &mut world,
-        Call::Insert(numbered(rt, 2), long),
-        Answer::Inserted,
-    );
-    makes(
-        rt,
-        &mut world,
-        Call::Insert(numbered(rt, 3), payload(rt, b"")),
-        Answer::Inserted,
-    );
-    for _ in 0..19 {
-        makes(
-            rt,
-            &mut world,
-            Call::Update(first, long),
-            Answer::Updated(long),
-        );
+fn crowd(rt: &impl Abort, world: &mut World, long: Payload) {
+    for number in 0..3 {
+        let insert = Call::Insert(numbered(rt, number), long);
+        makes(rt, world, insert, Answer::Inserted);
     }
-    world
+    let last = Call::Insert(numbered(rt, 3), payload(rt, b""));
+    makes(rt, world, last, Answer::Inserted);
+    for _ in 0..19 {
+        let update = Call::Update(numbered(rt, 0), long);
+        makes(rt, world, update, Answer::Updated(long));
+    }
+}
+
+// Two calls in a leaf that is so full.
+fn crowded(
+    rt: &impl Abort,
+    alloc: Global,
+    calls: &[Call; 2],
+    long: Payload,
+    acts: u32,
+    turn: u32,
+) -> Outcome {
+    let mut world = open(alloc, 16, 256, 2).expect(rt, "a world");
+    crowd(rt, &mut world, long);
+    race(rt, alloc, &mut world, calls, acts, turn)
 }
 
 #[test]
-fn the_call_without_the_last_words_copies_the_leaf(rt: HostRuntime) -> Result<(), Fail> {
+fn the_call_without_the_last_words_copies_the_leaf(rt: HostRuntime) {
     let long = payload(&rt, &[b'x'; 28]);
     let calls = [
         Call::Insert(numbered(&rt, 4), payload(&rt, b"1")),
         Call::Update(numbered(&rt, 1), payload(&rt, b"2")),
     ];
     for acts in 0..1_100 {
-        let mut world = crowded(&rt, rt.alloc(), long);
-        let ends = race(&rt, rt.alloc(), &mut world, &calls, acts, acts);
+        let ends = crowded(&rt, rt.alloc(), &calls, long, acts, acts);
         both_end(&rt, &ends, Answer::Inserted, Answer::Updated(long), MOST);
     }
-    Ok(())
 }
 
 #[test]
-fn a_stopped_copy_holds_nobody_up(rt: HostRuntime) -> Result<(), Fail> {
+fn a_stopped_copy_holds_nobody_up(rt: HostRuntime) {
     let long = payload(&rt, &[b'x'; 28]);
     let calls = [
         Call::Update(numbered(&rt, 1), long),
         Call::Insert(numbered(&rt, 4), payload(&rt, b"1")),
     ];
     for acts in 0..1_100 {
-        let mut world = crowded(&rt, rt.alloc(), long);
-        let ends = race(&rt, rt.alloc(), &mut world, &calls, acts, MOST);
+        let ends = crowded(&rt, rt.alloc(), &calls, long, acts, MOST);
         both_end(&rt, &ends, Answer::Updated(long), Answer::Inserted, 1_800);
     }
-    Ok(())
 }

@@ -1,18 +1,16 @@
 //! Power cuts, after every number of acts of a call, recoveries that are cut again, and the slots that are free afterwards.
 
 use super::bench::{
-    Answer, answered, applies, begin, has_pairs, has_power, holds, numbered, open, payload, same,
-    steps, whole,
+    Answer, answered, applies, applies_all, begin, has_pairs, has_power, holds, numbered, open,
+    payload, same, steps, whole,
 };
 use super::decode::decode;
 use super::map::count;
 use super::reader::Reader;
 use bz_call::Call;
-use bz_key::{Key, Payload};
 use bz_world::{Applied, Begun, Event, Power, World};
 use std::alloc::Global;
 use std::process::Abort;
-use std::test::Fail;
 
 // The calls that are cut: the root leaf has k1 before.
 fn call_of(rt: &impl Abort, kind: u32) -> Call {
@@ -59,14 +57,13 @@ fn agrees(rt: &impl Abort, alloc: Global, world: &World) {
     has_pairs(rt, world, u64::from(count(&reader.map())));
 }
 
-// A world with one key, and so many acts of a call of this kind. Whether the call has ended.
-fn begun(rt: &impl Abort, alloc: Global, kind: u32, acts: u32) -> (World, bool) {
-    let mut world = open(alloc, 4, 16, 2).expect(rt, "a world");
+// One key comes, and so many acts of a call of this kind. Whether the call has ended.
+fn begun(rt: &impl Abort, world: &mut World, kind: u32, acts: u32) -> bool {
     let had = Call::Insert(numbered(rt, 1), payload(rt, b"o"));
-    same(rt, whole(&mut world, 2, had), Some(Answer::Inserted));
-    holds(rt, begin(&mut world, 1, call_of(rt, kind)));
-    let (_, answer) = steps(&mut world, 1, acts);
-    (world, answer.is_some())
+    same(rt, whole(world, 2, had), Some(Answer::Inserted));
+    holds(rt, begin(world, 1, call_of(rt, kind)));
+    let (_, answer) = steps(world, 1, acts);
+    answer.is_some()
 }
 
 // The recovery goes to its end, and agrees.
@@ -84,17 +81,23 @@ fn gets_then(rt: &impl Abort, world: &mut World, ended: bool) {
     same(rt, answered(world, 1, 1).is_some(), ended);
 }
 
+// The power fails, comes on again, and the memory is recovered, in which a call had ended or not.
+fn is_cut(rt: &impl Abort, alloc: Global, world: &mut World, ended: bool) {
+    restart(rt, world);
+    agrees(rt, alloc, world);
+    recovers(rt, alloc, world);
+    gets_then(rt, world, ended);
+    agrees(rt, alloc, world);
+}
+
 // A call of this kind is cut after so many acts. Whether it had ended.
 fn cut_after(rt: &impl Abort, alloc: Global, kind: u32, acts: u32, evicts: bool) -> bool {
-    let (mut world, ended) = begun(rt, alloc, kind, acts);
+    let mut world = open(alloc, 4, 16, 2).expect(rt, "a world");
+    let ended = begun(rt, &mut world, kind, acts);
     if evicts {
         evict_all(&mut world);
     }
-    restart(rt, &mut world);
-    agrees(rt, alloc, &world);
-    recovers(rt, alloc, &mut world);
-    gets_then(rt, &mut world, ended);
-    agrees(rt, alloc, &world);
+    is_cut(rt, alloc, &mut world, ended);
     ended
 }
 
@@ -117,17 +120,29 @@ fn a_call_that_is_cut_is_whole_or_nothing(rt: HostRuntime) {
     }
 }
 
+// The power fails and comes on again, and the recovery goes to its end.
+fn is_recovered(rt: &impl Abort, alloc: Global, world: &mut World) {
+    restart(rt, world);
+    agrees(rt, alloc, world);
+    holds(rt, recover(world, 4_000));
+    agrees(rt, alloc, world);
+}
+
+// The power fails and comes on again, and the recovery makes so many acts. Whether it had ended.
+fn recovers_for(rt: &impl Abort, alloc: Global, world: &mut World, more: u32) -> bool {
+    restart(rt, world);
+    let ended = recover(world, more);
+    evict_all(world);
+    agrees(rt, alloc, world);
+    ended
+}
+
 // A call of this kind is cut after so many acts, and its recovery after so many more. Whether that had ended.
 fn cut_again(rt: &impl Abort, alloc: Global, kind: u32, acts: u32, more: u32) -> bool {
-    let (mut world, _) = begun(rt, alloc, kind, acts);
-    restart(rt, &mut world);
-    let ended = recover(&mut world, more);
-    evict_all(&mut world);
-    agrees(rt, alloc, &world);
-    restart(rt, &mut world);
-    agrees(rt, alloc, &world);
-    holds(rt, recover(&mut world, 4_000));
-    agrees(rt, alloc, &world);
+    let mut world = open(alloc, 4, 16, 2).expect(rt, "a world");
+    begun(rt, &mut world, kind, acts);
+    let ended = recovers_for(rt, alloc, &mut world, more);
+    is_recovered(rt, alloc, &mut world);
     ended
 }
 
@@ -170,22 +185,24 @@ fn used_up(rt: &impl Abort, world: &mut World, update: &Call, made: u32) {
     holds(rt, recover(world, 4_000));
 }
 
-// A world with one key.
-fn with_key(rt: &impl Abort, alloc: Global, k: Key, v: Payload) -> World {
-    let mut world = open(alloc, 2, 512, 1).expect(rt, "a world");
-    let insert = Call::Insert(k, v);
-    same(rt, whole(&mut world, 1, insert), Some(Answer::Inserted));
-    world
+// A key comes, and takes two slots, and then one of them again.
+fn use_up(rt: &impl Abort, world: &mut World) {
+    let (k, v) = (numbered(rt, 0), payload(rt, b"v"));
+    same(
+        rt,
+        whole(world, 1, Call::Insert(k, v)),
+        Some(Answer::Inserted),
+    );
+    let update = Call::Update(k, v);
+    for made in [114, 57, 57] {
+        used_up(rt, world, &update, made);
+    }
 }
 
 #[test]
 fn slots_that_the_tree_does_not_reach_serve_again(rt: HostRuntime) {
-    let (k, v) = (numbered(&rt, 0), payload(&rt, b"v"));
-    let mut world = with_key(&rt, rt.alloc(), k, v);
-    // two slots, and then one of them again
-    for made in [114, 57, 57] {
-        used_up(&rt, &mut world, &Call::Update(k, v), made);
-    }
+    let mut world = open(rt.alloc(), 2, 512, 1).expect(&rt, "a world");
+    use_up(&rt, &mut world);
     agrees(&rt, rt.alloc(), &world);
 }
 
@@ -219,14 +236,19 @@ fn has_open(rt: &impl Abort, world: &World, w: u8, number: Option<u32>) {
     same(rt, world.open_call(w), number);
 }
 
+// A call that begins is open until a cut.
+fn opens(rt: &impl Abort, world: &mut World) {
+    begins(rt, world, Begun::Begun(1));
+    has_open(rt, world, 1, Some(1));
+    has_open(rt, world, 2, None);
+    restart(rt, world);
+    has_open(rt, world, 1, None);
+}
+
 #[test]
 fn an_open_call_has_its_number_until_a_cut(rt: HostRuntime) {
     let mut world = open(rt.alloc(), 1, 1, 2).expect(&rt, "a world");
-    begins(&rt, &mut world, Begun::Begun(1));
-    has_open(&rt, &world, 1, Some(1));
-    has_open(&rt, &world, 2, None);
-    restart(&rt, &mut world);
-    has_open(&rt, &world, 1, None);
+    opens(&rt, &mut world);
 }
 
 // A begin of worker 1 is answered so.
@@ -236,31 +258,46 @@ fn begins(rt: &impl Abort, world: &mut World, begun: Begun) {
 
 // While the power is off nothing happens, until it comes on.
 fn refuses_off(rt: &impl Abort, world: &mut World) {
+    let events = [
+        (Event::Step(1), Applied::Off),
+        (Event::Evict(0), Applied::Off),
+        (Event::Cut, Applied::Off),
+        (Event::On, Applied::On),
+    ];
     begins(rt, world, Begun::Off);
-    applies(rt, world, Event::Step(1), Applied::Off);
-    applies(rt, world, Event::Evict(0), Applied::Off);
-    applies(rt, world, Event::Cut, Applied::Off);
-    applies(rt, world, Event::On, Applied::On);
+    applies_all(rt, world, &events);
 }
 
 // While it recovers only worker 0 steps.
 fn refuses_recovering(rt: &impl Abort, world: &mut World) {
+    let events = [
+        (Event::Step(1), Applied::Recovering),
+        (Event::Evict(0), Applied::Evicted),
+    ];
     applies(rt, world, Event::On, Applied::Powered);
     begins(rt, world, Begun::Recovering);
-    applies(rt, world, Event::Step(1), Applied::Recovering);
-    applies(rt, world, Event::Evict(0), Applied::Evicted);
+    applies_all(rt, world, &events);
+}
+
+// A call begins, and the power fails.
+fn is_cut_off(rt: &impl Abort, world: &mut World) {
+    applies(rt, world, Event::On, Applied::Powered);
+    begins(rt, world, Begun::Begun(1));
+    applies(rt, world, Event::Cut, Applied::Cut);
+}
+
+// Once the recovery has ended the next call begins.
+fn begins_again(rt: &impl Abort, world: &mut World) {
+    holds(rt, recover(world, 4_000));
+    applies(rt, world, Event::Step(1), Applied::Idle);
+    begins(rt, world, Begun::Begun(2));
 }
 
 #[test]
-fn the_power_is_told_in_each_refusal(rt: HostRuntime) -> Result<(), Fail> {
-    let mut world = open(rt.alloc(), 4, 16, 2)?;
-    applies(&rt, &mut world, Event::On, Applied::Powered);
-    begins(&rt, &mut world, Begun::Begun(1));
-    applies(&rt, &mut world, Event::Cut, Applied::Cut);
+fn the_power_is_told_in_each_refusal(rt: HostRuntime) {
+    let mut world = open(rt.alloc(), 4, 16, 2).expect(&rt, "a world");
+    is_cut_off(&rt, &mut world);
     refuses_off(&rt, &mut world);
     refuses_recovering(&rt, &mut world);
-    holds(&rt, recover(&mut world, 4_000));
-    applies(&rt, &mut world, Event::Step(1), Applied::Idle);
-    begins(&rt, &mut world, Begun::Begun(2));
-    Ok(())
+    begins_again(&rt, &mut world);
 }

@@ -49,14 +49,13 @@ fn shows(rt: &impl Abort, alloc: Global, world: &World, pairs: &[(Key, Payload)]
     holds(rt, reader.read_on(world).expect(rt, "room for the maps"));
 }
 
-// A world with one key, and so many acts of a page from it on. Whether the page has ended.
-fn stopped(rt: &impl Abort, alloc: Global, acts: u32) -> (World, bool) {
+// One key comes, and so many acts of a page from it on. Whether the page has ended.
+fn stop(rt: &impl Abort, world: &mut World, acts: u32) -> bool {
     let (k, old) = (numbered(rt, 0), payload(rt, b"oo"));
-    let mut world = open(alloc, 16, 64, 2).expect(rt, "a world");
-    makes(rt, &mut world, Call::Insert(k, old), Answer::Inserted);
-    holds(rt, begin(&mut world, 2, Call::Page(k)));
-    let (_, ended) = steps(&mut world, 2, acts);
-    (world, ended.is_some())
+    makes(rt, world, Call::Insert(k, old), Answer::Inserted);
+    holds(rt, begin(world, 2, Call::Page(k)));
+    let (_, ended) = steps(world, 2, acts);
+    ended.is_some()
 }
 
 // The rest of a page that had loaded the status so often: where its second load found another one, it began again.
@@ -84,16 +83,22 @@ fn shown(rt: &impl Abort, alloc: Global, world: &World, ended: bool, old: Payloa
 
 // A page of which so many acts come before an insert and an update: whether these came between its two loads of the
 // status.
-fn beside(rt: &impl Abort, alloc: Global, acts: u32) -> bool {
+fn is_torn(rt: &impl Abort, alloc: Global, world: &mut World, acts: u32) -> bool {
     let (old, new) = (payload(rt, b"oo"), payload(rt, b"nn"));
-    let (mut world, ended) = stopped(rt, alloc, acts);
-    let loads = status_loads(&world);
-    changes(rt, &mut world, old, new);
+    let ended = stop(rt, world, acts);
+    let loads = status_loads(world);
+    changes(rt, world, old, new);
     if !ended {
-        goes_on(rt, &mut world, loads);
+        goes_on(rt, world, loads);
     }
-    shown(rt, alloc, &world, ended, old, new);
+    shown(rt, alloc, world, ended, old, new);
     !ended && loads == 1
+}
+
+// The same in a fresh world.
+fn beside(rt: &impl Abort, alloc: Global, acts: u32) -> bool {
+    let mut world = open(alloc, 16, 64, 2).expect(rt, "a world");
+    is_torn(rt, alloc, &mut world, acts)
 }
 
 #[test]

@@ -1,11 +1,11 @@
 //! Calls that are ended by a worker alone, in worlds of 64 workers of which others have stopped in the middle of an insert.
 
 use super::bench::{
-    Answer, answered, begin, has_pairs, holds, marks, numbered, payload, same, steps, whole,
+    Answer, answered, answers, begin, has_pairs, holds, marks, numbered, payload, steps,
 };
 use super::reader::Reader;
 use bz_call::Call;
-use bz_key::Key;
+use bz_key::{Key, Payload};
 use bz_layout::{Config, MARKS_PER_CALL};
 use bz_world::{Applied, World};
 use std::alloc::Global;
@@ -24,19 +24,17 @@ fn open(rt: &impl Abort, alloc: Global) -> World {
     World::open(alloc, &config).expect(rt, "a world")
 }
 
-// The same with four records in its leaf, of which one was updated so often that a short record has no room beside them.
-fn crowded(rt: &impl Abort, alloc: Global) -> World {
-    let mut world = open(rt, alloc);
+// Four records in its leaf, of which one is updated so often that a short record has no room beside them.
+fn crowd(rt: &impl Abort, world: &mut World) {
     let long = payload(rt, &[b'x'; 28]);
     for number in 0..4 {
-        let call = Call::Insert(numbered(rt, number), long);
-        same(rt, whole(&mut world, 1, call), Some(Answer::Inserted));
+        let insert = Call::Insert(numbered(rt, number), long);
+        answers(rt, world, insert, Answer::Inserted);
     }
     for _ in 0..19 {
-        let call = Call::Update(numbered(rt, 0), long);
-        same(rt, whole(&mut world, 1, call), Some(Answer::Updated(long)));
+        let update = Call::Update(numbered(rt, 0), long);
+        answers(rt, world, update, Answer::Updated(long));
     }
-    world
 }
 
 // A worker's open call ends while it steps alone, within as many marks as the numbers of the world allow.
@@ -59,37 +57,50 @@ fn explained(rt: &impl Abort, alloc: Global, world: &World) {
     holds(rt, reader.read_on(world).expect(rt, "room for the maps"));
 }
 
-// Worker 1 has made so many acts of its insert, or all of them, when worker 2 begins to get the key, and ends that alone. Then the
-// insert is ended alone too. Whether the get found the key.
-fn get_beside(rt: &impl Abort, alloc: Global, world: &mut World, acts: u32) -> bool {
-    let (k, new) = (numbered(rt, 4), payload(rt, b"1"));
+// A worker's open call ends alone, and a plain map explains its reply.
+fn is_ended(rt: &impl Abort, alloc: Global, world: &mut World, w: u8) {
+    ends_alone(rt, world, w);
+    explained(rt, alloc, world);
+}
+
+// Worker 1 makes so many acts of its insert, or all of them, and then worker 2 begins to get the key. Whether the insert
+// has ended.
+fn begun(rt: &impl Abort, world: &mut World, k: Key, new: Payload, acts: u32) -> bool {
     holds(rt, begin(world, 1, Call::Insert(k, new)));
     let (_, ended) = steps(world, 1, acts);
     holds(rt, begin(world, 2, Call::Get(k)));
-    ends_alone(rt, world, 2);
-    explained(rt, alloc, world);
-    let found = answered(world, 2, 1) == Some(Answer::Value(new));
-    if ended.is_none() {
-        holds(rt, found || answered(world, 2, 1) == Some(Answer::Missing));
-        ends_alone(rt, world, 1);
-        explained(rt, alloc, world);
-    } else {
-        holds(rt, found);
+    ended.is_some()
+}
+
+// Worker 2 ends its get beside that alone, and then the insert is ended alone too. Whether the get found the key.
+fn get_beside(rt: &impl Abort, alloc: Global, world: &mut World, acts: u32) -> bool {
+    let (k, new) = (numbered(rt, 4), payload(rt, b"1"));
+    let ended = begun(rt, world, k, new, acts);
+    is_ended(rt, alloc, world, 2);
+    let got = answered(world, 2, 1);
+    let found = got == Some(Answer::Value(new));
+    holds(rt, found || !ended && got == Some(Answer::Missing));
+    if !ended {
+        is_ended(rt, alloc, world, 1);
     }
     found
+}
+
+// Whether a get beside so many acts of an insert, into a full leaf or an empty one, found the key.
+fn finds_beside(rt: &impl Abort, alloc: Global, full: bool, acts: u32) -> bool {
+    let mut world = open(rt, alloc);
+    if full {
+        crowd(rt, &mut world);
+    }
+    get_beside(rt, alloc, &mut world, acts)
 }
 
 // How many of so many gets found the key, one after each number of acts of the insert, in steps of so many.
 fn found_beside(rt: &impl Abort, alloc: Global, full: bool, stops: u32, step: u32) -> u32 {
     let mut found = 0u32;
     for k in 0..stops {
-        let mut world = if full {
-            crowded(rt, alloc)
-        } else {
-            open(rt, alloc)
-        };
         let acts = step.saturating_mul(k.saturating_add(1));
-        if get_beside(rt, alloc, &mut world, acts) {
+        if finds_beside(rt, alloc, full, acts) {
             found = found.saturating_add(1);
         }
     }
@@ -115,21 +126,31 @@ fn stopped(rt: &impl Abort, world: &mut World, k: Key, acts: u32, apart: u32) {
     }
 }
 
+// Each open call ends alone, that of the last worker first.
+fn all_end(rt: &impl Abort, world: &mut World) {
+    for w in 1..65u8 {
+        if world.open_call(65 - w).is_some() {
+            ends_alone(rt, world, 65 - w);
+        }
+    }
+}
+
+// So they do, and so does a get of the key by worker 64.
+fn each_ends(rt: &impl Abort, alloc: Global, acts: u32, apart: u32) {
+    let mut world = open(rt, alloc);
+    let k = numbered(rt, 0);
+    stopped(rt, &mut world, k, acts, apart);
+    holds(rt, begin(&mut world, 64, Call::Get(k)));
+    all_end(rt, &mut world);
+    explained(rt, alloc, &world);
+    has_pairs(rt, &world, 1);
+}
+
 #[test]
 fn each_of_sixty_four_workers_ends_alone(rt: HostRuntime) {
     for apart in [0, 1, 5, 13] {
         for acts in 0..16 {
-            let mut world = open(&rt, rt.alloc());
-            let k = numbered(&rt, 0);
-            stopped(&rt, &mut world, k, 4 * acts, apart);
-            holds(&rt, begin(&mut world, 64, Call::Get(k)));
-            for w in 1..65u8 {
-                if world.open_call(65 - w).is_some() {
-                    ends_alone(&rt, &mut world, 65 - w);
-                }
-            }
-            explained(&rt, rt.alloc(), &world);
-            has_pairs(&rt, &world, 1);
+            each_ends(&rt, rt.alloc(), 4 * acts, apart);
         }
     }
 }

@@ -90,27 +90,43 @@ fn ends(rt: &impl Abort, world: &mut World, answer: Answer, words: &[(u32, u64)]
     has(rt, world, words);
 }
 
-// Fresh memory after the insert of a with 1.
+// Fresh memory.
+const FRESH: [(u32, u64); 7] = [
+    (0, 1),
+    (1, 1),
+    (2, 0),
+    (3, 16),
+    (4, 64),
+    (STATUS, 0),
+    (META, 0),
+];
+
+// The insert of a with 1 into it.
+fn insert(rt: &impl Abort, world: &mut World) {
+    has(rt, world, &FRESH);
+    begins(rt, world, Call::Insert(key(rt, b"a"), payload(rt, b"1")));
+    after_first(rt, world, (1_166, 0x0061_0000_0000_0000), &RESERVED);
+    ends(rt, world, Answer::Inserted, &PUBLISHED);
+}
+
+// Fresh memory after it.
 fn inserted(rt: &impl Abort, alloc: Global) -> World {
     let mut world = open(alloc, 16, 64, 1).expect(rt, "a world");
-    let fresh = [
-        (0, 1),
-        (1, 1),
-        (2, 0),
-        (3, 16),
-        (4, 64),
-        (STATUS, 0),
-        (META, 0),
-    ];
-    has(rt, &world, &fresh);
-    begins(
-        rt,
-        &mut world,
-        Call::Insert(key(rt, b"a"), payload(rt, b"1")),
-    );
-    after_first(rt, &mut world, (1_166, 0x0061_0000_0000_0000), &RESERVED);
-    ends(rt, &mut world, Answer::Inserted, &PUBLISHED);
+    insert(rt, &mut world);
     world
+}
+
+// An update of a with 22.
+fn update(rt: &impl Abort, world: &mut World) {
+    begins(rt, world, Call::Update(key(rt, b"a"), payload(rt, b"22")));
+    after_first(rt, world, (1_164, 0x0061_0000_0000_0000), &TAKEN);
+    ends(rt, world, Answer::Updated(payload(rt, b"1")), &MOVED);
+}
+
+// A delete of a.
+fn delete(rt: &impl Abort, world: &mut World) {
+    begins(rt, world, Call::Delete(key(rt, b"a")));
+    ends(rt, world, Answer::Deleted(payload(rt, b"1")), &DELETED);
 }
 
 #[test]
@@ -123,23 +139,11 @@ fn an_insert_leaves_the_words_that_the_format_gives(rt: HostRuntime) {
 #[test]
 fn an_update_leaves_the_words_that_the_format_gives(rt: HostRuntime) {
     let mut world = inserted(&rt, rt.alloc());
-    begins(
-        &rt,
-        &mut world,
-        Call::Update(key(&rt, b"a"), payload(&rt, b"22")),
-    );
-    after_first(&rt, &mut world, (1_164, 0x0061_0000_0000_0000), &TAKEN);
-    ends(&rt, &mut world, Answer::Updated(payload(&rt, b"1")), &MOVED);
+    update(&rt, &mut world);
 }
 
 #[test]
 fn a_delete_leaves_the_words_that_the_format_gives(rt: HostRuntime) {
     let mut world = inserted(&rt, rt.alloc());
-    begins(&rt, &mut world, Call::Delete(key(&rt, b"a")));
-    ends(
-        &rt,
-        &mut world,
-        Answer::Deleted(payload(&rt, b"1")),
-        &DELETED,
-    );
+    delete(&rt, &mut world);
 }

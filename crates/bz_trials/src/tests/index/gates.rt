@@ -3,12 +3,15 @@
 
 use super::reader::{NONE, Tally, read};
 use super::stages::{Hold, Until};
-use super::threads::{Case, Kind, Part, run};
+use super::threads::{Case, Kind, Part, Told, run};
 use crate::tests::bench::{same, same_at};
 use bz_layout::Config;
 use bz_mark::Mark;
 use bz_world::World;
-use std::test::*;
+use std::alloc::Global;
+use std::process::Abort;
+use std::sync::Wait;
+use std::thread::Threads;
 
 const TWO: Config = Config {
     nodes: 4,
@@ -38,45 +41,59 @@ fn ends_of(world: &World) -> [Option<(u8, bool)>; 4] {
     ends
 }
 
-#[test]
-fn a_whole_call_happens_between_two_acts_of_another(rt: HostRuntime) -> Result<(), Fail> {
-    // Each makes one insert; that of worker 2 is held after so many acts until the one of worker 1 was answered.
-    let one = [Part {
-        kind: Kind::Own,
-        many: 1,
-        after: Until::Held(1),
-    }];
-    let others = [Part {
-        kind: Kind::Own,
-        many: 1,
-        after: Until::Now,
-    }];
+// Each worker makes one insert: that of worker 1 comes once that of worker 2 is held.
+const ONE: [Part; 1] = [Part {
+    kind: Kind::Own,
+    many: 1,
+    after: Until::Held(1),
+}];
+
+const OTHERS: [Part; 1] = [Part {
+    kind: Kind::Own,
+    many: 1,
+    after: Until::Now,
+}];
+
+// The calls begin and end so.
+const ENDS: [Option<(u8, bool)>; 4] = [
+    Some((2, false)),
+    Some((1, false)),
+    Some((1, true)),
+    Some((2, true)),
+];
+
+// Both inserts are told, and began and ended so.
+fn are_crossed(rt: &impl Abort, alloc: Global, world: &World, told: &[Told], acts: u32) {
     let tally = Tally {
         inserted: 2,
         ..NONE
     };
+    same(rt, read(rt, alloc, world, told), tally);
+    same_at(rt, ends_of(world), ENDS, acts);
+}
+
+// The insert of worker 2 is held after so many acts, until that of worker 1 was answered.
+fn holds_after<R: Abort + Threads + Wait + Sync>(rt: &R, alloc: Global, acts: u32) {
+    let hold = Some(Hold {
+        worker: 2,
+        acts,
+        until: Until::Answered(1),
+    });
+    let case = Case {
+        config: TWO,
+        workers: &[1, 2],
+        one: &ONE,
+        others: &OTHERS,
+        deeds: &[],
+        hold,
+    };
+    let (world, told) = run(rt, alloc, &case);
+    are_crossed(rt, alloc, &world, &told, acts);
+}
+
+#[test]
+fn a_whole_call_happens_between_two_acts_of_another(rt: HostRuntime) {
     for acts in [1, 2, 5, 6, 7, 22, 37, 52, 62] {
-        let case = Case {
-            config: TWO,
-            workers: &[1, 2],
-            one: &one,
-            others: &others,
-            deeds: &[],
-            hold: Some(Hold {
-                worker: 2,
-                acts,
-                until: Until::Answered(1),
-            }),
-        };
-        let (world, told) = run(&rt, rt.alloc(), &case)?;
-        same(&rt, read(&rt, rt.alloc(), &world, &told)?, tally);
-        let ends = [
-            Some((2, false)),
-            Some((1, false)),
-            Some((1, true)),
-            Some((2, true)),
-        ];
-        same_at(&rt, ends_of(&world), ends, acts);
+        holds_after(&rt, rt.alloc(), acts);
     }
-    Ok(())
 }

@@ -5,7 +5,11 @@ use super::stages::Until;
 use super::threads::{Case, Kind, Part, Told, expect, run};
 use crate::tests::bench::{holds, same};
 use bz_layout::Config;
-use std::test::*;
+use bz_world::World;
+use std::alloc::Global;
+use std::process::Abort;
+use std::sync::Wait;
+use std::thread::Threads;
 
 const NINE: Config = Config {
     nodes: 2_048,
@@ -16,7 +20,7 @@ const NINE: Config = Config {
     pages: 64,
 };
 
-const fn calls(kind: Kind, many: u32) -> Part {
+fn calls(kind: Kind, many: u32) -> Part {
     Part {
         kind,
         many,
@@ -32,19 +36,27 @@ fn is_split(told: &Told) -> bool {
     }
 }
 
-#[test]
-fn eight_threads_insert_keys_of_their_own_and_then_equal_ones(rt: HostRuntime) -> Result<(), Fail> {
-    let others = [
+fn any_is_split(told: &[Told]) -> bool {
+    told.iter().any(|one| is_split(one))
+}
+
+fn each() -> [Part; 4] {
+    [
         calls(Kind::Own, 8),
         calls(Kind::GetOwn, 8),
         calls(Kind::Same, 8),
         calls(Kind::GetSame, 8),
-    ];
-    let one = [Part {
-        kind: Kind::Page,
-        many: 1,
-        after: Until::Answered(8 * 32),
-    }];
+    ]
+}
+
+const PAGE_AFTER: [Part; 1] = [Part {
+    kind: Kind::Page,
+    many: 1,
+    after: Until::Answered(8 * 32),
+}];
+
+// All are told so, in a tree that was split.
+fn are_inserted(rt: &impl Abort, alloc: Global, world: &World, told: &[Told]) {
     // Of a key that each inserts, one thread is told that it has inserted it, and every other that it was there.
     let tally = Tally {
         inserted: 8 * 8 + 8,
@@ -53,67 +65,88 @@ fn eight_threads_insert_keys_of_their_own_and_then_equal_ones(rt: HostRuntime) -
         pages: 1,
         ..NONE
     };
-    for workers in [[1, 2, 3, 4, 5, 6, 7, 8, 9], [5, 9, 8, 3, 6, 2, 7, 4, 1]] {
-        let case = Case {
-            config: NINE,
-            workers: &workers,
-            one: &one,
-            others: &others,
-            deeds: &[],
-            hold: None,
-        };
-        let (world, told) = run(&rt, rt.alloc(), &case)?;
-        same(&rt, read(&rt, rt.alloc(), &world, &told)?, tally);
-        // The page comes after all inserts, of 72 keys, and a leaf holds 39 of these records.
-        holds(&rt, told.iter().any(|one| is_split(one)));
-    }
-    Ok(())
+    same(rt, read(rt, alloc, world, told), tally);
+    // The page comes after all inserts, of 72 keys, and a leaf holds 39 of these records.
+    holds(rt, any_is_split(told));
+}
+
+// These workers make each calls of their own and equal ones, but worker 1.
+fn insert_all<R: Abort + Threads + Wait + Sync>(rt: &R, alloc: Global, workers: &[u8]) {
+    let others = each();
+    let case = Case {
+        config: NINE,
+        workers,
+        one: &PAGE_AFTER,
+        others: &others,
+        deeds: &[],
+        hold: None,
+    };
+    let (world, told) = run(rt, alloc, &case);
+    are_inserted(rt, alloc, &world, &told);
 }
 
 #[test]
-fn passes_come_back_in_any_order(rt: HostRuntime) -> Result<(), Fail> {
-    let parts = [
+fn eight_threads_insert_keys_of_their_own_and_then_equal_ones(rt: HostRuntime) {
+    for workers in [[1, 2, 3, 4, 5, 6, 7, 8, 9], [5, 9, 8, 3, 6, 2, 7, 4, 1]] {
+        insert_all(&rt, rt.alloc(), &workers);
+    }
+}
+
+fn few() -> [Part; 3] {
+    [
         calls(Kind::Own, 2),
         calls(Kind::Same, 1),
         calls(Kind::Page, 1),
-    ];
+    ]
+}
+
+// Three workers make a few calls each, and come back in the reverse of this order.
+fn come_back<R: Abort + Threads + Wait + Sync>(rt: &R, alloc: Global, workers: &[u8]) {
+    let parts = few();
+    let case = Case {
+        config: NINE,
+        workers,
+        one: &parts,
+        others: &parts,
+        deeds: &[],
+        hold: None,
+    };
     let tally = Tally {
         inserted: 3 * 2 + 1,
         exists: 2,
         pages: 3,
         ..NONE
     };
-    let orders = [
-        [1, 2, 3],
-        [1, 3, 2],
-        [2, 1, 3],
-        [2, 3, 1],
-        [3, 1, 2],
-        [3, 2, 1],
-    ];
-    for workers in orders {
-        let case = Case {
-            config: NINE,
-            workers: &workers,
-            one: &parts,
-            others: &parts,
-            deeds: &[],
-            hold: None,
-        };
-        expect(&rt, rt.alloc(), &case, &tally)?;
+    expect(rt, alloc, &case, &tally);
+}
+
+const ORDERS: [[u8; 3]; 6] = [
+    [1, 2, 3],
+    [1, 3, 2],
+    [2, 1, 3],
+    [2, 3, 1],
+    [3, 1, 2],
+    [3, 2, 1],
+];
+
+#[test]
+fn passes_come_back_in_any_order(rt: HostRuntime) {
+    for workers in ORDERS {
+        come_back(&rt, rt.alloc(), &workers);
     }
-    Ok(())
+}
+
+fn many_pages() -> [Part; 1] {
+    [calls(Kind::Page, 64)]
+}
+
+fn many_inserts() -> [Part; 1] {
+    [calls(Kind::Own, 24)]
 }
 
 #[test]
-fn a_page_beside_inserts_is_of_one_moment(rt: HostRuntime) -> Result<(), Fail> {
-    let one = [calls(Kind::Page, 64)];
-    let others = [calls(Kind::Own, 24)];
-    let tally = Tally {
-        inserted: 3 * 24,
-        pages: 64,
-        ..NONE
-    };
+fn a_page_beside_inserts_is_of_one_moment(rt: HostRuntime) {
+    let (one, others) = (many_pages(), many_inserts());
     let case = Case {
         config: NINE,
         workers: &[1, 2, 3, 4],
@@ -122,6 +155,10 @@ fn a_page_beside_inserts_is_of_one_moment(rt: HostRuntime) -> Result<(), Fail> {
         deeds: &[],
         hold: None,
     };
-    expect(&rt, rt.alloc(), &case, &tally)?;
-    Ok(())
+    let tally = Tally {
+        inserted: 3 * 24,
+        pages: 64,
+        ..NONE
+    };
+    expect(&rt, rt.alloc(), &case, &tally);
 }

@@ -2,13 +2,13 @@
 
 use super::reader::{NONE, Tally, read};
 use super::stages::Until;
-use super::threads::{Case, Kind, Part, expect, run};
+use super::threads::{Case, Kind, Part, Told, expect, run};
 use crate::tests::bench::{holds, same};
 use bz_layout::Config;
+use bz_world::World;
 use std::alloc::Global;
 use std::process::Abort;
 use std::sync::Wait;
-use std::test::*;
 use std::thread::Threads;
 
 const FOUR: Config = Config {
@@ -39,56 +39,79 @@ fn calls(kind: Kind, many: u32) -> Part {
     }
 }
 
+fn ten_inserts() -> [Part; 1] {
+    [calls(Kind::Own, 10)]
+}
+
+// So many calls of four threads begin, where so many may.
+fn begins<R: Abort + Threads + Wait + Sync>(rt: &R, alloc: Global, most: u32) {
+    let config = Config {
+        calls: most,
+        ..FOUR
+    };
+    let tally = Tally {
+        inserted: most,
+        no_calls: 40u32.saturating_sub(most),
+        ..NONE
+    };
+    expect(rt, alloc, &of_four(config, &ten_inserts()), &tally);
+}
+
 #[test]
-fn as_many_calls_of_four_threads_begin_as_may(rt: HostRuntime) -> Result<(), Fail> {
-    let parts = [calls(Kind::Own, 10)];
+fn as_many_calls_of_four_threads_begin_as_may(rt: HostRuntime) {
     for most in [1, 7, 25] {
-        let config = Config {
-            calls: most,
-            ..FOUR
-        };
-        let tally = Tally {
-            inserted: most,
-            no_calls: 40u32.saturating_sub(most),
-            ..NONE
-        };
-        expect(&rt, rt.alloc(), &of_four(config, &parts), &tally)?;
+        begins(&rt, rt.alloc(), most);
     }
-    Ok(())
+}
+
+fn three_pages() -> [Part; 1] {
+    [calls(Kind::Page, 3)]
+}
+
+// So many pages of four threads begin, where so many may.
+fn pages<R: Abort + Threads + Wait + Sync>(rt: &R, alloc: Global, most: u32) {
+    let config = Config {
+        pages: most,
+        ..FOUR
+    };
+    let tally = Tally {
+        pages: most,
+        no_pages: 12u32.saturating_sub(most),
+        ..NONE
+    };
+    expect(rt, alloc, &of_four(config, &three_pages()), &tally);
 }
 
 #[test]
-fn as_many_pages_of_four_threads_begin_as_may(rt: HostRuntime) -> Result<(), Fail> {
-    let parts = [calls(Kind::Page, 3)];
-    for pages in [0, 1, 5] {
-        let config = Config { pages, ..FOUR };
-        let tally = Tally {
-            pages,
-            no_pages: 12u32.saturating_sub(pages),
-            ..NONE
-        };
-        expect(&rt, rt.alloc(), &of_four(config, &parts), &tally)?;
+fn as_many_pages_of_four_threads_begin_as_may(rt: HostRuntime) {
+    for most in [0, 1, 5] {
+        pages(&rt, rt.alloc(), most);
     }
-    Ok(())
 }
 
-// Four threads make inserts until a journal of so many marks is full.
-fn fills<R: Abort + Threads + Wait + Sync>(rt: &R, alloc: Global, marks: u32) -> Result<(), Fail> {
-    let config = Config { marks, ..FOUR };
-    let parts = [calls(Kind::Own, 64)];
-    let (world, told) = run(rt, alloc, &of_four(config, &parts))?;
-    let tally = read(rt, alloc, &world, &told)?;
+fn many_inserts() -> [Part; 1] {
+    [calls(Kind::Own, 64)]
+}
+
+// The journal has no more room, and each insert was answered before that or told of it.
+fn is_full(rt: &impl Abort, alloc: Global, world: &World, told: &[Told], marks: u32) {
+    let tally = read(rt, alloc, world, told);
     // Each insert makes 71 acts at least.
     holds(rt, tally.inserted <= marks / 71);
     same(rt, tally.inserted.saturating_add(tally.no_marks), 4 * 64);
     holds(rt, world.journal().room() < 3);
-    Ok(())
+}
+
+// Four threads make inserts until a journal of so many marks is full.
+fn fills<R: Abort + Threads + Wait + Sync>(rt: &R, alloc: Global, marks: u32) {
+    let config = Config { marks, ..FOUR };
+    let (world, told) = run(rt, alloc, &of_four(config, &many_inserts()));
+    is_full(rt, alloc, &world, &told, marks);
 }
 
 #[test]
-fn a_journal_that_is_full_ends_the_calls_of_all_threads(rt: HostRuntime) -> Result<(), Fail> {
+fn a_journal_that_is_full_ends_the_calls_of_all_threads(rt: HostRuntime) {
     for marks in [1_024, 1_500, 3_000] {
-        fills(&rt, rt.alloc(), marks)?;
+        fills(&rt, rt.alloc(), marks);
     }
-    Ok(())
 }

@@ -232,12 +232,11 @@ impl Reader {
         }
     }
 
-    fn read_all(&mut self, rt: &impl Abort, journal: &Journal) -> Result<(), Memory> {
+    fn read_all(&mut self, rt: &impl Abort, journal: &Journal) {
         for read in 0..journal.length() {
-            let may_come = self.read_mark(journal, journal.mark(read), read)?;
-            holds(rt, may_come);
+            let may_come = self.read_mark(journal, journal.mark(read), read);
+            holds(rt, may_come.expect(rt, "room for a mark"));
         }
-        Ok(())
     }
 }
 
@@ -358,18 +357,13 @@ impl Reader {
 }
 
 /// Reads the journal of a world and what its threads were told, which must fit; answers how the calls were answered.
-pub(crate) fn read(
-    rt: &impl Abort,
-    alloc: Global,
-    world: &World,
-    told: &[Told],
-) -> Result<Tally, Memory> {
+pub(crate) fn read(rt: &impl Abort, alloc: Global, world: &World, told: &[Told]) -> Tally {
     let journal = world.journal();
-    let mut reader = Reader::open(alloc)?;
-    reader.read_all(rt, journal)?;
+    let mut reader = Reader::open(alloc).expect(rt, "a reader");
+    reader.read_all(rt, journal);
     let mut tally = NONE;
     for one in told {
         reader.expect_told(rt, journal, one, &mut tally);
     }
-    Ok(tally)
+    tally
 }

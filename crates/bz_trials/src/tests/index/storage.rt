@@ -13,6 +13,7 @@ use bz_layout::Config;
 use bz_memory::Memory;
 use bz_world::{Applied, Event, OpenError, Power, World};
 use std::alloc::Global;
+use std::process::Abort;
 use std::sync::Wait;
 use std::test::*;
 
@@ -80,26 +81,54 @@ fn restart<R: Wait>(rt: &R, index: &Index, first: &mut IndexPass) -> Applied
     applied
 }
 
+// A get of the pair's key finds its payload.
+fn finds<R: Abort + Wait>(
+    rt: &R,
+    index: &Index,
+    pass: &mut IndexPass,
+    page: &mut PageBuf,
+    pair: (Key, Payload),
+)
+    requires { IsPassOf index.now pass.old × (0 < worker_of pass.old) }
+    ensures { IsPassOf index.now pass.new × (0 < worker_of pass.new) }
+{
+    let answer = get(rt, index, pass, page, pair.0);
+    assert!(rt; is_value(&answer, &pair.1));
+}
+
+// What was inserted before a power cut is found before it and after it.
+fn over_a_cut<R: Abort + Wait>(
+    rt: &R,
+    index: &Index,
+    first: &mut IndexPass,
+    pass: &mut IndexPass,
+    page: &mut PageBuf,
+    pair: (Key, Payload),
+)
+    requires first { IsPassOf index.now first.old × (worker_of first.old ≡ 0) }
+    requires pass { IsPassOf index.now pass.old × (0 < worker_of pass.old) }
+    ensures first { IsPassOf index.now first.new × (worker_of first.new ≡ 0) }
+    ensures pass { IsPassOf index.now pass.new × (0 < worker_of pass.new) }
+{
+    let answer = insert(rt, index, pass, page, pair);
+    assert!(rt; matches!(answer, Answer::Reply(Reply::Inserted)));
+    finds(rt, index, pass, page, pair);
+    same(rt, restart(rt, index, first), Applied::Ready);
+    finds(rt, index, pass, page, pair);
+}
+
 #[test]
 fn a_storage_engine_finds_after_a_power_cut_what_it_was_answered(
     rt: HostRuntime,
 ) -> Result<(), Fail> {
-    let (index, mut first) = open_engine(rt.alloc(), &CONFIG)?;
+    let pair = (Key::of(b"user:1001/name")?, Payload::of(b"Ada")?);
     let mut page = PageBuf::open(rt.alloc())?;
-    let key = Key::of(b"user:1001/name")?;
-    let ada = Payload::of(b"Ada")?;
+    let (index, mut first) = open_engine(rt.alloc(), &CONFIG)?;
 
     let mut pass = index.split(&mut first, 1);
-    let answer = insert(&rt, &index, &mut pass, &mut page, (key, ada));
-    assert!(rt; matches!(answer, Answer::Reply(Reply::Inserted)));
-    let answer = get(&rt, &index, &mut pass, &mut page, key);
-    assert!(rt; is_value(&answer, &ada));
-
-    same(&rt, restart(&rt, &index, &mut first), Applied::Ready);
-    let answer = get(&rt, &index, &mut pass, &mut page, key);
-    assert!(rt; is_value(&answer, &ada));
-
+    over_a_cut(&rt, &index, &mut first, &mut pass, &mut page, pair);
     index.join(&mut first, pass);
+
     let world = close(&rt, index, first);
     assert!(rt; matches!(world.power(), Power::On));
     Ok(())

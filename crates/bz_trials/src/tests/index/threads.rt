@@ -1,5 +1,5 @@
 //! Threads that make the calls of their workers, while the first pass makes events happen.
-ghost use Rattle.std.specs.Prelude.{◌≡◌, ◌<◌, All, IfOk};
+ghost use Rattle.std.specs.Prelude.{◌≡◌, ◌<◌, ◌∷◌, ◌++◌, [], All};
 ghost use Rattle.std.specs.Thread.{IsSync};
 ghost use Rattle.bz_index.specs.Passes.{origin_in, worker_of, IsPassOf};
 
@@ -11,12 +11,10 @@ use bz_call::Call;
 use bz_index::{Index, IndexPass};
 use bz_key::{Key, PageBuf};
 use bz_layout::Config;
-use bz_memory::Memory;
 use bz_world::{Applied, Event, World};
-use std::alloc::{AllocError, Global};
+use std::alloc::Global;
 use std::process::Abort;
 use std::sync::Wait;
-use std::test::Fail;
 use std::thread;
 use std::thread::Threads;
 
@@ -104,35 +102,29 @@ fn call_of(rt: &impl Abort, kind: Kind, worker: u8, number: u32) -> Call {
     }
 }
 
-fn ask(
-    rt: &impl Abort,
-    alloc: Global,
-    asked: &mut Vec<Asked, Global>,
-    part: &Part,
-    worker: u8,
-) -> Result<(), Memory> {
-    for number in 0..part.many {
-        asked.push(Asked {
-            call: call_of(rt, part.kind, worker, number),
-            after: part.after,
-            said: Said::Nothing,
-            page: PageBuf::open(alloc)?,
-        })?;
+// A call that was not made yet.
+fn asked_of(rt: &impl Abort, alloc: Global, part: &Part, worker: u8, number: u32) -> Asked {
+    Asked {
+        call: call_of(rt, part.kind, worker, number),
+        after: part.after,
+        said: Said::Nothing,
+        page: PageBuf::open(alloc).expect(rt, "a page"),
     }
-    Ok(())
 }
 
-fn calls_of(
-    rt: &impl Abort,
-    alloc: Global,
-    parts: &[Part],
-    worker: u8,
-) -> Result<Vec<Asked, Global>, Memory> {
-    let mut asked = Vec::with_capacity(alloc, 64)?;
-    for part in parts {
-        ask(rt, alloc, &mut asked, part, worker)?;
+fn ask(rt: &impl Abort, alloc: Global, asked: &mut Vec<Asked, Global>, part: &Part, worker: u8) {
+    for number in 0..part.many {
+        let one = asked_of(rt, alloc, part, worker, number);
+        asked.push(one).expect(rt, "room for a call");
     }
-    Ok(asked)
+}
+
+fn calls_of(rt: &impl Abort, alloc: Global, parts: &[Part], worker: u8) -> Vec<Asked, Global> {
+    let mut asked = Vec::with_capacity(alloc, 64).expect(rt, "room for the calls");
+    for part in parts {
+        ask(rt, alloc, &mut asked, part, worker);
+    }
+    asked
 }
 
 // A pass of one of the world's workers, of which there are `many`.
@@ -152,6 +144,16 @@ fn split_any<R: Abort>(
     split_off(rt, index, first, worker)
 }
 
+// Puts a job behind the others.
+fn keep(rt: &impl Abort, jobs: &mut Vec<Job, Global>, job: Job)
+    ensures { jobs.new.items ≡ jobs.old.items ++ job ∷ [] }
+{
+    match jobs.push(job) {
+        Ok(()) => {}
+        Err(_) => panic!(rt; "no room for a job"),
+    }
+}
+
 // A pass and the calls of each worker of a case.
 fn split_all<R: Abort>(
     rt: &R,
@@ -160,20 +162,20 @@ fn split_all<R: Abort>(
     first: &mut IndexPass,
     case: &Case<'_>,
     many: u32,
-) -> Result<Vec<Job, Global>, Memory>
+) -> Vec<Job, Global>
     requires first { IsPassOf index.now first.old × (worker_of first.old ≡ 0) }
     requires workers { (origin_in index.now).config.workers ≡ many }
     ensures first { IsPassOf index.now first.new × (worker_of first.new ≡ 0) }
-    ensures jobs { IfOk result (λ v. All (λ j. IsPassOf index.now j.pass × (0 < worker_of j.pass)) v.items) }
+    ensures jobs { All (λ j. IsPassOf index.now j.pass × (0 < worker_of j.pass)) result.items }
 {
-    let mut jobs = Vec::with_capacity(alloc, case.workers.len())?;
+    let mut jobs = Vec::with_capacity(alloc, case.workers.len()).expect(rt, "room for the jobs");
     for worker in case.workers {
         let parts = if *worker == 1 { case.one } else { case.others };
-        let asked = calls_of(rt, alloc, parts, *worker)?;
+        let asked = calls_of(rt, alloc, parts, *worker);
         let pass = split_any(rt, index, first, *worker, many);
-        jobs.push(Job { pass, asked })?;
+        keep(rt, &mut jobs, Job { pass, asked });
     }
-    Ok(jobs)
+    jobs
 }
 
 // Makes a call, once what it waits for has come.
@@ -215,23 +217,24 @@ fn make_as<R: Wait>(rt: &R, index: &Index, job: Job, stages: &Stages) -> Job
 }
 
 // Makes the calls of each worker, in a thread of its own.
-fn make_by_threads<R: Threads + Wait + Sync>(
+fn make_by_threads<R: Abort + Threads + Wait + Sync>(
     rt: &R,
     index: &Index,
     jobs: Vec<Job, Global>,
     stages: &Stages,
-) -> Result<Vec<Job, Global>, AllocError>
+) -> Vec<Job, Global>
     requires { All (λ j. IsPassOf index.now j.pass × (0 < worker_of j.pass)) jobs.items }
-    ensures { IfOk result (λ v. All (λ j. IsPassOf index.now j.pass × (0 < worker_of j.pass)) v.items) }
+    ensures { All (λ j. IsPassOf index.now j.pass × (0 < worker_of j.pass)) result.items }
 {
-    thread::map_vec(
+    let made = thread::map_vec(
         rt,
         jobs,
         &|job: Job| -> Job
             requires { IsPassOf index.now job.pass × (0 < worker_of job.pass) }
             ensures { IsPassOf index.entry.now result.pass × (0 < worker_of result.pass) }
         { make_as(rt, index, job, stages) },
-    )
+    );
+    made.expect(rt, "room for the threads")
 }
 
 fn happen<R: Abort + Wait>(rt: &R, index: &Index, first: &mut IndexPass, deed: Deed)
@@ -272,17 +275,17 @@ fn together<R: Abort + Threads + Wait + Sync>(
     first: IndexPass,
     deeds: &[(Deed, Until)],
     stages: &Stages,
-) -> (Result<Vec<Job, Global>, AllocError>, IndexPass)
+) -> (Vec<Job, Global>, IndexPass)
     requires jobs { All (λ j. IsPassOf index.now j.pass × (0 < worker_of j.pass)) jobs.items }
     requires first { IsPassOf index.now first × (worker_of first ≡ 0) }
-    ensures jobs { IfOk result.0 (λ v. All (λ j. IsPassOf index.now j.pass × (0 < worker_of j.pass)) v.items) }
+    ensures jobs { All (λ j. IsPassOf index.now j.pass × (0 < worker_of j.pass)) result.0.items }
     ensures first { IsPassOf index.now result.1 × (worker_of result.1 ≡ 0) }
 {
     thread::join(
         rt,
-        move || -> Result<Vec<Job, Global>, AllocError>
+        move || -> Vec<Job, Global>
             requires { IsSync R.row × All (λ j. IsPassOf index.now j.pass × (0 < worker_of j.pass)) jobs.items }
-            ensures { IfOk result (λ v. All (λ j. IsPassOf index.entry.now j.pass × (0 < worker_of j.pass)) v.items) }
+            ensures { All (λ j. IsPassOf index.entry.now j.pass × (0 < worker_of j.pass)) result.items }
         { make_by_threads(rt, index, jobs, stages) },
         move || -> IndexPass
             requires { IsPassOf index.now first × (worker_of first ≡ 0) }
@@ -298,19 +301,20 @@ fn join_all<R: Abort>(
     index: &Index,
     first: &mut IndexPass,
     mut jobs: Vec<Job, Global>,
-) -> Result<Vec<Told, Global>, Memory>
+) -> Vec<Told, Global>
     requires first { IsPassOf index.now first.old × (worker_of first.old ≡ 0) }
     requires jobs { All (λ j. IsPassOf index.now j.pass × (0 < worker_of j.pass)) jobs.items }
     ensures { IsPassOf index.now first.new × (worker_of first.new ≡ 0) }
 {
-    let mut told = Vec::with_capacity(alloc, jobs.len())?;
+    let mut told = Vec::with_capacity(alloc, jobs.len()).expect(rt, "room for the answers");
     while let Some(job) = jobs.pop() {
         let Job { pass, asked } = job;
         let worker = pass.worker();
         join_back(rt, index, first, pass);
-        told.push(Told { worker, asked })?;
+        told.push(Told { worker, asked })
+            .expect(rt, "room for an answer");
     }
-    Ok(told)
+    told
 }
 
 /// The world after a case, and what its calls were answered.
@@ -318,23 +322,31 @@ pub(crate) fn run<R: Abort + Threads + Wait + Sync>(
     rt: &R,
     alloc: Global,
     case: &Case<'_>,
-) -> Result<(World, Vec<Told, Global>), Fail> {
-    let (index, mut first) = open(alloc, &case.config)?;
-    let jobs = split_all(rt, alloc, &index, &mut first, case, case.config.workers)?;
+) -> (World, Vec<Told, Global>) {
+    let (index, mut first) = open(alloc, &case.config).expect(rt, "an index");
+    let jobs = split_all(rt, alloc, &index, &mut first, case, case.config.workers);
     let stages = Stages::new(case.hold);
     let (jobs, mut first) = together(rt, &index, jobs, first, case.deeds, &stages);
-    let told = join_all(rt, alloc, &index, &mut first, jobs?)?;
-    Ok((close(rt, index, first), told))
+    let told = join_all(rt, alloc, &index, &mut first, jobs);
+    (close(rt, index, first), told)
 }
 
-/// Makes a case, and reads its journal and what its threads were told; answers the world, and how the calls were answered.
+/// Makes a case, and reads its journal and what its threads were told: how the calls were answered.
+pub(crate) fn tell<R: Abort + Threads + Wait + Sync>(
+    rt: &R,
+    alloc: Global,
+    case: &Case<'_>,
+) -> Tally {
+    let (world, told) = run(rt, alloc, case);
+    read(rt, alloc, &world, &told)
+}
+
+/// The calls of a case are answered so.
 pub(crate) fn expect<R: Abort + Threads + Wait + Sync>(
     rt: &R,
     alloc: Global,
     case: &Case<'_>,
     tally: &Tally,
-) -> Result<World, Fail> {
-    let (world, told) = run(rt, alloc, case)?;
-    same(rt, read(rt, alloc, &world, &told)?, *tally);
-    Ok(world)
+) {
+    same(rt, tell(rt, alloc, case), *tally);
 }

@@ -5,4 +5,4 @@ use Rattle.bz_trials.proofs.tests.index.threads.split_all.Goals as goal
 
 pub loop-worker-preserved : goal.loop-worker-preserved
 loop-worker-preserved g c =
-    (c.split_any-pass.ensures.first.0, c.split_any-pass.ensures.first.1, rw c.in_ok-push.ensures.items (All-push (λ j. IsPassOf c.args.index.now j.pass × (0 < worker_of j.pass)) _ _ c.loop-worker.invariant.2 c.split_any-pass.ensures.pass))
+    (c.split_any-pass.ensures.first.0, c.split_any-pass.ensures.first.1, rw c.keep.ensures (All-push (λ j. IsPassOf c.args.index.now j.pass × (0 < worker_of j.pass)) _ _ c.loop-worker.invariant.2 c.split_any-pass.ensures.pass))
