@@ -3,6 +3,7 @@
 mod bench;
 mod image;
 mod io;
+mod journal;
 mod script;
 mod text;
 mod text_summary;

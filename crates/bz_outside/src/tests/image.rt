@@ -96,16 +96,26 @@ fn each_image_has_its_length(rt: HostRuntime) {
     same(&rt, image_bytes(16_384, 65_536), 25_165_972);
 }
 
+// The file of a world is this one.
+fn is_written(rt: &impl Abort, alloc: Global, world: &World, file: &[u8]) {
+    let mut sink = MemSink::open(alloc, SIZE).expect(rt, "a sink");
+    same(rt, written(world, &mut sink), Ok(()));
+    same(rt, sink.bytes(), file);
+}
+
+// A file is that of a fresh memory of one node and one descriptor.
+fn is_read(rt: &impl Abort, alloc: Global, file: &[u8]) {
+    let image = read(alloc, file).expect(rt, "an image");
+    same(rt, (image.nodes, image.swaps), (1, 1));
+    has_words(rt, &image, &fresh());
+}
+
 #[test]
-fn the_smallest_file_is_written_and_read(rt: HostRuntime) -> Result<(), Fail> {
+fn the_smallest_file_is_written_and_read(rt: HostRuntime) {
     let file = smallest();
-    let mut sink = MemSink::open(rt.alloc(), SIZE)?;
-    same(&rt, written(&world(&rt, rt.alloc()), &mut sink), Ok(()));
-    same(&rt, sink.bytes(), file.as_slice());
-    let image = read(rt.alloc(), &file)?;
-    same(&rt, (image.nodes, image.swaps), (1, 1));
-    has_words(&rt, &image, &fresh());
-    Ok(())
+    let world = world(&rt, rt.alloc());
+    is_written(&rt, rt.alloc(), &world, &file);
+    is_read(&rt, rt.alloc(), &file);
 }
 
 #[test]
@@ -243,33 +253,38 @@ fn taken_before(file: &[u8], call: u64) -> &[u8] {
 }
 
 // A sink that fails at this call has what came before.
-fn fails_at(rt: &impl Abort, alloc: Global, world: &World, call: u64) -> Result<(), Fail> {
+fn fails_at(rt: &impl Abort, alloc: Global, world: &World, call: u64) {
     let want = if call == 22 { Ok(()) } else { Err(Failed) };
-    let mut sink = FailSink::open(alloc, SIZE, 64, &[call])?;
+    let mut sink = FailSink::open(alloc, SIZE, 64, &[call]).expect(rt, "a sink");
     same_at(rt, written(world, &mut sink), want, call);
     same_at(rt, sink.bytes(), taken_before(&smallest(), call), call);
-    Ok(())
+}
+
+fn fails_at_each(rt: &impl Abort, alloc: Global, world: &World) {
+    for call in 1..23u64 {
+        fails_at(rt, alloc, world, call);
+    }
 }
 
 // A sink that has too little room is full.
-fn lacks_room(rt: &impl Abort, alloc: Global, world: &World, room: usize) -> Result<(), Fail> {
+fn lacks_room(rt: &impl Abort, alloc: Global, world: &World, room: usize) {
     let file = smallest();
-    let mut sink = MemSink::open(alloc, room)?;
+    let mut sink = MemSink::open(alloc, room).expect(rt, "a sink");
     same_at(rt, written(world, &mut sink), Err(Failed), room);
     same_at(rt, sink.bytes(), &file[..room.min(SIZE)], room);
-    Ok(())
+}
+
+fn lacks_each_room(rt: &impl Abort, alloc: Global, world: &World) {
+    for room in 0..SIZE {
+        lacks_room(rt, alloc, world, room);
+    }
 }
 
 #[test]
-fn a_sink_that_fails_has_a_front_part(rt: HostRuntime) -> Result<(), Fail> {
+fn a_sink_that_fails_has_a_front_part(rt: HostRuntime) {
     let world = world(&rt, rt.alloc());
-    for call in 1..23u64 {
-        fails_at(&rt, rt.alloc(), &world, call)?;
-    }
-    for room in 0..SIZE {
-        lacks_room(&rt, rt.alloc(), &world, room)?;
-    }
-    Ok(())
+    fails_at_each(&rt, rt.alloc(), &world);
+    lacks_each_room(&rt, rt.alloc(), &world);
 }
 
 #[test]

@@ -8,8 +8,30 @@ use std::alloc::Global;
 use std::process::Abort;
 use std::test::Fail;
 
-// What five reads give of a source that has these five bytes: a dot behind each piece, and `!` for a
-// failure.
+// Puts bytes behind those of a trace.
+fn put(rt: &impl Abort, trace: &mut Vec<u8>, bytes: &[u8]) {
+    trace
+        .extend_from_slice(bytes)
+        .expect(rt, "room for the trace");
+}
+
+// A piece of a trace: the bytes and a dot behind them.
+fn put_piece(rt: &impl Abort, trace: &mut Vec<u8>, bytes: &[u8]) {
+    put(rt, trace, bytes);
+    put(rt, trace, b".");
+}
+
+// What a read into so much room gives: a dot behind the piece, and `!` for a failure.
+fn read_once(rt: &impl Abort, source: &mut FailSource, room: usize, trace: &mut Vec<u8>) {
+    let mut buffer = [0u8; 8];
+    let into = &mut buffer[..room.min(8)];
+    match source.read(into) {
+        Ok(count) => put_piece(rt, trace, &into[..count]),
+        Err(Failed) => put(rt, trace, b"!"),
+    }
+}
+
+// What five reads give of a source that has these five bytes.
 fn expect_reads(
     rt: &impl Abort,
     alloc: Global,
@@ -17,38 +39,37 @@ fn expect_reads(
     room: usize,
     fails: &[u64],
     want: &[u8],
-) -> Result<(), Fail> {
-    let piece = piece.max(1);
-    let mut source = FailSource::of(alloc, b"abcde", piece, fails)?;
-    let mut trace: Vec<u8> = Vec::new(alloc);
+) {
+    let mut trace = Vec::new(alloc);
+    let mut source = FailSource::of(alloc, b"abcde", piece.max(1), fails).expect(rt, "a source");
     for _ in 0..5u8 {
-        let mut buffer = [0u8; 8];
-        let into = &mut buffer[..room.min(8)];
-        match source.read(into) {
-            Ok(count) => {
-                trace.extend_from_slice(&into[..count])?;
-                trace.push(b'.')?;
-            }
-            Err(Failed) => trace.push(b'!')?,
-        }
+        read_once(rt, &mut source, room, &mut trace);
     }
     same(rt, trace.as_slice(), want);
-    Ok(())
 }
 
 #[test]
-fn failing_source_gives_pieces_and_fails_where_told(rt: HostRuntime) -> Result<(), Fail> {
+fn failing_source_gives_pieces_and_fails_where_told(rt: HostRuntime) {
     let alloc = rt.alloc();
-    expect_reads(&rt, alloc, 2, 8, &[], b"ab.cd.e...")?;
-    expect_reads(&rt, alloc, 8, 3, &[], b"abc.de....")?;
-    expect_reads(&rt, alloc, 8, 8, &[1], b"!abcde....")?;
-    expect_reads(&rt, alloc, 2, 8, &[4, 2], b"ab.!cd.!e.")?;
-    expect_reads(&rt, alloc, 1, 1, &[5, 5, 0], b"a.b.c.d.!")?;
-    expect_reads(&rt, alloc, 5, 0, &[2], b".!...")
+    expect_reads(&rt, alloc, 2, 8, &[], b"ab.cd.e...");
+    expect_reads(&rt, alloc, 8, 3, &[], b"abc.de....");
+    expect_reads(&rt, alloc, 8, 8, &[1], b"!abcde....");
+    expect_reads(&rt, alloc, 2, 8, &[4, 2], b"ab.!cd.!e.");
+    expect_reads(&rt, alloc, 1, 1, &[5, 5, 0], b"a.b.c.d.!");
+    expect_reads(&rt, alloc, 5, 0, &[2], b".!...");
 }
 
-// What a sink with so much room holds after each of four writes of what is left of five bytes: a dot
-// behind each, and `!` for a failure.
+// What a sink holds after a write of what is left of five bytes: a dot behind it, and `!` for a failure.
+fn write_once(rt: &impl Abort, sink: &mut FailSink, trace: &mut Vec<u8>) {
+    let all: &[u8] = b"abcde";
+    let done = sink.bytes().len().min(all.len());
+    match sink.write(&all[done..]) {
+        Ok(_) => put_piece(rt, trace, sink.bytes()),
+        Err(Failed) => put(rt, trace, b"!"),
+    }
+}
+
+// What a sink with so much room holds after each of four writes.
 fn expect_writes(
     rt: &impl Abort,
     alloc: Global,
@@ -56,33 +77,23 @@ fn expect_writes(
     piece: usize,
     fails: &[u64],
     want: &[u8],
-) -> Result<(), Fail> {
-    let piece = piece.max(1);
-    let mut sink = FailSink::open(alloc, room, piece, fails)?;
-    let all: &[u8] = b"abcde";
-    let mut trace: Vec<u8> = Vec::new(alloc);
+) {
+    let mut trace = Vec::new(alloc);
+    let mut sink = FailSink::open(alloc, room, piece.max(1), fails).expect(rt, "a sink");
     for _ in 0..4u8 {
-        let done = sink.bytes().len().min(all.len());
-        match sink.write(&all[done..]) {
-            Ok(_) => {
-                trace.extend_from_slice(sink.bytes())?;
-                trace.push(b'.')?;
-            }
-            Err(Failed) => trace.push(b'!')?,
-        }
+        write_once(rt, &mut sink, &mut trace);
     }
     same(rt, trace.as_slice(), want);
-    Ok(())
 }
 
 #[test]
-fn failing_sink_takes_pieces_and_fails_where_told(rt: HostRuntime) -> Result<(), Fail> {
+fn failing_sink_takes_pieces_and_fails_where_told(rt: HostRuntime) {
     let alloc = rt.alloc();
-    expect_writes(&rt, alloc, 8, 2, &[], b"ab.abcd.abcde.abcde.")?;
-    expect_writes(&rt, alloc, 3, 2, &[], b"ab.abc.!!")?;
-    expect_writes(&rt, alloc, 8, 5, &[1, 3], b"!abcde.!abcde.")?;
-    expect_writes(&rt, alloc, 0, 1, &[], b"!!!!")?;
-    expect_writes(&rt, alloc, 8, 1, &[2], b"a.!ab.abc.")
+    expect_writes(&rt, alloc, 8, 2, &[], b"ab.abcd.abcde.abcde.");
+    expect_writes(&rt, alloc, 3, 2, &[], b"ab.abc.!!");
+    expect_writes(&rt, alloc, 8, 5, &[1, 3], b"!abcde.!abcde.");
+    expect_writes(&rt, alloc, 0, 1, &[], b"!!!!");
+    expect_writes(&rt, alloc, 8, 1, &[2], b"a.!ab.abc.");
 }
 
 #[test]
@@ -95,18 +106,23 @@ fn sink_in_memory_fills_its_room(rt: HostRuntime) -> Result<(), Fail> {
     Ok(())
 }
 
+// An input of 9,000 bytes is read whole up to this limit, or is too long for it.
+fn is_read(rt: &impl Abort, alloc: Global, long: &[u8], limit: usize) {
+    let mut source = MemSource::of(alloc, long).expect(rt, "a source");
+    match read_all(alloc, &mut source, limit) {
+        Ok(bytes) => holds(rt, limit >= 9000 && bytes.as_slice() == long),
+        Err(ReadFault::TooLong) => holds(rt, limit == 8999),
+        // a source in memory never fails
+        Err(ReadFault::Failed) => unreachable!(),
+        Err(ReadFault::Memory) => assert!(rt; false, "want of memory"),
+    }
+}
+
 #[test]
 fn input_is_read_up_to_its_limit(rt: HostRuntime) -> Result<(), Fail> {
     let long = Vec::from_array(rt.alloc(), [7u8; 9000])?;
     for limit in [8999usize, 9000, 9001] {
-        let mut source = MemSource::of(rt.alloc(), &long)?;
-        match read_all(rt.alloc(), &mut source, limit) {
-            Ok(bytes) => holds(&rt, limit >= 9000 && bytes.as_slice() == long.as_slice()),
-            Err(ReadFault::TooLong) => holds(&rt, limit == 8999),
-            // a source in memory never fails
-            Err(ReadFault::Failed) => unreachable!(),
-            Err(ReadFault::Memory) => assert!(rt; false, "want of memory"),
-        }
+        is_read(&rt, rt.alloc(), &long, limit);
     }
     Ok(())
 }
@@ -156,21 +172,18 @@ fn real_sink_passes_bytes_on_and_refuses_when_its_writer_is_full(rt: HostRuntime
     same(&rt, room, *b"abcd");
 }
 
-fn expect_words(rt: &impl Abort, alloc: Global, fault: ReadFault, want: &str) -> Result<(), Fail> {
-    same(rt, format!(in alloc; "{fault}")?.as_str(), want);
-    Ok(())
+fn expect_words(rt: &impl Abort, alloc: Global, fault: ReadFault, want: &str) {
+    let words = format!(in alloc; "{fault}").expect(rt, "the words");
+    same(rt, words.as_str(), want);
 }
 
 #[test]
 fn faults_have_their_words(rt: HostRuntime) -> Result<(), Fail> {
     let alloc = rt.alloc();
-    expect_words(&rt, alloc, ReadFault::Failed, "read failed")?;
-    expect_words(&rt, alloc, ReadFault::TooLong, "input too long")?;
-    expect_words(&rt, alloc, ReadFault::Memory, "want of memory")?;
-    same(
-        &rt,
-        format!(in alloc; "{Failed}")?.as_str(),
-        "read or write failed",
-    );
+    expect_words(&rt, alloc, ReadFault::Failed, "read failed");
+    expect_words(&rt, alloc, ReadFault::TooLong, "input too long");
+    expect_words(&rt, alloc, ReadFault::Memory, "want of memory");
+    let words = format!(in alloc; "{Failed}")?;
+    same(&rt, words.as_str(), "read or write failed");
     Ok(())
 }
