@@ -94,6 +94,21 @@ pub(crate) fn open(
     World::open(alloc, &config)
 }
 
+/// What is done with a fresh world of this many nodes, swaps and workers, and what it answers.
+pub(crate) fn in_world<A: Abort, T, F: FnOnce(&mut World) -> T>(
+    rt: &A,
+    alloc: Global,
+    nodes: u32,
+    swaps: u32,
+    workers: u32,
+    done: F,
+) -> T
+    requires { F.IsAlwaysCallable done }
+{
+    let mut world = open(alloc, nodes, swaps, workers).expect(rt, "a world");
+    done(&mut world)
+}
+
 /// The cached word at an address; 0 past the memory.
 pub(crate) fn cached(world: &World, a: u32) -> u64 {
     if a < world.config().words() {

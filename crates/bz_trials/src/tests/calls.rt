@@ -1,6 +1,6 @@
 //! The six calls, made by one worker.
 
-use super::bench::{Answer, answers, answers_all, key, open, payload, same};
+use super::bench::{Answer, answers, answers_all, in_world, key, payload, same};
 use bz_call::Call;
 use bz_key::{Key, Payload};
 use bz_world::World;
@@ -85,8 +85,7 @@ fn is_a_map(rt: &impl Abort, world: &mut World, length: usize) {
 
 // A world whose payloads have this length.
 fn answers_as_a_map(rt: &impl Abort, alloc: Global, length: usize) {
-    let mut world = open(alloc, 16, 128, 1).expect(rt, "a world");
-    is_a_map(rt, &mut world, length);
+    in_world(rt, alloc, 16, 128, 1, |world| is_a_map(rt, world, length));
 }
 
 #[test]

@@ -1,6 +1,6 @@
 //! What the calls cost beyond their lookup, which only loads.
 
-use super::bench::{Answer, begin, holds, key, mark, open, payload, same, steps};
+use super::bench::{Answer, begin, holds, in_world, key, mark, payload, same, steps};
 use bz_call::Call;
 use bz_key::{Key, Payload};
 use bz_mark::Mark;
@@ -133,6 +133,5 @@ fn come_and_go(rt: &impl Abort, world: &mut World) {
 
 #[test]
 fn changes_cost_no_more_than_two_swaps_and_their_record(rt: HostRuntime) {
-    let mut world = open(rt.alloc(), 16, 64, 1).expect(&rt, "a world");
-    come_and_go(&rt, &mut world);
+    in_world(&rt, rt.alloc(), 16, 64, 1, |world| come_and_go(&rt, world));
 }

@@ -1,6 +1,6 @@
 //! Two calls, of which one stops after any number of acts.
 
-use super::bench::{Answer, begin, holds, numbered, open, payload, same, steps, whole};
+use super::bench::{Answer, begin, holds, in_world, numbered, open, payload, same, steps, whole};
 use super::decode::decode;
 use super::reader::Reader;
 use bz_call::Call;
@@ -60,8 +60,14 @@ fn ends(rt: &impl Abort, alloc: Global, keys: &[Key; 2], acts: u32, turn: u32) -
         Call::Insert(keys[0], payload(rt, b"1")),
         Call::Insert(keys[1], payload(rt, b"2")),
     ];
-    let mut world = open(alloc, 16, 256, 2).expect(rt, "a world");
-    race(rt, alloc, &mut world, &calls, acts, turn)
+    in_world(
+        rt,
+        alloc,
+        16,
+        256,
+        2,
+        |world| race(rt, alloc, world, &calls, acts, turn),
+    )
 }
 
 // One of the two inserts, and the other finds the key.
@@ -134,9 +140,10 @@ fn crowded(
     acts: u32,
     turn: u32,
 ) -> Outcome {
-    let mut world = open(alloc, 16, 256, 2).expect(rt, "a world");
-    crowd(rt, &mut world, long);
-    race(rt, alloc, &mut world, calls, acts, turn)
+    in_world(rt, alloc, 16, 256, 2, |world| {
+        crowd(rt, world, long);
+        race(rt, alloc, world, calls, acts, turn)
+    })
 }
 
 #[test]

@@ -1,8 +1,8 @@
 //! Power cuts, after every number of acts of a call, recoveries that are cut again, and the slots that are free afterwards.
 
 use super::bench::{
-    Answer, answered, applies, applies_all, begin, has_pairs, has_power, holds, numbered, open,
-    payload, same, steps, whole,
+    Answer, answered, applies, applies_all, begin, has_pairs, has_power, holds, in_world, numbered,
+    open, payload, same, steps, whole,
 };
 use super::decode::decode;
 use super::map::count;
@@ -92,13 +92,14 @@ fn is_cut(rt: &impl Abort, alloc: Global, world: &mut World, ended: bool) {
 
 // A call of this kind is cut after so many acts. Whether it had ended.
 fn cut_after(rt: &impl Abort, alloc: Global, kind: u32, acts: u32, evicts: bool) -> bool {
-    let mut world = open(alloc, 4, 16, 2).expect(rt, "a world");
-    let ended = begun(rt, &mut world, kind, acts);
-    if evicts {
-        evict_all(&mut world);
-    }
-    is_cut(rt, alloc, &mut world, ended);
-    ended
+    in_world(rt, alloc, 4, 16, 2, |world| {
+        let ended = begun(rt, world, kind, acts);
+        if evicts {
+            evict_all(world);
+        }
+        is_cut(rt, alloc, world, ended);
+        ended
+    })
 }
 
 // It is cut after every number of acts, up to its last one: how many these are.
@@ -139,11 +140,12 @@ fn recovers_for(rt: &impl Abort, alloc: Global, world: &mut World, more: u32) ->
 
 // A call of this kind is cut after so many acts, and its recovery after so many more. Whether that had ended.
 fn cut_again(rt: &impl Abort, alloc: Global, kind: u32, acts: u32, more: u32) -> bool {
-    let mut world = open(alloc, 4, 16, 2).expect(rt, "a world");
-    begun(rt, &mut world, kind, acts);
-    let ended = recovers_for(rt, alloc, &mut world, more);
-    is_recovered(rt, alloc, &mut world);
-    ended
+    in_world(rt, alloc, 4, 16, 2, |world| {
+        begun(rt, world, kind, acts);
+        let ended = recovers_for(rt, alloc, world, more);
+        is_recovered(rt, alloc, world);
+        ended
+    })
 }
 
 // It is cut after every number of acts, up to its last one: how many these are.
@@ -201,9 +203,10 @@ fn use_up(rt: &impl Abort, world: &mut World) {
 
 #[test]
 fn slots_that_the_tree_does_not_reach_serve_again(rt: HostRuntime) {
-    let mut world = open(rt.alloc(), 2, 512, 1).expect(&rt, "a world");
-    use_up(&rt, &mut world);
-    agrees(&rt, rt.alloc(), &world);
+    in_world(&rt, rt.alloc(), 2, 512, 1, |world| {
+        use_up(&rt, world);
+        agrees(&rt, rt.alloc(), world);
+    });
 }
 
 // An insert or a delete of one of five keys, cut after some of its acts, at times with all words evicted, and the recovery.
@@ -222,13 +225,18 @@ fn cut_and_recover(rt: &impl Abort, world: &mut World, number: u8) {
     holds(rt, recover(world, 4_000));
 }
 
+fn cut_often(rt: &impl Abort, world: &mut World) {
+    for number in 0..100 {
+        cut_and_recover(rt, world, number);
+    }
+}
+
 #[test]
 fn a_hundred_power_cuts_in_one_journal(rt: HostRuntime) {
-    let mut world = open(rt.alloc(), 4, 16, 1).expect(&rt, "a world");
-    for number in 0..100 {
-        cut_and_recover(&rt, &mut world, number);
-    }
-    agrees(&rt, rt.alloc(), &world);
+    in_world(&rt, rt.alloc(), 4, 16, 1, |world| {
+        cut_often(&rt, world);
+        agrees(&rt, rt.alloc(), world);
+    });
 }
 
 // The open call of a worker has this number.
@@ -247,8 +255,7 @@ fn opens(rt: &impl Abort, world: &mut World) {
 
 #[test]
 fn an_open_call_has_its_number_until_a_cut(rt: HostRuntime) {
-    let mut world = open(rt.alloc(), 1, 1, 2).expect(&rt, "a world");
-    opens(&rt, &mut world);
+    in_world(&rt, rt.alloc(), 1, 1, 2, |world| opens(&rt, world));
 }
 
 // A begin of worker 1 is answered so.
@@ -295,9 +302,10 @@ fn begins_again(rt: &impl Abort, world: &mut World) {
 
 #[test]
 fn the_power_is_told_in_each_refusal(rt: HostRuntime) {
-    let mut world = open(rt.alloc(), 4, 16, 2).expect(&rt, "a world");
-    is_cut_off(&rt, &mut world);
-    refuses_off(&rt, &mut world);
-    refuses_recovering(&rt, &mut world);
-    begins_again(&rt, &mut world);
+    in_world(&rt, rt.alloc(), 4, 16, 2, |world| {
+        is_cut_off(&rt, world);
+        refuses_off(&rt, world);
+        refuses_recovering(&rt, world);
+        begins_again(&rt, world);
+    });
 }

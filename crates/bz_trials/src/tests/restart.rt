@@ -1,6 +1,8 @@
 //! A page beside two changes of its leaf.
 
-use super::bench::{Answer, begin, holds, mark, numbered, open, payload, same, steps, whole};
+use super::bench::{
+    Answer, begin, holds, in_world, mark, numbered, open, payload, same, steps, whole,
+};
 use super::reader::Reader;
 use bz_call::Call;
 use bz_key::{Key, Payload};
@@ -97,8 +99,14 @@ fn is_torn(rt: &impl Abort, alloc: Global, world: &mut World, acts: u32) -> bool
 
 // The same in a fresh world.
 fn beside(rt: &impl Abort, alloc: Global, acts: u32) -> bool {
-    let mut world = open(alloc, 16, 64, 2).expect(rt, "a world");
-    is_torn(rt, alloc, &mut world, acts)
+    in_world(
+        rt,
+        alloc,
+        16,
+        64,
+        2,
+        |world| is_torn(rt, alloc, world, acts),
+    )
 }
 
 #[test]

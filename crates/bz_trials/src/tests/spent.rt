@@ -1,8 +1,8 @@
 //! Nodes and swaps that run out.
 
 use super::bench::{
-    Answer, answers, answers_all, applies, begin, holds, key, last_answer, numbered, open, payload,
-    same,
+    Answer, answers, answers_all, applies, begin, holds, in_world, key, last_answer, numbered,
+    payload, same,
 };
 use bz_call::Call;
 use bz_key::{Key, Payload};
@@ -55,13 +55,12 @@ fn is_filled(rt: &impl Abort, world: &mut World) {
     fills(rt, world, v);
     changes_nothing(rt, world, first, past, v);
     is_read(rt, world, first, past, v);
+    same(rt, page_length(world), 39);
 }
 
 #[test]
 fn a_leaf_has_room_for_thirty_nine_small_records(rt: HostRuntime) {
-    let mut world = open(rt.alloc(), 1, 128, 1).expect(&rt, "a world");
-    is_filled(&rt, &mut world);
-    same(&rt, page_length(&world), 39);
+    in_world(&rt, rt.alloc(), 1, 128, 1, |world| is_filled(&rt, world));
 }
 
 // So many updates of a key.
@@ -93,8 +92,14 @@ fn takes_updates(rt: &impl Abort, world: &mut World) {
 
 #[test]
 fn each_slot_takes_fifty_seven_updates_of_a_small_record(rt: HostRuntime) {
-    let mut world = open(rt.alloc(), 4, 512, 1).expect(&rt, "a world");
-    takes_updates(&rt, &mut world);
+    in_world(
+        &rt,
+        rt.alloc(),
+        4,
+        512,
+        1,
+        |world| takes_updates(&rt, world),
+    );
 }
 
 // Two descriptors were taken by an insert of a key, and no call finds more.
@@ -121,10 +126,11 @@ fn takes_both(rt: &impl Abort, world: &mut World) {
 
 #[test]
 fn two_descriptors_are_one_insert(rt: HostRuntime) {
-    let mut world = open(rt.alloc(), 16, 2, 1).expect(&rt, "a world");
-    takes_both(&rt, &mut world);
-    applies(&rt, &mut world, Event::Cut, Applied::Cut);
-    has_taken(&rt, &world, 0);
+    in_world(&rt, rt.alloc(), 16, 2, 1, |world| {
+        takes_both(&rt, world);
+        applies(&rt, world, Event::Cut, Applied::Cut);
+        has_taken(&rt, world, 0);
+    });
 }
 
 // How many pairs the first page has; 0 where there is none.
@@ -187,6 +193,5 @@ fn uses_up(rt: &impl Abort, world: &mut World) {
 
 #[test]
 fn sixty_four_workers_use_up_the_swaps(rt: HostRuntime) {
-    let mut world = open(rt.alloc(), 1, 100, 64).expect(&rt, "a world");
-    uses_up(&rt, &mut world);
+    in_world(&rt, rt.alloc(), 1, 100, 64, |world| uses_up(&rt, world));
 }

@@ -1,11 +1,10 @@
 //! An insert, a delete and an update, word for word.
 
 use super::bench::{
-    Answer, begin, cached, durable, holds, key, open, payload, same, same_at, steps,
+    Answer, begin, cached, durable, holds, in_world, key, payload, same, same_at, steps,
 };
 use bz_call::Call;
 use bz_world::World;
-use std::alloc::Global;
 use std::process::Abort;
 
 const DIRTY: u64 = 1 << 63;
@@ -109,13 +108,6 @@ fn insert(rt: &impl Abort, world: &mut World) {
     ends(rt, world, Answer::Inserted, &PUBLISHED);
 }
 
-// Fresh memory after it.
-fn inserted(rt: &impl Abort, alloc: Global) -> World {
-    let mut world = open(alloc, 16, 64, 1).expect(rt, "a world");
-    insert(rt, &mut world);
-    world
-}
-
 // An update of a with 22.
 fn update(rt: &impl Abort, world: &mut World) {
     begins(rt, world, Call::Update(key(rt, b"a"), payload(rt, b"22")));
@@ -131,19 +123,25 @@ fn delete(rt: &impl Abort, world: &mut World) {
 
 #[test]
 fn an_insert_leaves_the_words_that_the_format_gives(rt: HostRuntime) {
-    let world = inserted(&rt, rt.alloc());
-    // the line of the status word is flushed before its dirty bit is cleared
-    same(&rt, durable(&world, STATUS), DIRTY + 0x0010_0800_0000_0002);
+    in_world(&rt, rt.alloc(), 16, 64, 1, |world| {
+        insert(&rt, world);
+        // the line of the status word is flushed before its dirty bit is cleared
+        same(&rt, durable(world, STATUS), DIRTY + 0x0010_0800_0000_0002);
+    });
 }
 
 #[test]
 fn an_update_leaves_the_words_that_the_format_gives(rt: HostRuntime) {
-    let mut world = inserted(&rt, rt.alloc());
-    update(&rt, &mut world);
+    in_world(&rt, rt.alloc(), 16, 64, 1, |world| {
+        insert(&rt, world);
+        update(&rt, world);
+    });
 }
 
 #[test]
 fn a_delete_leaves_the_words_that_the_format_gives(rt: HostRuntime) {
-    let mut world = inserted(&rt, rt.alloc());
-    delete(&rt, &mut world);
+    in_world(&rt, rt.alloc(), 16, 64, 1, |world| {
+        insert(&rt, world);
+        delete(&rt, world);
+    });
 }
