@@ -109,6 +109,19 @@ pub(crate) fn in_world<A: Abort, T, F: FnOnce(&mut World) -> T>(
     done(&mut world)
 }
 
+/// The same with a world of these numbers.
+pub(crate) fn in_world_of<A: Abort, T, F: FnOnce(&mut World) -> T>(
+    rt: &A,
+    alloc: Global,
+    config: &Config,
+    done: F,
+) -> T
+    requires { F.IsAlwaysCallable done }
+{
+    let mut world = World::open(alloc, config).expect(rt, "a world");
+    done(&mut world)
+}
+
 /// The cached word at an address; 0 past the memory.
 pub(crate) fn cached(world: &World, a: u32) -> u64 {
     if a < world.config().words() {

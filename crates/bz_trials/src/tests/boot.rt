@@ -5,8 +5,8 @@ ghost use Rattle.bz_layout.specs.Addresses.{words_of};
 ghost use Rattle.bz_layout.specs.Config.{IsConfig};
 
 use super::bench::{
-    Answer, applies, begin, has_pairs, has_power, holds, numbered, open, payload, same, steps,
-    whole,
+    Answer, applies, begin, has_pairs, has_power, holds, in_world, numbered, open, payload, same,
+    steps, whole,
 };
 use super::decode::decode;
 use super::map::{Map, count};
@@ -89,11 +89,12 @@ fn cut(rt: &impl Abort, world: &mut World) {
 
 // Both go on alike.
 fn goes_on(rt: &impl Abort, alloc: Global, acts: u32) {
-    let mut world = open(alloc, 4, 16, 2).expect(rt, "a world");
-    stop(rt, &mut world, acts);
-    let told = restarted(rt, alloc, &world);
-    cut(rt, &mut world);
-    same(rt, told, answers(&mut world, rt));
+    in_world(rt, alloc, 4, 16, 2, |world| {
+        stop(rt, world, acts);
+        let told = restarted(rt, alloc, world);
+        cut(rt, world);
+        same(rt, told, answers(world, rt));
+    });
 }
 
 #[test]
@@ -216,6 +217,13 @@ fn goes_on_often(rt: &impl Abort, alloc: Global, world: &mut World) {
 
 #[test]
 fn a_schedule_goes_on_from_every_tenth_event(rt: HostRuntime) {
-    let mut world = open(rt.alloc(), 4, 48, 8).expect(&rt, "a world");
-    goes_on_often(&rt, rt.alloc(), &mut world);
+    let alloc = rt.alloc();
+    in_world(
+        &rt,
+        alloc,
+        4,
+        48,
+        8,
+        |world| goes_on_often(&rt, alloc, world),
+    );
 }

@@ -1,5 +1,5 @@
 //! What gets cost that run alone: as many acts as their look-ups read words.
-use super::bench::{Answer, begin, holds, key, open, payload, same, steps};
+use super::bench::{Answer, begin, holds, in_world, key, payload, same, steps};
 use bz_call::Call;
 use bz_key::Key;
 use bz_world::World;
@@ -29,15 +29,13 @@ fn acts(rt: &impl Abort, world: &mut World, call: Call) -> u32 {
 }
 
 // The keys with even numbers, in steps of so many.
-fn grown(rt: &impl Abort, alloc: Global, count: u32, step: u32) -> World {
-    let mut world = open(alloc, 64, 640, 1).expect(rt, "a world");
+fn grow(rt: &impl Abort, world: &mut World, count: u32, step: u32) {
     let v = payload(rt, b"v");
     assert!(rt; count > 0);
     for i in 0..count {
         let number = (i.saturating_mul(step) % count).saturating_mul(2);
-        acts(rt, &mut world, Call::Insert(numbered(rt, number), v));
+        acts(rt, world, Call::Insert(numbered(rt, number), v));
     }
-    world
 }
 
 // How many acts gets make of keys with every second number from a first one on.
@@ -52,9 +50,11 @@ fn of_keys(rt: &impl Abort, world: &mut World, count: u32, first: u32) -> u32 {
 
 // How many acts gets make, of the keys with even numbers, which are there, and of those after them.
 fn of_gets(rt: &impl Abort, alloc: Global, count: u32, step: u32) -> (u32, u32) {
-    let mut world = grown(rt, alloc, count, step);
-    let there = of_keys(rt, &mut world, count, 0);
-    (there, of_keys(rt, &mut world, count, 1))
+    in_world(rt, alloc, 64, 640, 1, |world| {
+        grow(rt, world, count, step);
+        let there = of_keys(rt, world, count, 0);
+        (there, of_keys(rt, world, count, 1))
+    })
 }
 
 #[test]

@@ -1,6 +1,6 @@
 //! What a world refuses.
 
-use super::bench::{applies_all, begin, key, marks, payload, same, same_at, steps};
+use super::bench::{applies_all, begin, in_world_of, key, marks, payload, same, same_at, steps};
 use bz_call::Call;
 use bz_layout::{Config, ConfigError};
 use bz_world::{Applied, Begun, Event, LimitKind, OpenError, World};
@@ -69,9 +69,10 @@ fn begins_all(rt: &impl Abort, world: &mut World) {
 
 #[test]
 fn a_world_names_what_it_refuses(rt: HostRuntime) {
-    let mut world = World::open(rt.alloc(), &SMALL).expect(&rt, "a world");
-    applies_all(&rt, &mut world, &EVENTS);
-    begins_all(&rt, &mut world);
+    in_world_of(&rt, rt.alloc(), &SMALL, |world| {
+        applies_all(&rt, world, &EVENTS);
+        begins_all(&rt, world);
+    });
 }
 
 // Four inserts of worker 1, one after the other.
@@ -109,8 +110,9 @@ fn is_filled(rt: &impl Abort, world: &mut World) {
 
 #[test]
 fn a_journal_that_is_full_ends_the_world(rt: HostRuntime) {
-    let mut world = World::open(rt.alloc(), &SMALL).expect(&rt, "a world");
-    is_filled(&rt, &mut world);
-    applies_all(&rt, &mut world, &FULL);
-    begins(&rt, &mut world, 2, false, Begun::Limit(LimitKind::Marks));
+    in_world_of(&rt, rt.alloc(), &SMALL, |world| {
+        is_filled(&rt, world);
+        applies_all(&rt, world, &FULL);
+        begins(&rt, world, 2, false, Begun::Limit(LimitKind::Marks));
+    });
 }

@@ -1,7 +1,8 @@
 //! Calls that are ended by a worker alone, in worlds of 64 workers of which others have stopped in the middle of an insert.
 
 use super::bench::{
-    Answer, answered, answers, begin, has_pairs, holds, marks, numbered, payload, steps,
+    Answer, answered, answers, begin, has_pairs, holds, in_world_of, marks, numbered, payload,
+    steps,
 };
 use super::reader::Reader;
 use bz_call::Call;
@@ -11,18 +12,15 @@ use bz_world::{Applied, World};
 use std::alloc::Global;
 use std::process::Abort;
 
-// A world of 64 workers with little room: its journal is shorter than what a call may take, so that one that goes on meets the limit.
-fn open(rt: &impl Abort, alloc: Global) -> World {
-    let config = Config {
-        nodes: 4,
-        swaps: 256,
-        workers: 64,
-        marks: 1 << 13,
-        calls: 256,
-        pages: 1,
-    };
-    World::open(alloc, &config).expect(rt, "a world")
-}
+// A memory of 64 workers with little room: its journal is shorter than what a call may take, so that one that goes on meets the limit.
+const SIXTY_FOUR: Config = Config {
+    nodes: 4,
+    swaps: 256,
+    workers: 64,
+    marks: 1 << 13,
+    calls: 256,
+    pages: 1,
+};
 
 // Four records in its leaf, of which one is updated so often that a short record has no room beside them.
 fn crowd(rt: &impl Abort, world: &mut World) {
@@ -88,11 +86,12 @@ fn get_beside(rt: &impl Abort, alloc: Global, world: &mut World, acts: u32) -> b
 
 // Whether a get beside so many acts of an insert, into a full leaf or an empty one, found the key.
 fn finds_beside(rt: &impl Abort, alloc: Global, full: bool, acts: u32) -> bool {
-    let mut world = open(rt, alloc);
-    if full {
-        crowd(rt, &mut world);
-    }
-    get_beside(rt, alloc, &mut world, acts)
+    in_world_of(rt, alloc, &SIXTY_FOUR, |world| {
+        if full {
+            crowd(rt, world);
+        }
+        get_beside(rt, alloc, world, acts)
+    })
 }
 
 // How many of so many gets found the key, one after each number of acts of the insert, in steps of so many.
@@ -137,13 +136,14 @@ fn all_end(rt: &impl Abort, world: &mut World) {
 
 // So they do, and so does a get of the key by worker 64.
 fn each_ends(rt: &impl Abort, alloc: Global, acts: u32, apart: u32) {
-    let mut world = open(rt, alloc);
-    let k = numbered(rt, 0);
-    stopped(rt, &mut world, k, acts, apart);
-    holds(rt, begin(&mut world, 64, Call::Get(k)));
-    all_end(rt, &mut world);
-    explained(rt, alloc, &world);
-    has_pairs(rt, &world, 1);
+    in_world_of(rt, alloc, &SIXTY_FOUR, |world| {
+        let k = numbered(rt, 0);
+        stopped(rt, world, k, acts, apart);
+        holds(rt, begin(world, 64, Call::Get(k)));
+        all_end(rt, world);
+        explained(rt, alloc, world);
+        has_pairs(rt, world, 1);
+    });
 }
 
 #[test]
