@@ -1,4 +1,3 @@
-mod Books
 pub mod Entries
 mod Views
 mod Lines

@@ -1,4 +1,3 @@
 pub mod Entries
 pub mod Passes
 pub mod Inside
-pub mod Tests

@@ -10,8 +10,6 @@ mod passes;
 mod plays;
 mod rule;
 mod steps;
-#[cfg(test)]
-mod tests;
 
 pub use bus::{Bus, Pass};
 

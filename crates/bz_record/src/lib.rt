@@ -5,8 +5,6 @@ mod found_record;
 pub mod laws;
 mod new_record;
 mod record_swap;
-#[cfg(test)]
-mod tests;
 
 pub use found_record::FoundRecord;
 pub use new_record::NewRecord;

@@ -1,4 +1,5 @@
-//! Tests of the memory and of what reads it: acts one by one, leaves judged and read, and recoveries load by load.
+//! Tests of small memories and of what works on them: acts and swaps, records, leaves judged and read, recoveries load by load, and
+//! turns of threads over one value.
 #![tactic(auto)]
 
 #[cfg(test)]

@@ -56,7 +56,6 @@ pub mod SwapLists
 pub mod Swapping
 pub mod Taken
 pub mod TakenStay
-pub mod TestWorlds
 pub mod Untouched
 pub mod Values
 pub mod WordActs

@@ -16,8 +16,6 @@ mod raw;
 mod role;
 mod starts;
 mod step;
-#[cfg(test)]
-mod tests;
 
 pub use access::Access;
 pub use bz_acts::Act;

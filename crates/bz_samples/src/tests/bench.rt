@@ -3,6 +3,11 @@
 use std::fmt::Debug;
 use std::process::Abort;
 
+/// It is so.
+pub(super) fn holds(rt: &impl Abort, told: bool) {
+    assert!(rt; told);
+}
+
 /// Two values are the same.
 pub(super) fn same<T: PartialEq + Debug + Drop>(rt: &impl Abort, got: T, want: T) {
     assert_eq!(rt; got, want);

@@ -50,6 +50,26 @@ const MOVED: [(u32, u64); 4] = [
     (1_165, 0x0032_3200_0000_0000),
 ];
 
+// After the first swap of an update with 12345678 in its place, whose record has two words more: the leaf, and the swap's descriptor.
+const GROWN: [(u32, u64); 7] = [
+    (STATUS, 0x0010_1403_0000_0003),
+    (META, 0x1000_007E_0001_0002),
+    (48, 2),
+    (49, 1),
+    (50, 1_040),
+    (51, 0x0010_0800_0000_0002),
+    (52, 0x0010_1403_0000_0003),
+];
+
+// After its second swap.
+const REPLACED: [(u32, u64); 5] = [
+    (STATUS, 0x0010_1402_0000_0004),
+    (META, 0x1000_007B_0001_0009),
+    (1_163, 0x0061_0000_0000_0000),
+    (1_164, 0x0031_3233_3435_3637),
+    (1_165, 0x0038_0000_0000_0000),
+];
+
 // After a delete in place of the update.
 const DELETED: [(u32, u64); 2] = [
     (STATUS, 0x0010_0802_0000_0003),
@@ -115,6 +135,14 @@ fn update(rt: &impl Abort, world: &mut World) {
     ends(rt, world, Answer::Updated(payload(rt, b"1")), &MOVED);
 }
 
+// An update of a with 12345678.
+fn grow(rt: &impl Abort, world: &mut World) {
+    let update = Call::Update(key(rt, b"a"), payload(rt, b"12345678"));
+    begins(rt, world, update);
+    after_first(rt, world, (1_163, 0x0061_0000_0000_0000), &GROWN);
+    ends(rt, world, Answer::Updated(payload(rt, b"1")), &REPLACED);
+}
+
 // A delete of a.
 fn delete(rt: &impl Abort, world: &mut World) {
     begins(rt, world, Call::Delete(key(rt, b"a")));
@@ -135,6 +163,14 @@ fn an_update_leaves_the_words_that_the_format_gives(rt: HostRuntime) {
     in_world(&rt, rt.alloc(), 16, 64, 1, |world| {
         insert(&rt, world);
         update(&rt, world);
+    });
+}
+
+#[test]
+fn an_update_of_three_words_leaves_the_words_that_the_format_gives(rt: HostRuntime) {
+    in_world(&rt, rt.alloc(), 16, 64, 1, |world| {
+        insert(&rt, world);
+        grow(&rt, world);
     });
 }
 

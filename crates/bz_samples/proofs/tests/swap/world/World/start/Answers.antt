@@ -1,0 +1,13 @@
+use Rattle.std.proofs.Common.{◌≡◌, ◌<◌, length, refl}
+use Rattle.bz_swap.specs.Starts.{swapping}
+use Rattle.bz_samples.proofs.TestWorlds.{read, spell, begun-world}
+use Rattle.bz_samples.proofs.tests.swap.world.World.start.Goals as goal
+
+pub invariant_of-self-2 : goal.invariant_of-self-2
+invariant_of-self-2 c =
+    let i = c.self.inside in
+    let t = read i.access i.words i.swaps i.count i.named.items c.self.invariant in
+    let within : c.args.w < length i.access.workers = rw (← c.self.view_is) at (c.if-not-may_work.ensures refl).within in
+    let begun : c.start_swap.new.self ≡ swapping i.access c.args.w c.args.entries.now = rw c.requires at c.in-Ok.ensures.begun.2 in
+    rw begun (spell (swapping i.access c.args.w c.args.entries.now) i.words i.swaps i.count c.mark.new.named.items c.self.invariant.0 c.self.invariant.1
+    (begun-world i.access i.words i.swaps i.count i.named.items c.mark.new.named.items c.args.w c.args.entries.now within (record { size = c.mark.ensures.size; each = c.mark.ensures.each }) t))
