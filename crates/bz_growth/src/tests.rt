@@ -4,6 +4,7 @@ mod below;
 mod bench;
 mod cuts;
 mod decode;
+mod flushes;
 mod inner;
 mod levels;
 mod merging;

@@ -1,8 +1,9 @@
 //! For every flush from the first on a call is cut before it, its recovery before each of its own, and the power comes on once more:
 //! the pairs and the value are those of the table, and how often the recovery is cut makes no difference.
 
-use super::bench::{Found, booted, call, find, holds, recover, same, same_at};
+use super::bench::{Found, booted, call, find, recover};
 use super::rows::{Row, answer_of, copy, merge, split};
+use crate::tests::bench::{holds, same, same_at};
 use bz_call::Reply;
 use std::alloc::Global;
 use std::process::Abort;

@@ -1,7 +1,8 @@
 //! The three rows of the table.
 
-use super::bench::{Found, key, payload};
+use super::bench::Found;
 use super::images::{frozen_root, full_root, two_leaves};
+use crate::tests::bench::{key, payload};
 use bz_call::{Call, Reply};
 use bz_key::{Key, Payload};
 use std::alloc::Global;

@@ -1,12 +1,12 @@
 //! A world over an image, its steps up to a flush, whole calls, evictions, and what is found in it.
 
 use super::images::{NODES, SWAPS};
+use crate::tests::bench::{key, same};
 use bz_call::{Call, Reply};
 use bz_key::{Key, Payload};
 use bz_layout::Config;
 use bz_world::{Applied, Begun, Event, World};
 use std::alloc::Global;
-use std::fmt::{Debug, Display};
 use std::process::Abort;
 
 // More marks than a call and the three recoveries about it make, and more steps than any of them.
@@ -24,16 +24,6 @@ pub(super) struct Found {
     pub(super) value: Option<Payload>,
 }
 
-/// A key of these bytes.
-pub(super) fn key(rt: &impl Abort, bytes: &[u8]) -> Key {
-    Key::of(bytes).expect(rt, "a key")
-}
-
-/// A payload of these bytes.
-pub(super) fn payload(rt: &impl Abort, bytes: &[u8]) -> Payload {
-    Payload::of(bytes).expect(rt, "a payload")
-}
-
 /// A world over the words of an image.
 pub(super) fn booted(rt: &impl Abort, alloc: Global, image: &[u64]) -> World {
     let config = Config {
@@ -47,26 +37,6 @@ pub(super) fn booted(rt: &impl Abort, alloc: Global, image: &[u64]) -> World {
     assert!(rt; config.check().is_ok());
     assert!(rt; image.len() == config.words() as usize);
     World::boot(alloc, &config, image).expect(rt, "a world")
-}
-
-/// It is so.
-pub(crate) fn holds(rt: &impl Abort, told: bool) {
-    assert!(rt; told);
-}
-
-/// Two values are the same.
-pub(crate) fn same<T: PartialEq + Debug + Drop>(rt: &impl Abort, got: T, want: T) {
-    assert_eq!(rt; got, want);
-}
-
-/// The same, and where.
-pub(crate) fn same_at<T: PartialEq + Debug + Drop>(
-    rt: &impl Abort,
-    got: T,
-    want: T,
-    at: impl Display + Drop,
-) {
-    assert_eq!(rt; got, want, "at {at}");
 }
 
 // Whether the next act of a worker is a flush.

@@ -1,8 +1,9 @@
 //! The same calls cut after each number of their acts, and their recoveries before a flush, with words evicted before both cuts.
 
-use super::bench::{acts, begin, booted, evict, find, holds, recover, same};
+use super::bench::{acts, begin, booted, evict, find, recover};
 use super::rows::{Row, copy, merge, split};
 use super::table::{Verdict, verdict_of};
+use crate::tests::bench::{holds, same};
 use std::alloc::Global;
 use std::process::Abort;
 use std::test::Fail;
