@@ -1,13 +1,14 @@
 //! A book of lines, some of which come with a page, as the marks of a journal do.
 ghost use Rattle.std.specs.Prelude.{◌≡◌, ◌⊎◌, ◌∷◌, ◌++◌, [], ◌<◌, ◌^◌, true, false, vec_len, reverse};
-ghost use Rattle.bz_bus.specs.Passes.{IsPassOf, number_of};
+ghost use Rattle.bz_bus.specs.Passes.{IsPassOf, number_of, passes_of};
 ghost use Rattle.bz_samples.specs.Books.{told};
 
 use super::counts::{close, join_back, open, split_off};
+use crate::tests::bench::same;
 use bz_bus::{Action, Bus, Chronicle, Pass};
 use std::alloc::{AllocError, Global};
+use std::process::Abort;
 use std::sync::Wait;
-use std::test::*;
 
 #[derive(Clone, Copy, PartialEq, Debug)]
 pub struct Line {
@@ -105,25 +106,46 @@ fn add<R: Wait>(rt: &R, bus: &Bus<Book>, pass: &mut Pass<Book>, page: Option<u64
     bus.turn(rt, pass, &mut write);
 }
 
+// Passes are split and joined, and add lines.
+fn fill<R: Abort + Wait>(rt: &R, bus: &Bus<Book>, first: &mut Pass<Book>)
+    requires pass { IsPassOf bus.now first.old × (number_of first.old ≡ 0) }
+    requires room { passes_of bus.now ≡ 4 }
+    ensures { IsPassOf bus.now first.new × (number_of first.new ≡ 0) }
+{
+    let mut three = split_off(rt, bus, first, 3);
+    let mut one = split_off(rt, bus, first, 1);
+    add(rt, bus, &mut one, Some(10));
+    add(rt, bus, &mut three, None);
+    join_back(rt, bus, first, one);
+    add(rt, bus, &mut three, Some(30));
+    let mut two = split_off(rt, bus, first, 2);
+    add(rt, bus, &mut two, Some(20));
+    join_back(rt, bus, first, three);
+    join_back(rt, bus, first, two);
+}
+
+// The book that they leave.
+fn written<R: Abort + Wait>(rt: &R, alloc: Global) -> Book {
+    let book = Book::open(alloc, 4).expect(rt, "a book");
+    let (bus, mut first) = open(alloc, book, 4).expect(rt, "a bus");
+    fill(rt, &bus, &mut first);
+    close(rt, bus, first)
+}
+
+// What they have written.
+const LINES: [Line; 4] = [
+    Line { by: 1, paged: true },
+    Line {
+        by: 3,
+        paged: false,
+    },
+    Line { by: 3, paged: true },
+    Line { by: 2, paged: true },
+];
+
 #[test]
-fn a_page_comes_with_its_line_whoever_writes(rt: HostRuntime) -> Result<(), Fail> {
-    let (bus, mut first) = open(rt.alloc(), Book::open(rt.alloc(), 4)?, 4)?;
-    let mut three = split_off(&rt, &bus, &mut first, 3);
-    let mut one = split_off(&rt, &bus, &mut first, 1);
-    add(&rt, &bus, &mut one, Some(10));
-    add(&rt, &bus, &mut three, None);
-    join_back(&rt, &bus, &mut first, one);
-    add(&rt, &bus, &mut three, Some(30));
-    let mut two = split_off(&rt, &bus, &mut first, 2);
-    add(&rt, &bus, &mut two, Some(20));
-    join_back(&rt, &bus, &mut first, three);
-    join_back(&rt, &bus, &mut first, two);
-    let book = close(&rt, bus, first);
-    let lines = [(1, true), (3, false), (3, true), (2, true)];
-    assert_eq!(rt; book.lines.len(), lines.len());
-    for (line, (by, paged)) in book.lines.iter().zip(lines) {
-        assert_eq!(rt; *line, Line { by, paged });
-    }
-    assert_eq!(rt; book.pages.as_slice(), &[10, 30, 20][..]);
-    Ok(())
+fn a_page_comes_with_its_line_whoever_writes(rt: HostRuntime) {
+    let book = written(&rt, rt.alloc());
+    same(&rt, book.lines.as_slice(), &LINES);
+    same(&rt, book.pages.as_slice(), &[10, 30, 20]);
 }

@@ -3,11 +3,12 @@
 use super::random::Random;
 use super::resolve::resolve;
 use super::world::World;
+use crate::tests::bench::holds;
 use bz_machine::Done;
 use bz_memory::Memory;
 use bz_word::Entry;
 use std::alloc::Global;
-use std::test::Fail;
+use std::process::Abort;
 
 const DESCRIPTORS: usize = 512;
 
@@ -216,32 +217,45 @@ fn beside_scattered(alloc: Global, seed: u64, places: u32) -> Result<Option<u32>
     Ok(if steps <= limit { Some(steps) } else { None })
 }
 
-#[test]
-fn a_worker_alone_answers_within_its_bound(rt: HostRuntime) -> Result<(), Fail> {
+// The greatest count beside chains whose links have stopped after each number of steps.
+fn beside_each_chain(rt: &impl Abort, alloc: Global) -> u32 {
     let mut greatest = 0;
     for least in 0..=48 {
         for (rise, span) in [(0, 1), (1, 2), (1, 12), (5, 27), (17, 40)] {
             let stops = Stops { least, rise, span };
-            let Some(count) = beside_chains(rt.alloc(), stops)? else {
-                panic!(rt; "{stops:?}");
-            };
-            greatest = count.max(greatest);
+            let count = beside_chains(alloc, stops).expect(rt, "a memory");
+            greatest = count.expect(rt, "a bound").max(greatest);
         }
     }
+    greatest
+}
+
+// And beside each chain with such tags.
+fn beside_each_stray(rt: &impl Abort, alloc: Global) -> u32 {
+    let mut greatest = 0;
     for n in 0..6 {
-        let Some(count) = beside_stray_tags(rt.alloc(), some_alone(n))? else {
-            panic!(rt; "{n}");
-        };
-        greatest = count.max(greatest);
+        let count = beside_stray_tags(alloc, some_alone(n)).expect(rt, "a memory");
+        greatest = count.expect(rt, "a bound").max(greatest);
     }
+    greatest
+}
+
+// And beside workers scattered by each seed.
+fn beside_each_scattered(rt: &impl Abort, alloc: Global) -> u32 {
+    let mut greatest = 0;
     for seed in 0..2_000 {
         let places = 1 + seed as u32 % 40;
-        let Some(count) = beside_scattered(rt.alloc(), seed, places)? else {
-            panic!(rt; "seed {seed}");
-        };
-        greatest = count.max(greatest);
+        let count = beside_scattered(alloc, seed, places).expect(rt, "a memory");
+        greatest = count.expect(rt, "a bound").max(greatest);
     }
+    greatest
+}
+
+#[test]
+fn a_worker_alone_answers_within_its_bound(rt: HostRuntime) {
+    let chains = beside_each_chain(&rt, rt.alloc());
+    let strays = beside_each_stray(&rt, rt.alloc());
+    let scattered = beside_each_scattered(&rt, rt.alloc());
     // some of these states are hard ones
-    assert!(rt; greatest > 30_000, "{greatest}");
-    Ok(())
+    holds(&rt, chains.max(strays).max(scattered) > 30_000);
 }

@@ -4,7 +4,7 @@ use super::watched::{Change, Watched};
 use bz_machine::Done;
 use bz_memory::Memory;
 use std::alloc::Global;
-use std::test::Fail;
+use std::process::Abort;
 
 // Which of the two swaps take effect.
 #[derive(Clone, Copy, Debug, PartialEq, Eq)]
@@ -118,8 +118,14 @@ fn first_bad(
     Ok(None)
 }
 
+// Exactly the swaps whose expected values stand take effect, along each schedule.
+fn cross(rt: &impl Abort, alloc: Global, swaps: (&[Change], &[Change]), winners: Winners) {
+    let bad = first_bad(alloc, swaps, winners).expect(rt, "a memory");
+    assert!(rt; bad.is_none(), "{bad:?}");
+}
+
 #[test]
-fn crossing_swaps_take_effect_as_their_values_stand(rt: HostRuntime) -> Result<(), Fail> {
+fn crossing_swaps_take_effect_as_their_values_stand(rt: HostRuntime) {
     let (a, b, c, d) = (0, 1, 2, 3);
     let a_b = [Change::of(a, 0, 1), Change::of(b, 0, 1)];
     let a_b_again = [Change::of(a, 0, 2), Change::of(b, 0, 2)];
@@ -143,17 +149,16 @@ fn crossing_swaps_take_effect_as_their_values_stand(rt: HostRuntime) -> Result<(
         Change::of(c, 0, 2),
         Change::of(d, 9, 2),
     ];
-    let table: [(&[Change], &[Change], Winners); 6] = [
-        (&a_b, &a_b_again, Winners::Either),
-        (&a_b_c, &b_c_d, Winners::Either),
-        (&b_c_d, &a_b_c, Winners::Either),
-        (&a_b_c, &b_c_d_later, Winners::FirstAndPerhapsSecond),
-        (&a_b_c, &a_c_d_never, Winners::First),
-        (&a_b_c, &a_b, Winners::Either),
-    ];
-    for (first, second, winners) in table {
-        let bad = first_bad(rt.alloc(), (first, second), winners)?;
-        assert!(rt; bad.is_none(), "{first:?} {second:?} {bad:?}");
-    }
-    Ok(())
+    let alloc = rt.alloc();
+    cross(&rt, alloc, (&a_b, &a_b_again), Winners::Either);
+    cross(&rt, alloc, (&a_b_c, &b_c_d), Winners::Either);
+    cross(&rt, alloc, (&b_c_d, &a_b_c), Winners::Either);
+    cross(
+        &rt,
+        alloc,
+        (&a_b_c, &b_c_d_later),
+        Winners::FirstAndPerhapsSecond,
+    );
+    cross(&rt, alloc, (&a_b_c, &a_c_d_never), Winners::First);
+    cross(&rt, alloc, (&a_b_c, &a_b), Winners::Either);
 }

@@ -2,11 +2,12 @@
 
 use super::resolve::resolve;
 use super::world::World;
+use crate::tests::bench::{holds, same};
 use bz_memory::Memory;
 use bz_swap::Phase;
 use bz_word::Entry;
 use std::alloc::Global;
-use std::test::Fail;
+use std::process::Abort;
 
 pub(super) const FIRST: Entry = Entry {
     target: 50,
@@ -73,46 +74,52 @@ fn is_whole(world: &World, entries: &[Entry], told: u32) -> bool {
     })
 }
 
-// Whether a power cut after so many steps leaves the swap whole or not at all.
-fn cut_after(
-    alloc: Global,
-    entries: &[Entry],
-    count: u32,
-    evicted: &[u32],
-) -> Result<bool, Memory> {
-    let mut world = zeros(alloc)?;
-    let begun = world.begin(1, entries) == Some(Ok(0));
+const TWO: [Entry; 2] = [FIRST, SECOND];
+
+const FOUR: [Entry; 4] = [FIRST, THIRD, FOURTH, SECOND];
+
+// What is evicted after each step of a swap of two words, and of one of four.
+const OF_TWO: [&[u32]; 6] = [
+    &[],
+    &[16],
+    &[17, 18, 19, 20, 21, 22, 23],
+    &[50],
+    &[1_050],
+    &[16, 17, 18, 19, 20, 21, 22, 23, 50, 1_050],
+];
+
+const OF_FOUR: [&[u32]; 5] = [
+    &[],
+    &[16],
+    &[24, 25, 26, 27, 28, 29],
+    &[51, 60],
+    &[16, 24, 26, 28, 50, 51, 60, 1_050],
+];
+
+// A power cut after so many steps leaves the swap whole or not at all.
+fn cut_after(rt: &impl Abort, alloc: Global, entries: &[Entry], count: u32, evicted: &[u32]) {
+    let mut world = zeros(alloc).expect(rt, "a memory");
+    same(rt, world.begin(1, entries), Some(Ok(0)));
     let told = steps(&mut world, count, evicted);
-    let before = is_whole(&world, entries, told);
+    holds(rt, is_whole(&world, entries, told));
     world.cut();
-    let after = is_whole(&world, entries, told);
-    Ok(begun && before && after && world.phase() == Phase::Recovering)
+    holds(rt, is_whole(&world, entries, told));
+    same(rt, world.phase(), Phase::Recovering);
+}
+
+// A power cut after each step.
+fn cut_after_each(rt: &impl Abort, alloc: Global, entries: &[Entry], evicted: &[u32]) {
+    for count in 0..=47 {
+        cut_after(rt, alloc, entries, count, evicted);
+    }
 }
 
 #[test]
-fn a_cut_leaves_a_swap_whole_or_not_at_all(rt: HostRuntime) -> Result<(), Fail> {
-    let four = [FIRST, THIRD, FOURTH, SECOND];
-    let two = [FIRST, SECOND];
-    let table: [(&[Entry], &[u32]); 11] = [
-        (&two, &[]),
-        (&two, &[16]),
-        (&two, &[17, 18, 19, 20, 21, 22, 23]),
-        (&two, &[50]),
-        (&two, &[1_050]),
-        (&two, &[16, 17, 18, 19, 20, 21, 22, 23, 50, 1_050]),
-        (&four, &[]),
-        (&four, &[16]),
-        (&four, &[24, 25, 26, 27, 28, 29]),
-        (&four, &[51, 60]),
-        (&four, &[16, 24, 26, 28, 50, 51, 60, 1_050]),
-    ];
-    for (entries, evicted) in table {
-        for count in 0..=47 {
-            assert!(rt;
-                cut_after(rt.alloc(), entries, count, evicted)?,
-                "{count} steps, {evicted:?}"
-            );
-        }
+fn a_cut_leaves_a_swap_whole_or_not_at_all(rt: HostRuntime) {
+    for evicted in OF_TWO {
+        cut_after_each(&rt, rt.alloc(), &TWO, evicted);
     }
-    Ok(())
+    for evicted in OF_FOUR {
+        cut_after_each(&rt, rt.alloc(), &FOUR, evicted);
+    }
 }

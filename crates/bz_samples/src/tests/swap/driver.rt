@@ -3,10 +3,11 @@
 use super::random::Random;
 use super::recover::recover;
 use super::watched::{Change, Tally, Watched};
+use crate::tests::bench::holds;
 use bz_machine::Done;
 use bz_memory::Memory;
 use std::alloc::Global;
-use std::test::Fail;
+use std::process::Abort;
 
 const PLACES: usize = 6;
 
@@ -120,19 +121,21 @@ fn run(alloc: Global, seed: u64) -> Result<Option<Tally>, Memory> {
     })
 }
 
-#[test]
-fn random_runs_agree_with_a_plain_memory(rt: HostRuntime) -> Result<(), Fail> {
+// What was answered in so many runs.
+fn runs(rt: &impl Abort, alloc: Global, count: u64) -> Tally {
     let mut tally = Tally::NONE;
-    for seed in 0..10_000 {
-        let Some(of_run) = run(rt.alloc(), seed)? else {
-            panic!(rt; "seed {seed}");
-        };
-        tally.add(of_run);
+    for seed in 0..count {
+        let of_run = run(alloc, seed).expect(rt, "a memory");
+        tally.add(of_run.expect(rt, "a run"));
     }
+    tally
+}
+
+#[test]
+fn random_runs_agree_with_a_plain_memory(rt: HostRuntime) {
+    let tally = runs(&rt, rt.alloc(), 10_000);
     // much happens in these runs
-    assert!(rt;
-        tally.reads > 100_000 && tally.won > 100_000 && tally.lost > 100_000,
-        "{tally:?}"
-    );
-    Ok(())
+    holds(&rt, tally.reads > 100_000);
+    holds(&rt, tally.won > 100_000);
+    holds(&rt, tally.lost > 100_000);
 }

@@ -227,17 +227,24 @@ impl Watched {
         }
     }
 
+    // The entry of a change.
+    fn entry(&self, change: &Change) -> Entry {
+        Entry {
+            target: self.address(change.place),
+            expected: change.expected,
+            new: change.new,
+        }
+    }
+
     /// Begins a swap of one to four places in their order; none where it may not come, or all descriptors were taken.
     pub(crate) fn begin(&mut self, w: u8, changes: &[Change]) -> Option<u16> {
         let mut known = UNKNOWN;
         known.count = changes.len().min(4);
         known.fate = Fate::Open { differed: false };
-        for (slot, change) in known.entries.iter_mut().zip(changes) {
-            *slot = Entry {
-                target: self.address(change.place),
-                expected: change.expected,
-                new: change.new,
-            };
+        for i in 0..4usize {
+            if let Some(change) = changes.get(i) {
+                known.entries[i] = self.entry(change);
+            }
         }
         let count = known.count.min(4);
         let swap = self.world.begin(w, &known.entries[..count])?.ok()?;

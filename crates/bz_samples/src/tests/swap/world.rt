@@ -82,8 +82,8 @@ impl World {
         requires room { 16 + 16 * swaps ≤ length start.now }
         requires workers { (1 ≤ workers) × (workers ≤ 64) }
     {
-        let access = Access::open(alloc, start, swaps, workers as u32)?;
         let named = vec![in alloc; false; start.len()]?;
+        let access = Access::open(alloc, start, swaps, workers as u32)?;
         Ok(World {
             access,
             words: start.len() as u32,
