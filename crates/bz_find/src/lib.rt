@@ -5,7 +5,5 @@ mod find;
 mod front;
 mod phase;
 mod search;
-#[cfg(test)]
-mod tests;
 
 pub use find::Find;

@@ -5,6 +5,7 @@ mod boot;
 mod calls;
 mod costs;
 mod decode;
+mod finds;
 mod gets;
 mod images;
 mod index;

@@ -99,8 +99,8 @@ const STATES: [State; 17] = [
     (0, NEW, VISIBLE, true),
 ];
 
-// Writes a word, if it lies in the memory.
-fn put(words: &mut Vec<u64>, at: u32, word: u64)
+/// Writes a word, if it lies in the memory.
+pub(super) fn put(words: &mut Vec<u64>, at: u32, word: u64)
     ensures { length words.new.items ≡ length words.old.items }
 {
     if let Some(place) = words.get_mut(at as usize) {
