@@ -60,16 +60,38 @@ fn count_pairs(rt: &impl Abort, world: &mut World) -> usize {
     count
 }
 
-// The keys from 1 to 99, rising: each leaf is split when it has thirty-nine records, and keeps twenty of them.
+// In which order the keys from 1 to 99 come.
+#[derive(Clone, Copy)]
+enum Order {
+    Rising,
+    Falling,
+    Shuffled,
+}
+
+// The key that comes there.
+fn number_at(order: Order, place: u32) -> u32 {
+    match order {
+        Order::Rising => place,
+        Order::Falling => 100u32.saturating_sub(place),
+        Order::Shuffled => place % 99 * 37 % 99 + 1,
+    }
+}
+
+// The keys are inserted, and are there.
+fn comes(rt: &impl Abort, world: &mut World, order: Order) {
+    for place in 1..100 {
+        inserts(rt, world, number_at(order, place));
+    }
+    for number in 1..100 {
+        has(rt, world, number);
+    }
+}
+
+// The keys rising: each leaf is split when it has thirty-nine records, and keeps twenty of them.
 #[test]
 fn keys_rising(rt: HostRuntime) {
     let mut world = open(rt.alloc(), 10, 204, 1).expect(&rt, "a world");
-    for number in 1..100 {
-        inserts(&rt, &mut world, number);
-    }
-    for number in 1..100 {
-        has(&rt, &mut world, number);
-    }
+    comes(&rt, &mut world, Order::Rising);
     same(
         &rt,
         walk(&rt, &mut world),
@@ -81,12 +103,7 @@ fn keys_rising(rt: HostRuntime) {
 #[test]
 fn keys_falling(rt: HostRuntime) {
     let mut world = open(rt.alloc(), 13, 206, 1).expect(&rt, "a world");
-    for number in 1..100 {
-        inserts(&rt, &mut world, 100 - number);
-    }
-    for number in 1..100 {
-        has(&rt, &mut world, number);
-    }
+    comes(&rt, &mut world, Order::Falling);
     same(
         &rt,
         walk(&rt, &mut world),
@@ -98,12 +115,7 @@ fn keys_falling(rt: HostRuntime) {
 #[test]
 fn keys_shuffled(rt: HostRuntime) {
     let mut world = open(rt.alloc(), 16, 256, 1).expect(&rt, "a world");
-    for number in 1..100 {
-        inserts(&rt, &mut world, 1 + number * 37 % 99);
-    }
-    for number in 1..100 {
-        has(&rt, &mut world, number);
-    }
+    comes(&rt, &mut world, Order::Shuffled);
     same(&rt, count_pairs(&rt, &mut world), 99);
 }
 
@@ -157,33 +169,37 @@ fn a_stopped_split_holds_nobody_up(rt: HostRuntime) {
     }
 }
 
-// Two full leaves below one parent.
-fn both_full(rt: &impl Abort, alloc: Global) -> World {
-    let mut world = open(alloc, 10, 400, 2).expect(rt, "a world");
+// Two leaves below one parent become full.
+fn fills_both(rt: &impl Abort, world: &mut World) {
     for number in 1..41 {
-        inserts(rt, &mut world, 2 * number);
+        inserts(rt, world, 2 * number);
     }
     for number in 1..20 {
-        inserts(rt, &mut world, 2 * number + 1);
-        inserts(rt, &mut world, 2 * number + 41);
+        inserts(rt, world, 2 * number + 1);
+        inserts(rt, world, 2 * number + 41);
     }
-    world
+}
+
+// Both are split at once.
+fn splits_both(rt: &impl Abort, world: &mut World) {
+    begins(rt, world, 1, 1);
+    begins(rt, world, 2, 90);
+    let mut first = None;
+    let mut second = None;
+    for _ in 0..MOST {
+        first = finish(world, 1, first, 1);
+        second = finish(world, 2, second, 1);
+    }
+    is_inserted(rt, first, MOST);
+    is_inserted(rt, second, MOST);
 }
 
 // Two full leaves below one parent, which are split at once: one of the swaps comes first, and the other call begins again. It has
 // waited and taken no slots for nothing: there are just enough for the first leaf and three splits.
 #[test]
 fn two_splits_below_one_parent(rt: HostRuntime) {
-    let mut world = both_full(&rt, rt.alloc());
-    begins(&rt, &mut world, 1, 1);
-    begins(&rt, &mut world, 2, 90);
-    let mut first = None;
-    let mut second = None;
-    for _ in 0..MOST {
-        first = finish(&mut world, 1, first, 1);
-        second = finish(&mut world, 2, second, 1);
-    }
-    is_inserted(&rt, first, MOST);
-    is_inserted(&rt, second, MOST);
+    let mut world = open(rt.alloc(), 10, 400, 2).expect(&rt, "a world");
+    fills_both(&rt, &mut world);
+    splits_both(&rt, &mut world);
     same(&rt, count_pairs(&rt, &mut world), 80);
 }

@@ -83,18 +83,24 @@ fn holds_keys(rt: &impl Abort, world: &World, last: u8) {
 }
 
 // The call is cut after so many acts. Whether it had ended.
+fn cut(rt: &impl Abort, world: &mut World, kind: Kind, acts: u32, evicts: bool) -> bool {
+    holds(rt, begin(world, 1, call_of(rt, kind)));
+    let (_, answer) = steps(world, 1, acts);
+    if evicts {
+        evict_all(world);
+    }
+    restart(rt, world);
+    answer.is_some()
+}
+
+// The keys are there, before the recovery and after it.
 fn cut_after(rt: &impl Abort, alloc: Global, kind: Kind, acts: u32, evicts: bool) -> bool {
     let mut world = ready(rt, alloc, kind);
-    holds(rt, begin(&mut world, 1, call_of(rt, kind)));
-    let (_, answer) = steps(&mut world, 1, acts);
-    if evicts {
-        evict_all(&mut world);
-    }
-    restart(rt, &mut world);
+    let ended = cut(rt, &mut world, kind, acts, evicts);
     holds_keys(rt, &world, keys_of(kind));
     holds(rt, recover(&mut world, MOST));
     holds_keys(rt, &world, keys_of(kind));
-    answer.is_some()
+    ended
 }
 
 // After every number of acts, up to its last one: how many these are.

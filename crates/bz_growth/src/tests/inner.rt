@@ -110,8 +110,22 @@ fn risen(rt: &impl Abort, alloc: Global, last: u32) -> World {
     world
 }
 
-// Rising keys up to this one; the insert of the next splits an inner node. Worker 1 stops after so many acts of it; worker 2 makes an
-// insert of its own; and then worker 1 makes the rest. The root is told before and after.
+// The insert of a key. Worker 1 stops after so many acts of it; worker 2 makes an insert of its own; and then worker 1 makes the rest.
+fn stops(rt: &impl Abort, world: &mut World, number: u32, acts: u32, other: u32) {
+    holds(rt, begin(world, 1, insert(rt, number)));
+    let (_, ended) = steps(world, 1, acts);
+    inserts(rt, world, 2, other);
+    let ended = finish(world, 1, ended, MOST);
+    same(rt, ended, Some(Answer::Inserted));
+}
+
+// All keys are there from the first one on.
+fn has_all(rt: &impl Abort, world: &mut World, other: u32, count: u32) {
+    let first = other.min(1);
+    same(rt, count_pairs(rt, world, first), count as usize);
+}
+
+// Rising keys up to this one; the insert of the next splits an inner node. The root is told before and after.
 fn beside(
     rt: &impl Abort,
     alloc: Global,
@@ -121,17 +135,8 @@ fn beside(
 ) -> [Option<(u32, u32)>; 2] {
     let mut world = risen(rt, alloc, last);
     let before = decode_root(&world);
-    holds(rt, begin(&mut world, 1, insert(rt, last.saturating_add(1))));
-    let (_, ended) = steps(&mut world, 1, acts);
-    inserts(rt, &mut world, 2, other);
-    let ended = finish(&mut world, 1, ended, MOST);
-    same(rt, ended, Some(Answer::Inserted));
-    let first = if other == 0 { 0 } else { 1 };
-    same(
-        rt,
-        count_pairs(rt, &mut world, first),
-        last.saturating_add(2) as usize,
-    );
+    stops(rt, &mut world, last.saturating_add(1), acts, other);
+    has_all(rt, &mut world, other, last.saturating_add(2));
     [before, decode_root(&world)]
 }
 

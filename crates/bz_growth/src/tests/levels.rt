@@ -188,21 +188,31 @@ fn grown(rt: &impl Abort, alloc: Global, growth: Growth) -> World {
     world
 }
 
+// Five hundred random events.
+fn acts(rt: &impl Abort, world: &mut World, random: &mut Random, deletes: u8) {
+    for _ in 0..500 {
+        act(rt, world, random, deletes);
+    }
+}
+
 // Random events: after every five hundred of them the memory has the keys that the effects tell; and so it has after a power cut.
-fn run(rt: &impl Abort, alloc: Global, growth: Growth) {
-    let mut world = grown(rt, alloc, growth);
+fn agrees(rt: &impl Abort, world: &mut World, growth: Growth) {
     let mut random = Random {
         state: u64::from(growth.keys),
     };
     let mut effects = Effects::unread();
     for _ in 0..200 {
-        for _ in 0..500 {
-            act(rt, &mut world, &mut random, growth.deletes);
-        }
-        effects.agree(rt, &world);
+        acts(rt, world, &mut random, growth.deletes);
+        effects.agree(rt, world);
     }
-    restart(rt, &mut world);
-    effects.agree(rt, &world);
+    restart(rt, world);
+    effects.agree(rt, world);
+}
+
+// They are those of a run, whose root is so wide at the end.
+fn run(rt: &impl Abort, alloc: Global, growth: Growth) {
+    let mut world = grown(rt, alloc, growth);
+    agrees(rt, &mut world, growth);
     let root = decode_root(&world).expect(rt, "a root");
     holds(rt, root.0 == 2 && root.1 >= growth.widest);
 }

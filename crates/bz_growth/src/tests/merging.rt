@@ -107,22 +107,30 @@ fn a_leaf_is_merged_with_a_neighbour_that_has_room(rt: HostRuntime) {
     }
 }
 
+// What the root is after deletes at both ends, how long the first leaf, and what an insert is answered.
+type Left = ((u32, u32), usize, Answer);
+
+// Ten keys are deleted at each end of forty.
+fn shrinks(rt: &impl Abort, world: &mut World, (root, leaf, told): Left) {
+    deletes(rt, world, 31, 40);
+    deletes(rt, world, 1, 10);
+    same(rt, lengths(rt, world)[0], leaf);
+    same(rt, decode_root(world), Some(root));
+    same(rt, whole(world, 1, insert(rt, 1)), Some(told));
+}
+
+// Where there are so many slots.
+fn leaves_one(rt: &impl Abort, alloc: Global, nodes: u32, left: Left) {
+    let mut world = grown(rt, alloc, nodes, 128, 40);
+    shrinks(rt, &mut world, left);
+}
+
 // Forty keys, ten deleted at each end: one leaf of twenty below a parent with one child.
 #[test]
 fn deletes_at_both_ends_leave_one_leaf(rt: HostRuntime) {
-    for (nodes, root, leaf, told) in [
-        (5, (1, 2), 10, Answer::FullNodes),
-        (6, (1, 1), 20, Answer::Inserted),
-    ] {
-        let mut world = grown(&rt, rt.alloc(), nodes, 128, 40);
-        deletes(&rt, &mut world, 31, 40);
-        deletes(&rt, &mut world, 1, 10);
-        same(&rt, lengths(&rt, &mut world)[0], leaf);
-        same(&rt, decode_root(&world), Some(root));
-        // with one slot left both leaves stay frozen, and are not copied
-        let answer = whole(&mut world, 1, insert(&rt, 1));
-        same(&rt, answer, Some(told));
-    }
+    // with one slot left both leaves stay frozen, and are not copied
+    leaves_one(&rt, rt.alloc(), 5, ((1, 2), 10, Answer::FullNodes));
+    leaves_one(&rt, rt.alloc(), 6, ((1, 1), 20, Answer::Inserted));
 }
 
 // A tree in which the delete of the tenth key merges both leaves, where there are descriptors enough.
@@ -137,20 +145,21 @@ fn ready(rt: &impl Abort, alloc: Global) -> World {
     ready_with(rt, alloc, 160)
 }
 
+// The last delete leaves the leaves so, where there are so many descriptors.
+fn merges_with(rt: &impl Abort, alloc: Global, swaps: u32, left: [usize; 4]) {
+    let mut world = ready_with(rt, alloc, swaps);
+    same_at(rt, whole(&mut world, 1, delete(rt, 10)), gone(rt), swaps);
+    same_at(rt, lengths(rt, &mut world), left, swaps);
+}
+
 // Forty inserts took two descriptors each, the split of the root two, and nineteen deletes one each. The last delete takes one, and its
 // merge three.
 #[test]
 fn a_merge_without_descriptors_is_dropped(rt: HostRuntime) {
-    for (swaps, left) in [
-        (102, [10, 10, 0, 0]),
-        (103, [10, 10, 0, 0]),
-        (104, [10, 10, 0, 0]),
-        (105, [20, 0, 0, 0]),
-    ] {
-        let mut world = ready_with(&rt, rt.alloc(), swaps);
-        same_at(&rt, whole(&mut world, 1, delete(&rt, 10)), gone(&rt), swaps);
-        same_at(&rt, lengths(&rt, &mut world), left, swaps);
-    }
+    merges_with(&rt, rt.alloc(), 102, [10, 10, 0, 0]);
+    merges_with(&rt, rt.alloc(), 103, [10, 10, 0, 0]);
+    merges_with(&rt, rt.alloc(), 104, [10, 10, 0, 0]);
+    merges_with(&rt, rt.alloc(), 105, [20, 0, 0, 0]);
 }
 
 // What a delete of a key that is there answers, and an insert of another.
@@ -161,18 +170,34 @@ fn answer_of(rt: &impl Abort, call: &Call) -> Option<Answer> {
     }
 }
 
-// It is stopped after so many acts, and another worker makes a call of its own; then it makes the rest.
+// The delete of a key is stopped after so many acts, and another worker makes a call of its own, which is answered so; then it makes the
+// rest.
+fn stops(
+    rt: &impl Abort,
+    world: &mut World,
+    number: u32,
+    acts: u32,
+    (call, answer): (Call, Option<Answer>),
+) {
+    holds(rt, begin(world, 1, delete(rt, number)));
+    let ended = steps(world, 1, acts).1;
+    same_at(rt, whole(world, 2, call), answer, acts);
+    same_at(rt, finish(world, 1, ended, MOST), gone(rt), acts);
+}
+
+// The pages have as many pairs as the world counts: how many.
+fn counted(rt: &impl Abort, world: &mut World) -> u64 {
+    let count = count_pairs(rt, world);
+    has_pairs(rt, world, count);
+    count
+}
+
+// The last delete is stopped so.
 fn beside(rt: &impl Abort, alloc: Global, acts: u32, call: Call) {
-    let gone = Some(Answer::Deleted(payload(rt, b"v")));
-    let answer = answer_of(rt, &call);
     let mut world = ready(rt, alloc);
-    holds(rt, begin(&mut world, 1, delete(rt, 10)));
-    let (_, ended) = steps(&mut world, 1, acts);
-    same_at(rt, whole(&mut world, 2, call), answer, acts);
-    let ended = finish(&mut world, 1, ended, MOST);
-    same_at(rt, ended, gone, acts);
-    let count = count_pairs(rt, &mut world);
-    has_pairs(rt, &world, count);
+    let answer = answer_of(rt, &call);
+    stops(rt, &mut world, 10, acts, (call, answer));
+    counted(rt, &mut world);
 }
 
 // Another worker changes either leaf while it is stopped.
@@ -202,16 +227,12 @@ fn three_small(rt: &impl Abort, alloc: Global) -> World {
 // A delete in the first leaf is stopped after so many acts, while another one in the last leaf is made whole: one of the two merges.
 fn merge_at_once(rt: &impl Abort, alloc: Global, acts: u32) {
     let mut world = three_small(rt, alloc);
-    holds(rt, begin(&mut world, 1, delete(rt, 1)));
-    let (_, ended) = steps(&mut world, 1, acts);
-    same_at(rt, whole(&mut world, 2, delete(rt, 41)), gone(rt), acts);
-    let ended = finish(&mut world, 1, ended, MOST);
-    same_at(rt, ended, gone(rt), acts);
-    is_one_merge(rt, &mut world, acts);
+    stops(rt, &mut world, 1, acts, (delete(rt, 41), gone(rt)));
+    is_one_merge(rt, &mut world);
 }
 
 // The middle leaf is merged with one of the others.
-fn is_one_merge(rt: &impl Abort, world: &mut World, acts: u32) {
+fn is_one_merge(rt: &impl Abort, world: &mut World) {
     let found = lengths(rt, world);
     let right = found == [10, 21, 0, 0];
     holds(rt, right || found == [21, 10, 0, 0]);
@@ -225,19 +246,29 @@ fn two_merges_that_want_one_leaf(rt: HostRuntime) {
     }
 }
 
+// So many acts of it, and at times each word becomes durable. Whether it has ended.
+fn makes(rt: &impl Abort, world: &mut World, acts: u32) -> bool {
+    holds(rt, begin(world, 1, delete(rt, 10)));
+    let ended = steps(world, 1, acts).1.is_some();
+    if acts % 2 == 0 {
+        evict_all(world);
+    }
+    ended
+}
+
+// After a power cut the key is gone, or may be there if it had not ended.
+fn is_whole(rt: &impl Abort, world: &mut World, ended: bool) {
+    restart(rt, world);
+    holds(rt, recover(world, MOST));
+    let count = counted(rt, world);
+    holds(rt, count == 20 || !ended && count == 21);
+}
+
 // Its power fails after so many acts. Whether it had ended.
 fn cut_after(rt: &impl Abort, alloc: Global, acts: u32) -> bool {
     let mut world = ready(rt, alloc);
-    holds(rt, begin(&mut world, 1, delete(rt, 10)));
-    let ended = steps(&mut world, 1, acts).1.is_some();
-    if acts % 2 == 0 {
-        evict_all(&mut world);
-    }
-    restart(rt, &mut world);
-    holds(rt, recover(&mut world, MOST));
-    let count = count_pairs(rt, &mut world);
-    has_pairs(rt, &world, count);
-    holds(rt, count == 20 || !ended && count == 21);
+    let ended = makes(rt, &mut world, acts);
+    is_whole(rt, &mut world, ended);
     merges_at_last(rt, &mut world, acts);
     ended
 }

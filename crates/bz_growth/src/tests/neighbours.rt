@@ -51,20 +51,27 @@ fn go_on(world: &mut World, w: u8, evicts: bool, ended: &mut Option<Answer>) {
 
 // Worker 1, whose insert splits the first node, has made so many acts when worker 2 begins, whose insert splits the second one; then
 // they take turns.
+fn take_turns(rt: &impl Abort, world: &mut World, acts: u32, evicts: bool) {
+    let mut first = None;
+    let mut second = None;
+    holds(rt, begin(world, 1, insert(rt, 201)));
+    for _ in 0..acts {
+        go_on(world, 1, evicts, &mut first);
+    }
+    holds(rt, begin(world, 2, insert(rt, 640)));
+    for _ in 0..MOST {
+        go_on(world, 1, evicts, &mut first);
+        go_on(world, 2, evicts, &mut second);
+    }
+    let ends = [first, second];
+    same_at(rt, ends, [Some(Answer::Inserted); 2], acts);
+}
+
+// Both nodes are split then.
 fn split_at_once(rt: &impl Abort, alloc: Global, acts: u32, evicts: bool) {
     let mut world = two_full(rt, alloc);
     same(rt, widths(&world), Some([20, 20]));
-    let mut ends = [None, None];
-    holds(rt, begin(&mut world, 1, insert(rt, 201)));
-    for _ in 0..acts {
-        go_on(&mut world, 1, evicts, &mut ends[0]);
-    }
-    holds(rt, begin(&mut world, 2, insert(rt, 640)));
-    for _ in 0..MOST {
-        go_on(&mut world, 1, evicts, &mut ends[0]);
-        go_on(&mut world, 2, evicts, &mut ends[1]);
-    }
-    same_at(rt, ends, [Some(Answer::Inserted); 2], acts);
+    take_turns(rt, &mut world, acts, evicts);
     same_at(rt, decode_root(&world), Some((2, 4)), acts);
     same_at(rt, count_pairs(rt, &mut world, 2), 420, acts);
 }

@@ -135,27 +135,42 @@ struct Outcome {
     leaves: [u32; 2],
 }
 
-// Twenty schedules in one world, each of them stopped. After each of them the memory has the keys that the effects tell.
-fn run(rt: &impl Abort, alloc: Global, plan: Plan) -> Outcome {
-    let mut world = grown(rt, alloc, plan);
-    let before = count_leaves(&world).expect(rt, "a tree");
+// A schedule, which is stopped.
+fn acts(rt: &impl Abort, world: &mut World, random: &mut Random, plan: Plan) {
+    for _ in 0..200 + random.draw() % 800 {
+        act(rt, world, random, plan);
+    }
+}
+
+// Twenty schedules in one world. After each of them the memory has the keys that the effects tell. How many calls were ended alone.
+fn ends(rt: &impl Abort, world: &mut World, plan: Plan) -> u32 {
     let mut random = Random {
         state: u64::from(plan.nodes),
     };
     let mut effects = Effects::unread();
     let mut ended = 0u32;
     for _ in 0..20 {
-        for _ in 0..200 + random.draw() % 800 {
-            act(rt, &mut world, &mut random, plan);
-        }
-        ended = ended.saturating_add(all_end(rt, &mut world, &mut random));
-        effects.agree(rt, &world);
+        acts(rt, world, &mut random, plan);
+        ended = ended.saturating_add(all_end(rt, world, &mut random));
+        effects.agree(rt, world);
     }
-    let after = count_leaves(&world).expect(rt, "a tree");
+    ended
+}
+
+// How many leaves a tree has.
+fn leaves(rt: &impl Abort, world: &World) -> u32 {
+    count_leaves(world).expect(rt, "a tree")
+}
+
+// A run, and what came of it.
+fn run(rt: &impl Abort, alloc: Global, plan: Plan) -> Outcome {
+    let mut world = grown(rt, alloc, plan);
+    let before = leaves(rt, &world);
+    let ended = ends(rt, &mut world, plan);
     Outcome {
         ended,
         full: count_full(&world),
-        leaves: [before, after],
+        leaves: [before, leaves(rt, &world)],
     }
 }
 

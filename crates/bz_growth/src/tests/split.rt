@@ -10,7 +10,6 @@ use bz_key::Key;
 use bz_world::World;
 use std::alloc::Global;
 use std::process::Abort;
-use std::test::Fail;
 
 // More acts than any of these calls makes.
 const MOST: u32 = 4_000;
@@ -87,15 +86,20 @@ fn forty_keys_falling(rt: HostRuntime) {
 
 // The fortieth key does not go into so few slots, of which it takes none.
 fn lacks_nodes(rt: &impl Abort, alloc: Global, nodes: u32) {
-    let v = payload(rt, b"v");
     let mut world = open(alloc, nodes, 128, 1).expect(rt, "a world");
     inserts(rt, &mut world, rising().get(..39).unwrap_or(&[]));
-    let (first, last) = (numbered(rt, 1), numbered(rt, 40));
-    answers(rt, &mut world, Call::Insert(last, v), Answer::FullNodes);
-    answers(rt, &mut world, Call::Insert(first, v), Answer::Exists);
-    answers(rt, &mut world, Call::Get(last), Answer::Missing);
-    answers(rt, &mut world, Call::Delete(first), Answer::FullNodes);
+    is_full(rt, &mut world);
     holds_up_to(rt, &world, 39);
+}
+
+// Its leaf is full.
+fn is_full(rt: &impl Abort, world: &mut World) {
+    let v = payload(rt, b"v");
+    let (first, last) = (numbered(rt, 1), numbered(rt, 40));
+    answers(rt, world, Call::Insert(last, v), Answer::FullNodes);
+    answers(rt, world, Call::Insert(first, v), Answer::Exists);
+    answers(rt, world, Call::Get(last), Answer::Missing);
+    answers(rt, world, Call::Delete(first), Answer::FullNodes);
 }
 
 #[test]
@@ -113,25 +117,23 @@ fn updates(rt: &impl Abort, world: &mut World, key: &Key) {
     }
 }
 
+// Then it is updated, goes, and comes again.
+fn changes(rt: &impl Abort, world: &mut World, key: Key) {
+    let (v, two) = (payload(rt, b"v"), payload(rt, b"2"));
+    answers(rt, world, Call::Update(key, two), Answer::Updated(v));
+    answers(rt, world, Call::Delete(key), Answer::Deleted(two));
+    answers(rt, world, Call::Get(key), Answer::Missing);
+    answers(rt, world, Call::Insert(key, two), Answer::Inserted);
+    answers(rt, world, Call::Get(key), Answer::Value(two));
+}
+
 #[test]
-fn leaves_below_a_parent_change_and_are_copied(rt: HostRuntime) -> Result<(), Fail> {
-    let (v, two) = (payload(&rt, b"v"), payload(&rt, b"2"));
-    let first = numbered(&rt, 1);
-    let mut world = open(rt.alloc(), 6, 400, 1)?;
+fn leaves_below_a_parent_change_and_are_copied(rt: HostRuntime) {
+    let mut world = open(rt.alloc(), 6, 400, 1).expect(&rt, "a world");
     inserts(&rt, &mut world, rising().get(..40).unwrap_or(&[]));
-    updates(&rt, &mut world, &first);
-    answers(
-        &rt,
-        &mut world,
-        Call::Update(first, two),
-        Answer::Updated(v),
-    );
-    answers(&rt, &mut world, Call::Delete(first), Answer::Deleted(two));
-    answers(&rt, &mut world, Call::Get(first), Answer::Missing);
-    answers(&rt, &mut world, Call::Insert(first, two), Answer::Inserted);
-    answers(&rt, &mut world, Call::Get(first), Answer::Value(two));
+    updates(&rt, &mut world, &numbered(&rt, 1));
+    changes(&rt, &mut world, numbered(&rt, 1));
     holds_up_to(&rt, &world, 40);
-    Ok(())
 }
 
 // Nineteen records of six words each fill the root leaf but for four words.
@@ -155,16 +157,19 @@ fn is_inserted(rt: &impl Abort, ended: Option<Answer>, acts: u32) {
 
 // Over such a leaf worker 1 stops after so many acts of an insert that
 // splits it; worker 2 makes its own, and then worker 1 the rest.
+fn stops(rt: &impl Abort, world: &mut World, acts: u32, first: u8, second: u8) {
+    begins(rt, world, 1, first);
+    let ended = steps(world, 1, acts).1;
+    begins(rt, world, 2, second);
+    is_inserted(rt, steps(world, 2, MOST).1, acts);
+    is_inserted(rt, finish(world, 1, ended, MOST), acts);
+}
+
+// Both keys are there then.
 fn beside(rt: &impl Abort, alloc: Global, acts: u32, first: u8, second: u8) {
     let mut world = open(alloc, 16, 256, 2).expect(rt, "a world");
     fills(rt, &mut world);
-    begins(rt, &mut world, 1, first);
-    let (_, ended) = steps(&mut world, 1, acts);
-    begins(rt, &mut world, 2, second);
-    let (_, other) = steps(&mut world, 2, MOST);
-    is_inserted(rt, other, acts);
-    let ended = finish(&mut world, 1, ended, MOST);
-    is_inserted(rt, ended, acts);
+    stops(rt, &mut world, acts, first, second);
     holds_up_to(rt, &world, 21);
 }
 

@@ -7,6 +7,7 @@
 
 ghost use Rattle.std.specs.Prelude.{◌≡◌, length};
 ghost use Rattle.bz_layout.specs.Addresses.{words_of};
+ghost use Rattle.bz_layout.specs.Config.{IsConfig};
 
 use super::bench::{Answer, applies, begin, has_pairs, holds, key, payload, same, steps};
 use bz_call::Call;
@@ -221,16 +222,23 @@ fn tall(rt: &impl Abort, alloc: Global, nodes: u32, top: u32) -> World {
         pages: 1,
     };
     let config = World::open(alloc, &numbers).expect(rt, "a world").config();
-    let mut words = bz_layout::fresh(alloc, &config).expect(rt, "the words");
-    put_tree(&mut words, &config, top);
-    let mut world = World::boot(alloc, &config, &words).expect(rt, "a world");
-    applies(rt, &mut world, Event::On, Applied::On);
+    let mut world = over_tree(rt, alloc, &config, top);
     while_recovering(rt, &mut world);
     world
 }
 
-// The recovery goes to its end.
+// A world over the tree, off.
+fn over_tree(rt: &impl Abort, alloc: Global, config: &Config, top: u32) -> World
+    requires { IsConfig config.now }
+{
+    let mut words = bz_layout::fresh(alloc, config).expect(rt, "the words");
+    put_tree(&mut words, config, top);
+    World::boot(alloc, config, &words).expect(rt, "a world")
+}
+
+// The power comes on, and the recovery goes to its end.
 fn while_recovering(rt: &impl Abort, world: &mut World) {
+    applies(rt, world, Event::On, Applied::On);
     for _ in 0..1 << 19 {
         match world.apply(Event::Step(0)) {
             Applied::Stepped => {}
