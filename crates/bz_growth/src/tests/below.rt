@@ -51,13 +51,18 @@ fn walk(rt: &impl Abort, world: &mut World) -> [usize; 12] {
     lengths
 }
 
-// How many pairs the pages have together.
-fn count_pairs(rt: &impl Abort, world: &mut World) -> usize {
+// How long they are together.
+fn sum(lengths: &[usize; 12]) -> usize {
     let mut count = 0usize;
-    for length in &walk(rt, world) {
+    for length in lengths {
         count = count.saturating_add(*length);
     }
     count
+}
+
+// How many pairs the pages have together.
+fn count_pairs(rt: &impl Abort, world: &mut World) -> usize {
+    sum(&walk(rt, world))
 }
 
 // In which order the keys from 1 to 99 come.
@@ -87,36 +92,35 @@ fn comes(rt: &impl Abort, world: &mut World, order: Order) {
     }
 }
 
-// The keys rising: each leaf is split when it has thirty-nine records, and keeps twenty of them.
+// How long the pages are then, in a world of so many slots and descriptors.
+fn pages_of(rt: &impl Abort, alloc: Global, nodes: u32, swaps: u32, order: Order) -> [usize; 12] {
+    let mut world = open(alloc, nodes, swaps, 1).expect(rt, "a world");
+    comes(rt, &mut world, order);
+    walk(rt, &mut world)
+}
+
+const RISEN: [usize; 12] = [20, 20, 20, 39, 0, 0, 0, 0, 0, 0, 0, 0];
+
+// Each leaf is split when it has thirty-nine records, and keeps twenty of them.
 #[test]
 fn keys_rising(rt: HostRuntime) {
-    let mut world = open(rt.alloc(), 10, 204, 1).expect(&rt, "a world");
-    comes(&rt, &mut world, Order::Rising);
-    same(
-        &rt,
-        walk(&rt, &mut world),
-        [20, 20, 20, 39, 0, 0, 0, 0, 0, 0, 0, 0],
-    );
+    let lengths = pages_of(&rt, rt.alloc(), 10, 204, Order::Rising);
+    same(&rt, lengths, RISEN);
 }
 
-// And falling: the first leaf is split, and its right half keeps nineteen.
+const FALLEN: [usize; 12] = [23, 19, 19, 19, 19, 0, 0, 0, 0, 0, 0, 0];
+
+// The first leaf is split, and its right half keeps nineteen.
 #[test]
 fn keys_falling(rt: HostRuntime) {
-    let mut world = open(rt.alloc(), 13, 206, 1).expect(&rt, "a world");
-    comes(&rt, &mut world, Order::Falling);
-    same(
-        &rt,
-        walk(&rt, &mut world),
-        [23, 19, 19, 19, 19, 0, 0, 0, 0, 0, 0, 0],
-    );
+    let lengths = pages_of(&rt, rt.alloc(), 13, 206, Order::Falling);
+    same(&rt, lengths, FALLEN);
 }
 
-// And shuffled.
 #[test]
 fn keys_shuffled(rt: HostRuntime) {
-    let mut world = open(rt.alloc(), 16, 256, 1).expect(&rt, "a world");
-    comes(&rt, &mut world, Order::Shuffled);
-    same(&rt, count_pairs(&rt, &mut world), 99);
+    let lengths = pages_of(&rt, rt.alloc(), 16, 256, Order::Shuffled);
+    same(&rt, sum(&lengths), 99);
 }
 
 // Two leaves, of which the right one is full.

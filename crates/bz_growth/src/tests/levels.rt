@@ -209,12 +209,17 @@ fn agrees(rt: &impl Abort, world: &mut World, growth: Growth) {
     effects.agree(rt, world);
 }
 
-// They are those of a run, whose root is so wide at the end.
+// The root is so wide at least.
+fn is_wide(rt: &impl Abort, world: &World, widest: u32) {
+    let root = decode_root(world).expect(rt, "a root");
+    holds(rt, root.0 == 2 && root.1 >= widest);
+}
+
+// A run, and how wide its root is at the end.
 fn run(rt: &impl Abort, alloc: Global, growth: Growth) {
     let mut world = grown(rt, alloc, growth);
     agrees(rt, &mut world, growth);
-    let root = decode_root(&world).expect(rt, "a root");
-    holds(rt, root.0 == 2 && root.1 >= growth.widest);
+    is_wide(rt, &world, growth.widest);
 }
 
 #[test]

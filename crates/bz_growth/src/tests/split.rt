@@ -54,6 +54,11 @@ fn rising() -> [u8; 41] {
     numbers
 }
 
+// The keys from 1 to this number are inserted.
+fn rises(rt: &impl Abort, world: &mut World, last: usize) {
+    inserts(rt, world, rising().get(..last).unwrap_or(&[]));
+}
+
 // Each of the keys has its payload.
 fn finds(rt: &impl Abort, world: &mut World, numbers: &[u8]) {
     for number in numbers {
@@ -87,7 +92,7 @@ fn forty_keys_falling(rt: HostRuntime) {
 // The fortieth key does not go into so few slots, of which it takes none.
 fn lacks_nodes(rt: &impl Abort, alloc: Global, nodes: u32) {
     let mut world = open(alloc, nodes, 128, 1).expect(rt, "a world");
-    inserts(rt, &mut world, rising().get(..39).unwrap_or(&[]));
+    rises(rt, &mut world, 39);
     is_full(rt, &mut world);
     holds_up_to(rt, &world, 39);
 }
@@ -110,15 +115,16 @@ fn a_split_takes_three_slots(rt: HostRuntime) {
 }
 
 // A key has its payload put to itself, forty times.
-fn updates(rt: &impl Abort, world: &mut World, key: &Key) {
+fn updates(rt: &impl Abort, world: &mut World, key: Key) {
     for _ in 0..40 {
         let v = payload(rt, b"v");
-        answers(rt, world, Call::Update(*key, v), Answer::Updated(v));
+        answers(rt, world, Call::Update(key, v), Answer::Updated(v));
     }
 }
 
-// Then it is updated, goes, and comes again.
+// Then it is updated once more, goes, and comes again.
 fn changes(rt: &impl Abort, world: &mut World, key: Key) {
+    updates(rt, world, key);
     let (v, two) = (payload(rt, b"v"), payload(rt, b"2"));
     answers(rt, world, Call::Update(key, two), Answer::Updated(v));
     answers(rt, world, Call::Delete(key), Answer::Deleted(two));
@@ -130,8 +136,7 @@ fn changes(rt: &impl Abort, world: &mut World, key: Key) {
 #[test]
 fn leaves_below_a_parent_change_and_are_copied(rt: HostRuntime) {
     let mut world = open(rt.alloc(), 6, 400, 1).expect(&rt, "a world");
-    inserts(&rt, &mut world, rising().get(..40).unwrap_or(&[]));
-    updates(&rt, &mut world, &numbered(&rt, 1));
+    rises(&rt, &mut world, 40);
     changes(&rt, &mut world, numbered(&rt, 1));
     holds_up_to(&rt, &world, 40);
 }

@@ -4,6 +4,7 @@ use super::bench::{acts, begin, booted, evict, find, recover};
 use super::rows::{Row, copy, merge, split};
 use super::table::{Verdict, verdict_of};
 use crate::tests::bench::{holds, same};
+use bz_world::World;
 use std::alloc::Global;
 use std::process::Abort;
 use std::test::Fail;
@@ -14,18 +15,23 @@ const MOST: u16 = 1_000;
 // A recovery is cut before one of its first so many flushes.
 const FLUSHES: u16 = 9;
 
-// How the call ends over the image, cut after so many acts; and its recovery before a flush, or at its end for 0.
+// How the call ends in a world over the image, cut after so many acts; and its recovery before a flush, or at its end for 0.
+fn ends(rt: &impl Abort, world: &mut World, row: &Row, made: u16, again: u8) -> Option<Verdict> {
+    recover(rt, world, 0);
+    begin(rt, world, &row.call);
+    let reply = acts(world, made);
+    evict(world, u64::from(made));
+    recover(rt, world, again);
+    evict(world, u64::from(again));
+    recover(rt, world, 0);
+    let found = find(rt, world, row.key);
+    verdict_of(row, reply, &found)
+}
+
+// The same over the image.
 fn cut_after(rt: &impl Abort, alloc: Global, row: &Row, made: u16, again: u8) -> Option<Verdict> {
     let mut world = booted(rt, alloc, &row.image);
-    recover(rt, &mut world, 0);
-    begin(rt, &mut world, &row.call);
-    let reply = acts(&mut world, made);
-    evict(&mut world, u64::from(made));
-    recover(rt, &mut world, again);
-    evict(&mut world, u64::from(again));
-    recover(rt, &mut world, 0);
-    let found = find(rt, &mut world, row.key);
-    verdict_of(row, reply, &found)
+    ends(rt, &mut world, row, made, again)
 }
 
 // With the call cut after so many acts, a cut of the recovery does not change how it ends.

@@ -5,6 +5,7 @@ use super::bench::{Found, booted, call, find, recover};
 use super::rows::{Row, answer_of, copy, merge, split};
 use crate::tests::bench::{holds, same, same_at};
 use bz_call::Reply;
+use bz_world::World;
 use std::alloc::Global;
 use std::process::Abort;
 use std::test::Fail;
@@ -34,15 +35,20 @@ pub(super) fn verdict_of(row: &Row, reply: Option<Reply>, found: &Found) -> Opti
     }
 }
 
-// How the call ends over the image with these cuts: the call's, and the recovery's, or none for 0.
+// How the call ends in a world over the image with these cuts: the call's, and the recovery's, or none for 0.
+fn ends(rt: &impl Abort, world: &mut World, row: &Row, cut: u8, again: u8) -> Option<Verdict> {
+    recover(rt, world, 0);
+    let reply = call(rt, world, &row.call, cut);
+    recover(rt, world, again);
+    recover(rt, world, 0);
+    let found = find(rt, world, row.key);
+    verdict_of(row, reply, &found)
+}
+
+// The same over the image.
 fn cut_twice(rt: &impl Abort, alloc: Global, row: &Row, cut: u8, again: u8) -> Option<Verdict> {
     let mut world = booted(rt, alloc, &row.image);
-    recover(rt, &mut world, 0);
-    let reply = call(rt, &mut world, &row.call, cut);
-    recover(rt, &mut world, again);
-    recover(rt, &mut world, 0);
-    let found = find(rt, &mut world, row.key);
-    verdict_of(row, reply, &found)
+    ends(rt, &mut world, row, cut, again)
 }
 
 // With the call cut before this flush, no cut of the recovery changes how it ends.
