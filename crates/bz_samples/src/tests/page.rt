@@ -2,13 +2,13 @@
 //! records.
 ghost use Rattle.bz_page.specs.Pages.{IsLeafByItself};
 
+use super::bench::{holds, same};
 use bz_key::{Key, PageBuf, Payload};
 use bz_node::NodeImage;
 use bz_page::{collect, find};
 use bz_slotted::{Place, node_fault};
 use bz_task::LeafView;
 use std::process::Abort;
-use std::test::Fail;
 
 // A view of words that are to be a leaf between these bounds.
 fn view_of(rt: &impl Abort, words: &[u64; 128], low: Option<Key>, high: Option<Key>) -> LeafView
@@ -106,47 +106,74 @@ const ROWS: [Row; 5] = [
     },
 ];
 
-// Whether the pages of a leaf of b, d and f are right, each over what the one before left in the buffer.
-fn pages_are_right(page: &mut PageBuf, view: &LeafView, next: Option<Key>) -> Result<bool, Fail>
+// A key of these bytes.
+fn key(rt: &impl Abort, bytes: &[u8]) -> Key {
+    Key::of(bytes).expect(rt, "a key")
+}
+
+// A payload of these bytes.
+fn payload(rt: &impl Abort, bytes: &[u8]) -> Payload {
+    Payload::of(bytes).expect(rt, "a payload")
+}
+
+// The pairs of a leaf of b, 1 and d, 2 and f, 3.
+fn all_pairs(rt: &impl Abort) -> [(Key, Payload); 3] {
+    [
+        (key(rt, b"b"), payload(rt, b"1")),
+        (key(rt, b"d"), payload(rt, b"2")),
+        (key(rt, b"f"), payload(rt, b"3")),
+    ]
+}
+
+// The page of such a leaf from a key on, over what the one before left in the buffer.
+fn page_is_right(rt: &impl Abort, page: &mut PageBuf, view: &LeafView, row: Row, next: &Option<Key>)
     requires { IsLeafByItself view.now.image.0 }
 {
-    let pairs = [
-        (Key::of(b"b")?, Payload::of(b"1")?),
-        (Key::of(b"d")?, Payload::of(b"2")?),
-        (Key::of(b"f")?, Payload::of(b"3")?),
-    ];
+    let end = collect(view, &key(rt, row.from), page);
+    holds(rt, end == *next);
+    let pairs = all_pairs(rt);
+    holds(rt, Some(page.pairs()) == pairs.get(row.left_out..));
+}
+
+// Each of its pages.
+fn pages_are_right(rt: &impl Abort, page: &mut PageBuf, view: &LeafView, next: &Option<Key>)
+    requires { IsLeafByItself view.now.image.0 }
+{
     for row in ROWS {
-        let end = collect(view, &Key::of(row.from)?, page);
-        if end != next || Some(page.pairs()) != pairs.get(row.left_out..) {
-            return Ok(false);
-        }
+        page_is_right(rt, page, view, row, next);
     }
-    Ok(true)
+}
+
+// Each of three leaves with these pairs.
+fn leaves_are_right(rt: &impl Abort, page: &mut PageBuf) {
+    let sorted = view_of(rt, &sorted_leaf(), None, None);
+    pages_are_right(rt, page, &sorted, &None);
+    let (low, high) = (key(rt, b"a"), key(rt, b"g"));
+    let fenced = view_of(rt, &fenced_leaf(), Some(low), Some(high));
+    pages_are_right(rt, page, &fenced, &Some(key(rt, b"g")));
+    let mixed = view_of(rt, &mixed_leaf(), None, None);
+    pages_are_right(rt, page, &mixed, &None);
 }
 
 #[test]
-fn shows_the_pairs_from_a_key_on(rt: HostRuntime) -> Result<(), Fail> {
-    let (low, high) = (Key::of(b"a")?, Key::of(b"g")?);
-    let sorted = view_of(&rt, &sorted_leaf(), None, None);
-    let fenced = view_of(&rt, &fenced_leaf(), Some(low), Some(high));
-    let mixed = view_of(&rt, &mixed_leaf(), None, None);
-    let mut page = PageBuf::open(rt.alloc())?;
-    assert!(rt; pages_are_right(&mut page, &sorted, None)?, "sorted");
-    assert!(rt; pages_are_right(&mut page, &fenced, Some(high))?, "fenced");
-    assert!(rt; pages_are_right(&mut page, &mixed, None)?, "mixed");
-    Ok(())
+fn shows_the_pairs_from_a_key_on(rt: HostRuntime) {
+    let mut page = PageBuf::open(rt.alloc()).expect(&rt, "a page");
+    leaves_are_right(&rt, &mut page);
+}
+
+// An empty leaf leaves nothing in the buffer.
+fn shows_none(rt: &impl Abort, page: &mut PageBuf) {
+    let empty = view_of(rt, &[0; 128], None, None);
+    same(rt, collect(&empty, &key(rt, b"k"), page), None);
+    holds(rt, page.pairs().is_empty());
 }
 
 #[test]
-fn shows_nothing_of_an_empty_leaf(rt: HostRuntime) -> Result<(), Fail> {
-    let (key, payload) = (Key::of(b"k")?, Payload::of(b"")?);
-    let empty = view_of(&rt, &[0; 128], None, None);
-    let mut page = PageBuf::open(rt.alloc())?;
-    assert!(rt; page.pairs().is_empty());
-    page.push(key, payload);
-    assert_eq!(rt; collect(&empty, &key, &mut page), None);
-    assert!(rt; page.pairs().is_empty());
-    Ok(())
+fn shows_nothing_of_an_empty_leaf(rt: HostRuntime) {
+    let mut page = PageBuf::open(rt.alloc()).expect(&rt, "a page");
+    holds(&rt, page.pairs().is_empty());
+    page.push(key(&rt, b"k"), payload(&rt, b""));
+    shows_none(&rt, &mut page);
 }
 
 /// A key, and the payload that the leaf of b, 1 and d, 2 and f, 3 has for it.
@@ -183,17 +210,25 @@ const SOUGHT: [Sought; 6] = [
     },
 ];
 
-#[test]
-fn finds_what_a_leaf_has(rt: HostRuntime) -> Result<(), Fail> {
-    let mixed = view_of(&rt, &mixed_leaf(), None, None);
-    let mut page = PageBuf::open(rt.alloc())?;
+// It is what a look-up of the key finds.
+fn finds(rt: &impl Abort, page: &mut PageBuf, view: &LeafView, sought: Sought)
+    requires { IsLeafByItself view.now.image.0 }
+{
+    let found = find(view, &key(rt, sought.key), page);
+    let payload = sought.payload.map(|bytes| payload(rt, bytes));
+    same(rt, found, payload);
+}
+
+// Each of them.
+fn finds_each(rt: &impl Abort, page: &mut PageBuf) {
+    let mixed = view_of(rt, &mixed_leaf(), None, None);
     for sought in SOUGHT {
-        let payload = match sought.payload {
-            Some(bytes) => Some(Payload::of(bytes)?),
-            None => None,
-        };
-        let found = find(&mixed, &Key::of(sought.key)?, &mut page);
-        assert_eq!(rt; found, payload);
+        finds(rt, page, &mixed, sought);
     }
-    Ok(())
+}
+
+#[test]
+fn finds_what_a_leaf_has(rt: HostRuntime) {
+    let mut page = PageBuf::open(rt.alloc()).expect(&rt, "a page");
+    finds_each(&rt, &mut page);
 }

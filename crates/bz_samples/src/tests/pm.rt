@@ -1,20 +1,15 @@
 //! What the memory holds after each act of a sequence, worked out by hand from the rule of each act.
 
-use super::bench::same;
+use super::bench::{same, same_at};
 use bz_pm::Pm;
-use std::fmt::Debug;
 use std::process::Abort;
 use std::test::Fail;
 
-#[derive(Clone, Copy, Debug)]
+#[derive(Clone, Copy)]
 enum Act {
     Store(u32, u64),
-    Cas {
-        a: u32,
-        old: u64,
-        new: u64,
-        found: u64,
-    },
+    // from an old word to a new one, where this one is found
+    Cas(u32, u64, u64, u64),
     Flush(u32),
     Evict(u32),
     Cut,
@@ -27,9 +22,9 @@ fn make(rt: &impl Abort, pm: &mut Pm, act: Act) {
             assert!(rt; a < words);
             pm.store(a, v);
         }
-        Act::Cas { a, old, new, found } => {
+        Act::Cas(a, old, new, found) => {
             assert!(rt; a < words);
-            assert_eq!(rt; pm.cas(a, old, new), found, "{act:?}");
+            same(rt, pm.cas(a, old, new), found);
         }
         Act::Flush(line) => {
             assert!(rt; line < words / 8);
@@ -53,97 +48,101 @@ fn word_after(changes: &[(u32, u64)], a: u32) -> u64 {
     100 + a as u64
 }
 
-fn holds(rt: &impl Abort, pm: &Pm, cached: &[(u32, u64)], durable: &[(u32, u64)], after: Act) {
+// The word at an address, in the caches and in the memory itself.
+fn has_word(rt: &impl Abort, pm: &Pm, a: u32, cached: u64, durable: u64) {
+    assert!(rt; a < pm.words());
+    same_at(rt, pm.load(a), cached, a);
+    same_at(rt, pm.durable(a), durable, a);
+}
+
+// These words differ from those at the start, in the caches and in the memory itself.
+fn has(rt: &impl Abort, pm: &Pm, cached: &[(u32, u64)], durable: &[(u32, u64)]) {
     for a in 0..pm.words() {
-        assert_eq!(rt;
-            pm.load(a),
-            word_after(cached, a),
-            "cached word {a} after {after:?}"
-        );
-        assert_eq!(rt;
-            pm.durable(a),
-            word_after(durable, a),
-            "durable word {a} after {after:?}"
-        );
+        has_word(rt, pm, a, word_after(cached, a), word_after(durable, a));
+    }
+}
+
+const START: [u64; 16] = [
+    100, 101, 102, 103, 104, 105, 106, 107, 108, 109, 110, 111, 112, 113, 114, 115,
+];
+
+// An act, the cached words and the durable words that differ from the start after it.
+const TABLE: [(Act, &[(u32, u64)], &[(u32, u64)]); 16] = [
+    (Act::Store(7, 1), &[(7, 1)], &[]),
+    (Act::Store(8, 2), &[(7, 1), (8, 2)], &[]),
+    (Act::Cas(0, 100, 3, 100), &[(0, 3), (7, 1), (8, 2)], &[]),
+    (Act::Cas(0, 100, 4, 3), &[(0, 3), (7, 1), (8, 2)], &[]),
+    (Act::Flush(0), &[(0, 3), (7, 1), (8, 2)], &[(0, 3), (7, 1)]),
+    (
+        Act::Evict(8),
+        &[(0, 3), (7, 1), (8, 2)],
+        &[(0, 3), (7, 1), (8, 2)],
+    ),
+    (
+        Act::Evict(9),
+        &[(0, 3), (7, 1), (8, 2)],
+        &[(0, 3), (7, 1), (8, 2)],
+    ),
+    (
+        Act::Store(15, 5),
+        &[(0, 3), (7, 1), (8, 2), (15, 5)],
+        &[(0, 3), (7, 1), (8, 2)],
+    ),
+    (
+        Act::Store(7, 6),
+        &[(0, 3), (7, 6), (8, 2), (15, 5)],
+        &[(0, 3), (7, 1), (8, 2)],
+    ),
+    (
+        Act::Flush(1),
+        &[(0, 3), (7, 6), (8, 2), (15, 5)],
+        &[(0, 3), (7, 1), (8, 2), (15, 5)],
+    ),
+    (
+        Act::Cut,
+        &[(0, 3), (7, 1), (8, 2), (15, 5)],
+        &[(0, 3), (7, 1), (8, 2), (15, 5)],
+    ),
+    (
+        Act::Store(8, u64::MAX),
+        &[(0, 3), (7, 1), (8, u64::MAX), (15, 5)],
+        &[(0, 3), (7, 1), (8, 2), (15, 5)],
+    ),
+    (
+        Act::Cas(8, u64::MAX, 0, u64::MAX),
+        &[(0, 3), (7, 1), (8, 0), (15, 5)],
+        &[(0, 3), (7, 1), (8, 2), (15, 5)],
+    ),
+    (
+        Act::Cut,
+        &[(0, 3), (7, 1), (8, 2), (15, 5)],
+        &[(0, 3), (7, 1), (8, 2), (15, 5)],
+    ),
+    (
+        Act::Cas(8, 0, 9, 2),
+        &[(0, 3), (7, 1), (8, 2), (15, 5)],
+        &[(0, 3), (7, 1), (8, 2), (15, 5)],
+    ),
+    (
+        Act::Flush(1),
+        &[(0, 3), (7, 1), (8, 2), (15, 5)],
+        &[(0, 3), (7, 1), (8, 2), (15, 5)],
+    ),
+];
+
+// Each act of the table is made.
+fn makes_each(rt: &impl Abort, pm: &mut Pm) {
+    for (act, cached, durable) in TABLE {
+        make(rt, pm, act);
+        has(rt, pm, cached, durable);
     }
 }
 
 #[test]
-fn each_act_changes_these_words(rt: HostRuntime) -> Result<(), Fail> {
-    let start = [
-        100, 101, 102, 103, 104, 105, 106, 107, 108, 109, 110, 111, 112, 113, 114, 115,
-    ];
-    let mut pm = Pm::open(rt.alloc(), &start)?;
+fn each_act_changes_these_words(rt: HostRuntime) {
+    let mut pm = Pm::open(rt.alloc(), &START).expect(&rt, "a memory");
     same(&rt, pm.words(), 16);
-    let found = |a: u32, old: u64, new: u64, found: u64| Act::Cas { a, old, new, found };
-    // an act, the cached words and the durable words that differ from the start after it
-    let table: [(Act, &[(u32, u64)], &[(u32, u64)]); 16] = [
-        (Act::Store(7, 1), &[(7, 1)], &[]),
-        (Act::Store(8, 2), &[(7, 1), (8, 2)], &[]),
-        (found(0, 100, 3, 100), &[(0, 3), (7, 1), (8, 2)], &[]),
-        (found(0, 100, 4, 3), &[(0, 3), (7, 1), (8, 2)], &[]),
-        (Act::Flush(0), &[(0, 3), (7, 1), (8, 2)], &[(0, 3), (7, 1)]),
-        (
-            Act::Evict(8),
-            &[(0, 3), (7, 1), (8, 2)],
-            &[(0, 3), (7, 1), (8, 2)],
-        ),
-        (
-            Act::Evict(9),
-            &[(0, 3), (7, 1), (8, 2)],
-            &[(0, 3), (7, 1), (8, 2)],
-        ),
-        (
-            Act::Store(15, 5),
-            &[(0, 3), (7, 1), (8, 2), (15, 5)],
-            &[(0, 3), (7, 1), (8, 2)],
-        ),
-        (
-            Act::Store(7, 6),
-            &[(0, 3), (7, 6), (8, 2), (15, 5)],
-            &[(0, 3), (7, 1), (8, 2)],
-        ),
-        (
-            Act::Flush(1),
-            &[(0, 3), (7, 6), (8, 2), (15, 5)],
-            &[(0, 3), (7, 1), (8, 2), (15, 5)],
-        ),
-        (
-            Act::Cut,
-            &[(0, 3), (7, 1), (8, 2), (15, 5)],
-            &[(0, 3), (7, 1), (8, 2), (15, 5)],
-        ),
-        (
-            Act::Store(8, u64::MAX),
-            &[(0, 3), (7, 1), (8, u64::MAX), (15, 5)],
-            &[(0, 3), (7, 1), (8, 2), (15, 5)],
-        ),
-        (
-            found(8, u64::MAX, 0, u64::MAX),
-            &[(0, 3), (7, 1), (8, 0), (15, 5)],
-            &[(0, 3), (7, 1), (8, 2), (15, 5)],
-        ),
-        (
-            Act::Cut,
-            &[(0, 3), (7, 1), (8, 2), (15, 5)],
-            &[(0, 3), (7, 1), (8, 2), (15, 5)],
-        ),
-        (
-            found(8, 0, 9, 2),
-            &[(0, 3), (7, 1), (8, 2), (15, 5)],
-            &[(0, 3), (7, 1), (8, 2), (15, 5)],
-        ),
-        (
-            Act::Flush(1),
-            &[(0, 3), (7, 1), (8, 2), (15, 5)],
-            &[(0, 3), (7, 1), (8, 2), (15, 5)],
-        ),
-    ];
-    for (act, cached, durable) in table {
-        make(&rt, &mut pm, act);
-        holds(&rt, &pm, cached, durable, act);
-    }
-    Ok(())
+    makes_each(&rt, &mut pm);
 }
 
 #[test]

@@ -3,7 +3,7 @@
 ghost use Rattle.std.specs.Prelude.{◌≡◌, ◌<◌, ◌^◌, ◌*◌, Some, IfSome, length};
 ghost use Rattle.bz_recover.specs.Duties.{hears_in};
 
-use super::bench::same;
+use super::bench::{holds, same, same_at};
 use bz_layout::{Config, MAX_MARKS, Slots};
 use bz_pm::Pm;
 use bz_recover::{Recover, Walk};
@@ -184,19 +184,20 @@ fn recover(rt: &impl Abort, pm: &mut Pm, slots: &mut Slots, most: u32, evicts: b
     }
 }
 
+// A word is so in the caches and in the memory itself.
+fn has_word(rt: &impl Abort, pm: &Pm, a: u32, word: u64) {
+    assert!(rt; a < pm.words());
+    same_at(rt, pm.load(a), word, a);
+    same_at(rt, pm.durable(a), word, a);
+}
+
 // Every word outside the descriptors is its value and durable, and every descriptor is free.
-fn is_recovered(rt: &impl Abort, pm: &Pm, when: u32) {
+fn is_recovered(rt: &impl Abort, pm: &Pm) {
     for a in 0..pm.words() {
         if a < SWAPS || a >= NODE {
-            assert_eq!(rt; pm.load(a), value(a), "word {a}, cut after {when}");
-            assert_eq!(rt;
-                pm.durable(a),
-                value(a),
-                "durable word {a}, cut after {when}"
-            );
+            has_word(rt, pm, a, value(a));
         } else if a % 16 == 0 {
-            assert_eq!(rt; pm.load(a), 0, "status at {a}, cut after {when}");
-            assert_eq!(rt; pm.durable(a), 0, "durable status at {a}, cut after {when}");
+            has_word(rt, pm, a, 0);
         }
     }
 }
@@ -207,7 +208,7 @@ fn every_kind_of_word_is_resolved(rt: HostRuntime) -> Result<(), Fail> {
     let mut pm = Pm::open(rt.alloc(), &image())?;
     let made = recover(&rt, &mut pm, &mut slots, 1000, false);
     assert!(rt; made.ended);
-    is_recovered(&rt, &pm, 0);
+    is_recovered(&rt, &pm);
     same(&rt, slots.left(), 0);
     // words 1, 81 and 82, 89, 100 and 101, 120 and 207 stand in six lines; a flush for each, and for each descriptor
     same(&rt, made.flushes, 10);
@@ -225,36 +226,48 @@ fn a_recovered_memory_is_only_read(rt: HostRuntime) -> Result<(), Fail> {
     // of the node to which it leads, an inner one without children
     same(&rt, made.acts, 151);
     same(&rt, made.flushes, 0);
-    is_recovered(&rt, &pm, 0);
+    is_recovered(&rt, &pm);
     Ok(())
+}
+
+// Three cuts, after so many acts, half of all, and as many as at first; and a whole recovery.
+fn is_cut(rt: &impl Abort, pm: &mut Pm, slots: &mut Slots, first: u32, half: u32, evicts: bool)
+    requires { slots.old.nodes ≡ 1 }
+    ensures { slots.new.nodes ≡ 1 }
+{
+    recover(rt, pm, slots, first, evicts);
+    pm.cut();
+    recover(rt, pm, slots, half, evicts);
+    pm.cut();
+    recover(rt, pm, slots, first, evicts);
+    pm.cut();
+    holds(rt, recover(rt, pm, slots, 1000, evicts).ended);
+    is_recovered(rt, pm);
+}
+
+// The memory before the recovery.
+fn unresolved(rt: &impl Abort, alloc: Global) -> Pm {
+    Pm::open(alloc, &image()).expect(rt, "a memory")
 }
 
 // A cut after each number of acts, and again after each number of acts of the next recovery.
-fn is_cut_at_will(rt: &impl Abort, alloc: Global, evicts: bool) -> Result<(), Fail> {
-    let mut slots = Slots::open(alloc, 1)?;
-    let mut pm = Pm::open(alloc, &image())?;
+fn is_cut_at_will(rt: &impl Abort, alloc: Global, evicts: bool) {
+    let mut slots = Slots::open(alloc, 1).expect(rt, "the slots");
+    let mut pm = unresolved(rt, alloc);
     let whole = recover(rt, &mut pm, &mut slots, 1000, evicts).acts;
-    assert!(rt; whole < 1000);
+    holds(rt, whole < 1000);
     for first in 0..whole {
-        let mut pm = Pm::open(alloc, &image())?;
-        recover(rt, &mut pm, &mut slots, first, evicts);
-        pm.cut();
-        recover(rt, &mut pm, &mut slots, whole / 2, evicts);
-        pm.cut();
-        recover(rt, &mut pm, &mut slots, first, evicts);
-        pm.cut();
-        assert!(rt; recover(rt, &mut pm, &mut slots, 1000, evicts).ended);
-        is_recovered(rt, &pm, first);
+        let mut pm = unresolved(rt, alloc);
+        is_cut(rt, &mut pm, &mut slots, first, whole / 2, evicts);
     }
-    Ok(())
 }
 
 #[test]
-fn a_cut_after_each_act_loses_nothing(rt: HostRuntime) -> Result<(), Fail> {
-    is_cut_at_will(&rt, rt.alloc(), false)
+fn a_cut_after_each_act_loses_nothing(rt: HostRuntime) {
+    is_cut_at_will(&rt, rt.alloc(), false);
 }
 
 #[test]
-fn a_cut_after_each_act_with_evictions_loses_nothing(rt: HostRuntime) -> Result<(), Fail> {
-    is_cut_at_will(&rt, rt.alloc(), true)
+fn a_cut_after_each_act_with_evictions_loses_nothing(rt: HostRuntime) {
+    is_cut_at_will(&rt, rt.alloc(), true);
 }

@@ -4,6 +4,7 @@ ghost use Rattle.bz_bus.specs.Passes.{IsPassOf, IsFree, number_of, passes_of};
 
 use super::log::{Log, Note};
 use super::threads::add_all;
+use crate::tests::bench::{holds, same};
 use bz_bus::{Bus, Chronicle, PASSES, Pass};
 use bz_memory::Memory;
 use std::alloc::Global;
@@ -64,22 +65,28 @@ pub fn close<T: Chronicle, R: Abort>(rt: &R, bus: Bus<T>, first: Pass<T>) -> T
     bus.close(first)
 }
 
+// A note is the next one of its pass.
+fn count_note<R: Abort>(rt: &R, next: &mut [u32; PASSES], note: &Note) {
+    let by = note.by as usize;
+    assert!(rt; by < PASSES);
+    same(rt, note.count, next[by]);
+    next[by] = next[by].wrapping_add(1);
+}
+
+// How many notes of a log each pass has added, in their order.
+fn counts<R: Abort>(rt: &R, log: &Log) -> [u32; PASSES] {
+    let mut next = [0u32; PASSES];
+    for note in &log.notes {
+        count_note(rt, &mut next, note);
+    }
+    next
+}
+
 // Each of the passes from 1 up to `passes` has added its notes once, in their order.
 fn expect_notes<R: Abort>(rt: &R, log: &Log, passes: usize, many: u32) {
-    let mut next = [0u32; PASSES];
-    for Note { by, count } in &log.notes {
-        let by = *by as usize;
-        assert!(rt; by < PASSES);
-        assert_eq!(rt; *count, next[by]);
-        next[by] = next[by].wrapping_add(1);
-    }
-    for (number, count) in next.iter().enumerate() {
-        let want = if 0 < number && number <= passes {
-            many
-        } else {
-            0
-        };
-        assert_eq!(rt; *count, want);
+    for (number, count) in counts(rt, log).iter().enumerate() {
+        let adds = 0 < number && number <= passes;
+        same(rt, *count, if adds { many } else { 0 });
     }
 }
 
@@ -125,29 +132,35 @@ fn sixty_four_threads_add_each_note_once_and_in_order(rt: HostRuntime) -> Result
     Ok(())
 }
 
-#[test]
-fn a_dropped_pass_keeps_its_number_and_others_come_back(rt: HostRuntime) -> Result<(), Fail> {
-    let log = Log::open(rt.alloc(), 7, 0)?;
-    let (bus, mut first) = open(rt.alloc(), log, 4)?;
-    let one = split_off(&rt, &bus, &mut first, 1);
-    let two = split_off(&rt, &bus, &mut first, 2);
-    let three = split_off(&rt, &bus, &mut first, 3);
-    join_back(&rt, &bus, &mut first, two);
-    drop(three);
-    join_back(&rt, &bus, &mut first, one);
-    assert!(rt; !first.free(3));
-    let one = split_off(&rt, &bus, &mut first, 1);
-    join_back(&rt, &bus, &mut first, one);
-    assert!(rt; first.free(1) && first.free(2) && !first.free(3));
-    Ok(())
+// Of three passes one is dropped, and the others come back in another order.
+fn come_back<R: Abort>(rt: &R, bus: &Bus<Log>, first: &mut Pass<Log>)
+    requires pass { IsPassOf bus.now first.old × (number_of first.old ≡ 0) }
+    requires room { passes_of bus.now ≡ 4 }
+{
+    let one = split_off(rt, bus, first, 1);
+    let two = split_off(rt, bus, first, 2);
+    drop(split_off(rt, bus, first, 3));
+    join_back(rt, bus, first, two);
+    join_back(rt, bus, first, one);
+    holds(rt, !first.free(3));
+    let one = split_off(rt, bus, first, 1);
+    join_back(rt, bus, first, one);
+    holds(rt, first.free(1) && first.free(2) && !first.free(3));
 }
 
 #[test]
-fn a_refused_bus_gives_its_value_back(rt: HostRuntime) -> Result<(), Fail> {
-    let log = Log::open(rt.alloc(), 7, 0)?;
-    match Bus::open(rt.alloc(), log, 1) {
-        Ok((bus, first)) => assert_eq!(rt; close(&rt, bus, first).name, 7),
-        Err((log, Memory)) => assert_eq!(rt; log.name, 7),
-    }
-    Ok(())
+fn a_dropped_pass_keeps_its_number_and_others_come_back(rt: HostRuntime) {
+    let log = Log::open(rt.alloc(), 7, 0).expect(&rt, "a log");
+    let (bus, mut first) = open(rt.alloc(), log, 4).expect(&rt, "a bus");
+    come_back(&rt, &bus, &mut first);
+}
+
+#[test]
+fn a_refused_bus_gives_its_value_back(rt: HostRuntime) {
+    let log = Log::open(rt.alloc(), 7, 0).expect(&rt, "a log");
+    let log = match Bus::open(rt.alloc(), log, 1) {
+        Ok((bus, first)) => close(&rt, bus, first),
+        Err((log, Memory)) => log,
+    };
+    same(&rt, log.name, 7);
 }
