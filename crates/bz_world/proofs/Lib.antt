@@ -79,6 +79,7 @@ mod Cutting
 mod Recovering
 mod Waking
 mod Refusing
+mod PoweredRefusals
 mod Recovered
 mod Contained
 mod Counting

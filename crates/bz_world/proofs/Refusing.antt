@@ -1,5 +1,5 @@
 -- What a world answers, by its power: a refusal where one applies, and otherwise what was done.
-use Rattle.std.proofs.Common.{◌≡◌, ℕ, ◌-◌, ◌<◌, ◌≤◌, ◌==◌, ◌||◌, true, false, nat_lt, nat_le, length, arith, refl, sym, ap, subst, ◌∙◌, Option, Some, None}
+use Rattle.std.proofs.Common.{◌≡◌, ◌⊎◌, ℕ, ◌-◌, ◌<◌, ◌≤◌, ◌==◌, ◌||◌, true, false, nat_lt, nat_le, length, arith, refl, sym, ap, subst, ◌∙◌, inl, inr, Option, Some, None}
 use Rattle.std.specs.Prelude.{get_or, is_none, is_some, MatchOption}
 use Rattle.std.proofs.lemmas.Bool.Decides.{nat_tests}
 use Rattle.std.proofs.lemmas.List.{get_or_read_under}
@@ -16,7 +16,9 @@ use Rattle.bz_world.specs.WorldView.{WorldView, Steps, Evicts, IsApplied, power_
 use Rattle.bz_world.specs.declared.answers.Applied.{Applied}
 use Rattle.bz_world.specs.declared.answers.Applied.TheVariants as applied
 use Rattle.bz_world.specs.declared.answers.Begun.{Begun}
+use Rattle.bz_world.specs.declared.answers.Begun.TheVariants as begun
 use Rattle.bz_world.specs.declared.answers.Event.TheVariants as event
+use Rattle.bz_world.specs.declared.answers.LimitKind.TheVariants as which
 use Rattle.bz_world.specs.declared.parts.Parts.{Parts}
 use Rattle.bz_world.specs.declared.serving.OpenCall.{OpenCall}
 
@@ -52,6 +54,29 @@ idle-powered p w k within slot e none =
     let idle : is_none (open_call w p.journal.past) ≡ true = call-open p k w within slot e ∙ some-none slot none in
     rw idle (refl, refl)
 
+-- what is not there makes no step and is not made durable, and where the journal is short of room nothing happens
+pub step-unknown : (old : WorldView) (w : ℕ) → old.config.workers < w → IsApplied old (event.Step w) applied.NoWorker old
+step-unknown old w past = let unknown : nat_lt old.config.workers w ≡ true = grind (arith, nat_tests, past) in rw unknown (refl, refl)
+
+pub evict-unknown : (old : WorldView) (a : ℕ) → words_of old.config ≤ a → IsApplied old (event.Evict a) applied.NoWord old
+evict-unknown old a past = let unknown : nat_le (words_of old.config) a ≡ true = grind (arith, nat_tests, past) in rw unknown (refl, refl)
+
+module _ (old : WorldView) (few : old.log.limits.marks - length old.log.past < 3) where
+  short : nat_lt (old.log.limits.marks - length old.log.past) 3 ≡ true
+  short = grind (arith, nat_tests, few)
+
+  pub step-short : (w : ℕ) → w ≤ old.config.workers → IsApplied old (event.Step w) applied.Limit old
+  step-short w within =
+      let known : nat_lt old.config.workers w ≡ false = grind (arith, nat_tests) in
+      let lacks : nat_lt (old.log.limits.marks - length old.log.past) 3 ≡ true = short in
+      rw (known, lacks) (refl, refl)
+
+  pub evict-short : (a : ℕ) → a < words_of old.config → IsApplied old (event.Evict a) applied.Limit old
+  evict-short a within =
+      let known : nat_le (words_of old.config) a ≡ false = grind (arith, nat_tests) in
+      let lacks : nat_lt (old.log.limits.marks - length old.log.past) 3 ≡ true = short in
+      rw (known, lacks) (refl, refl)
+
 -- by the power
 module _ (old new : WorldView) (answer : Applied) (room : 3 ≤ old.log.limits.marks - length old.log.past) (z : Power) (powered : power_in old ≡ z) where
   long : nat_lt (old.log.limits.marks - length old.log.past) 3 ≡ false
@@ -75,7 +100,28 @@ module _ (old new : WorldView) (answer : Applied) (room : 3 ≤ old.log.limits.m
   pub on-applied : MatchOption (on_by z) ((answer ≡ applied.On) × (new ≡ after_on old)) (λ refusal. (answer ≡ refusal) × (new ≡ old)) → IsApplied old event.On answer new
   on-applied h = let short : nat_lt (old.log.limits.marks - length old.log.past) 3 ≡ false = long in rw (short, powered) h
 
--- a begin that is refused, or may be made
+-- a begin that is refused
+refused : (p : Parts) (w : ℕ) (called : Call) (r : Begun) → begin_answer (world_view p) w called ≡ r → after_begin (world_view p) w called r ≡ world_view p → IsRefusal p w called (Some r)
+refused p w called r answered same = record {
+  some = λ answer e. let it : r ≡ answer = cc e in subst (λ a. (begin_answer (world_view p) w called ≡ a) × (after_begin (world_view p) w called a ≡ world_view p)) it (answered, same);
+  none = λ e. absurd (cc e);
+  begins = λ e. absurd (cc e);
+}
+
+pub unknown-refusal : (p : Parts) (w : ℕ) (called : Call) → (w ≡ 0) ⊎ (p.config.workers < w) → IsRefusal p w called (Some begun.NoWorker)
+unknown-refusal p w called none = let unknown : ((w == 0) || nat_lt p.config.workers w) ≡ true = tells none in refused p w called begun.NoWorker (rw unknown refl) refl
+  where
+    tells : (w ≡ 0) ⊎ (p.config.workers < w) → ((w == 0) || nat_lt p.config.workers w) ≡ true
+    tells (inl zero_is) = grind (arith, nat_tests, zero_is)
+    tells (inr past) = grind (arith, nat_tests, past)
+
+pub short-refusal : (p : Parts) (w : ℕ) (called : Call) → 0 < w → w ≤ p.config.workers → p.journal.limits.marks - length p.journal.past < 3 → IsRefusal p w called (Some (begun.Limit which.Marks))
+short-refusal p w called some within few =
+    let known : ((w == 0) || nat_lt p.config.workers w) ≡ false = grind (arith, nat_tests, some, within) in
+    let short : nat_lt (p.journal.limits.marks - length p.journal.past) 3 ≡ true = grind (arith, nat_tests, few) in
+    refused p w called (begun.Limit which.Marks) (rw (known, short) refl) refl
+
+-- or may be made
 module _ (p : Parts) (t : IsTabled p) (w : ℕ) (called : Call) (some : 0 < w) (within : w ≤ p.config.workers) (room : 3 ≤ p.journal.limits.marks - length p.journal.past) where
   answers : (z : Power) → p.power ≡ z → begin_answer (world_view p) w called ≡ answer_by z (world_view p) w called
   answers z is =
@@ -85,11 +131,7 @@ module _ (p : Parts) (t : IsTabled p) (w : ℕ) (called : Call) (some : 0 < w) (
       rw (known, short, powered) refl
 
   pub dark-refusal : (z : Power) (r : Begun) → p.power ≡ z → answer_by z (world_view p) w called ≡ r → after_begin (world_view p) w called r ≡ world_view p → IsRefusal p w called (Some r)
-  dark-refusal z r is answered same = record {
-    some = λ answer e. let it : r ≡ answer = cc e in subst (λ a. (begin_answer (world_view p) w called ≡ a) × (after_begin (world_view p) w called a ≡ world_view p)) it (answers z is ∙ answered, same);
-    none = λ e. absurd (cc e);
-    begins = λ e. absurd (cc e);
-  }
+  dark-refusal z r is answered same = refused p w called r (answers z is ∙ answered) same
 
   pub powered-refusal : p.power ≡ power.On → (refusal : Option Begun) → IsPoweredRefusal p w called refusal → IsRefusal p w called refusal
   powered-refusal on refusal r = record {

@@ -38,7 +38,7 @@ fn powered_refusal(parts: &Parts, w: u8, call: &Call) -> Option<Begun>
     if parts.begun >= parts.config.calls {
         return Some(Begun::Limit(LimitKind::Calls));
     }
-    if pages_asked(call) > 0 && parts.pages_begun >= parts.config.pages {
+    if parts.pages_begun + pages_asked(call) > parts.config.pages {
         return Some(Begun::Limit(LimitKind::Pages));
     }
     None

@@ -129,9 +129,14 @@ pub(crate) fn evict(parts: &mut Parts, a: u32) -> Applied
         return Applied::Limit;
     }
     match parts.power {
-        Power::Off => return Applied::Off,
-        Power::Recovering => evict_recovering(parts, a),
-        Power::On => evict_word(parts, a),
+        Power::Off => Applied::Off,
+        Power::Recovering => {
+            evict_recovering(parts, a);
+            Applied::Evicted
+        }
+        Power::On => {
+            evict_word(parts, a);
+            Applied::Evicted
+        }
     }
-    Applied::Evicted
 }
