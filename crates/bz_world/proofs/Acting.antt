@@ -1,15 +1,17 @@
 -- What the act of a worker whose call is open leads to.
-use Rattle.std.proofs.Common.{◌≡◌, ◌≢◌, ℕ, ◌+◌, ◌<◌, List, length, arith, refl, sym, ap, subst, ◌∙◌, Option, Some, None}
+use Rattle.std.proofs.Common.{◌≡◌, ◌≢◌, ℕ, ◌+◌, ◌<◌, List, length, arith, refl, sym, ap, subst, ◌∙◌, inl, Option, Some, None}
 use Rattle.std.specs.Prelude.{get_or}
 use Rattle.bz_acts.specs.declared.acted.Act.{Act}
 use Rattle.bz_machine.specs.declared.done.Done.{Done}
+use Rattle.bz_machine.specs.declared.done.Done.TheVariants as done
 use Rattle.bz_mark.specs.Log.{Log}
 use Rattle.bz_sound.specs.Calls.{open_call}
 use Rattle.bz_swap.specs.SwapMemory.{SwapMemory, Idle, doing_of, worker_of}
 use Rattle.bz_task.specs.declared.todo.Seen.{Seen}
+use Rattle.bz_task.specs.declared.todo.Seen.TheVariants as heard
 use Rattle.bz_task.specs.declared.todo.Todo.{Todo}
 use Rattle.bz_task.specs.declared.todo.Todo.TheVariants as todo
-use Rattle.bz_world.specs.Inside.Acted.{IsActed, IsTold, MustTell, HasActed}
+use Rattle.bz_world.specs.Inside.Acted.{IsActed, IsTold, MustTell, HasActed, seen_by}
 use Rattle.bz_world.specs.Inside.Kept.{IsAwake}
 use Rattle.bz_world.specs.WorldView.{IsStruck}
 use Rattle.bz_world.specs.Inside.Laws.{StepLaws}
@@ -46,15 +48,49 @@ is-busy p k w open_is = let s = is-served p k w open_is in let h : IsServing p.c
 
 -- an act without effect
 module _ (b : StepLaws) (old new : Parts) (w : ℕ) (made : Act) (answer : Done) (k : IsAwake old) (open_is : open_call w old.journal.past ≢ None) (a : IsActed old w made answer None new) (room : length old.journal.past + 1 < old.config.marks) where
-  pub went-on : (z : Done) → answer ≡ z → Went new w (is-served old k w open_is).serving z
+  went-on : (z : Done) → answer ≡ z → Went new w (is-served old k w open_is).serving z
   went-on z e = subst (Went new w (is-served old k w open_is).serving) e (went b old new w (is-served old k w open_is).serving made answer k (is-served old k w open_is).is a (omega (arith, room)))
 
-  pub must-tell : (seen : Seen) → IsTold new w (is-served old k w open_is).serving seen → MustTell new w seen
+  must-tell : (seen : Seen) → IsTold new w (is-served old k w open_is).serving seen → MustTell new w seen
   must-tell seen told = record {
     serving = (is-served old k w open_is).serving;
     is = ap (λ (p : Parts). get_or p.workers.items w None) a.rest ∙ (is-served old k w open_is).is;
     told = told;
   }
+
+  told-by : (told seen : Seen) → Some told ≡ Some seen → MustTell new w told → MustTell new w seen
+  told-by told seen is must = let same : told ≡ seen = cc is in subst (MustTell new w) same must
+
+  -- it goes on, if its task is to be told nothing
+  pub acted-on : (z : Done) → answer ≡ z → seen_by z ≡ None → IsAwake new
+  acted-on done.Busy e none = went-on done.Busy e
+  acted-on (done.Read v) e none = absurd (cc none)
+  acted-on (done.Swapped won) e none = absurd (cc none)
+  acted-on done.Stored e none = absurd (cc none)
+  acted-on done.Flushed e none = absurd (cc none)
+
+  -- or its task is to be told this
+  pub acted-told : (z : Done) → answer ≡ z → (seen : Seen) → seen_by z ≡ Some seen → MustTell new w seen
+  acted-told done.Busy e seen is = absurd (cc is)
+  acted-told (done.Read v) e seen is = told-by (heard.Read v) seen is (must-tell (heard.Read v) (went-on (done.Read v) e))
+  acted-told (done.Swapped won) e seen is = told-by (heard.Swapped won) seen is (must-tell (heard.Swapped won) (went-on (done.Swapped won) e))
+  acted-told done.Stored e seen is = told-by heard.Stored seen is (must-tell heard.Stored (went-on done.Stored e))
+  acted-told done.Flushed e seen is = told-by heard.Flushed seen is (must-tell heard.Flushed (went-on done.Flushed e))
+
+-- it is told of no want of a descriptor, and not to begin
+pub tells-no-want : (z : Done) → seen_by z ≢ Some heard.NoSwap
+tells-no-want done.Busy e = cc e
+tells-no-want (done.Read v) e = cc e
+tells-no-want (done.Swapped won) e = cc e
+tells-no-want done.Stored e = cc e
+tells-no-want done.Flushed e = cc e
+
+pub tells-no-start : (z : Done) → seen_by z ≢ Some heard.Start
+tells-no-start done.Busy e = cc e
+tells-no-start (done.Read v) e = cc e
+tells-no-start (done.Swapped won) e = cc e
+tells-no-start done.Stored e = cc e
+tells-no-start done.Flushed e = cc e
 
 -- an act with its effect noted is one act still
 pub struck-acted : (old mid new : Parts) (w : ℕ) (made : Act) (answer : Done) (effect : Option ℕ) → IsActed old w made answer effect mid → IsStruck mid.journal.past new.journal.past
@@ -78,3 +114,7 @@ struck-acted old mid new w made answer effect a struck rest = record {
     whole = rest ∙ (ap (λ (p : Parts). record p { journal = record mid.journal { past = new.journal.past }; workers = new.workers; pairs = new.pairs }) a.rest
         ∙ (ap (λ (m : SwapMemory). record old { access = m; journal = record mid.journal { past = new.journal.past }; workers = new.workers; pairs = new.pairs }) (sym access-is)
         ∙ ap (λ (j : Log). record old { access = new.access; journal = j; workers = new.workers; pairs = new.pairs }) (sym journal-is)))
+
+-- and so is one without effect
+pub quiet-acted : (old new : Parts) (w : ℕ) (made : Act) (answer : Done) → IsActed old w made answer None new → HasActed old w new
+quiet-acted old new w made answer a = struck-acted old new new w made answer None a (inl refl) refl

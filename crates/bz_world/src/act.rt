@@ -6,7 +6,7 @@ ghost use Rattle.bz_swap.specs.Held.{Holds};
 ghost use Rattle.bz_swap.specs.SwapMemory.{Idle, doing_of};
 ghost use Rattle.bz_swap.specs.declared.phase.Phase.TheVariants.{Recovering};
 ghost use Rattle.bz_sound.specs.Calls.{open_call};
-ghost use Rattle.bz_world.specs.Inside.Acted.{IsActed, MustTell, HasActed};
+ghost use Rattle.bz_world.specs.Inside.Acted.{IsActed, MustTell, HasActed, seen_by};
 ghost use Rattle.bz_world.specs.Inside.Kept.{IsAwake};
 ghost use Rattle.bz_world.specs.WorldView.{mark_of as mark_in};
 
@@ -50,6 +50,19 @@ fn make_act(parts: &mut Parts, w: u8) -> Progress
     progress
 }
 
+// What the task of its call is to be told of it, if it ended what the task asked for.
+fn seen_of(done: Done) -> Option<Seen>
+    ensures { result ≡ seen_by done }
+{
+    match done {
+        Done::Busy => None,
+        Done::Read(value) => Some(Seen::Read(value)),
+        Done::Swapped(won) => Some(Seen::Swapped(won)),
+        Done::Stored => Some(Seen::Stored),
+        Done::Flushed => Some(Seen::Flushed),
+    }
+}
+
 /// Makes the next act of a worker's open call, and notes its effect. Answers what the call's task is to be told, if the act ended what
 /// it asked for.
 pub(crate) fn act(parts: &mut Parts, w: u8) -> Option<Seen>
@@ -74,11 +87,5 @@ pub(crate) fn act(parts: &mut Parts, w: u8) -> Option<Seen>
         mark_effect(parts, swap);
         return None;
     }
-    match progress.done {
-        Done::Busy => None,
-        Done::Read(value) => Some(Seen::Read(value)),
-        Done::Swapped(won) => Some(Seen::Swapped(won)),
-        Done::Stored => Some(Seen::Stored),
-        Done::Flushed => Some(Seen::Flushed),
-    }
+    seen_of(progress.done)
 }

@@ -4,6 +4,7 @@ use Rattle.std.specs.Prelude.{◌≡◌, ◌≢◌, ◌⊎◌, ℕ, ◌+◌, ◌
 use Rattle.bz_acts.specs.Rule.{is_flush_act}
 use Rattle.bz_acts.specs.declared.acted.Act.{Act}
 use Rattle.bz_machine.specs.declared.done.Done.{Done}
+use Rattle.bz_machine.specs.declared.done.Done.TheVariants as done
 use Rattle.bz_mark.specs.Log.{with_mark}
 use Rattle.bz_mark.specs.declared.marks.Mark.{Mark}
 use Rattle.bz_mark.specs.declared.marks.Mark.TheVariants.{Evict}
@@ -29,7 +30,7 @@ use Rattle.bz_swap.specs.SwapMemory.{SwapMemory, Idle, is_missed, doing_of, work
 use Rattle.bz_task.specs.Requests.{Hears, Tells, effects_in}
 use Rattle.bz_task.specs.Scene.{Stage, Waiting}
 use Rattle.bz_task.specs.declared.todo.Seen.{Seen}
-use Rattle.bz_task.specs.declared.todo.Seen.TheVariants.{Swapped}
+use Rattle.bz_task.specs.declared.todo.Seen.TheVariants as heard
 use Rattle.bz_task.specs.declared.todo.Todo.{Todo}
 use Rattle.bz_task.specs.declared.todo.Todo.TheVariants.{Finish}
 use Rattle.bz_world.specs.Inside.Alone.{HearsAlone, AsksAlone}
@@ -110,7 +111,7 @@ pub record IsBetween (p : Parts) (w : ℕ) (x : OpenCall) : Type 0 where
 -- its task's swap has made the change of the call, and it is told so
 pub record HasWon (x : OpenCall) (seen : Seen) : Type 0 where
   pub publishing : publishing_of x.task ≡ true
-  pub won : seen ≡ Swapped true
+  pub won : seen ≡ heard.Swapped true
 
 -- and its task is to be told this
 pub record IsTold (p : Parts) (w : ℕ) (x : OpenCall) (seen : Seen) : Type 0 where
@@ -143,6 +144,14 @@ pub record IsAsking (p : Parts) (w : ℕ) (x : OpenCall) (todo : Todo) : Type 0 
   pub paid : IsPaidFor p w x 0 (λ r. start_takes r todo) (scene p.config p.journal.past between.story w between.call_open.look.since between.opened).past
   pub exact : CountsExactly p.config p.journal w between.opened (scene p.config p.journal.past between.story w between.call_open.look.since between.opened).past (reach_idle p.access) (stock_of p) (tells_of x) x
   pub merges : MergesDuly p.config p.journal w between.opened (scene p.config p.journal.past between.story w between.call_open.look.since between.opened).past (reach_idle p.access) (stock_of p) x
+
+-- what the task is told of an act that ended what it asked for
+abbrev pub seen_by : Done → Option Seen
+seen_by done.Busy = None
+seen_by (done.Read v) = Some (heard.Read v)
+seen_by (done.Swapped won) = Some (heard.Swapped won)
+seen_by done.Stored = Some heard.Stored
+seen_by done.Flushed = Some heard.Flushed
 
 -- the worker's call is served, and its task is to be told this
 pub record MustTell (p : Parts) (w : ℕ) (seen : Seen) : Type 0 where

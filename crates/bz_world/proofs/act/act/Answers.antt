@@ -1,8 +1,7 @@
-use Rattle.std.proofs.Common.{◌≡◌, subst, arith, None}
-use Rattle.bz_machine.specs.declared.done.Done.TheVariants as done
-use Rattle.bz_task.specs.declared.todo.Seen.TheVariants as seen
-use Rattle.bz_world.specs.Inside.Acted.{IsActed, MustTell}
-use Rattle.bz_world.proofs.Acting.{is-served, is-busy, went-on, must-tell, struck-acted}
+use Rattle.std.proofs.Common.{refl, sym, ap, subst, ◌∙◌, arith, None}
+use Rattle.bz_world.specs.Inside.Acted.{IsActed}
+use Rattle.bz_world.specs.declared.parts.Parts.{Parts}
+use Rattle.bz_world.proofs.Acting.{is-served, is-busy, acted-on, acted-told, tells-no-want, tells-no-start, struck-acted, quiet-acted}
 use Rattle.bz_world.proofs.ActStrikes.{act-strikes}
 use Rattle.bz_world.proofs.act.act.Goals as goal
 
@@ -16,45 +15,32 @@ mark_effect-requires-clause-striking c =
     c.make_act-progress.result.act c.make_act-progress.result.done c.requires.kept served.is
     (subst (λ o. IsActed c.args.parts.now c.args.w c.make_act-progress.result.act c.make_act-progress.result.done o c.make_act-progress.new.parts) c.in-Some.is c.make_act-progress.ensures) (omega (arith, c.requires.room))
 
-pub returns-in-Some-clause-made : goal.returns-in-Some-clause-made
-returns-in-Some-clause-made c = struck-acted c.args.parts.now c.make_act-progress.new.parts c.mark_effect.new.parts c.args.w c.make_act-progress.result.act c.make_act-progress.result.done c.make_act-progress.result.effect c.make_act-progress.ensures c.mark_effect.ensures.struck c.mark_effect.ensures.rest
+-- its effect is marked, and the task is told nothing
+pub returns-in-Some : goal.returns-in-Some
+returns-in-Some c = record {
+  on = λ e. c.mark_effect.ensures.kept;
+  told = λ seen e. absurd (cc e);
+  swaps = λ e. cc e;
+  begun = λ e. cc e;
+  made = struck-acted c.args.parts.now c.make_act-progress.new.parts c.mark_effect.new.parts c.args.w c.make_act-progress.result.act c.make_act-progress.result.done c.make_act-progress.result.effect c.make_act-progress.ensures c.mark_effect.ensures.struck c.mark_effect.ensures.rest;
+  taken = ap (λ (p : Parts). p.access.taken) c.mark_effect.ensures.rest ∙ c.make_act-progress.ensures.step.one.others.taken;
+}
 
-pub returns-in-Busy-clause-on : goal.returns-in-Busy-clause-on
-returns-in-Busy-clause-on c = λ e. went-on c.step_laws.ensures c.args.parts.now c.make_act-progress.new.parts c.args.w c.make_act-progress.result.act c.make_act-progress.result.done c.requires.kept c.requires.open
-    (subst (λ o. IsActed c.args.parts.now c.args.w c.make_act-progress.result.act c.make_act-progress.result.done o c.make_act-progress.new.parts) c.in_default.is c.make_act-progress.ensures) c.requires.room done.Busy c.in-Busy.is
-
-pub returns-in-Read-clause-told : goal.returns-in-Read-clause-told
-returns-in-Read-clause-told c what e =
-    let acted : IsActed c.args.parts.now c.args.w c.make_act-progress.result.act c.make_act-progress.result.done None c.make_act-progress.new.parts =
-    subst (λ o. IsActed c.args.parts.now c.args.w c.make_act-progress.result.act c.make_act-progress.result.done o c.make_act-progress.new.parts) c.in_default.is c.make_act-progress.ensures in
-    let same : seen.Read c.in-Read.value ≡ what = cc e in
-    subst (MustTell c.make_act-progress.new.parts c.args.w) same
-    (must-tell c.step_laws.ensures c.args.parts.now c.make_act-progress.new.parts c.args.w c.make_act-progress.result.act c.make_act-progress.result.done c.requires.kept c.requires.open acted c.requires.room (seen.Read c.in-Read.value)
-    (went-on c.step_laws.ensures c.args.parts.now c.make_act-progress.new.parts c.args.w c.make_act-progress.result.act c.make_act-progress.result.done c.requires.kept c.requires.open acted c.requires.room (done.Read c.in-Read.value) c.in-Read.is))
-
-pub returns-in-Swapped-clause-told : goal.returns-in-Swapped-clause-told
-returns-in-Swapped-clause-told c what e =
-    let acted : IsActed c.args.parts.now c.args.w c.make_act-progress.result.act c.make_act-progress.result.done None c.make_act-progress.new.parts =
-    subst (λ o. IsActed c.args.parts.now c.args.w c.make_act-progress.result.act c.make_act-progress.result.done o c.make_act-progress.new.parts) c.in_default.is c.make_act-progress.ensures in
-    let same : seen.Swapped c.in-Swapped.won ≡ what = cc e in
-    subst (MustTell c.make_act-progress.new.parts c.args.w) same
-    (must-tell c.step_laws.ensures c.args.parts.now c.make_act-progress.new.parts c.args.w c.make_act-progress.result.act c.make_act-progress.result.done c.requires.kept c.requires.open acted c.requires.room (seen.Swapped c.in-Swapped.won)
-    (went-on c.step_laws.ensures c.args.parts.now c.make_act-progress.new.parts c.args.w c.make_act-progress.result.act c.make_act-progress.result.done c.requires.kept c.requires.open acted c.requires.room (done.Swapped c.in-Swapped.won) c.in-Swapped.is))
-
-pub returns-in-Stored-clause-told : goal.returns-in-Stored-clause-told
-returns-in-Stored-clause-told c what e =
-    let acted : IsActed c.args.parts.now c.args.w c.make_act-progress.result.act c.make_act-progress.result.done None c.make_act-progress.new.parts =
-    subst (λ o. IsActed c.args.parts.now c.args.w c.make_act-progress.result.act c.make_act-progress.result.done o c.make_act-progress.new.parts) c.in_default.is c.make_act-progress.ensures in
-    let same : seen.Stored ≡ what = cc e in
-    subst (MustTell c.make_act-progress.new.parts c.args.w) same
-    (must-tell c.step_laws.ensures c.args.parts.now c.make_act-progress.new.parts c.args.w c.make_act-progress.result.act c.make_act-progress.result.done c.requires.kept c.requires.open acted c.requires.room (seen.Stored)
-    (went-on c.step_laws.ensures c.args.parts.now c.make_act-progress.new.parts c.args.w c.make_act-progress.result.act c.make_act-progress.result.done c.requires.kept c.requires.open acted c.requires.room done.Stored c.in-Stored.is))
-
-pub returns-in-Flushed-clause-told : goal.returns-in-Flushed-clause-told
-returns-in-Flushed-clause-told c what e =
-    let acted : IsActed c.args.parts.now c.args.w c.make_act-progress.result.act c.make_act-progress.result.done None c.make_act-progress.new.parts =
-    subst (λ o. IsActed c.args.parts.now c.args.w c.make_act-progress.result.act c.make_act-progress.result.done o c.make_act-progress.new.parts) c.in_default.is c.make_act-progress.ensures in
-    let same : seen.Flushed ≡ what = cc e in
-    subst (MustTell c.make_act-progress.new.parts c.args.w) same
-    (must-tell c.step_laws.ensures c.args.parts.now c.make_act-progress.new.parts c.args.w c.make_act-progress.result.act c.make_act-progress.result.done c.requires.kept c.requires.open acted c.requires.room (seen.Flushed)
-    (went-on c.step_laws.ensures c.args.parts.now c.make_act-progress.new.parts c.args.w c.make_act-progress.result.act c.make_act-progress.result.done c.requires.kept c.requires.open acted c.requires.room done.Flushed c.in-Flushed.is))
+-- or the act was without effect
+pub returns : goal.returns
+returns c =
+    let p = c.args.parts.now in
+    let q = c.make_act-progress.new.parts in
+    let w = c.args.w in
+    let made = c.make_act-progress.result.act in
+    let answer = c.make_act-progress.result.done in
+    let acted : IsActed p w made answer None q = subst (λ o. IsActed p w made answer o q) c.in_default.is c.make_act-progress.ensures in
+    let says = c.seen_of.ensures in
+    record {
+      on = λ none. acted-on c.step_laws.ensures p q w made answer c.requires.kept c.requires.open acted c.requires.room answer refl (sym says ∙ none);
+      told = λ seen is. acted-told c.step_laws.ensures p q w made answer c.requires.kept c.requires.open acted c.requires.room answer refl seen (sym says ∙ is);
+      swaps = λ is. tells-no-want answer (sym says ∙ is);
+      begun = λ is. tells-no-start answer (sym says ∙ is);
+      made = quiet-acted p q w made answer acted;
+      taken = acted.step.one.others.taken;
+    }
