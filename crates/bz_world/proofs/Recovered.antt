@@ -1,8 +1,5 @@
 -- What comes of an act of a recovery: the next one is asked for, or it has ended.
-use Rattle.std.proofs.Common.{◌≡◌, ◌≢◌, ℕ, ◌+◌, Bool, length, arith, refl, sym, ap, subst, ◌∙◌, Option}
-use Rattle.arrayvec.specs.ArrayVec.{ArrayVec}
-use Rattle.bz_acts.specs.declared.acted.Act.{Act}
-use Rattle.bz_machine.specs.declared.done.Done.{Done}
+use Rattle.std.proofs.Common.{◌≡◌, ◌≢◌, ℕ, ◌+◌, ◌<◌, ◌≤◌, length, arith, refl, sym, ap, subst, ◌∙◌}
 use Rattle.bz_layout.specs.declared.config.Config.{Config}
 use Rattle.bz_mark.specs.Log.{Log, with_mark}
 use Rattle.bz_mark.specs.declared.marks.Mark.TheVariants.{Ready}
@@ -13,17 +10,20 @@ use Rattle.bz_recover.specs.declared.recover.Recover.{Recover}
 use Rattle.bz_story.specs.Recovering as recovery
 use Rattle.bz_story.specs.RecoveryLaws.{RecoveriesGoOn}
 use Rattle.bz_story.specs.Reviving.{TurnsMakeNoMark}
+use Rattle.bz_swap.specs.Power.{renewed}
 use Rattle.bz_swap.specs.SwapMemory.{worker_of}
 use Rattle.bz_task.specs.Scene.{Took}
 use Rattle.bz_task.specs.declared.todo.Seen.{Seen}
+use Rattle.bz_task.specs.declared.todo.Todo.{Todo}
 use Rattle.bz_world.specs.Inside.Beginning.{world_view}
-use Rattle.bz_world.specs.Inside.Kept.{IsRecovering}
+use Rattle.bz_world.specs.Inside.Kept.{IsRecovering, IsStarted, IsKept}
 use Rattle.bz_world.specs.Inside.Paid.{begun_with}
-use Rattle.bz_world.specs.Inside.Powering.{IsRawAct}
+use Rattle.bz_world.specs.Inside.Powering.{HasAsked, Wakes}
 use Rattle.bz_sound.specs.declared.power.Power.TheVariants as power
 use Rattle.bz_world.specs.WorldView.{Supply, Recovers, count_reached}
 use Rattle.bz_world.specs.declared.answers.Applied.TheVariants as applied
 use Rattle.bz_world.specs.declared.parts.Parts.{Parts}
+use Rattle.bz_world.proofs.Powered.{kept-started}
 use Rattle.bz_world.proofs.Stepping.{flush-is, flush-same, swap-same}
 use Rattle.bz_world.proofs.Supplies.{shown-on, shown-recovering}
 use Rattle.bz_world.proofs.Tabled.{tabled-beside}
@@ -50,39 +50,67 @@ asked-on go_on turns p seen next slots k on tells nodes learns = record {
       (omega (arith, on.sooner k.dark.values (recovery.words_in p.access) k.memory.recovering.knows));
 }
 
--- one act, and the recovery goes on
-pub seen-stepped : (old mid new : Parts) (made : Act) (done : Done) (told : Option ℕ) → old.power ≡ power.Recovering → IsRawAct old made done told mid → new.power ≡ mid.power → new.journal ≡ mid.journal → new.config ≡ mid.config → begun_with new ≡ begun_with mid → new.at_start ≡ mid.at_start → new.left_out ≡ mid.left_out → ((v : ℕ) → v ≢ 0 → worker_of new.access v ≡ worker_of mid.access v)
-    → Recovers (world_view old) applied.Stepped (world_view new)
-seen-stepped old mid new made done told recovering a same journal config at_begin at_start left_out others = record {
-  made = made;
-  flush = a.step.one.flush ∙ sym (flush-is old 0);
-  ends = journal ∙ ap (λ (p : Parts). p.journal) a.rest;
-  supply = shown-recovering new (same ∙ (ap (λ (p : Parts). p.power) a.rest ∙ recovering)) ∙ sym (shown-recovering old recovering);
-  at_begin = at_begin ∙ ap begun_with a.rest;
-  config = config ∙ ap (λ (p : Parts). p.config) a.rest;
-  at_start = at_start ∙ ap (λ (p : Parts). p.at_start) a.rest;
-  left_out = ap (λ (flags : ArrayVec Bool). flags.items) (left_out ∙ ap (λ (p : Parts). p.left_out) a.rest);
-  others = λ v ne. flush-same old new v (others v ne ∙ a.step.one.others.workers v ne);
-  apart = λ v ne. swap-same old new v (others v ne ∙ a.step.one.others.workers v ne);
-}
+-- an act of worker 0, of which the recovery was told
+module _ (old asked new : Parts) (todo : Todo) (a : HasAsked old todo asked) where
+  -- the next one is started
+  pub seen-stepped : old.power ≡ power.Recovering → new ≡ record asked { access = new.access } → ((v : ℕ) → v ≢ 0 → worker_of new.access v ≡ worker_of asked.access v) → Recovers (world_view old) applied.Stepped (world_view new)
+  seen-stepped recovering rest others = record {
+    made = a.made;
+    flush = a.act.step.one.flush ∙ sym (flush-is old 0);
+    ends = ap (λ (p : Parts). p.journal) rest ∙ (ap (λ (p : Parts). p.journal) a.rest ∙ ap (λ (p : Parts). p.journal) a.act.rest);
+    supply = shown-recovering new (power-is ∙ recovering) ∙ sym (shown-recovering old recovering);
+    at_begin = ap begun_with rest ∙ (ap begun_with a.rest ∙ ap begun_with a.act.rest);
+    config = ap (λ (p : Parts). p.config) rest ∙ (ap (λ (p : Parts). p.config) a.rest ∙ ap (λ (p : Parts). p.config) a.act.rest);
+    at_start = ap (λ (p : Parts). p.at_start) rest ∙ (ap (λ (p : Parts). p.at_start) a.rest ∙ ap (λ (p : Parts). p.at_start) a.act.rest);
+    left_out = ap (λ (p : Parts). p.left_out.items) rest ∙ (ap (λ (p : Parts). p.left_out.items) a.rest ∙ ap (λ (p : Parts). p.left_out.items) a.act.rest);
+    others = λ v ne. flush-same old new v (as-it-was v ne);
+    apart = λ v ne. swap-same old new v (as-it-was v ne);
+  }
+    where
+      power-is : new.power ≡ old.power
+      power-is = ap (λ (p : Parts). p.power) rest ∙ (ap (λ (p : Parts). p.power) a.rest ∙ ap (λ (p : Parts). p.power) a.act.rest)
 
--- or it has ended
-pub seen-woken : (old mid new : Parts) (made : Act) (done : Done) (told : Option ℕ) → IsRawAct old made done told mid → new.power ≡ power.On → new.access.taken ≡ 0 → length new.slots.free + count_reached mid.config mid.journal ≡ mid.config.nodes → new.journal ≡ with_mark mid.journal Ready → new.config ≡ mid.config → begun_with new ≡ begun_with mid → new.at_start ≡ mid.at_start → new.left_out ≡ mid.left_out → ((v : ℕ) → v ≢ 0 → worker_of new.access v ≡ worker_of mid.access v)
-    → Recovers (world_view old) applied.Ready (world_view new)
-seen-woken old mid new made done told a on taken left journal config at_begin at_start left_out others = record {
-  made = made;
-  flush = a.step.one.flush ∙ sym (flush-is old 0);
-  ends = journal ∙ ap (λ (p : Parts). with_mark p.journal Ready) a.rest;
-  supply = (
-    ap (λ (s : Supply). s.taken) (shown-on new on) ∙ taken,
-    subst (λ (c : Config). (world_view new).supply.left + count_reached c new.journal ≡ c.nodes) (sym config)
-        (subst (λ (j : Log). (world_view new).supply.left + count_reached mid.config j ≡ mid.config.nodes) (sym journal)
-        (subst (λ (s : Supply). s.left + count_reached mid.config mid.journal ≡ mid.config.nodes) (sym (shown-on new on)) left)),
-  );
-  at_begin = at_begin ∙ ap begun_with a.rest;
-  config = config ∙ ap (λ (p : Parts). p.config) a.rest;
-  at_start = at_start ∙ ap (λ (p : Parts). p.at_start) a.rest;
-  left_out = ap (λ (flags : ArrayVec Bool). flags.items) (left_out ∙ ap (λ (p : Parts). p.left_out) a.rest);
-  others = λ v ne. flush-same old new v (others v ne ∙ a.step.one.others.workers v ne);
-  apart = λ v ne. swap-same old new v (others v ne ∙ a.step.one.others.workers v ne);
-}
+      as-it-was : (v : ℕ) → v ≢ 0 → worker_of new.access v ≡ worker_of old.access v
+      as-it-was v ne = others v ne ∙ (ap (λ (p : Parts). worker_of p.access v) a.rest ∙ a.act.step.one.others.workers v ne)
+
+  pub kept-stepped : old.power ≡ power.Recovering → new ≡ record asked { access = new.access } → IsStarted new → IsKept new
+  kept-stepped recovering rest started = kept-started new (ap (λ (p : Parts). p.power) rest ∙ (ap (λ (p : Parts). p.power) a.rest ∙ (ap (λ (p : Parts). p.power) a.act.rest ∙ recovering))) started
+
+  -- or it has ended
+  pub seen-woken : Wakes asked new → Recovers (world_view old) applied.Ready (world_view new)
+  seen-woken woken = record {
+    made = a.made;
+    flush = a.act.step.one.flush ∙ sym (flush-is old 0);
+    ends = journal ∙ ap (λ (p : Parts). with_mark p.journal Ready) (a.rest ∙ ap (λ (p : Parts). record p { recovery = asked.recovery; slots = asked.slots }) a.act.rest);
+    supply = (
+      ap (λ (s : Supply). s.taken) (shown-on new woken.awake.on) ∙ ap (λ (p : Parts). p.access.taken) rest,
+      subst (λ (c : Config). (world_view new).supply.left + count_reached c new.journal ≡ c.nodes) (sym config)
+          (subst (λ (j : Log). (world_view new).supply.left + count_reached asked.config j ≡ asked.config.nodes) (sym journal)
+          (subst (λ (s : Supply). s.left + count_reached asked.config asked.journal ≡ asked.config.nodes) (sym (shown-on new woken.awake.on)) left)),
+    );
+    at_begin = ap begun_with rest ∙ (ap begun_with a.rest ∙ ap begun_with a.act.rest);
+    config = config ∙ (ap (λ (p : Parts). p.config) a.rest ∙ ap (λ (p : Parts). p.config) a.act.rest);
+    at_start = ap (λ (p : Parts). p.at_start) rest ∙ (ap (λ (p : Parts). p.at_start) a.rest ∙ ap (λ (p : Parts). p.at_start) a.act.rest);
+    left_out = ap (λ (p : Parts). p.left_out.items) rest ∙ (ap (λ (p : Parts). p.left_out.items) a.rest ∙ ap (λ (p : Parts). p.left_out.items) a.act.rest);
+    others = λ v ne. flush-same old new v (as-it-was v ne);
+    apart = λ v ne. swap-same old new v (as-it-was v ne);
+  }
+    where
+      rest : new ≡ record asked { access = renewed asked.access; journal = with_mark asked.journal Ready; power = power.On }
+      rest = woken.rest
+
+      journal : new.journal ≡ with_mark asked.journal Ready
+      journal = ap (λ (p : Parts). p.journal) rest
+
+      config : new.config ≡ asked.config
+      config = ap (λ (p : Parts). p.config) rest
+
+      left : length new.slots.free + count_reached asked.config asked.journal ≡ asked.config.nodes
+      left = subst (λ (s : FreeSlots). length s.free + count_reached asked.config asked.journal ≡ asked.config.nodes) (sym (ap (λ (p : Parts). p.slots) rest)) woken.left
+
+      as-it-was : (v : ℕ) → v ≢ 0 → worker_of new.access v ≡ worker_of old.access v
+      as-it-was v ne = ap (λ (p : Parts). worker_of p.access v) rest ∙ (ap (λ (p : Parts). worker_of p.access v) a.rest ∙ a.act.step.one.others.workers v ne)
+
+-- one mark was added
+pub more-room : (old asked : Parts) (todo : Todo) → HasAsked old todo asked → length old.journal.past + 3 ≤ old.config.marks → length asked.journal.past < asked.config.marks
+more-room old asked todo a room = omega (arith, room, ap (λ (p : Parts). length p.journal.past) a.rest, ap (λ (p : Parts). length p.journal.past) a.act.rest, ap (λ (p : Parts). p.config.marks) a.rest, ap (λ (p : Parts). p.config.marks) a.act.rest)

@@ -10,7 +10,7 @@ ghost use Rattle.bz_swap.specs.SwapMemory.{Loading, worker_of};
 ghost use Rattle.bz_task.specs.declared.todo.Todo.TheVariants.{Load, Finish};
 ghost use Rattle.bz_world.specs.Inside.Beginning.{world_view};
 ghost use Rattle.bz_world.specs.Inside.Kept.{IsAwake, IsRecovering, IsStarted, IsKept};
-ghost use Rattle.bz_world.specs.Inside.Powering.{IsRawAct, MustWake, Wakes};
+ghost use Rattle.bz_world.specs.Inside.Powering.{IsRawAct, HasAsked, MustWake, Wakes};
 ghost use Rattle.bz_world.specs.WorldView.{step_by, StepsBy, Recovers, Evicts};
 
 use crate::act::mark_of;
@@ -86,13 +86,12 @@ fn wake(parts: &mut Parts)
     parts.power = Power::On;
 }
 
-// Goes on with the recovery by one act.
-fn recover(parts: &mut Parts) -> Applied
+// Makes the next act of worker 0, and tells the recovery. Answers what it asks for then.
+fn ask_next(parts: &mut Parts) -> Todo
     requires started { IsStarted parts.old }
     requires power { parts.old.power ≡ power.Recovering }
     requires room { length parts.old.journal.past + 3 ≤ parts.old.config.marks }
-    ensures kept { IsKept parts.new }
-    ensures recovers { Recovers (world_view parts.old) result (world_view parts.new) }
+    ensures { HasAsked parts.old result parts.new }
 {
     sound::quiet_acts_follow();
     sound::flushes_follow();
@@ -101,15 +100,29 @@ fn recover(parts: &mut Parts) -> Applied
     story::turns_make_no_mark();
     story::recoveries_go_on();
     let progress = make_raw_act(parts);
-    let todo = parts
+    parts
         .recovery
-        .next(seen_of(progress.done), &mut parts.slots);
-    if matches!(todo, Todo::Finish) {
-        wake(parts);
-        return Applied::Ready;
+        .next(seen_of(progress.done), &mut parts.slots)
+}
+
+// Goes on with the recovery by one act.
+fn recover(parts: &mut Parts) -> Applied
+    requires started { IsStarted parts.old }
+    requires power { parts.old.power ≡ power.Recovering }
+    requires room { length parts.old.journal.past + 3 ≤ parts.old.config.marks }
+    ensures kept { IsKept parts.new }
+    ensures recovers { Recovers (world_view parts.old) result (world_view parts.new) }
+{
+    match ask_next(parts) {
+        Todo::Finish => {
+            wake(parts);
+            Applied::Ready
+        }
+        todo => {
+            start_act(parts, todo);
+            Applied::Stepped
+        }
     }
-    start_act(parts, todo);
-    Applied::Stepped
 }
 
 /// Goes on with the recovery where the step is one of worker 0.

@@ -11,6 +11,7 @@ use Rattle.bz_story.specs.Recovering.{Asked}
 use Rattle.bz_swap.specs.Power.{after_cut, renewed}
 use Rattle.bz_swap.specs.Steps.{IsRawStep}
 use Rattle.bz_swap.specs.SwapMemory.{Working}
+use Rattle.bz_task.specs.declared.todo.Todo.{Todo}
 use Rattle.bz_task.specs.declared.todo.Todo.TheVariants.{Finish}
 use Rattle.bz_world.specs.Inside.Kept.{IsAwake, IsRecovering}
 use Rattle.bz_world.specs.WorldView.{mark_of, count_reached}
@@ -27,6 +28,18 @@ pub record IsCut (old new : Parts) : Type 0 where
 pub record IsRawAct (old : Parts) (made : Act) (done : Done) (told : Option ℕ) (new : Parts) : Type 0 where
   pub step : IsRawStep old.access 0 made done told new.access
   pub rest : new ≡ record old { access = new.access; journal = with_mark old.journal (mark_of 0 made) }
+
+-- and the recovery was told what came of it, and asks for this next
+pub record HasAsked (old : Parts) (todo : Todo) (new : Parts) : Type 0 where
+  pub made : Act
+  pub done : Done
+  pub told : Option ℕ
+  pub mid : Parts
+  pub act : IsRawAct old made done told mid
+  pub rest : new ≡ record mid { recovery = new.recovery; slots = new.slots }
+  pub recovering : IsRecovering new Asked
+  pub asks : asks_of new.recovery ≡ Some todo
+  pub after : IsAfterRecovering new.journal.past
 
 -- directly after an act of worker 0 the recovery asks for nothing more
 pub record MustWake (p : Parts) : Type 0 where

@@ -1,0 +1,27 @@
+use Rattle.std.proofs.Common.{refl, sym, ap, ◌∙◌}
+use Rattle.bz_layout.specs.declared.config.Config.{Config}
+use Rattle.bz_world.proofs.Recovered.{asked-on}
+use Rattle.bz_world.proofs.Recovering.{made-on, told-on, after-on}
+use Rattle.bz_world.proofs.recovery.ask_next.Goals as goal
+
+pub next-requires-clause-slots : goal.next-requires-clause-slots
+next-requires-clause-slots c =
+    let on = made-on (record { quiet = c.quiet_acts_follow.ensures; flush = c.flushes_follow.ensures; same = c.same_content_decodes.ensures }) c.acts_are_marked.ensures c.args.parts.now c.make_raw_act-progress.new.parts c.make_raw_act-progress.result.act c.make_raw_act-progress.result.done c.make_raw_act-progress.result.effect c.requires.started c.requires.power c.requires.room c.make_raw_act-progress.ensures in
+    on.dark.slots ∙ ap (λ (d : Config). d.nodes) (sym on.memory.recovering.config)
+
+pub returns : goal.returns
+returns c = record {
+  made = c.make_raw_act-progress.result.act;
+  done = c.make_raw_act-progress.result.done;
+  told = c.make_raw_act-progress.result.effect;
+  mid = c.make_raw_act-progress.new.parts;
+  act = c.make_raw_act-progress.ensures;
+  rest = refl;
+  recovering = asked-on c.recoveries_go_on.ensures c.turns_make_no_mark.ensures c.make_raw_act-progress.new.parts c.seen_of.result c.next.new.self c.next.new.slots
+      (made-on (record { quiet = c.quiet_acts_follow.ensures; flush = c.flushes_follow.ensures; same = c.same_content_decodes.ensures }) c.acts_are_marked.ensures c.args.parts.now c.make_raw_act-progress.new.parts c.make_raw_act-progress.result.act c.make_raw_act-progress.result.done c.make_raw_act-progress.result.effect c.requires.started c.requires.power c.requires.room c.make_raw_act-progress.ensures)
+      (record { config = c.next.ensures.config; ready = c.next.ensures.ready; learns = c.next.ensures.learns; sooner = c.next.ensures.sooner })
+      (told-on (record { quiet = c.quiet_acts_follow.ensures; flush = c.flushes_follow.ensures; same = c.same_content_decodes.ensures }) c.acts_are_marked.ensures c.args.parts.now c.make_raw_act-progress.new.parts c.make_raw_act-progress.result.act c.make_raw_act-progress.result.done c.make_raw_act-progress.result.effect c.requires.started c.requires.power c.requires.room c.make_raw_act-progress.ensures c.seen_of.result c.seen_of.ensures)
+      c.next.ensures.slots c.next.ensures.walked;
+  asks = c.next.ensures.asked;
+  after = after-on (record { quiet = c.quiet_acts_follow.ensures; flush = c.flushes_follow.ensures; same = c.same_content_decodes.ensures }) c.acts_are_marked.ensures c.args.parts.now c.make_raw_act-progress.new.parts c.make_raw_act-progress.result.act c.make_raw_act-progress.result.done c.make_raw_act-progress.result.effect c.requires.started c.requires.power c.requires.room c.make_raw_act-progress.ensures;
+}
