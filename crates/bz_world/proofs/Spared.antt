@@ -3,6 +3,7 @@ use Rattle.std.proofs.Common.{◌≡◌, ◌≢◌, ◌⊎◌, ℕ, ◌+◌, ◌
 use Rattle.std.specs.Prelude.{IsSome, nat_lt}
 use Rattle.std.proofs.lemmas.Bool.Decides.{nat_tests}
 use Rattle.bz_call.specs.Map.{key_of}
+use Rattle.bz_call.specs.Pages.{is_page}
 use Rattle.bz_layout.specs.declared.thresholds.TheConstants.{SPLIT_ABOVE}
 use Rattle.bz_lone.specs.Renewals.{IsLacking, IsLarge}
 use Rattle.bz_record.specs.Records.{words_for}
@@ -261,10 +262,19 @@ no-read (call.Get key) get page = absurd (get key refl)
 no-read (call.Page key) get page = absurd (page key refl)
 
 -- any call but a page looks its key up
-pub finds : (called : Call) → ((key : List ℕ) → called ≢ call.Page key) → IsLookOf called kinds.Find
+pub finds : (called : Call) → is_page called ≡ false → IsLookOf called kinds.Find
 finds (call.Insert key payload) page = tt
 finds (call.Update key payload) page = tt
 finds (call.Upsert key payload) page = tt
 finds (call.Delete key) page = tt
 finds (call.Get key) page = inr refl
-finds (call.Page key) page = absurd (page key refl)
+finds (call.Page key) page = absurd (cc page)
+
+-- and a page reads its leaf whole, and changes nothing
+pub pages-read : (called : Call) → is_page called ≡ true → IsLookOf called kinds.ReadWhole × (is_read called ≡ true)
+pages-read (call.Insert key payload) page = absurd (cc page)
+pages-read (call.Update key payload) page = absurd (cc page)
+pages-read (call.Upsert key payload) page = absurd (cc page)
+pages-read (call.Delete key) page = absurd (cc page)
+pages-read (call.Get key) page = absurd (cc page)
+pages-read (call.Page key) page = (inr refl, refl)

@@ -4,7 +4,7 @@ ghost use Rattle.bz_call.specs.Map.{key_of as key_in};
 ghost use Rattle.bz_sound.specs.Memory.Replies.{IsWrite};
 ghost use Rattle.bz_task.specs.declared.todo.Todo.TheVariants.{Finish};
 ghost use Rattle.bz_world.specs.Inside.Merging.{is_below as leads_below};
-ghost use Rattle.bz_world.specs.Inside.Going.{call_in, end_in, asks_in, path_in as way_in, had_in as payload_in, effect_in as moment_in, froze_in, alone_in, freezes_in, merges_in, few_in, DeletesIn, CanGoUpIn, MayGoUpIn, StandsBelowIn, GoesUpIn, with_task, with_change, with_alone, with_froze};
+ghost use Rattle.bz_world.specs.Inside.Going.{call_in, end_in, asks_in, path_in as way_in, had_in as payload_in, effect_in as moment_in, page_in, froze_in, alone_in, freezes_in, merges_in, few_in, DeletesIn, CanGoUpIn, MayGoUpIn, StandsBelowIn, GoesUpIn, with_task, with_change, with_alone, with_froze};
 
 use crate::serving::OpenCall;
 use bz_call::Call;
@@ -110,6 +110,16 @@ pub(crate) fn effect_in(slot: &Option<OpenCall>) -> Option<u32>
     match slot {
         Some(serving) => serving.effect,
         None => None,
+    }
+}
+
+/// Whether it is a page that is asked for.
+pub(crate) fn asks_page(slot: &Option<OpenCall>) -> bool
+    ensures { result ≡ page_in slot.now }
+{
+    match slot {
+        Some(serving) => matches!(serving.call, Call::Page(_)),
+        None => false,
     }
 }
 

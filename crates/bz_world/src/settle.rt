@@ -10,8 +10,8 @@ ghost use Rattle.bz_world.specs.Inside.Telling.{MustStart, MustStartFound};
 
 use crate::answers::Applied;
 use crate::calls::{
-    above, called, effect_in, has_frozen, is_freezing, is_merging, key_of, leaves_few, path_in,
-    set_alone, set_froze, set_task,
+    above, asks_page, called, effect_in, has_frozen, is_freezing, is_merging, key_of, leaves_few,
+    path_in, set_alone, set_froze, set_task,
 };
 use crate::changes::{answer_delete, answer_insert, answer_update, answer_upsert};
 use crate::end::{end, end_page};
@@ -127,14 +127,10 @@ fn look_into(parts: &mut Parts, w: u8, path: Path) -> Applied
     if has_frozen(&parts.workers[w as usize]) {
         return read_frozen(parts, w, path);
     }
-    match called(&parts.workers[w as usize]) {
-        Call::Page(_) => read_leaf(parts, w, path),
-        Call::Get(_)
-        | Call::Insert(_, _)
-        | Call::Delete(_)
-        | Call::Update(_, _)
-        | Call::Upsert(_, _) => find_key(parts, w, path),
+    if asks_page(&parts.workers[w as usize]) {
+        return read_leaf(parts, w, path);
     }
+    find_key(parts, w, path)
 }
 
 // Answers a page by its whole leaf. Any other call has read it whole because it has no room there: it is made anew, if so still.

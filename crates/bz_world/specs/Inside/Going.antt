@@ -161,6 +161,11 @@ abbrev pub effect_in : Option OpenCall → Option ℕ
 effect_in None = None
 effect_in (Some x) = x.effect
 
+-- whether the call asks for a page
+abbrev pub page_in : Option OpenCall → Bool
+page_in None = false
+page_in (Some x) = is_page x.call
+
 abbrev pub froze_in : Option OpenCall → Bool
 froze_in None = false
 froze_in (Some x) = x.froze
