@@ -169,10 +169,7 @@ pub kept-fresh : Laws → (c : Config) (start : List ℕ) (p : Parts) → start 
 kept-fresh b c start p fresh config slots made =
     kept-awake p (kept-open b p (subst (λ words. IsMadeOver words power.On p) (fresh ∙ ap fresh_words (sym config)) made) (slots ∙ ap fresh_slots (sym config)))
 
--- what is made, of parts whose memory and journal are known by other names
-pub made-over : (start : List ℕ) (at_start : Power) (p : Parts) (m : SwapMemory) (j : Log) → m ≡ p.access → j ≡ p.journal → IsMadeOver start at_start (record p { access = m; journal = j }) → IsMadeOver start at_start p
-made-over start at_start p m j access journal made = subst (IsMadeOver start at_start) (λ t. record p { access = access t; journal = journal t }) made
-
+-- the journal that is opened
 pub opened-journal : (j : Log) (start : List ℕ) (at_start : Power) (c : Config) → j.start ≡ start → j.past ≡ [] → j.pages ≡ [] → j.limits ≡ record { marks = c.marks; calls = c.calls; pages = c.pages }
     → j ≡ (view_over c start at_start).log
 opened-journal j start at_start c same past pages limits = λ t. record { start = same t; past = past t; pages = pages t; limits = limits t }

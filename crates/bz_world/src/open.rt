@@ -40,6 +40,33 @@ fn none_table<T: Drop>(alloc: Global, places: usize) -> Result<Vec<Option<T>>, M
     Ok(table)
 }
 
+// The tables of a world in which nothing has happened.
+#[derive(Drop)]
+struct Tables {
+    workers: Vec<Option<OpenCall>>,
+    owners: Vec<u8>,
+    numbers: Vec<u32>,
+    page: PageBuf,
+}
+
+// Those of a world with so many descriptors.
+fn open_tables(alloc: Global, swaps: u32) -> Result<Tables, Memory>
+    ensures workers { IfOk result (λ tables. tables.workers.items ≡ replicate 65 None) }
+    ensures owners { IfOk result (λ tables. tables.owners.items ≡ replicate swaps 0) }
+    ensures numbers { IfOk result (λ tables. tables.numbers.items ≡ replicate 65 0) }
+{
+    let page = PageBuf::open(alloc)?;
+    let numbers = vec![in alloc; 0u32; PLACES]?;
+    let owners = vec![in alloc; 0u8; swaps as usize]?;
+    let workers = none_table(alloc, PLACES)?;
+    Ok(Tables {
+        workers,
+        owners,
+        numbers,
+        page,
+    })
+}
+
 /// The parts of a world over these words, in which nothing has happened.
 pub(crate) fn parts_over(
     alloc: Global,
@@ -60,7 +87,12 @@ pub(crate) fn parts_over(
     bz_layout::addresses_fit();
     let access = Access::open(alloc, start, config.swaps, config.workers)?;
     let journal = Journal::open(alloc, start, config.marks, config.calls, config.pages)?;
-    let workers = none_table(alloc, PLACES)?;
+    let Tables {
+        workers,
+        owners,
+        numbers,
+        page,
+    } = open_tables(alloc, config.swaps)?;
     Ok(Parts {
         config: *config,
         access,
@@ -70,9 +102,9 @@ pub(crate) fn parts_over(
         power: at_start,
         recovery: Recover::new(config),
         workers,
-        owners: vec![in alloc; 0u8; config.swaps as usize]?,
-        numbers: vec![in alloc; 0u32; PLACES]?,
-        page: PageBuf::open(alloc)?,
+        owners,
+        numbers,
+        page,
         left_out: ArrayVec::new(),
         pairs,
         taken_then: 0,
