@@ -1,12 +1,12 @@
 -- What a worker's task asks for may be started, and once it is, the world is kept.
-use Rattle.std.proofs.Common.{◌≡◌, ℕ, zero, suc, ◌*◌, ◌<◌, List, length, arith, refl, sym, subst, ◌∙◌}
+use Rattle.std.proofs.Common.{◌≡◌, ◌≢◌, ℕ, zero, suc, ◌*◌, ◌<◌, List, length, arith, refl, sym, ap, subst, ◌∙◌}
 use Rattle.std.proofs.lemmas.List.{get_or-set_same, get_or-set_other, length-set}
 use Rattle.std.specs.Vec.{with_item}
 use Rattle.bz_story.specs.Story.{scene}
 use Rattle.bz_swap.specs.EntryLists.{IsEntryList}
 use Rattle.bz_swap.specs.Held.{Holds}
-use Rattle.bz_swap.specs.Starts.{MayRead, MayStore, MayFlush, MaySwap, started, swapping}
-use Rattle.bz_swap.specs.SwapMemory.{SwapMemory, Reading, Storing, Flushing}
+use Rattle.bz_swap.specs.Starts.{MayRead, MayStore, MayFlush, MaySwap, begins_by_flush, started, swapping}
+use Rattle.bz_swap.specs.SwapMemory.{SwapMemory, Doing, Reading, Storing, Flushing, idle, worker_of}
 use Rattle.bz_task.specs.Scene.{Scene}
 use Rattle.bz_task.specs.declared.todo.Todo.{Todo}
 use Rattle.bz_task.specs.declared.todo.Todo.TheVariants as todo
@@ -26,6 +26,17 @@ store-within m (suc w) a v some may = may.address.within
 flush-within : (m : SwapMemory) (w line : ℕ) → 0 < w → MayFlush m w line → line * 8 < length m.cached
 flush-within m zero line some may = absurd (omega (arith, some))
 flush-within m (suc w) line some may = may.address.within
+
+-- a start takes no descriptor, and leaves the other workers as they were
+pub record StartsOne (old new : SwapMemory) (w : ℕ) : Type 0 where
+  pub taken : new.taken ≡ old.taken
+  pub others : (v : ℕ) → v ≢ w → worker_of new v ≡ worker_of old v
+
+pub starts-one : (old new : SwapMemory) (w : ℕ) (doing : Doing) → new ≡ started old w doing → StartsOne old new w
+starts-one old new w doing is = record {
+  taken = ap (λ (m : SwapMemory). m.taken) is;
+  others = λ v ne. ap (λ (m : SwapMemory). worker_of m v) is ∙ get_or-set_other old.workers w v (record { doing = doing; flush_next = begins_by_flush doing }) idle ne;
+}
 
 module _ (b : StartLaws) (p : Parts) (w : ℕ) where
   -- the scene of the worker's task
