@@ -77,6 +77,10 @@ module _ (b : StepLaws) (old new : Parts) (w : ℕ) (made : Act) (answer : Done)
   acted-told done.Stored e seen is = told-by heard.Stored seen is (must-tell heard.Stored (went-on done.Stored e))
   acted-told done.Flushed e seen is = told-by heard.Flushed seen is (must-tell heard.Flushed (went-on done.Flushed e))
 
+-- nothing is told where there is nothing to tell
+pub none-told : (seen : Seen) → None ≢ Some seen
+none-told seen e = cc e
+
 -- it is told of no want of a descriptor, and not to begin
 pub tells-no-want : (z : Done) → seen_by z ≢ Some heard.NoSwap
 tells-no-want done.Busy e = cc e

@@ -1,7 +1,7 @@
 -- A call that has ended: the world but for its End is as it was.
 use Rattle.std.proofs.Common.{◌≡◌, ◌≢◌, ℕ, suc, ◌+◌, ◌<◌, ◌≤◌, true, false, List, [], ◌∷◌, ◌++◌, length, slice_index, arith, refl, sym, ap, subst, ◌∙◌, inl, inr, Option, Some, None, append-nil}
 use Rattle.std.specs.Prelude.{get_or, if◌then◌else◌}
-use Rattle.std.specs.Vec.{with_item}
+use Rattle.std.specs.Vec.{with_item, vec_len}
 use Rattle.std.proofs.lemmas.Bool.{cases_eq, true≢false}
 use Rattle.std.proofs.lemmas.List.{get_or_read_under, get_or-set_same, get_or-set_other, length-set}
 use Rattle.bz_call.specs.Pages.{is_page, names_page}
@@ -92,6 +92,12 @@ module _ (b : EndLaws) (p : Parts) (w : ℕ) (on : MustGoOn p w) where
 
   in-table : w < 65
   in-table = omega (arith, was.within, was.tabled.config.workers_in_range.at_most)
+
+  pub in-numbers : w < vec_len p.numbers
+  in-numbers = omega (arith, in-table, was.tabled.number_places, p.numbers.ok.0)
+
+  pub in-workers : w < vec_len p.workers
+  in-workers = omega (arith, in-table, was.tabled.places, p.workers.ok.0)
 
   -- the number of the call
   pub number-is : slice_index p.numbers.items w ≡ was.opened.number

@@ -1,5 +1,5 @@
 -- A word that becomes durable by itself.
-use Rattle.std.proofs.Common.{◌≡◌, ◌≢◌, ℕ, ◌<◌, ◌∷◌, length, slice_index, arith, refl, sym, ap, subst, ◌∙◌, Option, Some, None}
+use Rattle.std.proofs.Common.{◌≡◌, ◌≢◌, ℕ, ◌≤◌, ◌+◌, ◌<◌, ◌∷◌, length, slice_index, arith, refl, sym, ap, subst, ◌∙◌, Option, Some, None}
 use Rattle.std.specs.Prelude.{get_or}
 use Rattle.bz_content.specs.Content.{image_fault, content_in}
 use Rattle.bz_mark.specs.Log.{with_mark}
@@ -23,9 +23,12 @@ use Rattle.bz_swap.specs.SwapMemory.{SwapMemory, doing_of, memory_words}
 use Rattle.bz_swap.specs.declared.phase.Phase.{Phase}
 use Rattle.bz_swap.specs.declared.phase.Phase.TheVariants.{Opened, Running, Recovering}
 use Rattle.bz_world.specs.Inside.Acted.{IsEvicted, IsStriking, SameWork}
+use Rattle.bz_world.specs.Inside.Beginning.{world_view}
 use Rattle.bz_world.specs.Inside.Kept.{IsTabled, AreTaken, IsAwake}
 use Rattle.bz_world.specs.Inside.Exact.{reach_of}
 use Rattle.bz_world.specs.Inside.Serving.{IsSlot, tells_of}
+use Rattle.bz_world.specs.WorldView.{Evicts, IsStruck}
+use Rattle.bz_world.specs.declared.answers.Applied.TheVariants as applied
 use Rattle.bz_world.specs.declared.parts.Parts.{Parts}
 use Rattle.bz_world.specs.Inside.Laws.{BegunLaws, StepLaws}
 use Rattle.bz_story.proofs.Powered.{stored-since}
@@ -165,3 +168,17 @@ module _ (b : StepLaws) (sees : EvictionsAreSeen) (old new : Parts) (a : ℕ) (k
     workers = slots;
     lonely = all-evicted b old new a k e;
   })
+
+-- and it is seen, with the effect that came of it, if one did
+pub evict-seen : (old mid new : Parts) (a : ℕ) (told : Option ℕ) → IsEvicted old a told mid → IsStruck mid.journal.past new.journal.past → new ≡ record mid { journal = record mid.journal { past = new.journal.past }; workers = new.workers; pairs = new.pairs }
+    → Evicts (world_view old) a applied.Evicted (world_view new)
+evict-seen old mid new a told e struck rest = record {
+  answered = refl;
+  past = new.journal.past;
+  effect = subst (λ (p : Parts). IsStruck p.journal.past new.journal.past) e.rest struck;
+  rest = ap world_view rest ∙ (ap (λ (p : Parts). record (world_view p) { log = record p.journal { past = new.journal.past } }) e.rest
+      ∙ ap (λ (m : SwapMemory). record (world_view (record old { access = m })) { log = record old.journal { past = new.journal.past } }) e.eviction.is);
+}
+
+pub evict-room : (old mid : Parts) (a : ℕ) (told : Option ℕ) → IsEvicted old a told mid → length old.journal.past + 3 ≤ old.config.marks → length mid.journal.past < mid.config.marks
+evict-room old mid a told e room = omega (arith, room, ap (λ (p : Parts). length p.journal.past) e.rest, ap (λ (p : Parts). p.config.marks) e.rest)

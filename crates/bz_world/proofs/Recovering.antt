@@ -18,7 +18,7 @@ use Rattle.bz_sound.specs.Power.ImageLaws.{SameContentDecodes}
 use Rattle.bz_sound.specs.Power.Sound.{IsSound}
 use Rattle.bz_sound.specs.Power.Times.{power_of}
 use Rattle.bz_story.specs.Recovering as recovery
-use Rattle.bz_recover.specs.Duties.{acts_left, Tells}
+use Rattle.bz_recover.specs.Duties.{acts_left, Hears, Tells}
 use Rattle.bz_story.specs.RecoveryLaws.{Recovers, StaysRecovering, seen_of}
 use Rattle.bz_task.specs.declared.todo.Seen.{Seen}
 use Rattle.bz_story.specs.Reviving as reviving
@@ -121,6 +121,9 @@ module _ (b : Laws) (recovers : ActsAreMarked) (old new : Parts) (made : Act) (d
   -- the same of the world with the act made
   pub made-on : IsRecovering new recovery.Made
   made-on = subst (λ (p : Parts). IsRecovering p recovery.Made) (sym a.rest) raw-made
+
+  pub hears-on : (seen : Seen) → seen ≡ seen_of done → Hears new.recovery seen
+  hears-on seen e = subst (λ t. Hears t seen) (sym (ap (λ (p : Parts). p.recovery) a.rest)) (subst (Hears old.recovery) (sym e) marked-raw.recovers.hears)
 
   pub told-on : (seen : Seen) → seen ≡ seen_of done → Tells new.recovery seen (recovery.words_in new.access)
   told-on seen e = subst (λ t. Tells t seen (recovery.words_in new.access)) (sym (ap (λ (p : Parts). p.recovery) a.rest)) (subst (λ z. Tells old.recovery z (recovery.words_in new.access)) (sym e) marked-raw.recovers.tells)

@@ -1,12 +1,12 @@
 -- What a worker's task asks for may be started, and once it is, the world is kept.
-use Rattle.std.proofs.Common.{◌≡◌, ◌≢◌, ℕ, zero, suc, ◌*◌, ◌<◌, List, length, arith, refl, sym, ap, subst, ◌∙◌}
+use Rattle.std.proofs.Common.{◌≡◌, ◌≢◌, ℕ, false, zero, suc, ◌*◌, ◌<◌, List, length, arith, refl, sym, ap, subst, ◌∙◌}
 use Rattle.std.proofs.lemmas.List.{get_or-set_same, get_or-set_other, length-set}
 use Rattle.std.specs.Vec.{with_item}
 use Rattle.bz_story.specs.Story.{scene}
 use Rattle.bz_swap.specs.EntryLists.{IsEntryList}
 use Rattle.bz_swap.specs.Held.{Holds}
 use Rattle.bz_swap.specs.Starts.{MayRead, MayStore, MayFlush, MaySwap, begins_by_flush, started, swapping}
-use Rattle.bz_swap.specs.SwapMemory.{SwapMemory, Doing, Reading, Storing, Flushing, idle, worker_of}
+use Rattle.bz_swap.specs.SwapMemory.{SwapMemory, Doing, Reading, Swapping, Storing, Flushing, idle, worker_of}
 use Rattle.bz_task.specs.Scene.{Scene}
 use Rattle.bz_task.specs.declared.todo.Todo.{Todo}
 use Rattle.bz_task.specs.declared.todo.Todo.TheVariants as todo
@@ -37,6 +37,10 @@ starts-one old new w doing is = record {
   taken = ap (λ (m : SwapMemory). m.taken) is;
   others = λ v ne. ap (λ (m : SwapMemory). worker_of m v) is ∙ get_or-set_other old.workers w v (record { doing = doing; flush_next = begins_by_flush doing }) idle ne;
 }
+
+-- and so does a swap's start, which takes one
+pub swaps-one : (old new : SwapMemory) (w : ℕ) (entries : List Entry) → new ≡ swapping old w entries → (v : ℕ) → v ≢ w → worker_of new v ≡ worker_of old v
+swaps-one old new w entries is v ne = ap (λ (m : SwapMemory). worker_of m v) is ∙ get_or-set_other old.workers w v (record { doing = Swapping old.taken; flush_next = false }) idle ne
 
 module _ (b : StartLaws) (p : Parts) (w : ℕ) where
   -- the scene of the worker's task

@@ -1,7 +1,8 @@
 use Rattle.std.proofs.Common.{refl, sym, ap, subst, ◌∙◌, arith, None}
+use Rattle.bz_task.specs.declared.todo.Seen.TheVariants.{NoSwap, Start}
 use Rattle.bz_world.specs.Inside.Acted.{IsActed}
 use Rattle.bz_world.specs.declared.parts.Parts.{Parts}
-use Rattle.bz_world.proofs.Acting.{is-served, is-busy, acted-on, acted-told, tells-no-want, tells-no-start, struck-acted, quiet-acted}
+use Rattle.bz_world.proofs.Acting.{is-served, is-busy, acted-on, acted-told, none-told, tells-no-want, tells-no-start, struck-acted, quiet-acted}
 use Rattle.bz_world.proofs.ActStrikes.{act-strikes}
 use Rattle.bz_world.proofs.act.act.Goals as goal
 
@@ -19,9 +20,9 @@ mark_effect-requires-clause-striking c =
 pub returns-in-Some : goal.returns-in-Some
 returns-in-Some c = record {
   on = λ e. c.mark_effect.ensures.kept;
-  told = λ seen e. absurd (cc e);
-  swaps = λ e. cc e;
-  begun = λ e. cc e;
+  told = λ seen e. absurd (none-told seen e);
+  swaps = none-told NoSwap;
+  begun = none-told Start;
   made = struck-acted c.args.parts.now c.make_act-progress.new.parts c.mark_effect.new.parts c.args.w c.make_act-progress.result.act c.make_act-progress.result.done c.make_act-progress.result.effect c.make_act-progress.ensures c.mark_effect.ensures.struck c.mark_effect.ensures.rest;
   taken = ap (λ (p : Parts). p.access.taken) c.mark_effect.ensures.rest ∙ c.make_act-progress.ensures.step.one.others.taken;
 }

@@ -1,11 +1,11 @@
-use Rattle.std.proofs.Common.{◌≡◌, ◌∙◌, ap, sym, subst, None}
+use Rattle.std.proofs.Common.{◌≡◌, ◌∙◌, refl, ap, sym, subst, None}
 use Rattle.std.specs.Vec.{with_item}
 use Rattle.bz_call.specs.declared.replies.Reply.TheVariants.{Page}
 use Rattle.bz_mark.specs.Log.{HasRoom, Log, with_page, with_mark}
 use Rattle.bz_mark.specs.declared.marks.Mark.TheVariants.{End}
 use Rattle.bz_world.specs.Inside.Going.{WentOn}
 use Rattle.bz_world.specs.declared.answers.Applied.TheVariants.{Ended}
-use Rattle.bz_world.proofs.Ended.{number-read, end-room, page-room, end-page-went}
+use Rattle.bz_world.proofs.Ended.{in-numbers, in-workers, number-read, end-room, page-room, end-page-went}
 use Rattle.bz_world.proofs.end.end_page.Goals as goal
 
 pub add_page-page-requires-clause-room : goal.add_page-page-requires-clause-room
@@ -22,3 +22,12 @@ returns-clause-went c = subst (λ z. WentOn c.args.parts.now c.args.w (Ended c.i
   where
     journal-is : c.push.new.self ≡ with_mark (with_page c.args.parts.now.journal c.args.parts.now.page) (End c.args.w c.index-n.result.now (Page c.add_page-page.result c.args.next) c.args.at)
     journal-is = c.push.ensures ∙ ap (λ (z : Log). with_mark z (End c.args.w c.index-n.result.now (Page c.add_page-page.result c.args.next) c.args.at)) (c.add_page-page.ensures.added ∙ ap (with_page c.args.parts.now.journal) c.pairs.ensures.same)
+
+pub returns-clause-slots : goal.returns-clause-slots
+returns-clause-slots c = refl
+
+pub index-n-requires : goal.index-n-requires
+index-n-requires c = in-numbers c.end_laws.ensures c.args.parts.now c.args.w c.requires.right.on
+
+pub index_mut-requires : goal.index_mut-requires
+index_mut-requires c = in-workers c.end_laws.ensures c.args.parts.now c.args.w c.requires.right.on

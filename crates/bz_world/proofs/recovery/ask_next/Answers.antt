@@ -1,13 +1,18 @@
 use Rattle.std.proofs.Common.{refl, sym, ap, ◌∙◌}
 use Rattle.bz_layout.specs.declared.config.Config.{Config}
 use Rattle.bz_world.proofs.Recovered.{asked-on}
-use Rattle.bz_world.proofs.Recovering.{made-on, told-on, after-on}
+use Rattle.bz_world.proofs.Recovering.{Laws, hears-on, made-on, told-on, after-on}
 use Rattle.bz_world.proofs.recovery.ask_next.Goals as goal
 
-pub next-requires-clause-slots : goal.next-requires-clause-slots
-next-requires-clause-slots c =
-    let on = made-on (record { quiet = c.quiet_acts_follow.ensures; flush = c.flushes_follow.ensures; same = c.same_content_decodes.ensures }) c.acts_are_marked.ensures c.args.parts.now c.make_raw_act-progress.new.parts c.make_raw_act-progress.result.act c.make_raw_act-progress.result.done c.make_raw_act-progress.result.effect c.requires.started c.requires.power c.requires.room c.make_raw_act-progress.ensures in
-    on.dark.slots ∙ ap (λ (d : Config). d.nodes) (sym on.memory.recovering.config)
+pub next-requires : goal.next-requires
+next-requires c =
+    let b : Laws = record { quiet = c.quiet_acts_follow.ensures; flush = c.flushes_follow.ensures; same = c.same_content_decodes.ensures } in
+    let on = made-on b c.acts_are_marked.ensures c.args.parts.now c.make_raw_act-progress.new.parts c.make_raw_act-progress.result.act c.make_raw_act-progress.result.done c.make_raw_act-progress.result.effect c.requires.started c.requires.power c.requires.room c.make_raw_act-progress.ensures in
+    record {
+      ready = on.memory.recovering.ready;
+      slots = on.dark.slots ∙ ap (λ (d : Config). d.nodes) (sym on.memory.recovering.config);
+      hears = hears-on b c.acts_are_marked.ensures c.args.parts.now c.make_raw_act-progress.new.parts c.make_raw_act-progress.result.act c.make_raw_act-progress.result.done c.make_raw_act-progress.result.effect c.requires.started c.requires.power c.requires.room c.make_raw_act-progress.ensures c.seen_of.result c.seen_of.ensures;
+    }
 
 pub returns : goal.returns
 returns c = record {

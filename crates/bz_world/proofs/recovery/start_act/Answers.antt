@@ -1,10 +1,19 @@
-use Rattle.std.proofs.Common.{◌≡◌, sym, ap, subst, ◌∙◌, Some}
+use Rattle.std.proofs.Common.{◌≡◌, ◌≢◌, ℕ, sym, ap, subst, ◌∙◌, Some}
 use Rattle.bz_swap.specs.Starts.{started}
-use Rattle.bz_task.specs.declared.todo.Todo.TheVariants.{Load}
+use Rattle.bz_task.specs.declared.todo.Todo.TheVariants.{Load, Store, Flush}
 use Rattle.bz_swap.specs.SwapMemory.{SwapMemory, Loading, Storing, Flushing}
 use Rattle.bz_world.specs.Inside.Kept.{IsStarted}
 use Rattle.bz_world.proofs.Recovering.{started-recovering}
 use Rattle.bz_world.proofs.recovery.start_act.Goals as goal
+
+stores-no-load : (a v : ℕ) → Store a v ≢ Load 0
+stores-no-load a v e = cc e
+
+flushes-no-load : (line : ℕ) → Flush line ≢ Load 0
+flushes-no-load line e = cc e
+
+loads-first : (a : ℕ) → Load a ≡ Load 0 → a ≡ 0
+loads-first a e = cc e
 
 pub start_load-requires : goal.start_load-requires
 start_load-requires c =
@@ -31,12 +40,10 @@ returns-in-Flush-clause-started c =
 
 pub returns-in-Load-clause-first : goal.returns-in-Load-clause-first
 returns-in-Load-clause-first c e =
-    let same : Load c.in-Load.a ≡ Load 0 = sym c.in-Load.is ∙ e in
-    let zero : c.in-Load.a ≡ 0 = cc same in
-    c.start_load.ensures.started ∙ ap (λ a. started c.args.parts.now.access 0 (Loading a)) zero
+    c.start_load.ensures.started ∙ ap (λ a. started c.args.parts.now.access 0 (Loading a)) (loads-first c.in-Load.a (sym c.in-Load.is ∙ e))
 
 pub returns-in-Store-clause-first : goal.returns-in-Store-clause-first
-returns-in-Store-clause-first c e = let is = c.in-Store.is in absurd (cc (is, e))
+returns-in-Store-clause-first c e = absurd (stores-no-load c.in-Store.a c.in-Store.v (sym c.in-Store.is ∙ e))
 
 pub returns-in-Flush-clause-first : goal.returns-in-Flush-clause-first
-returns-in-Flush-clause-first c e = let is = c.in-Flush.is in absurd (cc (is, e))
+returns-in-Flush-clause-first c e = absurd (flushes-no-load c.in-Flush.line (sym c.in-Flush.is ∙ e))

@@ -1,4 +1,5 @@
 use Rattle.std.proofs.Common.{refl, sym, subst, inl, inr}
+use Rattle.std.proofs.lemmas.Bool.{true≢false}
 use Rattle.bz_world.specs.Inside.Telling.{MustStart, LacksDescriptor}
 use Rattle.bz_world.proofs.Started.{starts-one, may-read, may-store, may-flush, asks-no-load, read-kept, store-kept, flush-kept}
 use Rattle.bz_world.proofs.start.start.Goals as goal
@@ -17,8 +18,8 @@ returns-in-Read c =
     let only = starts-one c.args.parts.now.access c.start_read.new.self c.args.w _ c.start_read.ensures.started in
     record {
       started = λ e. read-kept c.start_laws.ensures c.args.parts.now c.args.w c.in-Read.a (subst (MustStart c.args.parts.now c.args.w) c.in-Read.is c.requires.asks) c.start_read.new.self c.start_read.ensures.started c.start_read.ensures.held;
-      lacks = λ e. absurd (cc e);
-      same = λ e. absurd (cc e);
+      lacks = λ e. absurd (true≢false e);
+      same = λ e. absurd (true≢false e);
       rest = refl;
       taken = inl only.taken;
       others = only.others;
@@ -29,8 +30,8 @@ returns-in-Store c =
     let only = starts-one c.args.parts.now.access c.start_store.new.self c.args.w _ c.start_store.ensures.started in
     record {
       started = λ e. store-kept c.start_laws.ensures c.args.parts.now c.args.w c.in-Store.a c.in-Store.v (subst (MustStart c.args.parts.now c.args.w) c.in-Store.is c.requires.asks) c.start_store.new.self c.start_store.ensures.started c.start_store.ensures.held;
-      lacks = λ e. absurd (cc e);
-      same = λ e. absurd (cc e);
+      lacks = λ e. absurd (true≢false e);
+      same = λ e. absurd (true≢false e);
       rest = refl;
       taken = inl only.taken;
       others = only.others;
@@ -41,8 +42,8 @@ returns-in-Flush c =
     let only = starts-one c.args.parts.now.access c.start_flush.new.self c.args.w _ c.start_flush.ensures.started in
     record {
       started = λ e. flush-kept c.start_laws.ensures c.args.parts.now c.args.w c.in-Flush.line (subst (MustStart c.args.parts.now c.args.w) c.in-Flush.is c.requires.asks) c.start_flush.new.self c.start_flush.ensures.started c.start_flush.ensures.held;
-      lacks = λ e. absurd (cc e);
-      same = λ e. absurd (cc e);
+      lacks = λ e. absurd (true≢false e);
+      same = λ e. absurd (true≢false e);
       rest = refl;
       taken = inl only.taken;
       others = only.others;
