@@ -2,7 +2,7 @@
 use Rattle.std.proofs.Common.{◌≡◌, ◌≢◌, ◌⊎◌, ℕ, suc, ◌+◌, ◌^◌, ◌<◌, ◌≤◌, ◌==◌, ◌&&◌, if◌then◌else◌, Bool, true, false, List, [], ◌∷◌, length, slice_index, slice_set, arith, refl, sym, ap, subst, ◌∙◌, inl, inr, Option, Some, None}
 use Rattle.std.specs.Prelude.{get_or, map}
 use Rattle.std.specs.Global.{Vec}
-use Rattle.std.specs.Vec.{with_item}
+use Rattle.std.specs.Vec.{with_item, vec_len}
 use Rattle.std.proofs.lemmas.Bool.{cases_eq, cases_lt, true≢false}
 use Rattle.std.proofs.lemmas.Bool.Decides.{nat_tests}
 use Rattle.std.proofs.lemmas.List.{get_or_read_under, get_or-set_same, get_or-set_other, length-set, map-set}
@@ -15,7 +15,7 @@ use Rattle.bz_layout.specs.declared.thresholds.TheConstants.{LEAF_RECORD_WORDS}
 use Rattle.bz_lone.specs.Errands.{is_read, words_asked, IsLookOf}
 use Rattle.bz_lone.specs.Rounds.{IsBegunAt}
 use Rattle.bz_lone.specs.Sum.{PaysForRound}
-use Rattle.bz_mark.specs.Log.{with_mark, count_begins, count_page_calls}
+use Rattle.bz_mark.specs.Log.{HasRoom, Limits, with_mark, count_begins, count_page_calls}
 use Rattle.bz_mark.specs.declared.marks.Mark.{Mark}
 use Rattle.bz_mark.specs.declared.marks.Mark.TheVariants.{Begin, End, Load, Store, Cas, Flush, Evict, Cut, On, Ready, Effect}
 use Rattle.bz_running.specs.Duties.{config_of, asks_of, swaps_of, needs_of, wants_of, facts_of, makes_no_change}
@@ -91,6 +91,16 @@ module _ (p : Parts) (k : IsAwake p) (w : ℕ) (call : Call) (may : MayBegin p w
   -- its number is small
   pub few-numbers : (n : ℕ) → n ≡ get_or p.numbers.items w n → n + 1 < 2 ^ 32
   few-numbers n e = omega (arith, number-is n e, few-calls w p.journal.past, k.tabled.begins, k.tabled.few_begins, k.tabled.config.calls_in_range.at_most)
+
+  pub in-numbers : w < vec_len p.numbers
+  in-numbers = omega (arith, in-table, k.tabled.number_places, p.numbers.ok.0)
+
+  -- there is room for its mark
+  pub begin-room : (n : ℕ) → HasRoom p.journal (Begin w n call)
+  begin-room n = record {
+    place = subst (λ (l : Limits). length p.journal.past < l.marks) (sym k.tabled.limits) (omega (arith, may.room));
+    table = subst (λ (l : Limits). count_begins p.journal.past < l.calls) (sym k.tabled.limits) (omega (arith, may.calls, k.tabled.begins));
+  }
 
   at-rest : IsAtRest p.access p.journal k.story w
   at-rest = subst (IsSlot p.config p.access p.journal k.story p.owners.items (stock_of p) w) may.none_open (k.workers w)

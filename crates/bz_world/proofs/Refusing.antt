@@ -1,5 +1,5 @@
 -- What a world answers, by its power: a refusal where one applies, and otherwise what was done.
-use Rattle.std.proofs.Common.{◌≡◌, ◌⊎◌, ℕ, ◌-◌, ◌<◌, ◌≤◌, ◌==◌, ◌||◌, true, false, nat_lt, nat_le, length, arith, refl, sym, ap, subst, ◌∙◌, inl, inr, Option, Some, None}
+use Rattle.std.proofs.Common.{◌≡◌, ◌≢◌, ◌⊎◌, ℕ, zero, suc, ◌-◌, ◌<◌, ◌≤◌, ◌==◌, ◌||◌, true, false, nat_lt, nat_le, length, arith, refl, sym, ap, subst, ◌∙◌, inl, inr, Option, Some, None}
 use Rattle.std.specs.Prelude.{get_or, is_none, is_some, MatchOption}
 use Rattle.std.proofs.lemmas.Bool.Decides.{nat_tests}
 use Rattle.std.proofs.lemmas.List.{get_or_read_under}
@@ -12,7 +12,7 @@ use Rattle.bz_world.specs.Inside.Beginning.{world_view, IsPoweredRefusal, IsRefu
 use Rattle.bz_world.specs.Inside.Kept.{IsTabled, IsAwake}
 use Rattle.bz_world.specs.Inside.Paid.{stock_of}
 use Rattle.bz_world.specs.Inside.Serving.{IsSlot}
-use Rattle.bz_world.specs.WorldView.{WorldView, Steps, Evicts, IsApplied, power_in, idle_refusal, step_by, StepsBy, off_refusal, on_by, answer_by, begin_answer, after_begin, after_cut, after_on}
+use Rattle.bz_world.specs.WorldView.{WorldView, Steps, Recovers, Evicts, IsApplied, power_in, idle_refusal, step_by, StepsBy, off_refusal, on_by, answer_by, begin_answer, after_begin, after_cut, after_on}
 use Rattle.bz_world.specs.declared.answers.Applied.{Applied}
 use Rattle.bz_world.specs.declared.answers.Applied.TheVariants as applied
 use Rattle.bz_world.specs.declared.answers.Begun.{Begun}
@@ -32,27 +32,39 @@ call-open p k w within slot e =
     let read : slot ≡ get_or p.workers.items w None = get_or_read_under p.workers.items w (length p.workers.items) slot None e (omega (arith, within, k.tabled.places, k.tabled.config.workers_in_range.at_most)) refl in
     open-by p k w (get_or p.workers.items w None) (k.workers w) ∙ ap is_none (sym read)
 
-none-some : (slot : Option OpenCall) → is_some slot ≡ true → is_none slot ≡ false
-none-some None e = absurd (cc)
-none-some (Some x) e = refl
+some-open : {A : Type 0} (o : Option A) (slot : Option OpenCall) → is_none o ≡ is_none slot → is_some slot ≡ true → (is_none o ≡ false) × (o ≢ None)
+some-open None None e some = absurd (cc some)
+some-open None (Some x) e some = absurd (cc e)
+some-open (Some y) slot e some = (refl, λ none. cc none)
 
-some-none : (slot : Option OpenCall) → is_some slot ≡ false → is_none slot ≡ true
-some-none None e = refl
-some-none (Some x) e = absurd (cc)
+none-open : {A : Type 0} (o : Option A) (slot : Option OpenCall) → is_none o ≡ is_none slot → is_some slot ≡ false → is_none o ≡ true
+none-open o None e none = e
+none-open o (Some x) e none = absurd (cc none)
 
--- with the power on a worker with an open call makes a step
-pub stepped-powered : (p q : Parts) (w : ℕ) (answer : Applied) → IsAwake p → w ≤ p.config.workers → (slot : Option OpenCall) → slot ≡ get_or p.workers.items w slot → is_some slot ≡ true → Steps (world_view p) w answer (world_view q)
-    → MatchOption (idle_refusal (world_view p) w) (Steps (world_view p) w answer (world_view q)) (λ refusal. (answer ≡ refusal) × (world_view q ≡ world_view p))
-stepped-powered p q w answer k within slot e some steps =
-    let busy : is_none (open_call w p.journal.past) ≡ false = call-open p k w within slot e ∙ none-some slot some in
-    rw busy steps
+-- with the power on a worker with an open call makes a step, and one without is idle
+module _ (p : Parts) (k : IsAwake p) (w : ℕ) (within : w ≤ p.config.workers) (slot : Option OpenCall) (e : slot ≡ get_or p.workers.items w slot) where
+  pub is-open : is_some slot ≡ true → open_call w p.journal.past ≢ None
+  is-open some = (some-open (open_call w p.journal.past) slot (call-open p k w within slot e) some).1
 
--- and one without is idle
-pub idle-powered : (p : Parts) (w : ℕ) → IsAwake p → w ≤ p.config.workers → (slot : Option OpenCall) → slot ≡ get_or p.workers.items w slot → is_some slot ≡ false
-    → MatchOption (idle_refusal (world_view p) w) (Steps (world_view p) w applied.Idle (world_view p)) (λ refusal. (applied.Idle ≡ refusal) × (world_view p ≡ world_view p))
-idle-powered p w k within slot e none =
-    let idle : is_none (open_call w p.journal.past) ≡ true = call-open p k w within slot e ∙ some-none slot none in
-    rw idle (refl, refl)
+  pub stepped-powered : (q : Parts) (answer : Applied) → is_some slot ≡ true → Steps (world_view p) w answer (world_view q)
+      → MatchOption (idle_refusal (world_view p) w) (Steps (world_view p) w answer (world_view q)) (λ refusal. (answer ≡ refusal) × (world_view q ≡ world_view p))
+  stepped-powered q answer some steps =
+      let busy : is_none (open_call w p.journal.past) ≡ false = (some-open (open_call w p.journal.past) slot (call-open p k w within slot e) some).0 in
+      rw busy steps
+
+  pub idle-powered : is_some slot ≡ false → MatchOption (idle_refusal (world_view p) w) (Steps (world_view p) w applied.Idle (world_view p)) (λ refusal. (applied.Idle ≡ refusal) × (world_view p ≡ world_view p))
+  idle-powered none =
+      let idle : is_none (open_call w p.journal.past) ≡ true = none-open (open_call w p.journal.past) slot (call-open p k w within slot e) none in
+      rw idle (refl, refl)
+
+-- in a recovery worker 0 alone does
+pub step-other : (old : WorldView) (w : ℕ) → 0 < w → MatchOption (step_by power.Recovering old w) (StepsBy power.Recovering old w applied.Recovering old) (λ refusal. (applied.Recovering ≡ refusal) × (old ≡ old))
+step-other old zero some = absurd (omega (arith, some))
+step-other old (suc w) some = (refl, refl)
+
+pub step-first : (old new : WorldView) (w : ℕ) (answer : Applied) → w ≤ 0 → Recovers old answer new → MatchOption (step_by power.Recovering old w) (StepsBy power.Recovering old w answer new) (λ refusal. (answer ≡ refusal) × (new ≡ old))
+step-first old new zero answer first recovers = recovers
+step-first old new (suc w) answer first recovers = absurd (omega (arith, first))
 
 -- what is not there makes no step and is not made durable, and where the journal is short of room nothing happens
 pub step-unknown : (old : WorldView) (w : ℕ) → old.config.workers < w → IsApplied old (event.Step w) applied.NoWorker old

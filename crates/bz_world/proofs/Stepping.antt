@@ -1,5 +1,5 @@
 -- A step: one act, and what its call does without an act.
-use Rattle.std.proofs.Common.{◌≡◌, ◌≢◌, ◌⊎◌, ◌≤◌, ◌+◌, ◌*◌, ◌==◌, if◌then◌else◌, ℕ, Bool, true, false, List, ◌∷◌, length, arith, sym, ap, subst, ◌∙◌, inl, inr, Option, Some, None}
+use Rattle.std.proofs.Common.{◌≡◌, ◌≢◌, ◌⊎◌, ◌<◌, ◌≤◌, ◌+◌, ◌*◌, ◌==◌, if◌then◌else◌, ℕ, Bool, true, false, List, ◌∷◌, length, arith, sym, ap, subst, ◌∙◌, inl, inr, Option, Some, None}
 use Rattle.std.specs.Prelude.{get_or, option_map}
 use Rattle.std.proofs.Math.ListN.{get_or-map}
 use Rattle.arrayvec.specs.ArrayVec.{ArrayVec}
@@ -150,3 +150,12 @@ stepped-through old mid told new w answer was a taken rest fewer few went = reco
 
     most : length told.slots.free ≤ length new.slots.free + SPLIT_SLOTS
     most = went.spends.few
+
+-- it leaves room for the End
+pub told-room : (old mid told : Parts) (w : ℕ) → HasActed old w mid → told ≡ record mid { slots = told.slots; workers = told.workers } → length old.journal.past + 3 ≤ old.config.marks → length told.journal.past < told.config.marks
+told-room old mid told w a rest room =
+    omega (arith, room, few (mark_of w a.made ∷ old.journal.past) mid.journal.past a.struck, ap (λ (p : Parts). length p.journal.past) rest, ap (λ (p : Parts). p.config.marks) rest, ap (λ (p : Parts). p.config.marks) a.rest)
+  where
+    few : (past new : List Mark) → IsStruck past new → length new ≤ length past + 1
+    few past new (inl same) = omega (arith, ap (λ (marks : List Mark). length marks) same)
+    few past new (inr struck) = omega (arith, ap (λ (marks : List Mark). length marks) struck.1.1)

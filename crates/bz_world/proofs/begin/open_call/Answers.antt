@@ -3,12 +3,18 @@ use Rattle.std.specs.Vec.{with_item}
 use Rattle.bz_running.specs.Hearing.{IsLookup}
 use Rattle.bz_task.specs.declared.todo.Todo.TheVariants.{Read}
 use Rattle.bz_world.specs.Inside.Beginning.{HasBegun}
-use Rattle.bz_world.proofs.Beginning.{few-numbers, number-is, has-begun}
+use Rattle.bz_world.proofs.Beginning.{in-numbers, begin-room, few-numbers, number-is, has-begun}
 use Rattle.bz_world.proofs.Spared.{not-ended}
 use Rattle.bz_world.proofs.begin.open_call.Goals as goal
 
 pub overflow_add-n : goal.overflow_add-n
 overflow_add-n c = let small : c.index.result.now + 1 < 2 ^ 32 = few-numbers c.args.parts.now c.requires.kept c.args.w c.args.call c.requires.may c.index.result.now c.index.ensures in search rules
+
+pub index-requires : goal.index-requires
+index-requires c = in-numbers c.args.parts.now c.requires.kept c.args.w c.args.call c.requires.may
+
+pub push-requires : goal.push-requires
+push-requires c = begin-room c.args.parts.now c.requires.kept c.args.w c.args.call c.requires.may (c.index.result.now + 1)
 
 pub returns : goal.returns
 returns c =

@@ -1,4 +1,4 @@
-use Rattle.std.proofs.Common.{◌≡◌, ◌∙◌, refl, ap, sym, subst, None}
+use Rattle.std.proofs.Common.{ℕ, List, length, arith, ◌≡◌, ◌∙◌, refl, ap, sym, subst, None}
 use Rattle.std.specs.Vec.{with_item}
 use Rattle.bz_call.specs.declared.replies.Reply.TheVariants.{Page}
 use Rattle.bz_mark.specs.Log.{HasRoom, Log, with_page, with_mark}
@@ -10,6 +10,9 @@ use Rattle.bz_world.proofs.end.end_page.Goals as goal
 
 pub add_page-page-requires-clause-room : goal.add_page-page-requires-clause-room
 add_page-page-requires-clause-room c = page-room c.end_laws.ensures c.args.parts.now c.args.w c.requires.right.on c.requires.right.asks
+
+pub add_page-page-requires-clause-few : goal.add_page-page-requires-clause-few
+add_page-page-requires-clause-few c = omega (arith, ap (λ (pairs : List (List ℕ × List ℕ)). length pairs) c.pairs.ensures.same, c.pairs.ensures.fits)
 
 pub push-requires : goal.push-requires
 push-requires c =

@@ -1,6 +1,6 @@
 use Rattle.std.proofs.Common.{length, arith, ap, ◌∙◌, Some, None}
 use Rattle.std.specs.Prelude.{get_or}
-use Rattle.bz_world.proofs.Stepping.{stepped-on, stepped-through}
+use Rattle.bz_world.proofs.Stepping.{stepped-on, stepped-through, told-room}
 use Rattle.bz_world.proofs.Supplies.{told-few, told-fewer, few-told}
 use Rattle.bz_world.proofs.step.step_open.Goals as goal
 
@@ -17,8 +17,17 @@ returns-in-Some-clause-steps c = stepped-through c.args.parts.now c.act.new.part
 pub returns-in-None-clause-steps : goal.returns-in-None-clause-steps
 returns-in-None-clause-steps c = stepped-on c.args.parts.now c.act.new.parts c.args.w c.requires.kept (c.act.ensures.on c.in-None.is) c.requires.open c.act.ensures.made c.act.ensures.taken
 
-pub follow-requires-clause-swaps : goal.follow-requires-clause-swaps
-follow-requires-clause-swaps c = c.tell-todo.ensures.swaps (λ none. c.act.ensures.swaps (c.in-Some.is ∙ ap Some none))
+pub follow-requires : goal.follow-requires
+follow-requires c = record {
+  asks = c.tell-todo.ensures.asks;
+  full = c.tell-todo.ensures.full;
+  swaps = c.tell-todo.ensures.swaps (λ none. c.act.ensures.swaps (c.in-Some.is ∙ ap Some none));
+  crowded = c.tell-todo.ensures.crowded (λ start. c.act.ensures.begun (c.in-Some.is ∙ ap Some start));
+  room = told-room c.args.parts.now c.act.new.parts c.tell-todo.new.parts c.args.w c.act.ensures.made c.tell-todo.ensures.rest c.requires.room;
+}
 
-pub follow-requires-clause-crowded : goal.follow-requires-clause-crowded
-follow-requires-clause-crowded c = c.tell-todo.ensures.crowded (λ start. c.act.ensures.begun (c.in-Some.is ∙ ap Some start))
+pub returns-in-Some-clause-kept : goal.returns-in-Some-clause-kept
+returns-in-Some-clause-kept c = c.follow.ensures.kept
+
+pub returns-in-None-clause-kept : goal.returns-in-None-clause-kept
+returns-in-None-clause-kept c = c.act.ensures.on c.in-None.is
