@@ -4,5 +4,6 @@ pub mod ImageLemmas
 pub mod FaultLemmas
 pub mod FileLemmas
 pub mod Pieces
+pub mod Refusals
 pub mod FetchLemmas
 pub mod DurableLemmas

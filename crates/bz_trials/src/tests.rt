@@ -8,7 +8,6 @@ mod decode;
 mod finds;
 mod gets;
 mod images;
-mod index;
 mod limits;
 mod map;
 mod pairs;
