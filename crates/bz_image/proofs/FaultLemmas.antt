@@ -1,5 +1,5 @@
 -- The first fault of a head is the first rule that it breaks.
-use Rattle.std.proofs.Common.{◌≡◌, ◌≤◌, ℕ, Bool, true, false, List, length, take, refl, sym, ◌∙◌, Ok, Err, arith}
+use Rattle.std.proofs.Common.{◌≡◌, ◌≤◌, ℕ, Bool, true, false, List, length, take, refl, sym, ap, ◌∙◌, Ok, Err, arith}
 use Rattle.std.specs.Prelude.{bytes_eq}
 use mathlib.Core.Bool.{true≢false}
 use Rattle.std.proofs.lemmas.Bool.Decides.{nat_tests}
@@ -62,7 +62,7 @@ magic_is bytes h = (bytes_eq-Decides (take 8 bytes) magic).0 h
 is_magic : (bytes : List ℕ) → HasMagic bytes → bytes_eq (take 8 bytes) magic ≡ true
 is_magic bytes h = (bytes_eq-Decides (take 8 bytes) magic).1 h
 
-no_magic : (bytes : List ℕ) → bytes_eq (take 8 bytes) magic ≡ false → ¬ HasMagic bytes
+pub no_magic : (bytes : List ℕ) → bytes_eq (take 8 bytes) magic ≡ false → ¬ HasMagic bytes
 no_magic bytes h is = true≢false (sym (is_magic bytes is) ∙ h)
 
 -- the two, of bytes
@@ -112,3 +112,29 @@ good_is_head bytes head good = (
     swaps_fit = omega (arith, good.swaps, good.fit.swaps_fit);
   },
 )
+
+-- sizes that were read of a head, and are none or are some
+module _ (bytes : List ℕ) (nodes swaps : ℕ) (enough : 20 ≤ length bytes) (good : bytes_eq (take 8 bytes) magic ≡ true) (known : number_at 8 bytes ≡ 1) (n : nodes ≡ number_at 12 bytes) (s : swaps ≡ number_at 16 bytes) where
+  pub sizes_refused : ¬ AreSizes nodes swaps → head_of bytes ≡ Err Sizes
+  sizes_refused none = parts_found bytes Sizes (
+    enough,
+    good,
+    known,
+    λ sizes. none (record {
+      some_nodes = omega (arith, n, sizes.some_nodes);
+      nodes_fit = omega (arith, n, sizes.nodes_fit);
+      some_swaps = omega (arith, s, sizes.some_swaps);
+      swaps_fit = omega (arith, s, sizes.swaps_fit);
+    }),
+  )
+
+  pub sizes_are_read : AreSizes nodes swaps → Ok (record { nodes = nodes; swaps = swaps }) ≡ head_of bytes
+  sizes_are_read sizes =
+      ap (λ (i : ℕ). Ok (record { nodes = i; swaps = swaps })) n
+      ∙ ap (λ (i : ℕ). Ok (record { nodes = number_at 12 bytes; swaps = i })) s
+      ∙ sym (by_good (length bytes) (bytes_eq (take 8 bytes) magic) (number_at 8 bytes) (number_at 12 bytes) (number_at 16 bytes) enough good known (record {
+        some_nodes = omega (arith, n, sizes.some_nodes);
+        nodes_fit = omega (arith, n, sizes.nodes_fit);
+        some_swaps = omega (arith, s, sizes.some_swaps);
+        swaps_fit = omega (arith, s, sizes.swaps_fit);
+      }))
