@@ -26,3 +26,4 @@ mod Ending
 mod Needing
 mod Beginning
 mod GoingOn
+mod Stepping
