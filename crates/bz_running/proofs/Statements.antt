@@ -47,6 +47,15 @@ Once t = (s : Scene) → facts_of t Waiting s → publishing_of t ≡ true → s
 abbrev pub Ends : AnyTask → Type 0
 Ends t = (s : Scene) (outcome : Outcome) → facts_of t Waiting s → end_of t ≡ Some outcome → means_of t outcome s × HasFilled s
 
+-- what a task has learnt
+pub record Learnt (t : AnyTask) : Type 0 where
+  pub stable : Stable t
+  pub askable : Askable t
+  pub cause : Cause t
+  pub few : needs_of t ≤ SPLIT_SLOTS
+  pub once : Once t
+  pub ends : Ends t
+
 abbrev pub Effect : AnyTask → Type 0
 Effect t = (s : Scene) (y : Instant) (entries : List Entry) → s.past.config ≡ config_of t → facts_of t Waiting s → IsScene s → asks_of t ≡ Some (Swap entries) → Stand entries (here s) → SwapsTo s.past.config entries (here s) y → IsGoodSwap (publishing_of t) (change_of t) entries s y
 
