@@ -3,17 +3,23 @@ use Rattle.std.proofs.Common.{◌≡◌, ◌+◌, ◌<◌, ◌≤◌, ℕ, true,
 use Rattle.bz_call.specs.declared.replies.Spent.TheVariants.{Nodes, Swaps}
 use Rattle.bz_layout.specs.Slots.{FreeSlots}
 use Rattle.bz_task.specs.OwnActs.{AreTakenFrom}
-use Rattle.bz_task.specs.Requests.{EndsAtOnce, swaps_in, effects_in}
+use Rattle.bz_task.specs.Requests.{Hears, IsKnown, EndsAtOnce, swaps_in, effects_in}
 use Rattle.bz_task.specs.Scene.{Scene}
 use Rattle.bz_task.specs.declared.todo.Outcome.{Outcome}
-use Rattle.bz_task.specs.declared.todo.Outcome.TheVariants.{Done, Restart, Full}
+use Rattle.bz_task.specs.declared.todo.Outcome.TheVariants.{Done, Full}
 use Rattle.bz_task.specs.declared.todo.Seen.{Seen}
 use Rattle.bz_task.specs.declared.todo.Seen.TheVariants.{Start, Swapped, NoSwap}
 use Rattle.bz_task.specs.declared.todo.Todo.{Todo}
 use Rattle.bz_task.specs.declared.todo.Todo.TheVariants.{Finish}
-use Rattle.bz_running.specs.Duties.{config_of, asks_of, end_of, left_of, swaps_of, made_of, needs_of, change_of, basis_of, publishing_of, means_of}
+use Rattle.bz_running.specs.Duties.{config_of, asks_of, end_of, left_of, swaps_of, made_of, needs_of, change_of, basis_of, publishing_of, facts_of, means_of}
 use Rattle.bz_running.specs.declared.running.AnyTask.{AnyTask}
 use Rattle.bz_running.proofs.Statements.{Learns, Restarts}
+
+-- what a task is told was asked for, and the slots are those of its memory
+pub record MayHear (seen : Seen) (moment : ℕ) (free : FreeSlots) (t : AnyTask) : Type 0 where
+  pub hears : Hears (asks_of t) seen
+  pub known : IsKnown (config_of t) (facts_of t) (asks_of t) seen moment
+  pub memory : 0 < needs_of t → free.nodes ≡ (config_of t).nodes
 
 pub record Nexts (seen : Seen) (moment : ℕ) (free left : FreeSlots) (todo : Todo) (new old : AnyTask) : Type 0 where
   pub asked : asks_of new ≡ Some todo

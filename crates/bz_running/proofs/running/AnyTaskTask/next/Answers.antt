@@ -2,8 +2,86 @@ use Rattle.std.proofs.Common.{sym, subst}
 use Rattle.bz_running.specs.Duties.{config_of, asks_of, end_of, left_of, swaps_of, made_of, needs_of, wants_of, change_of, basis_of, publishing_of, facts_of, means_of, differs_of}
 use Rattle.bz_running.specs.declared.running.AnyTask.TheVariants.{Seeking, Finding, Reading, Inserting, Updating, Deleting, Freezing, Consolidating, Splitting, SplittingBelow, SplittingInner, SplittingInnerRoot, Merging}
 use Rattle.bz_running.proofs.Ascending.{meant-so}
-use Rattle.bz_running.proofs.Nexting.{Nexts}
+use Rattle.bz_running.proofs.Nexting.{MayHear, Nexts}
 use Rattle.bz_running.proofs.running.AnyTaskTask.next.Goals as goal
+
+pub next-requires : goal.next-requires
+unfolding config_of asks_of needs_of wants_of facts_of means_of
+next-requires c =
+    let n = subst (MayHear c.args.seen c.args.moment c.args.slots.now) c.in-Seeking.is (record { hears = c.requires.hears; known = c.requires.known; memory = c.requires.memory }) in
+    record { hears = n.hears; known = n.known; memory = n.memory }
+
+pub next-requires-in-Finding : goal.next-requires-in-Finding
+unfolding config_of asks_of needs_of wants_of facts_of means_of
+next-requires-in-Finding c =
+    let n = subst (MayHear c.args.seen c.args.moment c.args.slots.now) c.in-Finding.is (record { hears = c.requires.hears; known = c.requires.known; memory = c.requires.memory }) in
+    record { hears = n.hears; known = n.known; memory = n.memory }
+
+pub next-requires-in-Reading : goal.next-requires-in-Reading
+unfolding config_of asks_of needs_of wants_of facts_of means_of
+next-requires-in-Reading c =
+    let n = subst (MayHear c.args.seen c.args.moment c.args.slots.now) c.in-Reading.is (record { hears = c.requires.hears; known = c.requires.known; memory = c.requires.memory }) in
+    record { hears = n.hears; known = n.known; memory = n.memory }
+
+pub next-requires-in-Inserting : goal.next-requires-in-Inserting
+unfolding config_of asks_of needs_of wants_of facts_of means_of
+next-requires-in-Inserting c =
+    let n = subst (MayHear c.args.seen c.args.moment c.args.slots.now) c.in-Inserting.is (record { hears = c.requires.hears; known = c.requires.known; memory = c.requires.memory }) in
+    record { hears = n.hears; known = n.known; memory = n.memory }
+
+pub next-requires-in-Updating : goal.next-requires-in-Updating
+unfolding config_of asks_of needs_of wants_of facts_of means_of
+next-requires-in-Updating c =
+    let n = subst (MayHear c.args.seen c.args.moment c.args.slots.now) c.in-Updating.is (record { hears = c.requires.hears; known = c.requires.known; memory = c.requires.memory }) in
+    record { hears = n.hears; known = n.known; memory = n.memory }
+
+pub next-requires-in-Deleting : goal.next-requires-in-Deleting
+unfolding config_of asks_of needs_of wants_of facts_of means_of
+next-requires-in-Deleting c =
+    let n = subst (MayHear c.args.seen c.args.moment c.args.slots.now) c.in-Deleting.is (record { hears = c.requires.hears; known = c.requires.known; memory = c.requires.memory }) in
+    record { hears = n.hears; known = n.known; memory = n.memory }
+
+pub next-requires-in-Freezing : goal.next-requires-in-Freezing
+unfolding config_of asks_of needs_of wants_of facts_of means_of
+next-requires-in-Freezing c =
+    let n = subst (MayHear c.args.seen c.args.moment c.args.slots.now) c.in-Freezing.is (record { hears = c.requires.hears; known = c.requires.known; memory = c.requires.memory }) in
+    record { hears = n.hears; known = n.known; memory = n.memory }
+
+pub next-requires-in-Consolidating : goal.next-requires-in-Consolidating
+unfolding config_of asks_of needs_of wants_of facts_of means_of
+next-requires-in-Consolidating c =
+    let n = subst (MayHear c.args.seen c.args.moment c.args.slots.now) c.in-Consolidating.is (record { hears = c.requires.hears; known = c.requires.known; memory = c.requires.memory }) in
+    record { hears = n.hears; known = n.known; memory = n.memory }
+
+pub next-requires-in-Splitting : goal.next-requires-in-Splitting
+unfolding config_of asks_of needs_of wants_of facts_of means_of
+next-requires-in-Splitting c =
+    let n = subst (MayHear c.args.seen c.args.moment c.args.slots.now) c.in-Splitting.is (record { hears = c.requires.hears; known = c.requires.known; memory = c.requires.memory }) in
+    record { hears = n.hears; known = n.known; memory = n.memory }
+
+pub next-requires-in-SplittingBelow : goal.next-requires-in-SplittingBelow
+unfolding config_of asks_of needs_of wants_of facts_of means_of
+next-requires-in-SplittingBelow c =
+    let n = subst (MayHear c.args.seen c.args.moment c.args.slots.now) c.in-SplittingBelow.is (record { hears = c.requires.hears; known = c.requires.known; memory = c.requires.memory }) in
+    record { hears = n.hears; known = record { stage = n.known.stage; scene = n.known.scene; config = n.known.config; now = n.known.now; good = n.known.good; holds = n.known.holds.0; tells = n.known.tells }; memory = n.memory }
+
+pub next-requires-in-SplittingInner : goal.next-requires-in-SplittingInner
+unfolding config_of asks_of needs_of wants_of facts_of means_of
+next-requires-in-SplittingInner c =
+    let n = subst (MayHear c.args.seen c.args.moment c.args.slots.now) c.in-SplittingInner.is (record { hears = c.requires.hears; known = c.requires.known; memory = c.requires.memory }) in
+    record { hears = n.hears; known = record { stage = n.known.stage; scene = n.known.scene; config = n.known.config; now = n.known.now; good = n.known.good; holds = n.known.holds.0; tells = n.known.tells }; memory = n.memory }
+
+pub next-requires-in-SplittingInnerRoot : goal.next-requires-in-SplittingInnerRoot
+unfolding config_of asks_of needs_of wants_of facts_of means_of
+next-requires-in-SplittingInnerRoot c =
+    let n = subst (MayHear c.args.seen c.args.moment c.args.slots.now) c.in-SplittingInnerRoot.is (record { hears = c.requires.hears; known = c.requires.known; memory = c.requires.memory }) in
+    record { hears = n.hears; known = record { stage = n.known.stage; scene = n.known.scene; config = n.known.config; now = n.known.now; good = n.known.good; holds = n.known.holds.0; tells = n.known.tells }; memory = n.memory }
+
+pub next-requires-in-Merging : goal.next-requires-in-Merging
+unfolding config_of asks_of needs_of wants_of facts_of means_of
+next-requires-in-Merging c =
+    let n = subst (MayHear c.args.seen c.args.moment c.args.slots.now) c.in-Merging.is (record { hears = c.requires.hears; known = c.requires.known; memory = c.requires.memory }) in
+    record { hears = n.hears; known = n.known; memory = n.memory }
 
 pub returns-in-Seeking : goal.returns-in-Seeking
 unfolding config_of asks_of end_of left_of swaps_of made_of needs_of wants_of change_of basis_of publishing_of facts_of means_of differs_of
