@@ -1,5 +1,5 @@
 -- A merge that ends because no neighbour has room has frozen nothing: all its swaps are left then.
-use Rattle.std.proofs.Common.{◌≡◌, ℕ, ◌+◌, ◌≤◌, Option, Some, None, arith, refl}
+use Rattle.std.proofs.Common.{◌≡◌, ◌+◌, ◌≤◌, Bool, true, false, Option, Some, arith, refl, sym, ap, ◌∙◌}
 use Rattle.bz_merge.specs.Counts.{merge_swaps, merge_made}
 use Rattle.bz_merge.specs.Duties as merge
 use Rattle.bz_merge.specs.Facts.{merge_end}
@@ -13,6 +13,20 @@ use Rattle.bz_task.specs.declared.todo.Seen.{Seen}
 use Rattle.bz_task.specs.declared.todo.Seen.TheVariants as seen
 use Rattle.bz_task.specs.declared.todo.Todo.{Todo}
 use Rattle.bz_task.specs.declared.todo.Todo.TheVariants as todo
+use Rattle.bz_running.specs.Kinds.{Kind}
+use Rattle.bz_running.specs.Kinds as kind
+
+-- a task of another kind is no merge
+abbrev pub merges : Kind → Bool
+merges kind.Merge = true
+merges k = false
+
+pub no-merge : (k : Kind) → merges k ≡ false → k ≡ kind.Merge → ⊥
+no-merge k other is = let e = sym other ∙ ap merges is in cc
+
+-- a change is not silent
+pub no-change : false ≡ true → ⊥
+no-change e = cc
 
 all-left : (p : Phase) → merge_end p ≡ Some NeedsRoom → merge_swaps p ≡ 3
 all-left NoNeighbour e = refl

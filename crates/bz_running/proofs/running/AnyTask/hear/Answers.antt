@@ -9,9 +9,88 @@ use Rattle.bz_running.specs.declared.running.AnyTask.TheVariants.{Seeking, Findi
 use Rattle.bz_running.proofs.Ascending.{meant-so}
 use Rattle.bz_running.proofs.Beginning.{hears-start, copy-begins, split-begins, below-begins, fork-begins, crown-begins, merge-begins, seek-begins, leaf-begins, freeze-begins}
 use Rattle.bz_running.proofs.Counting.{seek-counts, find-counts, none-counts}
-use Rattle.bz_running.proofs.Lacking.{merge-lacks}
+use Rattle.bz_running.proofs.Lacking.{no-change, no-merge, merge-lacks}
 use Rattle.bz_running.proofs.Made.{freeze-kept, copy-kept, split-kept, below-kept, fork-kept, crown-kept, merge-kept, small-kept, few-kept}
+use Rattle.bz_running.proofs.Nexting.{MayHear}
 use Rattle.bz_running.proofs.running.AnyTask.hear.Goals as goal
+
+pub next-requires : goal.next-requires
+unfolding config_of asks_of needs_of wants_of facts_of means_of
+next-requires c =
+    let n = subst (MayHear c.args.seen c.args.moment c.args.slots.now) c.in-Seeking.is (record { hears = c.requires.hears; known = c.requires.known; memory = c.requires.memory }) in
+    record { hears = n.hears; known = n.known; memory = n.memory }
+
+pub next-requires-in-Finding : goal.next-requires-in-Finding
+unfolding config_of asks_of needs_of wants_of facts_of means_of
+next-requires-in-Finding c =
+    let n = subst (MayHear c.args.seen c.args.moment c.args.slots.now) c.in-Finding.is (record { hears = c.requires.hears; known = c.requires.known; memory = c.requires.memory }) in
+    record { hears = n.hears; known = n.known; memory = n.memory }
+
+pub next-requires-in-Reading : goal.next-requires-in-Reading
+unfolding config_of asks_of needs_of wants_of facts_of means_of
+next-requires-in-Reading c =
+    let n = subst (MayHear c.args.seen c.args.moment c.args.slots.now) c.in-Reading.is (record { hears = c.requires.hears; known = c.requires.known; memory = c.requires.memory }) in
+    record { hears = n.hears; known = n.known; memory = n.memory }
+
+pub next-requires-in-Inserting : goal.next-requires-in-Inserting
+unfolding config_of asks_of needs_of wants_of facts_of means_of
+next-requires-in-Inserting c =
+    let n = subst (MayHear c.args.seen c.args.moment c.args.slots.now) c.in-Inserting.is (record { hears = c.requires.hears; known = c.requires.known; memory = c.requires.memory }) in
+    record { hears = n.hears; known = n.known; memory = n.memory }
+
+pub next-requires-in-Updating : goal.next-requires-in-Updating
+unfolding config_of asks_of needs_of wants_of facts_of means_of
+next-requires-in-Updating c =
+    let n = subst (MayHear c.args.seen c.args.moment c.args.slots.now) c.in-Updating.is (record { hears = c.requires.hears; known = c.requires.known; memory = c.requires.memory }) in
+    record { hears = n.hears; known = n.known; memory = n.memory }
+
+pub next-requires-in-Deleting : goal.next-requires-in-Deleting
+unfolding config_of asks_of needs_of wants_of facts_of means_of
+next-requires-in-Deleting c =
+    let n = subst (MayHear c.args.seen c.args.moment c.args.slots.now) c.in-Deleting.is (record { hears = c.requires.hears; known = c.requires.known; memory = c.requires.memory }) in
+    record { hears = n.hears; known = n.known; memory = n.memory }
+
+pub next-requires-in-Freezing : goal.next-requires-in-Freezing
+unfolding config_of asks_of needs_of wants_of facts_of means_of
+next-requires-in-Freezing c =
+    let n = subst (MayHear c.args.seen c.args.moment c.args.slots.now) c.in-Freezing.is (record { hears = c.requires.hears; known = c.requires.known; memory = c.requires.memory }) in
+    record { hears = n.hears; known = n.known; memory = n.memory }
+
+pub next-requires-in-Consolidating : goal.next-requires-in-Consolidating
+unfolding config_of asks_of needs_of wants_of facts_of means_of
+next-requires-in-Consolidating c =
+    let n = subst (MayHear c.args.seen c.args.moment c.args.slots.now) c.in-Consolidating.is (record { hears = c.requires.hears; known = c.requires.known; memory = c.requires.memory }) in
+    record { hears = n.hears; known = n.known; memory = n.memory }
+
+pub next-requires-in-Splitting : goal.next-requires-in-Splitting
+unfolding config_of asks_of needs_of wants_of facts_of means_of
+next-requires-in-Splitting c =
+    let n = subst (MayHear c.args.seen c.args.moment c.args.slots.now) c.in-Splitting.is (record { hears = c.requires.hears; known = c.requires.known; memory = c.requires.memory }) in
+    record { hears = n.hears; known = n.known; memory = n.memory }
+
+pub next-requires-in-SplittingBelow : goal.next-requires-in-SplittingBelow
+unfolding config_of asks_of needs_of wants_of facts_of means_of
+next-requires-in-SplittingBelow c =
+    let n = subst (MayHear c.args.seen c.args.moment c.args.slots.now) c.in-SplittingBelow.is (record { hears = c.requires.hears; known = c.requires.known; memory = c.requires.memory }) in
+    record { hears = n.hears; known = record { stage = n.known.stage; scene = n.known.scene; config = n.known.config; now = n.known.now; good = n.known.good; holds = n.known.holds.0; tells = n.known.tells }; memory = n.memory }
+
+pub next-requires-in-SplittingInner : goal.next-requires-in-SplittingInner
+unfolding config_of asks_of needs_of wants_of facts_of means_of
+next-requires-in-SplittingInner c =
+    let n = subst (MayHear c.args.seen c.args.moment c.args.slots.now) c.in-SplittingInner.is (record { hears = c.requires.hears; known = c.requires.known; memory = c.requires.memory }) in
+    record { hears = n.hears; known = record { stage = n.known.stage; scene = n.known.scene; config = n.known.config; now = n.known.now; good = n.known.good; holds = n.known.holds.0; tells = n.known.tells }; memory = n.memory }
+
+pub next-requires-in-SplittingInnerRoot : goal.next-requires-in-SplittingInnerRoot
+unfolding config_of asks_of needs_of wants_of facts_of means_of
+next-requires-in-SplittingInnerRoot c =
+    let n = subst (MayHear c.args.seen c.args.moment c.args.slots.now) c.in-SplittingInnerRoot.is (record { hears = c.requires.hears; known = c.requires.known; memory = c.requires.memory }) in
+    record { hears = n.hears; known = record { stage = n.known.stage; scene = n.known.scene; config = n.known.config; now = n.known.now; good = n.known.good; holds = n.known.holds.0; tells = n.known.tells }; memory = n.memory }
+
+pub next-requires-in-Merging : goal.next-requires-in-Merging
+unfolding config_of asks_of needs_of wants_of facts_of means_of
+next-requires-in-Merging c =
+    let n = subst (MayHear c.args.seen c.args.moment c.args.slots.now) c.in-Merging.is (record { hears = c.requires.hears; known = c.requires.known; memory = c.requires.memory }) in
+    record { hears = n.hears; known = n.known; memory = n.memory }
 
 pub returns-in-Inserting : goal.returns-in-Inserting
 unfolding config_of asks_of end_of left_of swaps_of made_of change_swaps needs_of wants_of change_of publishing_of facts_of means_of ascent_of differs_of makes_no_change leaves_few_of look_of kind_of IsMadeFor IsMergeFor IsSmallMerge
@@ -34,7 +113,7 @@ returns-in-Inserting c = record {
     few = refl;
     meant = e.meant;
     slots = e.slots;
-    begins = λ start silent other. absurd (cc);
+    begins = λ start silent other. absurd (no-change silent);
     last = e.last;
     only_last = e.only_last;
     done = e.done;
@@ -43,7 +122,7 @@ returns-in-Inserting c = record {
     no_swap = e.no_swap;
     full_swaps = e.full_swaps;
     full_nodes = e.full_nodes;
-    no_neighbour = λ is lacks. absurd (cc);
+    no_neighbour = λ is lacks. absurd (no-merge _ refl is);
     learns = e.learns;
   });
   counts = none-counts c.args.self.now (Inserting c.next-in-Inserting.new.self) c.next-in-Inserting.result (ap look_of c.in-Inserting.is) refl;
@@ -70,7 +149,7 @@ returns-in-Updating c = record {
     few = refl;
     meant = e.meant;
     slots = e.slots;
-    begins = λ start silent other. absurd (cc);
+    begins = λ start silent other. absurd (no-change silent);
     last = e.last;
     only_last = e.only_last;
     done = e.done;
@@ -79,7 +158,7 @@ returns-in-Updating c = record {
     no_swap = e.no_swap;
     full_swaps = e.full_swaps;
     full_nodes = e.full_nodes;
-    no_neighbour = λ is lacks. absurd (cc);
+    no_neighbour = λ is lacks. absurd (no-merge _ refl is);
     learns = e.learns;
   });
   counts = none-counts c.args.self.now (Updating c.next-in-Updating.new.self) c.next-in-Updating.result (ap look_of c.in-Updating.is) refl;
@@ -115,7 +194,7 @@ returns-in-Consolidating c = record {
     no_swap = e.no_swap;
     full_swaps = e.full_swaps;
     full_nodes = e.full_nodes;
-    no_neighbour = λ is lacks. absurd (cc);
+    no_neighbour = λ is lacks. absurd (no-merge _ refl is);
     learns = e.learns;
   });
   counts = none-counts c.args.self.now (Consolidating c.next-in-Consolidating.new.self) c.next-in-Consolidating.result (ap look_of c.in-Consolidating.is) refl;
@@ -151,7 +230,7 @@ returns-in-Splitting c = record {
     no_swap = e.no_swap;
     full_swaps = e.full_swaps;
     full_nodes = e.full_nodes;
-    no_neighbour = λ is lacks. absurd (cc);
+    no_neighbour = λ is lacks. absurd (no-merge _ refl is);
     learns = e.learns;
   });
   counts = none-counts c.args.self.now (Splitting c.next-in-Splitting.new.self) c.next-in-Splitting.result (ap look_of c.in-Splitting.is) refl;
@@ -187,7 +266,7 @@ returns-in-SplittingBelow c = record {
     no_swap = e.no_swap;
     full_swaps = e.full_swaps;
     full_nodes = e.full_nodes;
-    no_neighbour = λ is lacks. absurd (cc);
+    no_neighbour = λ is lacks. absurd (no-merge _ refl is);
     learns = λ stage s now same good free f tells. (e.learns stage s now same good free f.0 tells, meant-so _ _ _ s e.meant f.1);
   });
   counts = none-counts c.args.self.now (SplittingBelow c.next-in-SplittingBelow.new.self c.in-SplittingBelow.field-1) c.next-in-SplittingBelow.result (ap look_of c.in-SplittingBelow.is) refl;
@@ -223,7 +302,7 @@ returns-in-SplittingInner c = record {
     no_swap = e.no_swap;
     full_swaps = e.full_swaps;
     full_nodes = e.full_nodes;
-    no_neighbour = λ is lacks. absurd (cc);
+    no_neighbour = λ is lacks. absurd (no-merge _ refl is);
     learns = λ stage s now same good free f tells. (e.learns stage s now same good free f.0 tells, meant-so _ _ _ s e.meant f.1);
   });
   counts = none-counts c.args.self.now (SplittingInner c.next-in-SplittingInner.new.self c.in-SplittingInner.field-1) c.next-in-SplittingInner.result (ap look_of c.in-SplittingInner.is) refl;
@@ -259,7 +338,7 @@ returns-in-SplittingInnerRoot c = record {
     no_swap = e.no_swap;
     full_swaps = e.full_swaps;
     full_nodes = e.full_nodes;
-    no_neighbour = λ is lacks. absurd (cc);
+    no_neighbour = λ is lacks. absurd (no-merge _ refl is);
     learns = λ stage s now same good free f tells. (e.learns stage s now same good free f.0 tells, meant-so _ _ _ s e.meant f.1);
   });
   counts = none-counts c.args.self.now (SplittingInnerRoot c.next-in-SplittingInnerRoot.new.self c.in-SplittingInnerRoot.field-1) c.next-in-SplittingInnerRoot.result (ap look_of c.in-SplittingInnerRoot.is) refl;
@@ -301,191 +380,184 @@ returns-in-Merging c = record {
   counts = none-counts c.args.self.now (Merging c.next-in-Merging.new.self) c.next-in-Merging.result (ap look_of c.in-Merging.is) refl;
 }
 
-pub returns-in-Seeking-clause-heard : goal.returns-in-Seeking-clause-heard
-unfolding config_of asks_of end_of left_of swaps_of made_of change_swaps needs_of wants_of change_of publishing_of facts_of means_of ascent_of differs_of makes_no_change leaves_few_of kind_of IsMadeFor IsMergeFor IsSmallMerge
-returns-in-Seeking-clause-heard c = subst (λ t. HasHeard t c.args.seen c.args.moment c.args.slots.now c.next.result (Seeking c.next.new.self) c.next.new.slots) (sym c.in-Seeking.is) (let e = c.next.ensures in record {
-  asked = e.asked;
-  nearer = e.nearer;
-  fewer = e.fewer;
-  counted = e.counted;
-  swaps = refl;
-  config = e.config;
-  wants = refl;
-  change = e.change;
-  ascent = refl;
-  kind = refl;
-  silent = refl;
-  made_for = λ key words p m. absurd m;
-  merge_for = λ key p m. absurd m;
-  small_for = λ key p m. absurd m;
-  few = refl;
-  meant = e.meant;
-  slots = e.slots;
-  begins = λ start silent other. seek-begins c.next.new.self (λ o. e.begins o start);
-  last = e.last;
-  only_last = e.only_last;
-  done = e.done;
-  published = e.published;
-  restart = e.restart;
-  no_swap = e.no_swap;
-  full_swaps = e.full_swaps;
-  full_nodes = e.full_nodes;
-  no_neighbour = λ is lacks. absurd (cc);
-  learns = e.learns;
-})
+pub returns-in-Seeking : goal.returns-in-Seeking
+unfolding config_of asks_of end_of left_of swaps_of made_of change_swaps needs_of wants_of change_of publishing_of facts_of means_of ascent_of differs_of makes_no_change leaves_few_of kind_of IsMadeFor IsMergeFor IsSmallMerge look_of reads_asked
+returns-in-Seeking c = record {
+  heard = subst (λ t. HasHeard t c.args.seen c.args.moment c.args.slots.now c.next.result (Seeking c.next.new.self) c.next.new.slots) (sym c.in-Seeking.is) (let e = c.next.ensures in record {
+    asked = e.asked;
+    nearer = e.nearer;
+    fewer = e.fewer;
+    counted = e.counted;
+    swaps = refl;
+    config = e.config;
+    wants = refl;
+    change = e.change;
+    ascent = refl;
+    kind = refl;
+    silent = refl;
+    made_for = λ key words p m. absurd m;
+    merge_for = λ key p m. absurd m;
+    small_for = λ key p m. absurd m;
+    few = refl;
+    meant = e.meant;
+    slots = e.slots;
+    begins = λ start silent other. seek-begins c.next.new.self (λ o. e.begins o start);
+    last = e.last;
+    only_last = e.only_last;
+    done = e.done;
+    published = e.published;
+    restart = e.restart;
+    no_swap = e.no_swap;
+    full_swaps = e.full_swaps;
+    full_nodes = e.full_nodes;
+    no_neighbour = λ is lacks. absurd (no-merge _ refl is);
+    learns = e.learns;
+  });
+  counts = let e = c.next.ensures in
+      subst (λ t. HasCounted t c.next.result (Seeking c.next.new.self)) (sym c.in-Seeking.is) (record { look = refl; reads = λ l. seek-counts c.in-Seeking.task c.next.new.self c.next.result e.nearer e.asked });
+}
 
-pub returns-in-Finding-clause-heard : goal.returns-in-Finding-clause-heard
-unfolding config_of asks_of end_of left_of swaps_of made_of change_swaps needs_of wants_of change_of publishing_of facts_of means_of ascent_of differs_of makes_no_change leaves_few_of kind_of IsMadeFor IsMergeFor IsSmallMerge
-returns-in-Finding-clause-heard c = subst (λ t. HasHeard t c.args.seen c.args.moment c.args.slots.now c.next-in-Finding.result (Finding c.next-in-Finding.new.self) c.next-in-Finding.new.slots) (sym c.in-Finding.is) (let e = c.next-in-Finding.ensures in record {
-  asked = e.asked;
-  nearer = e.nearer;
-  fewer = e.fewer;
-  counted = e.counted;
-  swaps = refl;
-  config = e.config;
-  wants = refl;
-  change = e.change;
-  ascent = refl;
-  kind = refl;
-  silent = refl;
-  made_for = λ key words p m. absurd m;
-  merge_for = λ key p m. absurd m;
-  small_for = λ key p m. absurd m;
-  few = refl;
-  meant = e.meant;
-  slots = e.slots;
-  begins = λ start silent other. absurd (other refl);
-  last = e.last;
-  only_last = e.only_last;
-  done = e.done;
-  published = e.published;
-  restart = e.restart;
-  no_swap = e.no_swap;
-  full_swaps = e.full_swaps;
-  full_nodes = e.full_nodes;
-  no_neighbour = λ is lacks. absurd (cc);
-  learns = e.learns;
-})
+pub returns-in-Finding : goal.returns-in-Finding
+unfolding config_of asks_of end_of left_of swaps_of made_of change_swaps needs_of wants_of change_of publishing_of facts_of means_of ascent_of differs_of makes_no_change leaves_few_of kind_of IsMadeFor IsMergeFor IsSmallMerge look_of reads_asked
+returns-in-Finding c = record {
+  heard = subst (λ t. HasHeard t c.args.seen c.args.moment c.args.slots.now c.next-in-Finding.result (Finding c.next-in-Finding.new.self) c.next-in-Finding.new.slots) (sym c.in-Finding.is) (let e = c.next-in-Finding.ensures in record {
+    asked = e.asked;
+    nearer = e.nearer;
+    fewer = e.fewer;
+    counted = e.counted;
+    swaps = refl;
+    config = e.config;
+    wants = refl;
+    change = e.change;
+    ascent = refl;
+    kind = refl;
+    silent = refl;
+    made_for = λ key words p m. absurd m;
+    merge_for = λ key p m. absurd m;
+    small_for = λ key p m. absurd m;
+    few = refl;
+    meant = e.meant;
+    slots = e.slots;
+    begins = λ start silent other. absurd (other refl);
+    last = e.last;
+    only_last = e.only_last;
+    done = e.done;
+    published = e.published;
+    restart = e.restart;
+    no_swap = e.no_swap;
+    full_swaps = e.full_swaps;
+    full_nodes = e.full_nodes;
+    no_neighbour = λ is lacks. absurd (no-merge _ refl is);
+    learns = e.learns;
+  });
+  counts = let e = c.next-in-Finding.ensures in
+      subst (λ t. HasCounted t c.next-in-Finding.result (Finding c.next-in-Finding.new.self)) (sym c.in-Finding.is) (record { look = refl; reads = λ l. find-counts c.in-Finding.task c.next-in-Finding.new.self c.next-in-Finding.result e.nearer e.asked });
+}
 
-pub returns-in-Reading-clause-heard : goal.returns-in-Reading-clause-heard
-unfolding config_of asks_of end_of left_of swaps_of made_of change_swaps needs_of wants_of change_of publishing_of facts_of means_of ascent_of differs_of makes_no_change leaves_few_of kind_of IsMadeFor IsMergeFor IsSmallMerge
-returns-in-Reading-clause-heard c = subst (λ t. HasHeard t c.args.seen c.args.moment c.args.slots.now c.next-in-Reading.result (Reading c.next-in-Reading.new.self) c.next-in-Reading.new.slots) (sym c.in-Reading.is) (let e = c.next-in-Reading.ensures in record {
-  asked = e.asked;
-  nearer = e.nearer;
-  fewer = e.fewer;
-  counted = e.counted;
-  swaps = refl;
-  config = e.config;
-  wants = refl;
-  change = e.change;
-  ascent = refl;
-  kind = refl;
-  silent = refl;
-  made_for = λ key words p m. absurd m;
-  merge_for = λ key p m. absurd m;
-  small_for = λ key p m. absurd m;
-  few = refl;
-  meant = e.meant;
-  slots = e.slots;
-  begins = λ start silent other. leaf-begins c.next-in-Reading.new.self (λ o. e.begins o start);
-  last = e.last;
-  only_last = e.only_last;
-  done = e.done;
-  published = e.published;
-  restart = e.restart;
-  no_swap = e.no_swap;
-  full_swaps = e.full_swaps;
-  full_nodes = e.full_nodes;
-  no_neighbour = λ is lacks. absurd (cc);
-  learns = e.learns;
-})
+pub returns-in-Reading : goal.returns-in-Reading
+unfolding config_of asks_of end_of left_of swaps_of made_of change_swaps needs_of wants_of change_of publishing_of facts_of means_of ascent_of differs_of makes_no_change leaves_few_of kind_of IsMadeFor IsMergeFor IsSmallMerge look_of
+returns-in-Reading c = record {
+  heard = subst (λ t. HasHeard t c.args.seen c.args.moment c.args.slots.now c.next-in-Reading.result (Reading c.next-in-Reading.new.self) c.next-in-Reading.new.slots) (sym c.in-Reading.is) (let e = c.next-in-Reading.ensures in record {
+    asked = e.asked;
+    nearer = e.nearer;
+    fewer = e.fewer;
+    counted = e.counted;
+    swaps = refl;
+    config = e.config;
+    wants = refl;
+    change = e.change;
+    ascent = refl;
+    kind = refl;
+    silent = refl;
+    made_for = λ key words p m. absurd m;
+    merge_for = λ key p m. absurd m;
+    small_for = λ key p m. absurd m;
+    few = refl;
+    meant = e.meant;
+    slots = e.slots;
+    begins = λ start silent other. leaf-begins c.next-in-Reading.new.self (λ o. e.begins o start);
+    last = e.last;
+    only_last = e.only_last;
+    done = e.done;
+    published = e.published;
+    restart = e.restart;
+    no_swap = e.no_swap;
+    full_swaps = e.full_swaps;
+    full_nodes = e.full_nodes;
+    no_neighbour = λ is lacks. absurd (no-merge _ refl is);
+    learns = e.learns;
+  });
+  counts = none-counts c.args.self.now (Reading c.next-in-Reading.new.self) c.next-in-Reading.result (ap look_of c.in-Reading.is) refl;
+}
 
-pub returns-in-Deleting-clause-heard : goal.returns-in-Deleting-clause-heard
-unfolding config_of asks_of end_of left_of swaps_of made_of change_swaps needs_of wants_of change_of publishing_of facts_of means_of ascent_of differs_of makes_no_change leaves_few_of kind_of IsMadeFor IsMergeFor IsSmallMerge
-returns-in-Deleting-clause-heard c = subst (λ t. HasHeard t c.args.seen c.args.moment c.args.slots.now c.next-in-Deleting.result (Deleting c.next-in-Deleting.new.self) c.next-in-Deleting.new.slots) (sym c.in-Deleting.is) (let e = c.next-in-Deleting.ensures in record {
-  asked = e.asked;
-  nearer = e.nearer;
-  fewer = e.fewer;
-  counted = e.counted;
-  swaps = refl;
-  config = e.config;
-  wants = refl;
-  change = e.change;
-  ascent = refl;
-  kind = refl;
-  silent = refl;
-  made_for = λ key words p m. absurd m;
-  merge_for = λ key p m. absurd m;
-  small_for = λ key p m. absurd m;
-  few = few-kept c.in-Deleting.task c.next-in-Deleting.new.self e.change e.basis;
-  meant = e.meant;
-  slots = e.slots;
-  begins = λ start silent other. absurd (cc);
-  last = e.last;
-  only_last = e.only_last;
-  done = e.done;
-  published = e.published;
-  restart = e.restart;
-  no_swap = e.no_swap;
-  full_swaps = e.full_swaps;
-  full_nodes = e.full_nodes;
-  no_neighbour = λ is lacks. absurd (cc);
-  learns = e.learns;
-})
+pub returns-in-Deleting : goal.returns-in-Deleting
+unfolding config_of asks_of end_of left_of swaps_of made_of change_swaps needs_of wants_of change_of publishing_of facts_of means_of ascent_of differs_of makes_no_change leaves_few_of kind_of IsMadeFor IsMergeFor IsSmallMerge look_of
+returns-in-Deleting c = record {
+  heard = subst (λ t. HasHeard t c.args.seen c.args.moment c.args.slots.now c.next-in-Deleting.result (Deleting c.next-in-Deleting.new.self) c.next-in-Deleting.new.slots) (sym c.in-Deleting.is) (let e = c.next-in-Deleting.ensures in record {
+    asked = e.asked;
+    nearer = e.nearer;
+    fewer = e.fewer;
+    counted = e.counted;
+    swaps = refl;
+    config = e.config;
+    wants = refl;
+    change = e.change;
+    ascent = refl;
+    kind = refl;
+    silent = refl;
+    made_for = λ key words p m. absurd m;
+    merge_for = λ key p m. absurd m;
+    small_for = λ key p m. absurd m;
+    few = few-kept c.in-Deleting.task c.next-in-Deleting.new.self e.change e.basis;
+    meant = e.meant;
+    slots = e.slots;
+    begins = λ start silent other. absurd (no-change silent);
+    last = e.last;
+    only_last = e.only_last;
+    done = e.done;
+    published = e.published;
+    restart = e.restart;
+    no_swap = e.no_swap;
+    full_swaps = e.full_swaps;
+    full_nodes = e.full_nodes;
+    no_neighbour = λ is lacks. absurd (no-merge _ refl is);
+    learns = e.learns;
+  });
+  counts = none-counts c.args.self.now (Deleting c.next-in-Deleting.new.self) c.next-in-Deleting.result (ap look_of c.in-Deleting.is) refl;
+}
 
-pub returns-in-Freezing-clause-heard : goal.returns-in-Freezing-clause-heard
-unfolding config_of asks_of end_of left_of swaps_of made_of change_swaps needs_of wants_of change_of publishing_of facts_of means_of ascent_of differs_of makes_no_change leaves_few_of kind_of IsMadeFor IsMergeFor IsSmallMerge
-returns-in-Freezing-clause-heard c = subst (λ t. HasHeard t c.args.seen c.args.moment c.args.slots.now c.next-in-Freezing.result (Freezing c.next-in-Freezing.new.self) c.next-in-Freezing.new.slots) (sym c.in-Freezing.is) (let e = c.next-in-Freezing.ensures in record {
-  asked = e.asked;
-  nearer = e.nearer;
-  fewer = e.fewer;
-  counted = e.counted;
-  swaps = refl;
-  config = e.config;
-  wants = refl;
-  change = e.change;
-  ascent = refl;
-  kind = refl;
-  silent = refl;
-  made_for = freeze-kept c.in-Freezing.task c.next-in-Freezing.new.self e.basis;
-  merge_for = λ key p m. absurd m;
-  small_for = λ key p m. absurd m;
-  few = refl;
-  meant = e.meant;
-  slots = e.slots;
-  begins = λ start silent other. freeze-begins c.next-in-Freezing.new.self.phase (λ o. e.begins o start);
-  last = e.last;
-  only_last = e.only_last;
-  done = e.done;
-  published = e.published;
-  restart = e.restart;
-  no_swap = e.no_swap;
-  full_swaps = e.full_swaps;
-  full_nodes = e.full_nodes;
-  no_neighbour = λ is lacks. absurd (cc);
-  learns = e.learns;
-})
-
-pub returns-in-Reading-clause-counts : goal.returns-in-Reading-clause-counts
-unfolding look_of
-returns-in-Reading-clause-counts c = none-counts c.args.self.now (Reading c.next-in-Reading.new.self) c.next-in-Reading.result (ap look_of c.in-Reading.is) refl
-
-pub returns-in-Deleting-clause-counts : goal.returns-in-Deleting-clause-counts
-unfolding look_of
-returns-in-Deleting-clause-counts c = none-counts c.args.self.now (Deleting c.next-in-Deleting.new.self) c.next-in-Deleting.result (ap look_of c.in-Deleting.is) refl
-
-pub returns-in-Freezing-clause-counts : goal.returns-in-Freezing-clause-counts
-unfolding look_of
-returns-in-Freezing-clause-counts c = none-counts c.args.self.now (Freezing c.next-in-Freezing.new.self) c.next-in-Freezing.result (ap look_of c.in-Freezing.is) refl
-
-pub returns-in-Seeking-clause-counts : goal.returns-in-Seeking-clause-counts
-unfolding asks_of left_of look_of reads_asked
-returns-in-Seeking-clause-counts c =
-    let e = c.next.ensures in
-    subst (λ t. HasCounted t c.next.result (Seeking c.next.new.self)) (sym c.in-Seeking.is) (record { look = refl; reads = λ l. seek-counts c.in-Seeking.task c.next.new.self c.next.result e.nearer e.asked })
-
-pub returns-in-Finding-clause-counts : goal.returns-in-Finding-clause-counts
-unfolding asks_of left_of look_of reads_asked
-returns-in-Finding-clause-counts c =
-    let e = c.next-in-Finding.ensures in
-    subst (λ t. HasCounted t c.next-in-Finding.result (Finding c.next-in-Finding.new.self)) (sym c.in-Finding.is) (record { look = refl; reads = λ l. find-counts c.in-Finding.task c.next-in-Finding.new.self c.next-in-Finding.result e.nearer e.asked })
+pub returns-in-Freezing : goal.returns-in-Freezing
+unfolding config_of asks_of end_of left_of swaps_of made_of change_swaps needs_of wants_of change_of publishing_of facts_of means_of ascent_of differs_of makes_no_change leaves_few_of kind_of IsMadeFor IsMergeFor IsSmallMerge look_of
+returns-in-Freezing c = record {
+  heard = subst (λ t. HasHeard t c.args.seen c.args.moment c.args.slots.now c.next-in-Freezing.result (Freezing c.next-in-Freezing.new.self) c.next-in-Freezing.new.slots) (sym c.in-Freezing.is) (let e = c.next-in-Freezing.ensures in record {
+    asked = e.asked;
+    nearer = e.nearer;
+    fewer = e.fewer;
+    counted = e.counted;
+    swaps = refl;
+    config = e.config;
+    wants = refl;
+    change = e.change;
+    ascent = refl;
+    kind = refl;
+    silent = refl;
+    made_for = freeze-kept c.in-Freezing.task c.next-in-Freezing.new.self e.basis;
+    merge_for = λ key p m. absurd m;
+    small_for = λ key p m. absurd m;
+    few = refl;
+    meant = e.meant;
+    slots = e.slots;
+    begins = λ start silent other. freeze-begins c.next-in-Freezing.new.self.phase (λ o. e.begins o start);
+    last = e.last;
+    only_last = e.only_last;
+    done = e.done;
+    published = e.published;
+    restart = e.restart;
+    no_swap = e.no_swap;
+    full_swaps = e.full_swaps;
+    full_nodes = e.full_nodes;
+    no_neighbour = λ is lacks. absurd (no-merge _ refl is);
+    learns = e.learns;
+  });
+  counts = none-counts c.args.self.now (Freezing c.next-in-Freezing.new.self) c.next-in-Freezing.result (ap look_of c.in-Freezing.is) refl;
+}
