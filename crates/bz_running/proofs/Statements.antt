@@ -68,6 +68,13 @@ Stored t = (s after : Scene) (a v : ℕ) → s.past.config ≡ config_of t → f
 abbrev pub Flushed : AnyTask → Type 0
 Flushed t = (s after : Scene) (line : ℕ) → s.past.config ≡ config_of t → facts_of t Waiting s → IsScene s → IsScene after → asks_of t ≡ Some (Flush line) → Flushes line s after → facts_of t HasTaken after
 
+-- what its own acts lead to
+pub record Acted (t : AnyTask) : Type 0 where
+  pub effect : Effect t
+  pub took : Took t
+  pub stored : Stored t
+  pub flushed : Flushed t
+
 -- why a task is to begin again
 abbrev pub Restarts : Seen → AnyTask → AnyTask → Type 0
 Restarts seen new t = end_of new ≡ Some Restart → (seen ≡ Swapped false) ⊎ differs_of t seen
