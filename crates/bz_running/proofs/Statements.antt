@@ -1,5 +1,6 @@
 -- What the contract of tasks says of a task, as statements of the task alone.
-use Rattle.std.proofs.Common.{◌≡◌, ◌+◌, ◌<◌, ◌≤◌, ◌⊎◌, ℕ, true, false, List, Some, arith, refl}
+use Rattle.std.proofs.Common.{◌≡◌, ◌+◌, ◌<◌, ◌≤◌, ◌⊎◌, ℕ, true, false, List, Option, Some, arith, refl}
+use Rattle.std.specs.Prelude.{IsSome}
 use Rattle.bz_consol.specs.Duties as consol
 use Rattle.bz_consol.specs.declared.consolidate.Consolidate.{Consolidate}
 use Rattle.bz_insert.specs.Facts.{insert_made, insert_publishes}
@@ -27,7 +28,7 @@ use Rattle.bz_task.specs.declared.todo.Outcome.TheVariants.{Restart}
 use Rattle.bz_task.specs.declared.todo.Seen.{Seen}
 use Rattle.bz_task.specs.declared.todo.Seen.TheVariants.{Swapped}
 use Rattle.bz_task.specs.declared.todo.Todo.{Todo}
-use Rattle.bz_task.specs.declared.todo.Todo.TheVariants.{Store, Flush, Swap}
+use Rattle.bz_task.specs.declared.todo.Todo.TheVariants.{Store, Flush, Swap, Finish}
 use Rattle.bz_running.specs.Duties.{config_of, asks_of, made_of, change_swaps, needs_of, wants_of, end_of, change_of, publishing_of, facts_of, means_of, differs_of}
 use Rattle.bz_running.specs.declared.running.AnyTask.{AnyTask}
 use Rattle.bz_running.specs.declared.running.AnyTask.TheVariants.{Seeking, Finding, Reading, Inserting, Updating, Deleting, Freezing, Consolidating, Splitting, SplittingBelow, SplittingInner, SplittingInnerRoot, Merging}
@@ -74,6 +75,12 @@ pub record Acted (t : AnyTask) : Type 0 where
   pub took : Took t
   pub stored : Stored t
   pub flushed : Flushed t
+
+-- how it has ended, asked of it
+pub record Ended (told : Option Outcome) (t : AnyTask) : Type 0 where
+  pub end : told ≡ end_of t
+  pub finish : asks_of t ≡ Some Finish → IsSome told
+  pub only : IsSome told → asks_of t ≡ Some Finish
 
 -- why a task is to begin again
 abbrev pub Restarts : Seen → AnyTask → AnyTask → Type 0
