@@ -39,6 +39,10 @@ module _ (b : Laws) (key : List ℕ) (path : Path) (ws : List ℕ) (c : Config) 
   in-slot : (k i v : ℕ) → Answers s (node_address c k + i) v → Answers s (node_address s.past.config k + i) v
   in-slot k i v a = subst (λ z. Answers s (node_address z k + i) v) (sym same) a
 
+  pub told-guard : (stage : Stage) (v : ℕ) → descend_facts key path ws Guard stage s → Tells (descend_asks c Guard) stage (Was v) s → HasFilled s × descend_learnt key path ws (Root v) s.past
+  told-guard Took v f t = absurd (f)
+  told-guard Waiting v f t = (f.0, record { guarded = s.past.now; begun = good.begun; until = omega arith; value = t.value })
+
   pub told-root : RootsAreReached → (stage : Stage) (st v : ℕ) (next : Path) → next.depth ≡ 1 → slice_get next.links 0 ≡ Some (root_link st (v - 1))
       → descend_facts key path ws (Root st) stage s → Tells (descend_asks c (Root st)) stage (Was v) s → HasFilled s × descend_learnt key next ws (Header (v - 1)) s.past
   told-root roots Took st v next deep first f t = absurd (f)

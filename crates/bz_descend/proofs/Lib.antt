@@ -1,6 +1,7 @@
 mod Arriving
 mod Children
 mod Hearing
+mod Going
 mod Inners
 mod Leading
 mod Learning
