@@ -16,3 +16,4 @@ mod Moving
 mod SeekStaying
 mod SeekHearing
 mod Seeking
+mod SeekGoing

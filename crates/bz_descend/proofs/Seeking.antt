@@ -49,6 +49,10 @@ module _ (b : Laws) (key : List ℕ) (path : Path) (height : ℕ) (ws : List ℕ
   in-slot : (k i v : ℕ) → Answers s (node_address c k + i) v → Answers s (node_address s.past.config k + i) v
   in-slot k i v a = subst (λ z. Answers s (node_address z k + i) v) (sym same) a
 
+  pub seen-guard : (stage : Stage) (v : ℕ) → seek_facts key path height ws Guard stage s → Tells (seek_asks c Guard) stage (Was v) s → HasFilled s × seek_learnt key path height ws (Root v) s.past
+  seen-guard Took v f t = absurd (f)
+  seen-guard Waiting v f t = (f.0, record { guarded = s.past.now; begun = good.begun; until = omega arith; value = t.value })
+
   pub seen-root : RootsAreReached → (stage : Stage) (st v : ℕ) (next : Path) → next.depth ≡ 1 → slice_get next.links 0 ≡ Some (root_link st (v - 1))
       → seek_facts key path height ws (Root st) stage s → Tells (seek_asks c (Root st)) stage (Was v) s → HasFilled s × seek_learnt key next height ws (Header (v - 1)) s.past
   seen-root roots Took st v next deep first f t = absurd (f)

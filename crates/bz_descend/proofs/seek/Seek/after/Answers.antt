@@ -1,110 +1,210 @@
-use Rattle.std.proofs.Common.{◌≡◌, ◌+◌, ◌-◌, ◌≤◌, ◌<◌, arith, sym, ap, subst, ◌∙◌}
+use Rattle.std.proofs.Common.{◌≡◌, ◌+◌, ◌-◌, ◌<◌, arith, refl, sym, ap, subst}
 use Rattle.std.specs.Prelude.{Some, slice_get}
 use Rattle.bz_key.specs.Packing.{packed_len}
-use Rattle.bz_search.specs.Digits.{digits}
-use Rattle.bz_word.specs.Statuses.{status}
 use Rattle.bz_word.specs.declared.meta.Extent.{Extent}
-use Rattle.bz_task.specs.declared.path.Link.{Link}
-use Rattle.bz_task.specs.declared.todo.Seen.TheVariants.{Read as Was}
-use Rattle.bz_descend.specs.SeekFacts.{reads_at, asks_one, seek_left, seek_bounds, seek_heard, path_reads, left_from}
-use Rattle.bz_descend.specs.declared.sight.Way.TheVariants.{Root, Header, Status, Meta, Word, First, Pointer}
-use Rattle.bz_descend.proofs.Moving.{Moves, to-node, from-status, from-word, root-reads, child-reads}
-use Rattle.bz_descend.proofs.Seeking.{by-way, seen-root, seen-header, seen-status, seen-meta, seen-word, seen-first, seen-pointer}
-use Rattle.bz_descend.proofs.seek.Seek.after.Goals.{After-arrived-in-Pointer-Read}
+use Rattle.bz_task.specs.declared.todo.Seen.TheVariants.{Start, Read as Was}
+use Rattle.bz_descend.specs.Facts.{IsInNode}
+use Rattle.bz_descend.specs.declared.sight.Way.TheVariants.{Fresh, Guard, Root, Header, Status, Meta, Word, First, Pointer}
+use Rattle.bz_descend.proofs.SeekGoing.{Turns, bounds-at, seek-heard-at, turns-in, guard-turns, root-turns, header-low, header-turns, status-turns, meta-turns, word-turns, first-turns, pointer-turns, is-first, fresh-turns, fresh-seen}
+use Rattle.bz_descend.proofs.Seeking.{by-way, seen-guard, seen-root, seen-header, seen-status, seen-meta, seen-word, seen-first, seen-pointer}
 use Rattle.bz_descend.proofs.seek.Seek.after.Goals as goal
 
-pub returns-in-Root-Read-clause-reads : goal.returns-in-Root-Read-clause-reads
-returns-in-Root-Read-clause-reads c =
-    let t = c.args.self.now in let i = c.in-Root-Read in let n = c.to_root-self.result in
-    subst (λ z. reads_at t.path z + 1 ≤ path_reads n) (sym i.is-0) (omega (arith, root-reads n c.to_root-self.ensures.depth))
+pub returns-in-Guard-Read : goal.returns-in-Guard-Read
+returns-in-Guard-Read c =
+    let t = c.args.self.now in let i = c.in-Guard-Read in
+    let g = turns-in t.config t.path t.path t.phase Guard (Root i.status) c.args.seen (Was i.status) i.is-0 i.is-1 (guard-turns t.config t.path i.status) in
+    record {
+      config = refl;
+      key = refl;
+      asked = refl;
+      low = c.requires.low;
+      begun = g.begun;
+      begins = g.begins;
+      nearer = g.nearer;
+      reads = g.reads;
+      bounds = g.bounds;
+      restart = g.restart;
+      learns = λ stage s same good.
+          by-way t.key t.path t.height t.words t.config _ stage s t.phase Guard c.args.seen (Was i.status) i.is-0 i.is-1
+          (seen-guard c.on_trees.ensures t.key t.path t.height t.words t.config s same good stage i.status);
+    }
 
-pub returns-in-Root-Read-clause-learns : goal.returns-in-Root-Read-clause-learns
-returns-in-Root-Read-clause-learns c stage s same good =
+pub returns-in-Root-Read : goal.returns-in-Root-Read
+returns-in-Root-Read c =
     let t = c.args.self.now in let i = c.in-Root-Read in
-    by-way t.key t.path t.height t.words t.config _ stage s t.phase (Root i.status) c.args.seen (Was i.pointer) i.is-0 i.is-1
-    (seen-root c.on_trees.ensures t.key t.path t.height t.words t.config s same good c.roots_are_reached.ensures stage i.status i.pointer c.to_root-self.result c.to_root-self.ensures.depth c.to_root-self.ensures.link)
+    let n = c.to_root-self.result in let e = c.to_root-self.ensures in
+    let h = seek-heard-at t.config t.path.depth t.phase (Root i.status) c.args.seen (Was i.pointer) i.is-0 i.is-1 c.requires.heard in
+    let g = turns-in t.config t.path n t.phase (Root i.status) (Header (i.pointer - 1)) c.args.seen (Was i.pointer) i.is-0 i.is-1 (root-turns t.config t.path n i.status i.pointer e.depth h) in
+    record {
+      config = refl;
+      key = refl;
+      asked = refl;
+      low = c.requires.low;
+      begun = g.begun;
+      begins = g.begins;
+      nearer = g.nearer;
+      reads = g.reads;
+      bounds = g.bounds;
+      restart = g.restart;
+      learns = λ stage s same good.
+          by-way t.key t.path t.height t.words t.config _ stage s t.phase (Root i.status) c.args.seen (Was i.pointer) i.is-0 i.is-1
+          (seen-root c.on_trees.ensures t.key t.path t.height t.words t.config s same good c.roots_are_reached.ensures stage i.status i.pointer n e.depth e.link);
+    }
 
-status-moves : (c : goal.After-first_sight) → Moves c.args.self.now.config c.args.self.now.path c.args.self.now.path (Status c.in-Status-Read.slot) c.first_sight.result
-status-moves c =
-    let t = c.args.self.now in let i = c.in-Status-Read in
-    let h : seek_heard t.config t.path.depth (Status i.slot) (Was i.status) = subst (λ z. seek_heard t.config t.path.depth (Status i.slot) z) i.is-1 (subst (λ z. seek_heard t.config t.path.depth z c.args.seen) i.is-0 c.requires.heard) in
-    from-status t.config t.path i.slot i.status c.first_sight.result (subst (λ z. seek_bounds t.config t.path.depth z) i.is-0 c.requires.bounds) h.1 h.2 c.first_sight.ensures.frozen c.first_sight.ensures.thawed
-
-pub returns-in-Status-Read-clause-nearer : goal.returns-in-Status-Read-clause-nearer
-returns-in-Status-Read-clause-nearer c = let t = c.args.self.now in subst (λ z. seek_left t.path.depth c.first_sight.result < seek_left t.path.depth z) (sym c.in-Status-Read.is-0) (status-moves c).nearer
-
-pub returns-in-Status-Read-clause-reads : goal.returns-in-Status-Read-clause-reads
-returns-in-Status-Read-clause-reads c = let t = c.args.self.now in subst (λ z. reads_at t.path z + asks_one c.first_sight.result ≤ reads_at t.path c.first_sight.result) (sym c.in-Status-Read.is-0) (status-moves c).reads
-
-pub returns-in-Status-Read-clause-bounds : goal.returns-in-Status-Read-clause-bounds
-returns-in-Status-Read-clause-bounds c = (status-moves c).bounds
-
-pub returns-in-Status-Read-clause-learns : goal.returns-in-Status-Read-clause-learns
-returns-in-Status-Read-clause-learns c stage s same good =
-    let t = c.args.self.now in let i = c.in-Status-Read in
-    by-way t.key t.path t.height t.words t.config _ stage s t.phase (Status i.slot) c.args.seen (Was i.status) i.is-0 i.is-1
-    (seen-status c.on_trees.ensures t.key t.path t.height t.words t.config s same good stage i.slot i.status c.first_sight.result c.first_sight.ensures.frozen c.first_sight.ensures.thawed)
-
-pub returns-in-Meta-Read-clause-learns : goal.returns-in-Meta-Read-clause-learns
-returns-in-Meta-Read-clause-learns c stage s same good =
-    let t = c.args.self.now in let i = c.in-Meta-Read in
-    rw c.extent_of.ensures (by-way t.key t.path t.height t.words t.config _ stage s t.phase (Meta i.sight) c.args.seen (Was i.word) i.is-0 i.is-1
-    (seen-meta c.on_trees.ensures t.key t.path t.height t.words t.config s same good c.separators_stay.ensures stage i.sight i.word))
-
-word-moves : (c : goal.After-after_word) → Moves c.args.self.now.config c.args.self.now.path c.args.self.now.path (Word c.in-Word-Read.sight c.in-Word-Read.extent c.in-Word-Read.i) c.after_word.result
-word-moves c =
-    let t = c.args.self.now in let i = c.in-Word-Read in
-    let h : seek_bounds t.config t.path.depth (Word i.sight i.extent i.i) = subst (λ z. seek_bounds t.config t.path.depth z) i.is-0 c.requires.bounds in
-    from-word t.config t.path i.sight i.extent i.i c.after_word.result h.0 h.1 h.2 c.after_word.ensures.more c.after_word.ensures.either
-
-pub returns-in-Word-Read-clause-nearer : goal.returns-in-Word-Read-clause-nearer
-returns-in-Word-Read-clause-nearer c = let t = c.args.self.now in subst (λ z. seek_left t.path.depth c.after_word.result < seek_left t.path.depth z) (sym c.in-Word-Read.is-0) (word-moves c).nearer
-
-pub returns-in-Word-Read-clause-reads : goal.returns-in-Word-Read-clause-reads
-returns-in-Word-Read-clause-reads c = let t = c.args.self.now in subst (λ z. reads_at t.path z + asks_one c.after_word.result ≤ reads_at t.path c.after_word.result) (sym c.in-Word-Read.is-0) (word-moves c).reads
-
-pub returns-in-Word-Read-clause-bounds : goal.returns-in-Word-Read-clause-bounds
-returns-in-Word-Read-clause-bounds c = (word-moves c).bounds
-
-pub returns-in-Word-Read-clause-learns : goal.returns-in-Word-Read-clause-learns
-returns-in-Word-Read-clause-learns c stage s same good =
-    let t = c.args.self.now in let i = c.in-Word-Read in
-    by-way t.key t.path t.height t.words t.config _ stage s t.phase (Word i.sight i.extent i.i) c.args.seen (Was i.word) i.is-0 i.is-1
-    (seen-word c.on_trees.ensures t.key t.path t.height t.words t.config s same good c.separators_stay.ensures stage i.sight i.extent i.i i.word c.after_word.result c.is_whole.ensures c.after_word.ensures.more c.after_word.ensures.done)
-
-pub returns-in-First-Read-clause-learns : goal.returns-in-First-Read-clause-learns
-returns-in-First-Read-clause-learns c stage s same good =
-    let t = c.args.self.now in let i = c.in-First-Read in
-    by-way t.key t.path t.height t.words t.config _ stage s t.phase (First i.probe) c.args.seen (Was i.word) i.is-0 i.is-1
-    (seen-first c.on_trees.ensures t.key t.path t.height t.words t.config s same good c.separators_stay.ensures stage i.probe i.word (c.extent_of-extent.result.offset + c.words_for.result)
-    (omega (arith, c.words_for.ensures.words, ap (λ (z : Extent). z.offset) c.extent_of-extent.ensures, ap (λ (z : Extent). packed_len z.key) c.extent_of-extent.ensures)))
-
-pub returns-in-Header-Read-clause-learns : goal.returns-in-Header-Read-clause-learns
-returns-in-Header-Read-clause-learns c stage s same good =
+pub returns-in-Header-Read : goal.returns-in-Header-Read
+returns-in-Header-Read c =
     let t = c.args.self.now in let i = c.in-Header-Read in
-    let b : seek_bounds t.config t.path.depth (Header i.slot) = subst (λ z. seek_bounds t.config t.path.depth z) i.is-0 c.requires.bounds in
-    let h : seek_heard t.config t.path.depth (Header i.slot) (Was i.word) = subst (λ z. seek_heard t.config t.path.depth (Header i.slot) z) i.is-1 (subst (λ z. seek_heard t.config t.path.depth z c.args.seen) i.is-0 c.requires.heard) in
-    rw c.arrived.ensures (by-way t.key t.path t.height t.words t.config _ stage s t.phase (Header i.slot) c.args.seen (Was i.word) i.is-0 i.is-1
-    (seen-header c.on_trees.ensures t.key t.path t.height t.words t.config s same good stage i.slot i.word c.level_of-self.result b.1 (c.level_of-self.ensures h.0)))
+    let n = c.arrived.result in let high = c.level_of-self.result in
+    let b = bounds-at t.config t.path.depth t.phase (Header i.slot) i.is-0 c.requires.bounds in
+    let h = seek-heard-at t.config t.path.depth t.phase (Header i.slot) c.args.seen (Was i.word) i.is-0 i.is-1 c.requires.heard in
+    let low = header-low t.config t.path i.slot i.word high b h c.level_of-self.ensures in
+    let g = turns-in t.config t.path t.path t.phase (Header i.slot) n c.args.seen (Was i.word) i.is-0 i.is-1 (subst (λ z. Turns t.config t.path t.path (Header i.slot) z (Was i.word)) (sym c.arrived.ensures) (header-turns t.config t.path i.slot i.word high b low)) in
+    record {
+      config = refl;
+      key = refl;
+      asked = refl;
+      low = low;
+      begun = g.begun;
+      begins = g.begins;
+      nearer = g.nearer;
+      reads = g.reads;
+      bounds = g.bounds;
+      restart = g.restart;
+      learns = λ stage s same good.
+          rw c.arrived.ensures (by-way t.key t.path t.height t.words t.config _ stage s t.phase (Header i.slot) c.args.seen (Was i.word) i.is-0 i.is-1
+          (seen-header c.on_trees.ensures t.key t.path t.height t.words t.config s same good stage i.slot i.word high b.1 (c.level_of-self.ensures h.0)));
+    }
 
-pointer-moves : (c : After-arrived-in-Pointer-Read) → Moves c.args.self.now.config c.args.self.now.path c.with_link-self.result (Pointer c.in-Pointer-Read.probe) c.arrived-in-Pointer-Read.result
-pointer-moves c =
-    let t = c.args.self.now in let i = c.in-Pointer-Read in let n = c.with_link-self.result in
-    let b : seek_bounds t.config t.path.depth (Pointer i.probe) = subst (λ z. seek_bounds t.config t.path.depth z) i.is-0 c.requires.bounds in
-    let h : seek_heard t.config t.path.depth (Pointer i.probe) (Was i.pointer) = subst (λ z. seek_heard t.config t.path.depth (Pointer i.probe) z) i.is-1 (subst (λ z. seek_heard t.config t.path.depth z c.args.seen) i.is-0 c.requires.heard) in
-    let r = child-reads t.path n c.link.result b.at.some c.with_link-self.ensures.depth c.with_link-self.ensures.link c.with_link-self.ensures.others in
-    let d : digits (status c.link.result.status).count ≡ digits i.probe.count = ap (λ (z : Link). digits (status z.status).count) c.link.ensures ∙ ap digits (sym b.count) in
-    rw c.arrived-in-Pointer-Read.ensures
-    (to-node t.config t.path n (Pointer i.probe) t.height (i.pointer - 1) (omega (arith, h.0, h.1)) (omega (arith, c.with_link-self.ensures.depth)) c.requires.low (omega (arith, ap left_from c.with_link-self.ensures.depth)) (omega (arith, r, d)))
+pub returns-in-Status-Read : goal.returns-in-Status-Read
+returns-in-Status-Read c =
+    let t = c.args.self.now in let i = c.in-Status-Read in
+    let n = c.first_sight.result in let e = c.first_sight.ensures in
+    let b = bounds-at t.config t.path.depth t.phase (Status i.slot) i.is-0 c.requires.bounds in
+    let h = seek-heard-at t.config t.path.depth t.phase (Status i.slot) c.args.seen (Was i.status) i.is-0 i.is-1 c.requires.heard in
+    let g = turns-in t.config t.path t.path t.phase (Status i.slot) n c.args.seen (Was i.status) i.is-0 i.is-1 (status-turns t.config t.path i.slot i.status n b h e.frozen e.thawed) in
+    record {
+      config = refl;
+      key = refl;
+      asked = refl;
+      low = c.requires.low;
+      begun = g.begun;
+      begins = g.begins;
+      nearer = g.nearer;
+      reads = g.reads;
+      bounds = g.bounds;
+      restart = g.restart;
+      learns = λ stage s same good.
+          by-way t.key t.path t.height t.words t.config _ stage s t.phase (Status i.slot) c.args.seen (Was i.status) i.is-0 i.is-1
+          (seen-status c.on_trees.ensures t.key t.path t.height t.words t.config s same good stage i.slot i.status n e.frozen e.thawed);
+    }
 
-pub returns-in-Pointer-Read-clause-nearer : goal.returns-in-Pointer-Read-clause-nearer
-returns-in-Pointer-Read-clause-nearer c = let t = c.args.self.now in subst (λ z. seek_left c.with_link-self.result.depth c.arrived-in-Pointer-Read.result < seek_left t.path.depth z) (sym c.in-Pointer-Read.is-0) (pointer-moves c).nearer
+pub returns-in-Meta-Read : goal.returns-in-Meta-Read
+returns-in-Meta-Read c =
+    let t = c.args.self.now in let i = c.in-Meta-Read in
+    let n = c.extent_of.result in let e = c.extent_of.ensures in
+    let b = bounds-at t.config t.path.depth t.phase (Meta i.sight) i.is-0 c.requires.bounds in
+    let h = seek-heard-at t.config t.path.depth t.phase (Meta i.sight) c.args.seen (Was i.word) i.is-0 i.is-1 c.requires.heard in
+    let g = turns-in t.config t.path t.path t.phase (Meta i.sight) (Word i.sight n 0) c.args.seen (Was i.word) i.is-0 i.is-1 (meta-turns t.config t.path i.sight n i.word b (subst IsInNode (sym e) h.0) (subst (λ z. 0 < z.key) (sym e) h.1)) in
+    record {
+      config = refl;
+      key = refl;
+      asked = refl;
+      low = c.requires.low;
+      begun = g.begun;
+      begins = g.begins;
+      nearer = g.nearer;
+      reads = g.reads;
+      bounds = g.bounds;
+      restart = g.restart;
+      learns = λ stage s same good.
+          rw e (by-way t.key t.path t.height t.words t.config _ stage s t.phase (Meta i.sight) c.args.seen (Was i.word) i.is-0 i.is-1
+          (seen-meta c.on_trees.ensures t.key t.path t.height t.words t.config s same good c.separators_stay.ensures stage i.sight i.word));
+    }
 
-pub returns-in-Pointer-Read-clause-reads : goal.returns-in-Pointer-Read-clause-reads
-returns-in-Pointer-Read-clause-reads c = let t = c.args.self.now in subst (λ z. reads_at t.path z + asks_one c.arrived-in-Pointer-Read.result ≤ reads_at c.with_link-self.result c.arrived-in-Pointer-Read.result) (sym c.in-Pointer-Read.is-0) (pointer-moves c).reads
+pub returns-in-Word-Read : goal.returns-in-Word-Read
+returns-in-Word-Read c =
+    let t = c.args.self.now in let i = c.in-Word-Read in
+    let n = c.after_word.result in let e = c.after_word.ensures in
+    let b = bounds-at t.config t.path.depth t.phase (Word i.sight i.extent i.i) i.is-0 c.requires.bounds in
+    let g = turns-in t.config t.path t.path t.phase (Word i.sight i.extent i.i) n c.args.seen (Was i.word) i.is-0 i.is-1 (word-turns t.config t.path i.sight i.extent i.i i.word n b e.more e.either) in
+    record {
+      config = refl;
+      key = refl;
+      asked = refl;
+      low = c.requires.low;
+      begun = g.begun;
+      begins = g.begins;
+      nearer = g.nearer;
+      reads = g.reads;
+      bounds = g.bounds;
+      restart = g.restart;
+      learns = λ stage s same good.
+          by-way t.key t.path t.height t.words t.config _ stage s t.phase (Word i.sight i.extent i.i) c.args.seen (Was i.word) i.is-0 i.is-1
+          (seen-word c.on_trees.ensures t.key t.path t.height t.words t.config s same good c.separators_stay.ensures stage i.sight i.extent i.i i.word n c.is_whole.ensures e.more e.done);
+    }
 
-pub returns-in-Pointer-Read-clause-learns : goal.returns-in-Pointer-Read-clause-learns
-returns-in-Pointer-Read-clause-learns c stage s same good =
+pub returns-in-First-Read : goal.returns-in-First-Read
+returns-in-First-Read c =
+    let t = c.args.self.now in let i = c.in-First-Read in
+    let n = c.extent_of-extent.result in let e = c.extent_of-extent.ensures in
+    let b = bounds-at t.config t.path.depth t.phase (First i.probe) i.is-0 c.requires.bounds in
+    let h = seek-heard-at t.config t.path.depth t.phase (First i.probe) c.args.seen (Was i.word) i.is-0 i.is-1 c.requires.heard in
+    let g = turns-in t.config t.path t.path t.phase (First i.probe) (Pointer (record i.probe { pointer = n.offset + c.words_for.result })) c.args.seen (Was i.word) i.is-0 i.is-1 (first-turns t.config t.path i.probe n i.word (n.offset + c.words_for.result) b (subst IsInNode (sym e) h) (omega (arith, c.words_for.ensures.words))) in
+    record {
+      config = refl;
+      key = refl;
+      asked = refl;
+      low = c.requires.low;
+      begun = g.begun;
+      begins = g.begins;
+      nearer = g.nearer;
+      reads = g.reads;
+      bounds = g.bounds;
+      restart = g.restart;
+      learns = λ stage s same good.
+          by-way t.key t.path t.height t.words t.config _ stage s t.phase (First i.probe) c.args.seen (Was i.word) i.is-0 i.is-1
+          (seen-first c.on_trees.ensures t.key t.path t.height t.words t.config s same good c.separators_stay.ensures stage i.probe i.word (n.offset + c.words_for.result)
+          (omega (arith, c.words_for.ensures.words, ap (λ (z : Extent). z.offset) e, ap (λ (z : Extent). packed_len z.key) e)));
+    }
+
+pub returns-in-Pointer-Read : goal.returns-in-Pointer-Read
+returns-in-Pointer-Read c =
     let t = c.args.self.now in let i = c.in-Pointer-Read in
-    rw c.arrived-in-Pointer-Read.ensures (by-way t.key t.path t.height t.words t.config _ stage s t.phase (Pointer i.probe) c.args.seen (Was i.pointer) i.is-0 i.is-1
-    (seen-pointer c.on_trees.ensures t.key t.path t.height t.words t.config s same good c.separators_stay.ensures stage i.probe i.pointer c.with_link-self.result c.with_link-self.ensures.depth (subst (λ z. slice_get c.with_link-self.result.links t.path.depth ≡ Some z) c.link.ensures c.with_link-self.ensures.link) c.with_link-self.ensures.others))
+    let n = c.with_link-self.result in let e = c.with_link-self.ensures in
+    let b = bounds-at t.config t.path.depth t.phase (Pointer i.probe) i.is-0 c.requires.bounds in
+    let h = seek-heard-at t.config t.path.depth t.phase (Pointer i.probe) c.args.seen (Was i.pointer) i.is-0 i.is-1 c.requires.heard in
+    let g = turns-in t.config t.path n t.phase (Pointer i.probe) c.arrived-in-Pointer-Read.result c.args.seen (Was i.pointer) i.is-0 i.is-1 (subst (λ z. Turns t.config t.path n (Pointer i.probe) z (Was i.pointer)) (sym c.arrived-in-Pointer-Read.ensures) (pointer-turns t.config t.path n c.link.result i.probe i.pointer t.height b h c.requires.low c.link.ensures e.depth e.link e.others)) in
+    record {
+      config = refl;
+      key = refl;
+      asked = refl;
+      low = c.requires.low;
+      begun = g.begun;
+      begins = g.begins;
+      nearer = g.nearer;
+      reads = g.reads;
+      bounds = g.bounds;
+      restart = g.restart;
+      learns = λ stage s same good.
+          rw c.arrived-in-Pointer-Read.ensures (by-way t.key t.path t.height t.words t.config _ stage s t.phase (Pointer i.probe) c.args.seen (Was i.pointer) i.is-0 i.is-1
+          (seen-pointer c.on_trees.ensures t.key t.path t.height t.words t.config s same good c.separators_stay.ensures stage i.probe i.pointer n e.depth (subst (λ z. slice_get n.links t.path.depth ≡ Some z) c.link.ensures e.link) e.others));
+    }
+
+pub returns-in_default-9 : goal.returns-in_default-9
+returns-in_default-9 c =
+    let t = c.args.self.now in let n = c.in_default in
+    let w = is-first t.config c.args.seen t.phase c.requires.hears n.not-Guard-0 n.not-Root-0 n.not-Header-0 n.not-Status-0 n.not-Meta-0 n.not-Word-0 n.not-First-0 n.not-Pointer-0 in
+    let g = turns-in t.config t.path t.path t.phase Fresh Guard c.args.seen Start w.fresh w.start (fresh-turns t.config t.path) in
+    record {
+      config = refl;
+      key = refl;
+      asked = refl;
+      low = c.requires.low;
+      begun = g.begun;
+      begins = g.begins;
+      nearer = g.nearer;
+      reads = g.reads;
+      bounds = g.bounds;
+      restart = g.restart;
+      learns = λ stage s same good. by-way t.key t.path t.height t.words t.config _ stage s t.phase Fresh c.args.seen Start w.fresh w.start (fresh-seen t.key t.path t.height t.words t.config stage s);
+    }
