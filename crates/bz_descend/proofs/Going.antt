@@ -1,5 +1,6 @@
 -- What follows an answer to a descent: it is begun, comes nearer its end, and names what it may.
 use Rattle.std.proofs.Common.{◌≡◌, ◌≢◌, ℕ, ◌+◌, ◌-◌, ◌<◌, Bool, true, false, List, arith, refl, sym, subst}
+use Rattle.std.specs.Prelude.{Some}
 use Rattle.bz_layout.specs.declared.config.Config.{Config}
 use Rattle.bz_word.specs.Headers.{header}
 use Rattle.bz_word.specs.Statuses.{status}
@@ -9,6 +10,7 @@ use Rattle.bz_task.specs.Scene.{Scene, Stage, Waiting, Took, HasFilled}
 use Rattle.bz_task.specs.declared.path.Path.{Path}
 use Rattle.bz_task.specs.declared.todo.Seen.{Seen}
 use Rattle.bz_task.specs.declared.todo.Seen.TheVariants.{Start, Read as Was}
+use Rattle.bz_task.specs.declared.todo.Todo.TheVariants.{Read}
 use Rattle.bz_descend.specs.Facts.{IsAt, descend_asks, descend_left, descend_facts, descend_bounds, descend_heard, descend_differs, first_of}
 use Rattle.bz_descend.specs.declared.phase.Phase.{Phase}
 use Rattle.bz_descend.specs.declared.phase.Phase.TheVariants.{Fresh, Guard, Root, Header, Status, Meta, Word, Pointer, Found, Changed}
@@ -90,3 +92,11 @@ first-goes c depth = record { begun = λ e. absurd (cc); begins = λ e. refl; ne
 pub first-learns : (key : List ℕ) (path : Path) (ws : List ℕ) (c : Config) (stage : Stage) (s : Scene) → descend_facts key path ws Fresh stage s → Tells (descend_asks c Fresh) stage Start s → HasFilled s × Unit {0}
 first-learns key path ws c Took s f t = absurd (f)
 first-learns key path ws c Waiting s f t = (t, tt)
+
+-- what asks for a read hears of one
+not-read : (a : ℕ) (seen : Seen) → Hears (Some (Read a)) seen → ((v : ℕ) → seen ≢ Was v) → ⊥
+not-read a (Was v) h n = n v refl
+not-read a seen h n = absurd (h)
+
+pub unread : (c : Config) (phase other : Phase) (a : ℕ) (seen : Seen) → phase ≡ other → descend_asks c other ≡ Some (Read a) → Hears (descend_asks c phase) seen → ((v : ℕ) → seen ≢ Was v) → ⊥
+unread c phase other a seen e asks h n = not-read a seen (subst (λ z. Hears z seen) asks (subst (λ z. Hears (descend_asks c z) seen) e h)) n

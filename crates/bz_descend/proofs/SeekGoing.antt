@@ -16,6 +16,7 @@ use Rattle.bz_task.specs.declared.path.Link.{Link}
 use Rattle.bz_task.specs.declared.path.Path.{Path}
 use Rattle.bz_task.specs.declared.todo.Seen.{Seen}
 use Rattle.bz_task.specs.declared.todo.Seen.TheVariants.{Start, Read as Was}
+use Rattle.bz_task.specs.declared.todo.Todo.TheVariants.{Read}
 use Rattle.bz_descend.specs.Facts.{IsInNode}
 use Rattle.bz_descend.specs.Halving.{sight_in}
 use Rattle.bz_descend.specs.SeekFacts.{seek_asks, seek_left, seek_facts, seek_bounds, seek_heard, seek_differs, reads_at, asks_one, arrived_at, left_from}
@@ -145,3 +146,11 @@ fresh-turns c path = record { begun = λ e. absurd (cc); begins = λ e. refl; ne
 pub fresh-seen : (key : List ℕ) (path : Path) (height : ℕ) (ws : List ℕ) (c : Config) (stage : Stage) (s : Scene) → seek_facts key path height ws Fresh stage s → Tells (seek_asks c Fresh) stage Start s → HasFilled s × Unit {0}
 fresh-seen key path height ws c Took s f t = absurd (f)
 fresh-seen key path height ws c Waiting s f t = (t, tt)
+
+-- what asks for a read hears of one
+not-read : (a : ℕ) (seen : Seen) → Hears (Some (Read a)) seen → ((v : ℕ) → seen ≢ Was v) → ⊥
+not-read a (Was v) h n = n v refl
+not-read a seen h n = absurd (h)
+
+pub unread : (c : Config) (phase other : Way) (a : ℕ) (seen : Seen) → phase ≡ other → seek_asks c other ≡ Some (Read a) → Hears (seek_asks c phase) seen → ((v : ℕ) → seen ≢ Was v) → ⊥
+unread c phase other a seen e asks h n = not-read a seen (subst (λ z. Hears z seen) asks (subst (λ z. Hears (seek_asks c z) seen) e h)) n

@@ -3,7 +3,7 @@ use Rattle.std.specs.Prelude.{Some, slice_get}
 use Rattle.bz_task.specs.declared.todo.Seen.TheVariants.{Start, Read as Was}
 use Rattle.bz_descend.specs.Facts.{next_phase, descend_bounds}
 use Rattle.bz_descend.specs.declared.phase.Phase.TheVariants.{Fresh, Guard, Root, Header, Status, Meta, Word, Pointer, Found}
-use Rattle.bz_descend.proofs.Going.{goes-in, guard-goes, root-goes, leaf-goes, inner-goes, status-goes, told-goes, pointer-goes, is-first, first-goes, first-learns}
+use Rattle.bz_descend.proofs.Going.{goes-in, guard-goes, root-goes, leaf-goes, inner-goes, status-goes, told-goes, pointer-goes, is-first, first-goes, first-learns, unread}
 use Rattle.bz_descend.proofs.Hearing.{heard-at}
 use Rattle.bz_descend.proofs.Learning.{by-phase, told-guard, told-root, told-leaf, told-inner, told-status, told-meta, told-word, told-pointer}
 use Rattle.bz_descend.proofs.descend.Descend.after.Goals as goal
@@ -176,3 +176,24 @@ returns-in_default-8 c =
       restart = g.restart;
       learns = λ stage s same good. by-phase t.key t.path t.words t.config _ stage s t.phase Fresh c.args.seen Start w.fresh w.start (first-learns t.key t.path t.words t.config stage s);
     }
+
+pub returns-in_default : goal.returns-in_default
+returns-in_default c = let t = c.args.self.now in absurd (unread t.config t.phase _ _ c.args.seen c.in_default.is-0 refl c.requires.hears c.in_default.not-Read-1)
+
+pub returns-in_default-2 : goal.returns-in_default-2
+returns-in_default-2 c = let t = c.args.self.now in absurd (unread t.config t.phase _ _ c.args.seen c.in_default.is-0 refl c.requires.hears c.in_default.not-Read-1)
+
+pub returns-in_default-3 : goal.returns-in_default-3
+returns-in_default-3 c = let t = c.args.self.now in absurd (unread t.config t.phase _ _ c.args.seen c.in_default.is-0 refl c.requires.hears c.in_default.not-Read-1)
+
+pub returns-in_default-4 : goal.returns-in_default-4
+returns-in_default-4 c = let t = c.args.self.now in absurd (unread t.config t.phase _ _ c.args.seen c.in_default.is-0 refl c.requires.hears c.in_default.not-Read-1)
+
+pub returns-in_default-5 : goal.returns-in_default-5
+returns-in_default-5 c = let t = c.args.self.now in absurd (unread t.config t.phase _ _ c.args.seen c.in_default.is-0 refl c.requires.hears c.in_default.not-Read-1)
+
+pub returns-in_default-6 : goal.returns-in_default-6
+returns-in_default-6 c = let t = c.args.self.now in absurd (unread t.config t.phase _ _ c.args.seen c.in_default.is-0 refl c.requires.hears c.in_default.not-Read-1)
+
+pub returns-in_default-7 : goal.returns-in_default-7
+returns-in_default-7 c = let t = c.args.self.now in absurd (unread t.config t.phase _ _ c.args.seen c.in_default.is-0 refl c.requires.hears c.in_default.not-Read-1)

@@ -5,7 +5,7 @@ use Rattle.bz_word.specs.declared.meta.Extent.{Extent}
 use Rattle.bz_task.specs.declared.todo.Seen.TheVariants.{Start, Read as Was}
 use Rattle.bz_descend.specs.Facts.{IsInNode}
 use Rattle.bz_descend.specs.declared.sight.Way.TheVariants.{Fresh, Guard, Root, Header, Status, Meta, Word, First, Pointer}
-use Rattle.bz_descend.proofs.SeekGoing.{Turns, bounds-at, seek-heard-at, turns-in, guard-turns, root-turns, header-low, header-turns, status-turns, meta-turns, word-turns, first-turns, pointer-turns, is-first, fresh-turns, fresh-seen}
+use Rattle.bz_descend.proofs.SeekGoing.{Turns, bounds-at, seek-heard-at, turns-in, guard-turns, root-turns, header-low, header-turns, status-turns, meta-turns, word-turns, first-turns, pointer-turns, is-first, fresh-turns, fresh-seen, unread}
 use Rattle.bz_descend.proofs.Seeking.{by-way, seen-guard, seen-root, seen-header, seen-status, seen-meta, seen-word, seen-first, seen-pointer}
 use Rattle.bz_descend.proofs.seek.Seek.after.Goals as goal
 
@@ -208,3 +208,27 @@ returns-in_default-9 c =
       restart = g.restart;
       learns = λ stage s same good. by-way t.key t.path t.height t.words t.config _ stage s t.phase Fresh c.args.seen Start w.fresh w.start (fresh-seen t.key t.path t.height t.words t.config stage s);
     }
+
+pub returns-in_default : goal.returns-in_default
+returns-in_default c = let t = c.args.self.now in absurd (unread t.config t.phase _ _ c.args.seen c.in_default.is-0 refl c.requires.hears c.in_default.not-Read-1)
+
+pub returns-in_default-2 : goal.returns-in_default-2
+returns-in_default-2 c = let t = c.args.self.now in absurd (unread t.config t.phase _ _ c.args.seen c.in_default.is-0 refl c.requires.hears c.in_default.not-Read-1)
+
+pub returns-in_default-3 : goal.returns-in_default-3
+returns-in_default-3 c = let t = c.args.self.now in absurd (unread t.config t.phase _ _ c.args.seen c.in_default.is-0 refl c.requires.hears c.in_default.not-Read-1)
+
+pub returns-in_default-4 : goal.returns-in_default-4
+returns-in_default-4 c = let t = c.args.self.now in absurd (unread t.config t.phase _ _ c.args.seen c.in_default.is-0 refl c.requires.hears c.in_default.not-Read-1)
+
+pub returns-in_default-5 : goal.returns-in_default-5
+returns-in_default-5 c = let t = c.args.self.now in absurd (unread t.config t.phase _ _ c.args.seen c.in_default.is-0 refl c.requires.hears c.in_default.not-Read-1)
+
+pub returns-in_default-6 : goal.returns-in_default-6
+returns-in_default-6 c = let t = c.args.self.now in absurd (unread t.config t.phase _ _ c.args.seen c.in_default.is-0 refl c.requires.hears c.in_default.not-Read-1)
+
+pub returns-in_default-7 : goal.returns-in_default-7
+returns-in_default-7 c = let t = c.args.self.now in absurd (unread t.config t.phase _ _ c.args.seen c.in_default.is-0 refl c.requires.hears c.in_default.not-Read-1)
+
+pub returns-in_default-8 : goal.returns-in_default-8
+returns-in_default-8 c = let t = c.args.self.now in absurd (unread t.config t.phase _ _ c.args.seen c.in_default.is-0 refl c.requires.hears c.in_default.not-Read-1)
