@@ -24,7 +24,7 @@ use Rattle.bz_machine.specs.State.{State}
 use Rattle.bz_machine.proofs.AgreeActs.{final-agrees}
 use Rattle.bz_machine.proofs.Openers.{busy-below}
 use Rattle.bz_machine.proofs.Scenes.{budget-acted}
-use Rattle.bz_machine.proofs.SpendClears.{Home, spends-clear_read, spends-clear_dirty}
+use Rattle.bz_machine.proofs.SpendClears.{Home, spends-clear_dirty}
 use Rattle.bz_machine.proofs.SpendCloses.{spends-clear_status}
 use Rattle.bz_machine.proofs.SpendDecides.{spends-decide}
 use Rattle.bz_machine.proofs.SpendFinals.{spends-clear_final, spends-sweep}
@@ -32,6 +32,7 @@ use Rattle.bz_machine.proofs.SpendInstalls.{spends-try, spends-read}
 use Rattle.bz_machine.proofs.SpendPointers.{spends-pointer}
 use Rattle.bz_machine.proofs.SpendPrepares.{spends-write_status, spends-flush_tail}
 use Rattle.bz_machine.proofs.SpendPuts.{spends-put_final}
+use Rattle.bz_machine.proofs.SpendReads.{spends-clear_read}
 use Rattle.bz_machine.proofs.SpendStale.{spends-remove_tag, spends-stale_sweep, spends-stale_pointer, spends-stale_tag}
 use Rattle.bz_machine.proofs.SpendStores.{spends-store}
 use Rattle.bz_machine.proofs.Spends.{Spends, spends-learn, spends-look, spends-under, spends-flush_dirty, spends-flush_target, spends-flush_status, spends-flush_final, spends-write_word, spends-flush_head, spends-flush_read, spends-flush_line}
@@ -134,9 +135,9 @@ acts x w n Idle bounded at busy known rests = absurd (busy refl)
 acts x w n (Prepare step) bounded at busy known rests = prepares x w n step bounded known
 acts x w n (Learn k) bounded at busy known rests = spends-learn x.entries x.local x.memory w n (x.local w) k (few-words k _ known.2 (bounded.short (x.local w).current))
 acts x w n (Help step) bounded at busy known rests = helps x w n step bounded at known
-acts x w n (ReadWord a) bounded at busy known rests = spends-read x w n a bounded at known
+acts x w n (ReadWord a) bounded at busy known rests = spends-read x w n a bounded at known (λ v. home-of x w n a v (ReadWord a) bounded at (λ i d final. final))
 acts x w n (FlushRead a v) bounded at busy known rests = spends-flush_read x.entries x.local x.memory w n (x.local w) a v
-acts x w n (ClearRead a v) bounded at busy known rests = spends-clear_read x.entries x.local x.memory w n (x.local w) a v bounded.few bounded.short (home-of x w n a v (ClearRead a v) bounded at (λ i d final. final))
+acts x w n (ClearRead a v) bounded at busy known rests = spends-clear_read x.entries x.local x.memory w n (x.local w) a v bounded.few bounded.short
 acts x w n (LoadWord a) bounded at busy known rests = absurd known
 acts x w n (StoreWord a v) bounded at busy known rests = spends-store x.entries x.local x.memory w n (x.local w) a v (bounded.state.sound.private a known) rests
 acts x w n (FlushLine line) bounded at busy known rests = spends-flush_line x.entries x.local x.memory w n (x.local w) line rests

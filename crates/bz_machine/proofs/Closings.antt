@@ -7,7 +7,7 @@ use Rattle.bz_machine.specs.declared.place.Place.{Place}
 use Rattle.bz_machine.specs.declared.place.Place.TheVariants.{Idle, Prepare, Help}
 use Rattle.bz_machine.specs.declared.worker.Operation.{Operation}
 use Rattle.bz_machine.specs.declared.worker.Operation.TheVariants.{Swapping}
-use Rattle.bz_machine.specs.Budget.{open_count, open_above, walk_on, lags_back, detour_on, own_missing_by, left_at, left_by_others, for_walks, fresh_budget}
+use Rattle.bz_machine.specs.Budget.{level, for_sweep, for_return, for_close, open_count, open_above, walk_on, lags_back, detour_on, own_missing_by, left_at, for_walks, left_by_others, fresh_budget}
 use Rattle.bz_machine.specs.Budgets.{IsBounded}
 use Rattle.bz_machine.specs.Machine.{Entries, Memory}
 use Rattle.bz_machine.specs.Standing.{is_decided, is_through, top, is_open_at, scene_of}
@@ -88,5 +88,5 @@ closing-falls x r w n p q bounded published closing rest = by_own (is_own (x.loc
         sums (for_walks (open_count (scene_of x) w n)) (walk_on (scene_of x) (open_count (scene_of x) w n) (open_above (scene_of x) w n) (x.local w)) _ _ _ _ _ (for_walks (open_count (meets x.entries x.local r) w n)) (open_count (meets x.entries x.local r) w n) _ _ _ _ _
         (walks-pay (open_count (meets x.entries x.local r) w n) (open_count (scene_of x) w n) less) walk around rest
       where
-        sums : (z a b c d f r z' u a' c' d' f' r' : ℕ) → z' + 18 * u + 118 ≤ z → a' ≤ 18 * u + 75 → c' ≤ c → d' + f' + r' + 1 ≤ d + f + r → z' + a' + b + c' + d' + f' + r' + 1 ≤ z + a + b + c + d + f + r
+        sums : (z a b c d f r z' u a' c' d' f' r' : ℕ) → z' + level * (u + 1) + for_close ≤ z → a' ≤ level * u + for_return + for_sweep → c' ≤ c → d' + f' + r' + 1 ≤ d + f + r → z' + a' + b + c' + d' + f' + r' + 1 ≤ z + a + b + c + d + f + r
         sums z a b c d f r z' u a' c' d' f' r' h1 h2 h3 h4 = omega (arith, h1, h2, h3, h4)

@@ -9,7 +9,7 @@ use Rattle.bz_machine.specs.declared.status.Verdict.{Verdict}
 use Rattle.bz_machine.specs.declared.worker.Operation.{Operation}
 use Rattle.bz_machine.specs.declared.worker.Operation.TheVariants.{Nothing, Reading, Swapping}
 use Rattle.bz_machine.specs.Allowed.{counted}
-use Rattle.bz_machine.specs.Budget.{open_count, is_over_at, is_swept, cleans_at, left_by_help, left_by_place, left_by, left_by_others, for_walks}
+use Rattle.bz_machine.specs.Budget.{level, for_tag, for_dirty, for_close, open_count, is_over_at, is_swept, cleans_at, left_by_help, left_by_place, left_by, for_walks, left_by_others}
 use Rattle.bz_machine.specs.HelpActs.{final_value}
 use Rattle.bz_machine.specs.Machine.{Entries, Memory}
 use Rattle.bz_machine.specs.Standing.{is_pointer, stands_for, is_tag, is_dirty, is_clean, pointers, is_through, missing, top, swap_of, is_open_by, is_open_at, is_open}
@@ -51,11 +51,11 @@ open-implied e local m r place o through is = by-implied e local m r o through i
 
 help-le : (e : ℕ → Entries) (local : ℕ → Local) (m r : Memory) (w : ℕ) (l k : Local) (p q : Place) → NoMore e local m r w l k p q → (v : ℕ) (o : Local) (step : HelpStep) → (v == w) ≡ false
     → left_by_help (meets e local r) (is_over_at (meets e local r) k q) k q v o step ≤ left_by_help (meets e local m) (is_over_at (meets e local m) l p) l p v o step
-help-le e local m r w l k p q fewer v o (LookUnderTag i u t) other = kept-le (u == v) _ _ _ _ 80 (fewer.tags v o.current i t other)
-help-le e local m r w l k p q fewer v o (InstallPointer i u t) other = kept-le (u == v) _ _ _ _ 80 (fewer.tags v o.current i t other)
-help-le e local m r w l k p q fewer v o (RemoveTag i u t) other = kept-le (u == v) _ _ _ _ 80 (fewer.tags v o.current i t other)
-help-le e local m r w l k p q fewer v o (FlushFinal i d) other = kept-le true _ _ _ _ 3 (fewer.dirty o.current i d)
-help-le e local m r w l k p q fewer v o (ClearFinal i d) other = kept-le true _ _ _ _ 3 (fewer.dirty o.current i d)
+help-le e local m r w l k p q fewer v o (LookUnderTag i u t) other = kept-le (u == v) _ _ _ _ for_tag (fewer.tags v o.current i t other)
+help-le e local m r w l k p q fewer v o (InstallPointer i u t) other = kept-le (u == v) _ _ _ _ for_tag (fewer.tags v o.current i t other)
+help-le e local m r w l k p q fewer v o (RemoveTag i u t) other = kept-le (u == v) _ _ _ _ for_tag (fewer.tags v o.current i t other)
+help-le e local m r w l k p q fewer v o (FlushFinal i d) other = kept-le true _ _ _ _ for_dirty (fewer.dirty o.current i d)
+help-le e local m r w l k p q fewer v o (ClearFinal i d) other = kept-le true _ _ _ _ for_dirty (fewer.dirty o.current i d)
 help-le e local m r w l k p q fewer v o step other = omega arith
 
 pub place-le : (e : ℕ → Entries) (local : ℕ → Local) (m r : Memory) (w : ℕ) (l k : Local) (p q : Place) → NoMore e local m r w l k p q → (v : ℕ) (o : Local) (other : Place) → (v == w) ≡ false
@@ -135,8 +135,8 @@ walks-less u' u le =
     omega (arith, first, second, le)
 
 -- a swap less pays for a walk
-pub walks-pay : (u' u : ℕ) → u' + 1 ≤ u → for_walks u' + 18 * u' + 118 ≤ for_walks u
+pub walks-pay : (u' u : ℕ) → u' + 1 ≤ u → for_walks u' + level * (u' + 1) + for_close ≤ for_walks u
 walks-pay u' u le =
     let less : for_walks (u' + 1) ≤ for_walks u = walks-less (u' + 1) u le in
-    let more : for_walks u' + 18 * u' + 118 ≤ for_walks (u' + 1) = omega arith in
+    let more : for_walks u' + level * (u' + 1) + for_close ≤ for_walks (u' + 1) = omega arith in
     omega (arith, less, more)

@@ -13,7 +13,7 @@ use Rattle.bz_machine.specs.declared.place.Place.TheVariants.{Idle, Learn, Help,
 use Rattle.bz_machine.specs.declared.status.Verdict.{Verdict}
 use Rattle.bz_machine.specs.declared.worker.Operation.{Operation}
 use Rattle.bz_machine.specs.declared.worker.Operation.TheVariants.{Nothing, Reading, Swapping}
-use Rattle.bz_machine.specs.Budget.{open_count, open_above, walk_home, walk_from, walk_back, walk_on, if_any, reserve_by, lags, lags_back, detour_on, left_in_help, is_over_at, left_by_others, fresh_budget}
+use Rattle.bz_machine.specs.Budget.{level, for_first, for_sweep, for_return, for_detour, open_count, open_above, walk_home, walk_from, walk_back, walk_on, if_any, reserve_by, lags, lags_back, detour_on, left_in_help, left_at, is_over_at, left_by_others, fresh_budget}
 use Rattle.bz_machine.specs.Budgets.{IsBounded}
 use Rattle.bz_machine.specs.Owners.{RestsAt}
 use Rattle.bz_machine.specs.Standing.{Scene, is_through, scene_of}
@@ -53,11 +53,11 @@ neither : (a b : Bool) → a ≡ false → b ≡ false → (a || b) ≡ false
 neither a b f g = rw (f, g) refl
 
 -- what is gone back to costs no more
-back-home : (x : Scene) (u : ℕ) (above : ℕ → ℕ) (l : Local) (b : ℕ) → (is_own l.operation b || is_through x b) ≡ true → walk_back x u above l (Some b) ≡ 18 * u + 38
-back-home x u above l b is = chosen-first (is_own l.operation b || is_through x b) (walk_home u + 38) (walk_from x above b) is
+back-home : (x : Scene) (u : ℕ) (above : ℕ → ℕ) (l : Local) (b : ℕ) → (is_own l.operation b || is_through x b) ≡ true → walk_back x u above l (Some b) ≡ level * u + for_return
+back-home x u above l b is = chosen-first (is_own l.operation b || is_through x b) (walk_home u + for_return) (walk_from x above b) is
 
 back-from : (x : Scene) (u : ℕ) (above : ℕ → ℕ) (l : Local) (b : ℕ) → (is_own l.operation b || is_through x b) ≡ false → walk_back x u above l (Some b) ≡ walk_from x above b
-back-from x u above l b is = chosen-second (is_own l.operation b || is_through x b) (walk_home u + 38) (walk_from x above b) is
+back-from x u above l b is = chosen-second (is_own l.operation b || is_through x b) (walk_home u + for_return) (walk_from x above b) is
 
 back-less : (x : State) (f : ℕ → WordKind) (w n i : ℕ) (p : HelpStep) → Finishing x f w i p → is_through (scene_of x) (x.local w).current ≡ true → (back : Option ℕ)
     → walk_back (now x f) (open_count (now x f) w n) (open_above (now x f) w n) (x.local w) back ≤ walk_back (scene_of x) (open_count (scene_of x) w n) (open_above (scene_of x) w n) (x.local w) back
@@ -124,7 +124,7 @@ next-sweeps x f w i d p finishing = record {
     within j is = omega (arith, ltb-true j (i + 1) is)
 
 -- on to the next entry
-pub next-falls : (x : State) (f : ℕ → WordKind) (w n i : ℕ) (d : Verdict) (p : HelpStep) → Finishing x f w i p → 3 * (4 - (i + 1)) + 1 ≤ left_in_help p
+pub next-falls : (x : State) (f : ℕ → WordKind) (w n i : ℕ) (d : Verdict) (p : HelpStep) → Finishing x f w i p → 4 * (4 - (i + 1)) + 1 ≤ left_in_help p
     → fresh_budget (now x f) w n (x.local w) (Help (PutFinal (i + 1) d)) + 1 ≤ fresh_budget (scene_of x) w n (x.local w) (Help p)
 next-falls x f w n i d p finishing left =
     all-fall (scene_of x) (now x f) w n (x.local w) (x.local w) (Help p) (Help (PutFinal (i + 1) d)) (count-less x f w n i p finishing) (walk-next x f w n i p finishing) (omega arith)
@@ -133,7 +133,7 @@ next-falls x f w n i d p finishing left =
     (sums _ _ _ _ _ left (own-less x.entries x.local x.memory (with_cached x.memory f) (x.local w).operation (missing-finishing x f w i p finishing))
     (no-more x.entries x.local x.memory (with_cached x.memory f) w n (x.local w) (x.local w) (Help p) (Help (PutFinal (i + 1) d)) (nothing-finishing x f w i p (x.local w) (Help (PutFinal (i + 1) d)) finishing (next-sweeps x f w i d p finishing))))
   where
-    sums : (a b c a' c' : ℕ) → 3 * (4 - (i + 1)) + 1 ≤ b → a' ≤ a → c' ≤ c → a' + 3 * (4 - (i + 1)) + c' + 1 ≤ a + b + c
+    sums : (a b c a' c' : ℕ) → 4 * (4 - (i + 1)) + 1 ≤ b → a' ≤ a → c' ≤ c → a' + 4 * (4 - (i + 1)) + c' + 1 ≤ a + b + c
     sums a b c a' c' g h k = omega (arith, g, h, k)
 
 -- after the last entry no tag of the swap is ahead
@@ -151,15 +151,15 @@ rest-less : (x : State) (f : ℕ → WordKind) (w n i : ℕ) (p : HelpStep) (k :
 rest-less x f w n i p k q bounded finishing last =
     no-more x.entries x.local x.memory (with_cached x.memory f) w n (x.local w) k (Help p) q (nothing-finishing x f w i p k q finishing (last-sweeps x f w n i p (is_over_at (now x f) k q) k q bounded finishing last))
 
-own-reserve : (o : Operation) (c : ℕ) → is_own o c ≡ true → reserve_by o 0 ≡ 20
+own-reserve : (o : Operation) (c : ℕ) → is_own o c ≡ true → reserve_by o 0 ≡ for_first
 own-reserve Nothing c own = absurd cc
 own-reserve (Reading a) c own = absurd cc
 own-reserve (Swapping s) c own = refl
 
-any-most : (u : ℕ) → if_any u ≤ 20
+any-most : (u : ℕ) → if_any u ≤ for_first
 any-most u = by_test (u == 0)
   where
-    by_test : (b : Bool) → (if b then 0 else 20) ≤ 20
+    by_test : (b : Bool) → (if b then 0 else for_first) ≤ for_first
     by_test true = omega arith
     by_test false = omega arith
 
@@ -171,7 +171,7 @@ answer-falls x f w n i p bounded finishing last left own =
     (walk-own (scene_of x) (open_count (scene_of x) w n) (open_above (scene_of x) w n) (x.local w) own) (own-reserve (x.local w).operation (x.local w).current own) (any-most (open_count (now x f) w n)) left
     (rest-less x f w n i p (record (x.local w) { operation = Nothing; place = Idle }) Idle bounded finishing last)
   where
-    sums : (z u' u a b c d e r z' b' : ℕ) {r' : ℕ} → z' ≤ z → u' ≤ u → a ≡ 18 * u → b ≡ 20 → b' ≤ 20 → 1 ≤ e → r' ≤ r → z' + 18 * u' + b' + 0 + 0 + 0 + r' + 1 ≤ z + a + b + c + d + e + r
+    sums : (z u' u a b c d e r z' b' : ℕ) {r' : ℕ} → z' ≤ z → u' ≤ u → a ≡ level * u → b ≡ for_first → b' ≤ for_first → 1 ≤ e → r' ≤ r → z' + level * u' + b' + 0 + 0 + 0 + r' + 1 ≤ z + a + b + c + d + e + r
     sums z u' u a b c d e r z' b' f1 f2 f3 f4 f5 f6 f7 = omega (arith, f1, f2, f3, f4, f5, f6, f7)
 
 -- the walk from one that is gone back to, as a visit to it
@@ -183,7 +183,7 @@ back-on x f w n i b p finishing through = by_own (is_own (x.local w).operation b
     le = count-less x f w n i p finishing
 
     walk-open : (y : Scene) (u : ℕ) (above : ℕ → ℕ) (k : Local) → is_own k.operation k.current ≡ false → is_through y k.current ≡ false → walk_on y u above k ≡ walk_from y above k.current
-    walk-open y u above k own unfinished = rw own (chosen-second (is_through y k.current) (walk_back y u above k k.back + 37) (walk_from y above k.current) unfinished)
+    walk-open y u above k own unfinished = rw own (chosen-second (is_through y k.current) (walk_back y u above k k.back + for_sweep) (walk_from y above k.current) unfinished)
 
     by_own : (a : Bool) → is_own (x.local w).operation b ≡ a → (c : Bool) → is_through (scene_of x) b ≡ c
         → walk_on (now x f) (open_count (now x f) w n) (open_above (now x f) w n) (helping (x.local w) b None) ≤ walk_back (scene_of x) (open_count (scene_of x) w n) (open_above (scene_of x) w n) (x.local w) (Some b)
@@ -214,7 +214,7 @@ back-falls : (x : State) (f : ℕ → WordKind) (w n i b : ℕ) (p : HelpStep) �
     → is_through (scene_of x) (x.local w).current ≡ true → (x.local w).back ≡ Some b → fresh_budget (now x f) w n (helping (x.local w) b None) (Learn 0) + 1 ≤ fresh_budget (scene_of x) w n (x.local w) (Help p)
 back-falls x f w n i b p bounded finishing last left own through back =
     sums _ _ _ _ _ _ _ _ _ _ _ _ _ (walks-less (open_count (now x f) w n) (open_count (scene_of x) w n) (count-less x f w n i p finishing)) (back-on x f w n i b p finishing through)
-    (walk-through (scene_of x) (open_count (scene_of x) w n) (open_above (scene_of x) w n) (x.local w) own through ∙ ap (λ k. walk_back (scene_of x) (open_count (scene_of x) w n) (open_above (scene_of x) w n) (x.local w) k + 37) back)
+    (walk-through (scene_of x) (open_count (scene_of x) w n) (open_above (scene_of x) w n) (x.local w) own through ∙ ap (λ k. walk_back (scene_of x) (open_count (scene_of x) w n) (open_above (scene_of x) w n) (x.local w) k + for_sweep) back)
     around (own-less x.entries x.local x.memory (with_cached x.memory f) (x.local w).operation (missing-finishing x f w i p finishing)) left (rest-less x f w n i p (helping (x.local w) b None) (Learn 0) bounded finishing last)
   where
     le : open_count (now x f) w n ≤ open_count (scene_of x) w n
@@ -223,10 +223,10 @@ back-falls x f w n i b p bounded finishing last left own through back =
     around : detour_on (now x f) (open_count (now x f) w n) (helping (x.local w) b None) ≤ detour_on (scene_of x) (open_count (scene_of x) w n) (x.local w)
     around =
         detour-back (is_own (x.local w).operation b) (is_own (x.local w).operation (x.local w).current) (lags (now x f) (x.local w).operation b) (lags (scene_of x) (x.local w).operation (x.local w).current)
-        (lags_back (scene_of x) (x.local w).operation (x.local w).back) (18 * open_count (now x f) w n + 40) (18 * open_count (scene_of x) w n + 40) own
+        (lags_back (scene_of x) (x.local w).operation (x.local w).back) (level * open_count (now x f) w n + for_detour) (level * open_count (scene_of x) w n + for_detour) own
         (λ is. subst (λ k. lags_back (scene_of x) (x.local w).operation k ≡ true) (sym back) (lags-finishing x f w i p finishing (x.local w).operation b is)) (omega (arith, le))
 
-    sums : (z a h c d e r z' a' c' d' r' b : ℕ) → z' ≤ z → a' ≤ h → a ≡ h + 37 → c' ≤ c → d' ≤ d → 1 ≤ e → r' ≤ r → z' + a' + b + c' + d' + 37 + r' + 1 ≤ z + a + b + c + d + e + r
+    sums : (z a h c d e r z' a' c' d' r' b : ℕ) → z' ≤ z → a' ≤ h → a ≡ h + for_sweep → c' ≤ c → d' ≤ d → 1 ≤ e → r' ≤ r → z' + a' + b + c' + d' + left_at (Learn 0) + r' + 1 ≤ z + a + b + c + d + e + r
     sums z a h c d e r z' a' c' d' r' b f1 f2 f3 f4 f5 f6 f7 = omega (arith, f1, f2, f3, f4, f5, f6, f7)
 
 -- or a visit to the own swap
@@ -235,7 +235,7 @@ home-falls : (x : State) (f : ℕ → WordKind) (w n i s : ℕ) (p : HelpStep) �
 home-falls x f w n i s p bounded finishing last left own through back operation =
     sums _ _ _ _ _ _ _ _ _ _ _ _ _ _ (walks-less (open_count (now x f) w n) (open_count (scene_of x) w n) (count-less x f w n i p finishing)) (count-less x f w n i p finishing)
     (walk-own (now x f) (open_count (now x f) w n) (open_above (now x f) w n) (helping (x.local w) s None) mine)
-    (walk-through (scene_of x) (open_count (scene_of x) w n) (open_above (scene_of x) w n) (x.local w) own through ∙ ap (λ k. walk_back (scene_of x) (open_count (scene_of x) w n) (open_above (scene_of x) w n) (x.local w) k + 37) back)
+    (walk-through (scene_of x) (open_count (scene_of x) w n) (open_above (scene_of x) w n) (x.local w) own through ∙ ap (λ k. walk_back (scene_of x) (open_count (scene_of x) w n) (open_above (scene_of x) w n) (x.local w) k + for_sweep) back)
     straight (own-less x.entries x.local x.memory (with_cached x.memory f) (x.local w).operation (missing-finishing x f w i p finishing)) left (rest-less x f w n i p (helping (x.local w) s None) (Learn 0) bounded finishing last)
   where
     mine : is_own (x.local w).operation s ≡ true
@@ -244,7 +244,7 @@ home-falls x f w n i s p bounded finishing last left own through back operation 
     straight : detour_on (now x f) (open_count (now x f) w n) (helping (x.local w) s None) ≡ 0
     straight = rw mine refl
 
-    sums : (z a u' u c d e r z' a' c' d' r' b : ℕ) → z' ≤ z → u' ≤ u → a' ≡ 18 * u' → a ≡ 18 * u + 37 → c' ≡ 0 → d' ≤ d → 1 ≤ e → r' ≤ r → z' + a' + b + c' + d' + 37 + r' + 1 ≤ z + a + b + c + d + e + r
+    sums : (z a u' u c d e r z' a' c' d' r' b : ℕ) → z' ≤ z → u' ≤ u → a' ≡ level * u' → a ≡ level * u + for_sweep → c' ≡ 0 → d' ≤ d → 1 ≤ e → r' ≤ r → z' + a' + b + c' + d' + left_at (Learn 0) + r' + 1 ≤ z + a + b + c + d + e + r
     sums z a u' u c d e r z' a' c' d' r' b f1 f2 f3 f4 f5 f6 f7 f8 = omega (arith, f1, f2, f3, f4, f5, f6, f7, f8)
 
 -- or the own read goes on
@@ -252,13 +252,13 @@ read-falls : (x : State) (f : ℕ → WordKind) (w n i a : ℕ) (p : HelpStep) �
     → is_through (scene_of x) (x.local w).current ≡ true → (x.local w).back ≡ None → (x.local w).operation ≡ Reading a → fresh_budget (now x f) w n (record (x.local w) { place = ReadWord a }) (ReadWord a) + 1 ≤ fresh_budget (scene_of x) w n (x.local w) (Help p)
 read-falls x f w n i a p bounded finishing last own through back operation =
     sums _ _ _ _ _ _ _ _ _ _ _ _ _ (walks-less (open_count (now x f) w n) (open_count (scene_of x) w n) (count-less x f w n i p finishing)) (count-less x f w n i p finishing)
-    (walk-through (scene_of x) (open_count (scene_of x) w n) (open_above (scene_of x) w n) (x.local w) own through ∙ ap (λ k. walk_back (scene_of x) (open_count (scene_of x) w n) (open_above (scene_of x) w n) (x.local w) k + 37) back)
+    (walk-through (scene_of x) (open_count (scene_of x) w n) (open_above (scene_of x) w n) (x.local w) own through ∙ ap (λ k. walk_back (scene_of x) (open_count (scene_of x) w n) (open_above (scene_of x) w n) (x.local w) k + for_sweep) back)
     any (own-less x.entries x.local x.memory (with_cached x.memory f) (x.local w).operation (missing-finishing x f w i p finishing)) (rest-less x f w n i p (record (x.local w) { place = ReadWord a }) (ReadWord a) bounded finishing last)
   where
-    any : reserve_by (x.local w).operation (if_any (open_count (now x f) w n)) ≤ 20
-    any = subst (λ o. reserve_by o (if_any (open_count (now x f) w n)) ≤ 20) (sym operation) (any-most (open_count (now x f) w n))
+    any : reserve_by (x.local w).operation (if_any (open_count (now x f) w n)) ≤ for_first
+    any = subst (λ o. reserve_by o (if_any (open_count (now x f) w n)) ≤ for_first) (sym operation) (any-most (open_count (now x f) w n))
 
-    sums : (z g u' u b c d e r z' b' d' r' : ℕ) → z' ≤ z → u' ≤ u → g ≡ 18 * u + 37 → b' ≤ 20 → d' ≤ d → r' ≤ r → z' + 18 * u' + b' + 0 + d' + 2 + r' + 1 ≤ z + g + b + c + d + e + r
+    sums : (z g u' u b c d e r z' b' d' r' : ℕ) → z' ≤ z → u' ≤ u → g ≡ level * u + for_sweep → b' ≤ for_first → d' ≤ d → r' ≤ r → z' + level * u' + b' + 0 + d' + 1 + r' + 1 ≤ z + g + b + c + d + e + r
     sums z g u' u b c d e r z' b' d' r' f1 f2 f3 f4 f5 f6 = omega (arith, f1, f2, f3, f4, f5, f6)
 
 -- whatever is gone on with

@@ -6,7 +6,7 @@ use Rattle.bz_machine.specs.declared.place.Place.{Place}
 use Rattle.bz_machine.specs.declared.place.Place.TheVariants.{Help}
 use Rattle.bz_machine.specs.declared.status.Verdict.{Verdict}
 use Rattle.bz_machine.specs.Allowed.{counted}
-use Rattle.bz_machine.specs.Budget.{cleans_at, left_by_help, left_by_place, left_by, left_by_others, is_over_at}
+use Rattle.bz_machine.specs.Budget.{for_dirty, is_over_at, cleans_at, left_by_help, left_by_place, left_by, left_by_others}
 use Rattle.bz_machine.specs.DirtyHomes.{CleansFinal, IsAtFinal}
 use Rattle.bz_machine.specs.HelpActs.{final_value}
 use Rattle.bz_machine.specs.Standing.{Scene, target_at}
@@ -32,9 +32,9 @@ implied-le false false c k f = omega arith
 
 help-le : (x : Scene) (d : ℕ → ℕ → Bool) (over : Bool) (l : Local) (place : Place) (v : ℕ) (k : Local) (step : HelpStep) → Fewer d x.dirty → left_by_help (with_dirty x d) over l place v k step ≤ left_by_help x over l place v k step
 help-le x d over l place v k (FlushFinal i c) fewer =
-    implied-le _ _ (not (cleans_at x l.current place (target_at x k.current i) (final_value (x.entries k.current) i c))) 3 (fewer (target_at x k.current i) (final_value (x.entries k.current) i c))
+    implied-le _ _ (not (cleans_at x l.current place (target_at x k.current i) (final_value (x.entries k.current) i c))) for_dirty (fewer (target_at x k.current i) (final_value (x.entries k.current) i c))
 help-le x d over l place v k (ClearFinal i c) fewer =
-    implied-le _ _ (not (cleans_at x l.current place (target_at x k.current i) (final_value (x.entries k.current) i c))) 3 (fewer (target_at x k.current i) (final_value (x.entries k.current) i c))
+    implied-le _ _ (not (cleans_at x l.current place (target_at x k.current i) (final_value (x.entries k.current) i c))) for_dirty (fewer (target_at x k.current i) (final_value (x.entries k.current) i c))
 help-le x d over l place v k (LookUnderTag i u q) fewer = omega arith
 help-le x d over l place v k (InstallPointer i u q) fewer = omega arith
 help-le x d over l place v k (RemoveTag i u q) fewer = omega arith
@@ -48,7 +48,7 @@ place-le x d over l place v k other fewer = omega arith
 pub dirty-le : (x : Scene) (d : ℕ → ℕ → Bool) (over : Bool) (l : Local) (place : Place) (v : ℕ) (k : Local) → Fewer d x.dirty → left_by (with_dirty x d) over l place v k ≤ left_by x over l place v k
 dirty-le x d over l place v k fewer = omega (arith, place-le x d over l place v k k.place fewer)
 
-gone-drops : (a b c : Bool) → a ≡ false → b ≡ true → c ≡ false → counted (a && not c) 3 + 3 ≤ counted (b && not c) 3
+gone-drops : (a b c : Bool) → a ≡ false → b ≡ true → c ≡ false → counted (a && not c) for_dirty + for_dirty ≤ counted (b && not c) for_dirty
 gone-drops false true false f g h = omega arith
 gone-drops false true true f g h = absurd cc
 gone-drops false false c f g h = absurd cc
@@ -56,14 +56,14 @@ gone-drops true b c f g h = absurd cc
 
 help-drops : (x : Scene) (d : ℕ → ℕ → Bool) (over : Bool) (l : Local) (place : Place) (v : ℕ) (k : Local) (step : HelpStep) (i : ℕ) (c : Verdict) → CleansFinal step i c
     → d (target_at x k.current i) (final_value (x.entries k.current) i c) ≡ false → x.dirty (target_at x k.current i) (final_value (x.entries k.current) i c) ≡ true
-    → cleans_at x l.current place (target_at x k.current i) (final_value (x.entries k.current) i c) ≡ false → left_by_help (with_dirty x d) over l place v k step + 3 ≤ left_by_help x over l place v k step
+    → cleans_at x l.current place (target_at x k.current i) (final_value (x.entries k.current) i c) ≡ false → left_by_help (with_dirty x d) over l place v k step + for_dirty ≤ left_by_help x over l place v k step
 help-drops x d over l place v k (FlushFinal j b) i c at gone stood none = gone-drops _ _ _ (rw (at.0, at.1) gone) (rw (at.0, at.1) stood) (rw (at.0, at.1) none)
 help-drops x d over l place v k (ClearFinal j b) i c at gone stood none = gone-drops _ _ _ (rw (at.0, at.1) gone) (rw (at.0, at.1) stood) (rw (at.0, at.1) none)
 help-drops x d over l place v k step i c at gone stood none = absurd at
 
 place-drops : (x : Scene) (d : ℕ → ℕ → Bool) (over : Bool) (l : Local) (place : Place) (v : ℕ) (k : Local) (other : Place) (i : ℕ) (c : Verdict) → IsAtFinal other i c
     → d (target_at x k.current i) (final_value (x.entries k.current) i c) ≡ false → x.dirty (target_at x k.current i) (final_value (x.entries k.current) i c) ≡ true
-    → cleans_at x l.current place (target_at x k.current i) (final_value (x.entries k.current) i c) ≡ false → left_by_place (with_dirty x d) over l place v k other + 3 ≤ left_by_place x over l place v k other
+    → cleans_at x l.current place (target_at x k.current i) (final_value (x.entries k.current) i c) ≡ false → left_by_place (with_dirty x d) over l place v k other + for_dirty ≤ left_by_place x over l place v k other
 place-drops x d over l place v k (Help step) i c at gone stood none = help-drops x d over l place v k step i c at gone stood none
 place-drops x d over l place v k other i c at gone stood none = absurd at
 
@@ -71,7 +71,7 @@ place-drops x d over l place v k other i c at gone stood none = absurd at
 pub dirty-drops : (x : Scene) (d : ℕ → ℕ → Bool) (w n : ℕ) (l : Local) (place : Place) (h i : ℕ) (c : Verdict) → Fewer d x.dirty → (h == w) ≡ false → h < n → IsAtFinal (x.local h).place i c
     → d (target_at x (x.local h).current i) (final_value (x.entries (x.local h).current) i c) ≡ false → x.dirty (target_at x (x.local h).current i) (final_value (x.entries (x.local h).current) i c) ≡ true
     → cleans_at x l.current place (target_at x (x.local h).current i) (final_value (x.entries (x.local h).current) i c) ≡ false
-    → left_by_others (with_dirty x d) w n l place + 3 ≤ left_by_others x w n l place
+    → left_by_others (with_dirty x d) w n l place + for_dirty ≤ left_by_others x w n l place
 dirty-drops x d w n l place h i c fewer other below at gone stood none =
-    others-drop w h (λ v. left_by (with_dirty x d) (is_over_at x l place) l place v (x.local v)) (λ v. left_by x (is_over_at x l place) l place v (x.local v)) 3 n (λ v. dirty-le x d (is_over_at x l place) l place v (x.local v) fewer) other below
+    others-drop w h (λ v. left_by (with_dirty x d) (is_over_at x l place) l place v (x.local v)) (λ v. left_by x (is_over_at x l place) l place v (x.local v)) for_dirty n (λ v. dirty-le x d (is_over_at x l place) l place v (x.local v) fewer) other below
     (omega (arith, place-drops x d (is_over_at x l place) l place h (x.local h) (x.local h).place i c at gone stood none))

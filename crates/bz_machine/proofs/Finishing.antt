@@ -8,7 +8,7 @@ use Rattle.bz_machine.specs.declared.place.HelpStep.{HelpStep}
 use Rattle.bz_machine.specs.declared.place.Place.{Place}
 use Rattle.bz_machine.specs.declared.place.Place.TheVariants.{Help}
 use Rattle.bz_machine.specs.declared.worker.Operation.{Operation}
-use Rattle.bz_machine.specs.Budget.{open_above, walk_from, lags, lags_back, is_over, is_over_at, is_swept, swept_in, cleans_in}
+use Rattle.bz_machine.specs.Budget.{level, open_above, walk_from, is_over, lags, lags_back, swept_in, is_over_at, is_swept, cleans_in}
 use Rattle.bz_machine.specs.HelpActs.{final_value}
 use Rattle.bz_machine.specs.Machine.{Memory}
 use Rattle.bz_machine.specs.Standing.{is_pointer, stands_for, is_tag, is_dirty, is_decided, is_through, missing, top, scene_of}
@@ -77,7 +77,7 @@ either-less : (t : Bool) (a b a' b' : ℕ) → a' ≤ a → (t ≡ false → b' 
 either-less true a b a' b' f g = f
 either-less false a b a' b' f g = g refl
 
-decided-less : (d : Bool) (a b : ℕ) → a ≤ b → (if d then 0 else 18 * a) ≤ (if d then 0 else 18 * b)
+decided-less : (d : Bool) (a b : ℕ) → a ≤ b → (if d then 0 else level * a) ≤ (if d then 0 else level * b)
 decided-less true a b le = omega arith
 decided-less false a b le = omega (arith, le)
 

@@ -58,6 +58,7 @@ pub mod SpendMeets
 pub mod SpendPointers
 pub mod SpendPrepares
 pub mod SpendPuts
+pub mod SpendReads
 pub mod SpendStale
 pub mod SpendStores
 pub mod SpendTags

@@ -9,7 +9,7 @@ use Rattle.bz_machine.specs.declared.place.Place.{Place}
 use Rattle.bz_machine.specs.declared.place.Place.TheVariants.{Idle, Help}
 use Rattle.bz_machine.specs.declared.worker.Operation.{Operation}
 use Rattle.bz_machine.specs.Allowed.{counted}
-use Rattle.bz_machine.specs.Budget.{open_count, open_above, walk_on, is_over_at, is_swept, tag_stands, left_by_help, left_by_place, left_by, left_by_others}
+use Rattle.bz_machine.specs.Budget.{level, for_tag, open_count, open_above, walk_on, is_over_at, is_swept, tag_stands, left_by_help, left_by_place, left_by, left_by_others}
 use Rattle.bz_machine.specs.Budgets.{IsBounded}
 use Rattle.bz_machine.specs.Progress.{GoesOnWith, IsAtTag, IsHome}
 use Rattle.bz_machine.specs.Standing.{Scene, is_tag, is_decided, is_through, top, swap_of, is_open, scene_of}
@@ -57,19 +57,19 @@ above-above x w n c t o higher =
     (subst (λ (p : Operation). nat_lt (top (scene_of x) c) (top (scene_of x) (swap_of p)) ≡ true) (sym o.operation) higher))
 
 -- the walk from a visit to another's swap that is not through goes along those above it
-pub walk-under : (x : State) (u : ℕ) (above : ℕ → ℕ) (l : Local) → is_own l.operation l.current ≡ false → is_through (scene_of x) l.current ≡ false → walk_on (scene_of x) u above l ≤ 18 * above l.current
+pub walk-under : (x : State) (u : ℕ) (above : ℕ → ℕ) (l : Local) → is_own l.operation l.current ≡ false → is_through (scene_of x) l.current ≡ false → walk_on (scene_of x) u above l ≤ level * above l.current
 walk-under x u above l own unfinished = by_decided (is_decided (x.memory.status l.current)) refl
   where
-    by_decided : (b : Bool) → is_decided (x.memory.status l.current) ≡ b → walk_on (scene_of x) u above l ≤ 18 * above l.current
+    by_decided : (b : Bool) → is_decided (x.memory.status l.current) ≡ b → walk_on (scene_of x) u above l ≤ level * above l.current
     by_decided true told = rw (walk-decided x.entries x.local x.memory u above l own unfinished told) (omega arith)
     by_decided false told = rw (walk-undecided x.entries x.local x.memory u above l own told) (omega arith)
 
 -- the tag of another that stands for a swap that is through is not counted while that swap is visited
-gone-counts : (c a s s' : Bool) → c ≡ true → a ≡ true → s ≡ false → s' ≡ true → counted (c && (a && not s')) 80 + 80 ≤ counted (c && (a && not s)) 80
+gone-counts : (c a s s' : Bool) → c ≡ true → a ≡ true → s ≡ false → s' ≡ true → counted (c && (a && not s')) for_tag + for_tag ≤ counted (c && (a && not s)) for_tag
 gone-counts c a s s' f g h k = rw (f, g, h, k) (omega arith)
 
 stands-drops : (y : Scene) (l k : Local) (p q : Place) (b b' : Bool) (v : ℕ) (o : Local) (j u z i t : ℕ) → j ≡ i → u ≡ v → z ≡ t → y.tag ((y.entries o.current).target i) o.current i v t ≡ true → is_swept b l p o.current i ≡ false → is_swept b' k q o.current i ≡ true
-    → tag_stands y b' k q v o j u z + 80 ≤ tag_stands y b l p v o j u z
+    → tag_stands y b' k q v o j u z + for_tag ≤ tag_stands y b l p v o j u z
 stands-drops y l k p q b b' v o j u z i t entry worker number stands kept swept =
     let self : (u == v) ≡ true = grind (arith, common_steps, worker) in
     let stood : y.tag ((y.entries o.current).target j) o.current j v z ≡ true = rw (entry, number) stands in
@@ -78,19 +78,19 @@ stands-drops y l k p q b b' v o j u z i t entry worker number stands kept swept 
     gone-counts (u == v) (y.tag ((y.entries o.current).target j) o.current j v z) (is_swept b l p o.current j) (is_swept b' k q o.current j) self stood before after
 
 help-drops : (y : Scene) (l k : Local) (p q : Place) (b b' : Bool) (v : ℕ) (o : Local) (step : HelpStep) (i t : ℕ) → GoesOnWith step i v t → y.tag ((y.entries o.current).target i) o.current i v t ≡ true → is_swept b l p o.current i ≡ false → is_swept b' k q o.current i ≡ true
-    → left_by_help y b' k q v o step + 80 ≤ left_by_help y b l p v o step
+    → left_by_help y b' k q v o step + for_tag ≤ left_by_help y b l p v o step
 help-drops y l k p q b b' v o (LookUnderTag j u z) i t at stands kept swept = stands-drops y l k p q b b' v o j u z i t at.0 at.1 at.2 stands kept swept
 help-drops y l k p q b b' v o (InstallPointer j u z) i t at stands kept swept = stands-drops y l k p q b b' v o j u z i t at.0 at.1 at.2 stands kept swept
 help-drops y l k p q b b' v o (RemoveTag j u z) i t at stands kept swept = stands-drops y l k p q b b' v o j u z i t at.0 at.1 at.2 stands kept swept
 help-drops y l k p q b b' v o step i t at stands kept swept = absurd at
 
 place-drops : (y : Scene) (l k : Local) (p q : Place) (b b' : Bool) (v : ℕ) (o : Local) (place : Place) (i t : ℕ) → IsAtTag place i v t → y.tag ((y.entries o.current).target i) o.current i v t ≡ true → is_swept b l p o.current i ≡ false
-    → is_swept b' k q o.current i ≡ true → left_by_place y b' k q v o place + 80 ≤ left_by_place y b l p v o place
+    → is_swept b' k q o.current i ≡ true → left_by_place y b' k q v o place + for_tag ≤ left_by_place y b l p v o place
 place-drops y l k p q b b' v o (Help step) i t at stands kept swept = help-drops y l k p q b b' v o step i t at stands kept swept
 place-drops y l k p q b b' v o place i t at stands kept swept = absurd at
 
 pub tag-drops : (y : Scene) (l k : Local) (p q : Place) (b b' : Bool) (v : ℕ) (o : Local) (i t : ℕ) → IsAtTag o.place i v t → y.tag ((y.entries o.current).target i) o.current i v t ≡ true → is_swept b l p o.current i ≡ false
-    → is_swept b' k q o.current i ≡ true → left_by y b' k q v o + 80 ≤ left_by y b l p v o
+    → is_swept b' k q o.current i ≡ true → left_by y b' k q v o + for_tag ≤ left_by y b l p v o
 tag-drops y l k p q b b' v o i t at stands kept swept = omega (arith, place-drops y l k p q b b' v o o.place i t at stands kept swept)
 
 idle-tag : (i v q : ℕ) → IsAtTag Idle i v q → ⊥
@@ -105,13 +105,13 @@ same-home x w t a i v q p home at none true told =
 -- the tag of a swap that is met pays for the visit and the visit back
 pub tag-pays : (x : State) (w n t a i v q : ℕ) (l k : Local) (p r : Place) → IsBounded x n → x.memory.cached a ≡ Tag t i v q → (x.local w).place ≡ p → (IsAtTag p i v q → ⊥)
     → NoMore x.entries x.local x.memory x.memory w l k p r → is_swept (is_over_at (scene_of x) l p) l p t i ≡ false → is_swept (is_over_at (scene_of x) k r) k r t i ≡ true
-    → left_by_others (scene_of x) w n k r + 80 ≤ left_by_others (scene_of x) w n l p
+    → left_by_others (scene_of x) w n k r + for_tag ≤ left_by_others (scene_of x) w n l p
 tag-pays x w n t a i v q l k p r bounded is at none fewer kept swept =
     let home : IsHome (x.local v) v t i q = bounded.tags a t i v q is in
     let busy : (x.local v).place ≢ Idle = λ idle. idle-tag i v q (subst (λ p. IsAtTag p i v q) idle home.place) in
     let target : (x.entries t).target i ≡ a = (bounded.state.sound.tag a t i v q is).target in
     let stands : is_tag (x.memory.cached ((x.entries t).target i)) t i v q ≡ true = ap (λ j. is_tag j t i v q) (ap x.memory.cached target ∙ is) ∙ same-tag t i v q in
-    one-less x.entries x.local x.memory x.memory w n l k p r v 80 fewer (same-home x w t a i v q p home at none (v == w) refl) (busy-below x n v bounded busy (nat_lt v n) refl)
+    one-less x.entries x.local x.memory x.memory w n l k p r v for_tag fewer (same-home x w t a i v q p home at none (v == w) refl) (busy-below x n v bounded busy (nat_lt v n) refl)
     (tag-drops (scene_of x) l k p r (is_over_at (scene_of x) l p) (is_over_at (scene_of x) k r) v (x.local v) i q home.place
     (subst (λ s. is_tag (x.memory.cached ((x.entries s).target i)) s i v q ≡ true) (sym home.current) stands)
     (subst (λ s. is_swept (is_over_at (scene_of x) l p) l p s i ≡ false) (sym home.current) kept)

@@ -7,7 +7,7 @@ use Rattle.bz_machine.specs.State.{State, Act, stepped, happens}
 use Rattle.bz_machine.specs.Steps.{Local}
 use Rattle.bz_machine.specs.Allowed.{counted, is_busy, for_worker}
 use Rattle.bz_machine.specs.Standing.{Scene, scene, scene_of, top, swap_of, is_open_at}
-use Rattle.bz_machine.specs.Budget.{sum_others, open_count, open_above, is_over_at, left_by, left_by_others, fresh_of, is_fresh_at, stale_at, allowed_by_others, budget_at, budget}
+use Rattle.bz_machine.specs.Budget.{for_stale, sum_others, open_count, open_above, is_over_at, left_by, left_by_others, fresh_of, is_fresh_at, stale_at, allowed_by_others, budget_at, budget}
 
 -- the scene with other workers
 abbrev pub with_workers : Scene → (ℕ → Local) → Scene
@@ -37,7 +37,7 @@ pub budget-put : (x : Scene) (w n : ℕ) (l k : Local) (place : Place) → budge
 budget-put x w n l k place =
     λ i. if is_fresh_at x k.current place
     then fresh_of x (open-put x w n l i) (λ s. above-put x w n l s i) (left-put x w n l k place i) k place
-    else allowed-put x w n l i + 400 + stale_at x k.current place
+    else allowed-put x w n l i + for_stale + stale_at x k.current place
 
 put-here : (local : ℕ → Local) (w : ℕ) (l : Local) → put local w l w ≡ l
 put-here local w l = by_test (w == w) refl

@@ -64,7 +64,7 @@ clear-falls x w n k d bounded published found =
     (sums _ _ _ _ (own-less x.entries x.local x.memory (cleaned x.memory (x.local w).current d) (x.local w).operation (missing-cleaned x.entries x.local x.memory (x.local w).current d))
     (no-more x.entries x.local x.memory (cleaned x.memory (x.local w).current d) w n (x.local w) (x.local w) (Help (ClearStatus d)) (Help (PutFinal 0 d)) (nothing-cleaned x.entries x.local x.memory w (x.local w) k d found)))
   where
-    sums : (a b a' b' : ℕ) → a' ≤ a → b' ≤ b → a' + 12 + b' + 1 ≤ a + 13 + b
+    sums : (a b a' b' : ℕ) → a' ≤ a → b' ≤ b → a' + 16 + b' + 1 ≤ a + 17 + b
     sums a b a' b' f g = omega (arith, f, g)
 
 -- the dirty bit of the status is cleared
@@ -161,5 +161,5 @@ put-falls x w n i d bounded published small found settled =
     (no-more x.entries x.local x.memory (finalized x.memory ((x.entries (x.local w).current).target i) (final_value (x.entries (x.local w).current) i d)) w n (x.local w) (x.local w) (Help (PutFinal i d)) (Help (FlushFinal i d))
     (nothing-finalized x.entries x.local x.memory w (x.local w) i d found settled unfinished)))
   where
-    sums : (a b a' b' : ℕ) → a' ≤ a → b' ≤ b → a' + (2 + 3 * (3 - i)) + b' + 1 ≤ a + 3 * (4 - i) + b
+    sums : (a b a' b' : ℕ) → a' ≤ a → b' ≤ b → a' + (3 + 4 * (3 - i)) + b' + 1 ≤ a + 4 * (4 - i) + b
     sums a b a' b' f g = omega (arith, f, g, small)

@@ -11,14 +11,14 @@ use Rattle.bz_machine.specs.declared.status.Verdict.{Verdict}
 use Rattle.bz_machine.specs.declared.worker.Operation.{Operation}
 use Rattle.bz_machine.specs.declared.worker.Operation.TheVariants.{Nothing, Reading, Swapping}
 use Rattle.bz_machine.specs.Allowed.{sum_below, counted, is_busy}
-use Rattle.bz_machine.specs.Budget.{open_count, open_above, walk_home, walk_from, walk_back, walk_on, walk_at, reserve, lags, lags_back, detour_on, detour, own_missing_by, own_missing, left_at, left_by, left_by_others, is_over_at, for_walks, fresh_budget, is_fresh_at, stale_at, allowed_by_others, budget_at}
+use Rattle.bz_machine.specs.Budget.{level, for_sweep, for_return, for_detour, for_stale, open_count, open_above, walk_home, walk_from, walk_back, walk_on, walk_at, reserve, lags, lags_back, detour_on, detour, own_missing_by, own_missing, left_at, is_over_at, left_by, for_walks, left_by_others, fresh_budget, is_fresh_at, stale_at, allowed_by_others, budget_at}
 use Rattle.bz_machine.specs.Budgets.{AreShort}
 use Rattle.bz_machine.specs.Changes.{put, with_status}
 use Rattle.bz_machine.specs.HelpActs.{after_decide}
 use Rattle.bz_machine.specs.Machine.{Entries, Memory}
 use Rattle.bz_machine.specs.Standing.{Scene, is_decided, is_clean, is_through, missing, top, swap_of, is_open_at, target_at}
 use Rattle.bz_machine.specs.Steps.{Local, is_own, after_help}
-use Rattle.bz_machine.proofs.BudgetBounds.{fresh-le}
+use Rattle.bz_machine.proofs.BudgetBounds.{own_most, fresh-le}
 use Rattle.bz_machine.proofs.Spends.{meets, Spends, here-falls}
 use Rattle.bz_machine.proofs.Sums.{others-le}
 
@@ -41,7 +41,7 @@ missing-less : (x : Scene) (d : ℕ → Bool) (s : ℕ) → More d x.decided →
 missing-less x d s more = if-less (d s) (x.decided s) (sum_below (λ i. counted (not (x.pointer (target_at x s i) s)) 1) (x.entries s).count) (more s)
 
 from-less : (x : Scene) (d : ℕ → Bool) (above : ℕ → ℕ) (s : ℕ) → More d x.decided → walk_from (with_decided x d) above s ≤ walk_from x above s
-from-less x d above s more = if-less (d s) (x.decided s) (18 * above s) (more s)
+from-less x d above s more = if-less (d s) (x.decided s) (level * above s) (more s)
 
 either-less : (b : Bool) (h j k : ℕ) → j ≤ k → (if b then h else j) ≤ (if b then h else k)
 either-less true h j k le = omega arith
@@ -49,9 +49,9 @@ either-less false h j k le = le
 
 back-less : (x : Scene) (d : ℕ → Bool) (u : ℕ) (above : ℕ → ℕ) (l : Local) (back : Option ℕ) → More d x.decided → walk_back (with_decided x d) u above l back ≤ walk_back x u above l back
 back-less x d u above l None more = omega arith
-back-less x d u above l (Some b) more = either-less (is_own l.operation b || is_through x b) (walk_home u + 38) (walk_from (with_decided x d) above b) (walk_from x above b) (from-less x d above b more)
+back-less x d u above l (Some b) more = either-less (is_own l.operation b || is_through x b) (walk_home u + for_return) (walk_from (with_decided x d) above b) (walk_from x above b) (from-less x d above b more)
 
-under-if : (a b : Bool) (h j j' k k' : ℕ) → j ≤ j' → k ≤ k' → (if a then h else if b then j + 37 else k) ≤ (if a then h else if b then j' + 37 else k')
+under-if : (a b : Bool) (h j j' k k' : ℕ) → j ≤ j' → k ≤ k' → (if a then h else if b then j + for_sweep else k) ≤ (if a then h else if b then j' + for_sweep else k')
 under-if true b h j j' k k' f g = omega arith
 under-if false true h j j' k k' f g = omega (arith, f)
 under-if false false h j j' k k' f g = g
@@ -96,7 +96,7 @@ detour-if true false false b' c' k f g = omega arith
 
 detour_on-less : (x : Scene) (d : ℕ → Bool) (u : ℕ) (l : Local) → More d x.decided → detour_on (with_decided x d) u l ≤ detour_on x u l
 detour_on-less x d u l more =
-    detour-if (not (is_own l.operation l.current)) (lags (with_decided x d) l.operation l.current) (lags_back (with_decided x d) l.operation l.back) (lags x l.operation l.current) (lags_back x l.operation l.back) (18 * u + 40)
+    detour-if (not (is_own l.operation l.current)) (lags (with_decided x d) l.operation l.current) (lags_back (with_decided x d) l.operation l.back) (lags x l.operation l.current) (lags_back x l.operation l.back) (level * u + for_detour)
     (lags-less x d l.operation l.current more) (lags_back-less x d l.operation l.back more)
 
 missing_by-less : (x : Scene) (d : ℕ → Bool) (o : Operation) → More d x.decided → own_missing_by (with_decided x d) o ≤ own_missing_by x o
@@ -150,15 +150,15 @@ more-put status c d s is = by_test (s == c)
     by_test false = is
     by_test true = refl
 
-counted-most : (b : Bool) → counted b 183 ≤ 183
+counted-most : (b : Bool) → counted b own_most ≤ own_most
 counted-most true = omega arith
 counted-most false = omega arith
 
 -- the budget of a worker that goes by what holds is far below that of one that does not
-pub fresh-again : (x : Scene) (w n : ℕ) (l : Local) (place : Place) → n ≤ 65 → AreShort x.entries → fresh_budget x w n l place + 200 ≤ allowed_by_others x w n + 400
+pub fresh-again : (x : Scene) (w n : ℕ) (l : Local) (place : Place) → n ≤ 65 → AreShort x.entries → fresh_budget x w n l place + 1 ≤ allowed_by_others x w n + for_stale
 fresh-again x w n l place few short = omega (arith, fresh-le x w n l place few short, counted-most (is_busy place))
 
-again : (f a k : ℕ) → f + 200 ≤ a + 400 → f + 1 ≤ a + 400 + k
+again : (f a k : ℕ) → f + 1 ≤ a + for_stale → f + 1 ≤ a + for_stale + k
 again f a k h = omega (arith, h)
 
 -- from a place where what w goes by holds to another one, in another scene

@@ -52,7 +52,7 @@ pub record Last (x : State) (w n i : ℕ) (p : HelpStep) : Type 0 where
   pub behind : (j : ℕ) → j < i → IsBehind p j
   pub swept : i ≤ swept_in p
   pub inside : i < (x.entries (x.local w).current).count
-  pub left : 3 * (4 - (i + 1)) + 1 ≤ left_in_help p
+  pub left : 4 * (4 - (i + 1)) + 1 ≤ left_in_help p
   pub fresh : is_fresh_at (scene_of x) (x.local w).current (Help p) ≡ true
 
 pub is-clean : (x : State) (w n i : ℕ) (p : HelpStep) → Last x w n i p → IsClean (x.memory.status (x.local w).current)
@@ -152,7 +152,7 @@ plain-words x w n i u p k last found pointers stands clean = record {
     no-dirty v is = absurd cc
 
 -- the facts of the last phase
-pub last-at : (x : State) (w n i : ℕ) (p : HelpStep) → IsBounded x n → (x.local w).place ≡ Help p → IsLast p → ((j : ℕ) → j < i → IsBehind p j) → i ≤ swept_in p → i < (x.entries (x.local w).current).count → 3 * (4 - (i + 1)) + 1 ≤ left_in_help p
+pub last-at : (x : State) (w n i : ℕ) (p : HelpStep) → IsBounded x n → (x.local w).place ≡ Help p → IsLast p → ((j : ℕ) → j < i → IsBehind p j) → i ≤ swept_in p → i < (x.entries (x.local w).current).count → 4 * (4 - (i + 1)) + 1 ≤ left_in_help p
     → is_fresh_at (scene_of x) (x.local w).current (Help p) ≡ true → Last x w n i p
 last-at x w n i p bounded at last behind swept inside left fresh = record { bounded = bounded; at = at; last = last; behind = behind; swept = swept; inside = inside; left = left; fresh = fresh }
 

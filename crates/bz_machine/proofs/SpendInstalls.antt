@@ -18,12 +18,14 @@ use Rattle.bz_machine.specs.Standing.{stands_for, is_decided, is_through, scene_
 use Rattle.bz_machine.specs.State.{State}
 use Rattle.bz_machine.specs.Steps.{meeting, read_act}
 use Rattle.bz_machine.proofs.Openers.{undecided-told, met-published, meets-higher, pointer-unfinished}
+use Rattle.bz_machine.proofs.SpendClears.{Home}
 use Rattle.bz_machine.proofs.SpendDecides.{falls-to}
 use Rattle.bz_machine.proofs.SpendMeets.{meet-falls, read-falls}
 use Rattle.bz_machine.proofs.SpendPuts.{tag-entry}
+use Rattle.bz_machine.proofs.SpendReads.{spends-read_dirty}
 use Rattle.bz_machine.proofs.SpendTags.{spends-try_value}
 use Rattle.bz_machine.proofs.SpendTries.{Tried, Follows, spends-try_pointer, spends-try_miss, spends-try_dirty, spends-try_tag}
-use Rattle.bz_machine.proofs.Spends.{Spends, spends-read_value, spends-read_dirty}
+use Rattle.bz_machine.proofs.Spends.{Spends, spends-read_value}
 use Rattle.bz_machine.proofs.Truths.{differ}
 
 not-true : (b : Bool) → not b ≡ true → b ≡ false
@@ -86,8 +88,9 @@ spends-try x w n i bounded at known small fresh = by_found (x.memory.cached ((x.
     by_found (Tag t j v q) is = by_tag t j v q (t == (x.local w).current) refl is
 
 -- the load of the word that is read
-pub spends-read : (x : State) (w n a : ℕ) → IsBounded x n → (x.local w).place ≡ ReadWord a → (x.local w).operation ≡ Reading a → Spends x.entries x.local x.memory w n (x.local w) (ReadWord a)
-spends-read x w n a bounded at reads = by_found (x.memory.cached a) refl
+pub spends-read : (x : State) (w n a : ℕ) → IsBounded x n → (x.local w).place ≡ ReadWord a → (x.local w).operation ≡ Reading a → ((v : ℕ) → x.memory.cached a ≡ Dirty v → Home x.entries x.local w n a v)
+    → Spends x.entries x.local x.memory w n (x.local w) (ReadWord a)
+spends-read x w n a bounded at reads home = by_found (x.memory.cached a) refl
   where
     met : (t j v q : ℕ) (k : WordKind) → x.memory.cached a ≡ k → stands_for k t ≡ true → (is_through (scene_of x) t ≡ true → x.memory.cached a ≡ Tag t j v q)
         → budget_at (scene_of x) w n (read_act x.memory (x.local w) a (Swap t)).local (Learn 0) + 1 ≤ budget_at (scene_of x) w n (x.local w) (ReadWord a)
@@ -98,7 +101,7 @@ spends-read x w n a bounded at reads = by_found (x.memory.cached a) refl
 
     by_found : (k : WordKind) → x.memory.cached a ≡ k → Spends x.entries x.local x.memory w n (x.local w) (ReadWord a)
     by_found (Value v) is = spends-read_value x.entries x.local x.memory w n (x.local w) a v is reads
-    by_found (Dirty v) is = spends-read_dirty x.entries x.local x.memory w n (x.local w) a v is
+    by_found (Dirty v) is = spends-read_dirty x.entries x.local x.memory w n (x.local w) a v is (home v is)
     by_found (Swap t) is =
         let self : (t == t) ≡ true = grind (arith, common_steps) in
         subst owes (sym is) (met t 0 0 0 (Swap t) is self (λ through. differ (is_through (scene_of x) t) through (pointer-unfinished x n t a bounded is)))

@@ -9,7 +9,7 @@ use Rattle.bz_machine.specs.declared.place.Place.{Place}
 use Rattle.bz_machine.specs.declared.place.Place.TheVariants.{Learn, Help, ReadWord}
 use Rattle.bz_machine.specs.declared.worker.Operation.{Operation}
 use Rattle.bz_machine.specs.declared.worker.Operation.TheVariants.{Nothing, Reading, Swapping}
-use Rattle.bz_machine.specs.Budget.{open_count, open_above, walk_home, walk_from, walk_back, walk_on, if_any, reserve_by, lags, lags_back, detour_on, is_over, is_over_at, is_swept, cleans_at, left_by_others, for_walks, fresh_budget}
+use Rattle.bz_machine.specs.Budget.{level, for_first, for_return, for_detour, open_count, open_above, walk_home, walk_from, walk_back, is_over, walk_on, if_any, reserve_by, lags, lags_back, detour_on, left_at, is_over_at, is_swept, cleans_at, for_walks, left_by_others, fresh_budget}
 use Rattle.bz_machine.specs.Budgets.{IsBounded}
 use Rattle.bz_machine.specs.HelpActs.{final_value}
 use Rattle.bz_machine.specs.Standing.{is_decided, is_through, top, scene_of}
@@ -96,21 +96,21 @@ own-differs (Swapping s) t c mine apart = grind (arith, common_steps, mine, apar
 
 -- where no more is left of the visit than it costs
 meet-sum : (x : State) (w n i t : ℕ) (l : Local) (back : Option ℕ) → i < 4
-    → walk_on (scene_of x) (open_count (scene_of x) w n) (open_above (scene_of x) w n) (helping l t back) + detour_on (scene_of x) (open_count (scene_of x) w n) (helping l t back) + left_by_others (scene_of x) w n (helping l t back) (Learn 0) + 38
-    ≤ walk_on (scene_of x) (open_count (scene_of x) w n) (open_above (scene_of x) w n) l + detour_on (scene_of x) (open_count (scene_of x) w n) l + left_by_others (scene_of x) w n l (Help (InstallTag i)) + 20
+    → walk_on (scene_of x) (open_count (scene_of x) w n) (open_above (scene_of x) w n) (helping l t back) + detour_on (scene_of x) (open_count (scene_of x) w n) (helping l t back) + left_by_others (scene_of x) w n (helping l t back) (Learn 0) + level
+    ≤ walk_on (scene_of x) (open_count (scene_of x) w n) (open_above (scene_of x) w n) l + detour_on (scene_of x) (open_count (scene_of x) w n) l + left_by_others (scene_of x) w n l (Help (InstallTag i))
     → fresh_budget (scene_of x) w n (helping l t back) (Learn 0) + 1 ≤ fresh_budget (scene_of x) w n l (Help (InstallTag i))
 meet-sum x w n i t l back inside le = sums (for_walks (open_count (scene_of x) w n)) _ _ _ _ _ _ _ _ le
   where
-    sums : (z a b c d r a' c' r' : ℕ) → a' + c' + r' + 38 ≤ a + c + r + 20 → z + a' + b + c' + d + 37 + r' + 1 ≤ z + a + b + c + d + (19 + (4 - i)) + r
+    sums : (z a b c d r a' c' r' : ℕ) → a' + c' + r' + level ≤ a + c + r → z + a' + b + c' + d + left_at (Learn 0) + r' + 1 ≤ z + a + b + c + d + (25 + (4 - i)) + r
     sums z a b c d r a' c' r' h = omega (arith, h, inside)
 
-walk-back-open : (x : State) (u : ℕ) (above : ℕ → ℕ) (l : Local) (c : ℕ) → is_own l.operation c ≡ false → is_through (scene_of x) c ≡ false → is_decided (x.memory.status c) ≡ false → walk_back (scene_of x) u above l (Some c) ≡ 18 * above c
+walk-back-open : (x : State) (u : ℕ) (above : ℕ → ℕ) (l : Local) (c : ℕ) → is_own l.operation c ≡ false → is_through (scene_of x) c ≡ false → is_decided (x.memory.status c) ≡ false → walk_back (scene_of x) u above l (Some c) ≡ level * above c
 walk-back-open x u above l c own unfinished undecided = chosen (is_own l.operation c || is_through (scene_of x) c) (neither (is_own l.operation c) (is_through (scene_of x) c) own unfinished)
   where
     neither : (a b : Bool) → a ≡ false → b ≡ false → (a || b) ≡ false
     neither a b f g = rw (f, g) refl
 
-    chosen : (b : Bool) → b ≡ false → (if b then walk_home u + 38 else walk_from (scene_of x) above c) ≡ 18 * above c
+    chosen : (b : Bool) → b ≡ false → (if b then walk_home u + for_return else walk_from (scene_of x) above c) ≡ level * above c
     chosen b is = rw (is, undecided) refl
 
 -- from the own swap
@@ -135,7 +135,7 @@ meet-own x w n i t bounded at inside undecided mine apart higher published a j v
     other = own-differs l.operation t l.current mine apart
 
     straight : detour_on (scene_of x) u (helping l t None) ≡ 0
-    straight = detour-none (is_own l.operation t) (lags (scene_of x) l.operation t) false (18 * u + 40) (lags-never x l.operation l.current t mine higher) (λ is. absurd cc)
+    straight = detour-none (is_own l.operation t) (lags (scene_of x) l.operation t) false (level * u + for_detour) (lags-never x l.operation l.current t mine higher) (λ is. absurd cc)
 
     fewer : NoMore x.entries x.local x.memory x.memory w l (helping l t None) (Help (InstallTag i)) (Learn 0)
     fewer = begun-less x w l (helping l t None) (Help (InstallTag i)) (kept-in x l i unfinished) (λ b s. refl)
@@ -188,18 +188,18 @@ meet-other x w n i t bounded at inside undecided own higher published a j v q ta
     less : left_by_others (scene_of x) w n k (Learn 0) ≤ left_by_others (scene_of x) w n l (Help (InstallTag i))
     less = no-more x.entries x.local x.memory x.memory w n l k (Help (InstallTag i)) (Learn 0) fewer
 
-    here : walk_on (scene_of x) u above l ≡ 18 * above l.current
+    here : walk_on (scene_of x) u above l ≡ level * above l.current
     here = walk-undecided x.entries x.local x.memory u above l own undecided
 
     around : detour_on (scene_of x) u k ≤ detour_on (scene_of x) u l
     around =
-        detour-two (is_own l.operation t) (is_own l.operation l.current) (lags (scene_of x) l.operation t) (lags (scene_of x) l.operation l.current) (lags (scene_of x) l.operation l.current) (lags_back (scene_of x) l.operation l.back) (18 * u + 40) own
+        detour-two (is_own l.operation t) (is_own l.operation l.current) (lags (scene_of x) l.operation t) (lags (scene_of x) l.operation l.current) (lags (scene_of x) l.operation l.current) (lags_back (scene_of x) l.operation l.back) (level * u + for_detour) own
         (lags-lower x l.operation l.current t own undecided higher) (λ is. is)
 
     by_mine : (b : Bool) → is_own l.operation t ≡ b → (c : Bool) → is_through (scene_of x) t ≡ c → fresh_budget (scene_of x) w n k (Learn 0) + 1 ≤ fresh_budget (scene_of x) w n l (Help (InstallTag i))
     by_mine true mine c told =
         let lagged : lags (scene_of x) l.operation l.current ≡ true = lags-own x l.operation l.current t mine own undecided higher in
-        let around' : detour_on (scene_of x) u l ≡ 18 * u + 40 = rw (own, lagged) refl in
+        let around' : detour_on (scene_of x) u l ≡ level * u + for_detour = rw (own, lagged) refl in
         let straight : detour_on (scene_of x) u k ≡ 0 = rw mine refl in
         meet-sum x w n i t l (Some l.current) inside (omega (arith, walk-own (scene_of x) u above k mine, straight, around', less))
     by_mine false mine false told =
@@ -227,10 +227,10 @@ meet-falls x w n i t bounded at inside undecided apart higher published a j v q 
     by_own true own = meet-own x w n i t bounded at inside undecided own apart higher published a j v q tagged
     by_own false own = meet-other x w n i t bounded at inside undecided own higher published a j v q tagged
 
-if-some : (u : ℕ) → 1 ≤ u → ◌≡◌ {A = ℕ} (if_any u) 20
+if-some : (u : ℕ) → 1 ≤ u → ◌≡◌ {A = ℕ} (if_any u) for_first
 if-some u some = by_test (u == 0) refl
   where
-    by_test : (b : Bool) → (u == 0) ≡ b → ◌≡◌ {A = ℕ} (if b then 0 else 20) 20
+    by_test : (b : Bool) → (u == 0) ≡ b → ◌≡◌ {A = ℕ} (if b then 0 else for_first) for_first
     by_test false told = refl
     by_test true told = let none : u ≡ 0 = grind (arith, common_steps, told) in absurd (omega (arith, some, none))
 
@@ -258,17 +258,17 @@ read-falls x w n b t bounded at reads published a j v q tagged = by_through (is_
     other = reading-own l.operation b t reads
 
     straight : detour_on (scene_of x) u (helping l t None) ≡ 0
-    straight = detour-none (is_own l.operation t) (lags (scene_of x) l.operation t) false (18 * u + 40) (reading-lags x l.operation b t reads) (λ is. absurd cc)
+    straight = detour-none (is_own l.operation t) (lags (scene_of x) l.operation t) false (level * u + for_detour) (reading-lags x l.operation b t reads) (λ is. absurd cc)
 
     fewer : NoMore x.entries x.local x.memory x.memory w l (helping l t None) (ReadWord b) (Learn 0)
     fewer = begun-less x w l (helping l t None) (ReadWord b) (λ s i. refl) (λ c s. refl)
 
-    sum : walk_on (scene_of x) u above (helping l t None) + left_by_others (scene_of x) w n (helping l t None) (Learn 0) + 36 ≤ 18 * u + if_any u + left_by_others (scene_of x) w n l (ReadWord b)
+    sum : walk_on (scene_of x) u above (helping l t None) + left_by_others (scene_of x) w n (helping l t None) (Learn 0) + left_at (Learn 0) ≤ level * u + if_any u + left_by_others (scene_of x) w n l (ReadWord b)
         → fresh_budget (scene_of x) w n (helping l t None) (Learn 0) + 1 ≤ fresh_budget (scene_of x) w n l (ReadWord b)
     sum le =
         sums (for_walks u) _ _ _ _ _ _ _ _ _ (ap (λ o. reserve_by o 0) reads) (ap (λ o. reserve_by o (if_any u)) reads) straight le
       where
-        sums : (z a g c d r a' b' r' g' : ℕ) → b' ≡ 0 → g ≡ g' → c ≡ 0 → a' + r' + 36 ≤ a + g' + r → z + a' + b' + c + d + 37 + r' + 1 ≤ z + a + g + 0 + d + 2 + r
+        sums : (z a g c d r a' b' r' g' : ℕ) → b' ≡ 0 → g ≡ g' → c ≡ 0 → a' + r' + left_at (Learn 0) ≤ a + g' + r → z + a' + b' + c + d + left_at (Learn 0) + r' + 1 ≤ z + a + g + 0 + d + 1 + r
         sums z a g c d r a' b' r' g' f1 f2 f3 f4 = omega (arith, f1, f2, f3, f4)
 
     by_through : (c : Bool) → is_through (scene_of x) t ≡ c → fresh_budget (scene_of x) w n (helping l t None) (Learn 0) + 1 ≤ fresh_budget (scene_of x) w n l (ReadWord b)

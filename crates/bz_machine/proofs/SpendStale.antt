@@ -10,7 +10,7 @@ use Rattle.bz_machine.specs.declared.place.Place.{Place}
 use Rattle.bz_machine.specs.declared.place.Place.TheVariants.{Learn, Help}
 use Rattle.bz_machine.specs.declared.status.Verdict.{Verdict}
 use Rattle.bz_machine.specs.declared.status.Verdict.TheVariants.{Failed}
-use Rattle.bz_machine.specs.Budget.{fresh_budget, is_fresh_at, stale_at, allowed_by_others, budget_at}
+use Rattle.bz_machine.specs.Budget.{for_stale, for_stale_entry, fresh_budget, is_fresh_at, stale_at, allowed_by_others, budget_at}
 use Rattle.bz_machine.specs.Budgets.{AreShort}
 use Rattle.bz_machine.specs.Changes.{with_word, with_tag, with_miss}
 use Rattle.bz_machine.specs.HelpActs.{After, passed, finished, after_install_tag, after_untag}
@@ -26,14 +26,14 @@ pub stale-to : (e : ℕ → Entries) (local : ℕ → Local) (m r : Memory) (w n
 stale-to e local m r w n l k p q few short stale falls = rw stale (by_fresh (is_fresh_at (meets e local r) k.current q) refl)
   where
     by_fresh : (b : Bool) → is_fresh_at (meets e local r) k.current q ≡ b
-        → (if b then fresh_budget (meets e local r) w n k q else allowed_by_others (meets e local r) w n + 400 + stale_at (meets e local r) k.current q) + 1 ≤ allowed_by_others (meets e local m) w n + 400 + stale_at (meets e local m) l.current p
+        → (if b then fresh_budget (meets e local r) w n k q else allowed_by_others (meets e local r) w n + for_stale + stale_at (meets e local r) k.current q) + 1 ≤ allowed_by_others (meets e local m) w n + for_stale + stale_at (meets e local m) l.current p
     by_fresh true told = again (fresh_budget (meets e local r) w n k q) (allowed_by_others (meets e local m) w n) (stale_at (meets e local m) l.current p) (fresh-again (meets e local r) w n k q few short)
       where
-        again : (f a s : ℕ) → f + 200 ≤ a + 400 → f + 1 ≤ a + 400 + s
+        again : (f a s : ℕ) → f + 1 ≤ a + for_stale → f + 1 ≤ a + for_stale + s
         again f a s h = omega (arith, h)
     by_fresh false told = less (allowed_by_others (meets e local m) w n) (stale_at (meets e local r) k.current q) (stale_at (meets e local m) l.current p) (falls told)
       where
-        less : (a s t : ℕ) → s + 1 ≤ t → a + 400 + s + 1 ≤ a + 400 + t
+        less : (a s t : ℕ) → s + 1 ≤ t → a + for_stale + s + 1 ≤ a + for_stale + t
         less a s t h = omega (arith, h)
 
 -- the compare-and-swap of a tag, by whether it stands
@@ -79,11 +79,11 @@ spends-stale_sweep e local m w n l i d v q few short target stale =
     both : {a b : Bool} → a ≡ b → a ≡ true → b ≡ false → ⊥
     both f g h = absurd cc
 
-if-most : (b : Bool) → (if b then 7 else 4) ≤ 7
+if-most : (b : Bool) → (if b then 8 else 4) ≤ 8
 if-most true = omega arith
 if-most false = omega arith
 
-if-least : (b : Bool) → 4 ≤ (if b then 7 else 4)
+if-least : (b : Bool) → 4 ≤ (if b then 8 else 4)
 if-least true = omega arith
 if-least false = omega arith
 
@@ -97,7 +97,7 @@ next-if P m false x y f g = g
 
 -- on to the next entry, or to the flush of the targets, which a decided swap has behind it
 passes : (e : ℕ → Entries) (local : ℕ → Local) (m r : Memory) (w n : ℕ) (l : Local) (p : Place) (x : Entries) (i k : ℕ) → n ≤ 65 → AreShort e → i < 4 → is_fresh_at (meets e local m) l.current p ≡ false
-    → 20 * (4 - i) + k ≡ stale_at (meets e local m) l.current p → 4 ≤ k → Owes e local m w n l p (record { memory = r; next = Step (passed x i) })
+    → for_stale_entry * (4 - i) + k ≡ stale_at (meets e local m) l.current p → 4 ≤ k → Owes e local m w n l p (record { memory = r; next = Step (passed x i) })
 passes e local m r w n l p x i k few short inside stale counts some = by_last (i + 1 == x.count)
   where
     by_last : (b : Bool) → budget_at (meets e local r) w n (record l { place = Help (if b then FlushTarget 0 else InstallTag (i + 1)) }) (Help (if b then FlushTarget 0 else InstallTag (i + 1))) + 1 ≤ budget_at (meets e local m) w n l p
@@ -122,23 +122,23 @@ spends-stale_pointer e local m w n l i v q few short inside target stale =
     (λ told.
     let stands : is_tag (m.cached ((e l.current).target i)) l.current i v q ≡ true = sym (ap (λ a. is_tag (m.cached a) l.current i v q) target) ∙ told in
     let decided : is_decided (m.status l.current) ≡ true = decided-of (is_decided (m.status l.current)) (is_tag (m.cached ((e l.current).target i)) l.current i v q) stale stands in
-    passes e local m (with_word m (l.list (1 + 3 * i)) (Swap l.current)) w n l (Help (InstallPointer i v q)) (entries_in l.list) i 8 few short inside stale (ap (λ b. if b then 20 * (4 - i) + 8 else 1) (sym decided)) (omega arith))
+    passes e local m (with_word m (l.list (1 + 3 * i)) (Swap l.current)) w n l (Help (InstallPointer i v q)) (entries_in l.list) i 9 few short inside stale (ap (λ b. if b then for_stale_entry * (4 - i) + 9 else 1) (sym decided)) (omega arith))
     (λ told. stale-to e local m m w n l (record l { place = Help (InstallTag i) }) (Help (InstallPointer i v q)) (Help (InstallTag i)) few short stale
     (λ old.
     let decided : is_decided (m.status l.current) ≡ true = decided-not (is_decided (m.status l.current)) old in
-    subst (λ k. 20 * (4 - i) + (if is_any_dirty (m.cached ((e l.current).target i)) then 7 else 4) + 1 ≤ k) (ap (λ b. if b then 20 * (4 - i) + 8 else 1) (sym decided)) (omega (arith, if-most (is_any_dirty (m.cached ((e l.current).target i)))))))
+    subst (λ k. for_stale_entry * (4 - i) + (if is_any_dirty (m.cached ((e l.current).target i)) then 8 else 4) + 1 ≤ k) (ap (λ b. if b then for_stale_entry * (4 - i) + 9 else 1) (sym decided)) (omega (arith, if-most (is_any_dirty (m.cached ((e l.current).target i)))))))
 
-dirty-counts : (k : WordKind) (v c : ℕ) → k ≡ Dirty v → c + (if is_dirty k v then 6 else 9) + 1 ≤ c + (if is_any_dirty k then 7 else 4)
+dirty-counts : (k : WordKind) (v c : ℕ) → k ≡ Dirty v → c + (if is_dirty k v then 7 else 11) + 1 ≤ c + (if is_any_dirty k then 8 else 4)
 dirty-counts k v c is =
     let self : (v == v) ≡ true = grind (arith, common_steps) in
-    subst (λ j. c + (if is_dirty j v then 6 else 9) + 1 ≤ c + (if is_any_dirty j then 7 else 4)) (sym is) (rw self (omega arith))
+    subst (λ j. c + (if is_dirty j v then 7 else 11) + 1 ≤ c + (if is_any_dirty j then 8 else 4)) (sym is) (rw self (omega arith))
 
 -- an entry of a decided swap is tried
 pub spends-stale_tag : (e : ℕ → Entries) (local : ℕ → Local) (m : Memory) (w n : ℕ) (l : Local) (i : ℕ) → n ≤ 65 → AreShort e → i < 4 → l.list (1 + 3 * i) ≡ (e l.current).target i
     → is_fresh_at (meets e local m) l.current (Help (InstallTag i)) ≡ false → Spends e local m w n l (Help (InstallTag i))
 spends-stale_tag e local m w n l i few short inside target stale = by_found (m.cached (l.list (1 + 3 * i))) refl
   where
-    enough : (k : ℕ) → k ≤ 3 → k + 1 ≤ 20 * (4 - i) + (if is_any_dirty (m.cached ((e l.current).target i)) then 7 else 4)
+    enough : (k : ℕ) → k ≤ 3 → k + 1 ≤ for_stale_entry * (4 - i) + (if is_any_dirty (m.cached ((e l.current).target i)) then 8 else 4)
     enough k le = omega (arith, le, inside, if-least (is_any_dirty (m.cached ((e l.current).target i))))
 
     by_found : (found : WordKind) → m.cached (l.list (1 + 3 * i)) ≡ found → Owes e local m w n l (Help (InstallTag i)) (after_install_tag (entries_in l.list) m w l.current i found)
@@ -148,10 +148,10 @@ spends-stale_tag e local m w n l i few short inside target stale = by_found (m.c
         (stale-to e local m (with_miss m l.current) w n l (record l { place = Help (Decide Failed) }) (Help (InstallTag i)) (Help (Decide Failed)) few short stale (λ old. enough 1 (omega arith)))
     by_found (Dirty v) is =
         stale-to e local m m w n l (record l { place = Help (FlushDirty i v) }) (Help (InstallTag i)) (Help (FlushDirty i v)) few short stale
-        (λ old. dirty-counts (m.cached ((e l.current).target i)) v (20 * (4 - i)) (ap m.cached (sym target) ∙ is))
+        (λ old. dirty-counts (m.cached ((e l.current).target i)) v (for_stale_entry * (4 - i)) (ap m.cached (sym target) ∙ is))
     by_found (Swap t) is =
         next-if (Owes e local m w n l (Help (InstallTag i))) m (t == l.current) (Step (passed (entries_in l.list) i)) (Meet t)
-        (passes e local m m w n l (Help (InstallTag i)) (entries_in l.list) i (if is_any_dirty (m.cached ((e l.current).target i)) then 7 else 4) few short inside stale refl (if-least (is_any_dirty (m.cached ((e l.current).target i)))))
+        (passes e local m m w n l (Help (InstallTag i)) (entries_in l.list) i (if is_any_dirty (m.cached ((e l.current).target i)) then 8 else 4) few short inside stale refl (if-least (is_any_dirty (m.cached ((e l.current).target i)))))
         (stale-to e local m m w n l (meeting l t) (Help (InstallTag i)) (Learn 0) few short stale (λ old. never 0 _ old))
     by_found (Tag t j v q) is =
         next-if (Owes e local m w n l (Help (InstallTag i))) m (t == l.current) (Step (LookUnderTag i v q)) (Meet t)

@@ -106,7 +106,7 @@ fresh-tagged e local m w n l a i v found undecided =
     (walk-quiet e local m (tagged m a l.current i w) w n l quiet) (omega arith) (detour-quiet e local m (tagged m a l.current i w) w n l quiet)
     (sums (own-less e local m (tagged m a l.current i w) l.operation (λ s. missing-tagged e local m a l.current i w v s found)) (no-more e local m (tagged m a l.current i w) w n l l (Help (InstallTag i)) (Help (LookUnderTag i w (m.next_tag w))) (nothing-comes e local m w l a i v found undecided)))
   where
-    sums : {d' d r' r : ℕ} → d' ≤ d → r' ≤ r → d' + (18 + (4 - i)) + r' + 1 ≤ d + (19 + (4 - i)) + r
+    sums : {d' d r' r : ℕ} → d' ≤ d → r' ≤ r → d' + (24 + (4 - i)) + r' + 1 ≤ d + (25 + (4 - i)) + r
     sums f g = omega (arith, f, g)
 
 not-true : (b : Bool) → not b ≡ true → b ≡ false

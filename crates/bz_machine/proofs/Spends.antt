@@ -1,11 +1,11 @@
 -- The acts that change no word and no status, and go on with the same swap: each takes one from what is left in the visit.
-use Rattle.std.proofs.Common.{◌≡◌, ◌==◌, ◌&&◌, not, if◌then◌else◌, ℕ, ◌+◌, ◌-◌, ◌*◌, ◌<◌, ◌≤◌, Bool, true, false, arith, refl, ap, sym, subst, ◌∙◌}
+use Rattle.std.proofs.Common.{◌≡◌, ◌==◌, ◌&&◌, not, if◌then◌else◌, ℕ, ◌+◌, ◌-◌, ◌*◌, ◌<◌, ◌≤◌, Bool, true, false, arith, refl, ap, sym, subst}
 use Rattle.std.proofs.lemmas.Grind.{common_steps}
 use Rattle.bz_machine.specs.declared.place.Place.{Place}
 use Rattle.bz_machine.specs.declared.place.Place.TheVariants.{Idle, Prepare, Learn, Help, ReadWord, FlushRead, ClearRead, FlushLine}
 use Rattle.bz_machine.specs.declared.place.PrepareStep.TheVariants.{WriteWord, WriteStatus, FlushHead, FlushTail}
 use Rattle.bz_machine.specs.declared.place.HelpStep.TheVariants.{Look, InstallTag, LookUnderTag, InstallPointer, RemoveTag, FlushDirty, ClearDirty, FlushTarget, Decide, FlushStatus, ClearStatus, PutFinal, FlushFinal, ClearFinal}
-use Rattle.bz_word.specs.declared.kind.WordKind.TheVariants.{Value, Dirty}
+use Rattle.bz_word.specs.declared.kind.WordKind.TheVariants.{Value}
 use Rattle.bz_machine.specs.declared.worker.Operation.TheVariants.{Nothing, Reading}
 use Rattle.bz_machine.specs.declared.status.SwapStatus.{SwapStatus}
 use Rattle.bz_machine.specs.declared.status.SwapStatus.TheVariants.{Free, Undecided, Deciding, Decided}
@@ -16,7 +16,7 @@ use Rattle.bz_machine.specs.HelpActs.{by_status, after_look_under}
 use Rattle.bz_machine.specs.Machine.{Entries, Memory}
 use Rattle.bz_machine.specs.Steps.{Local, read_act, act}
 use Rattle.bz_machine.specs.Standing.{Scene, scene, is_dirty, is_decided}
-use Rattle.bz_machine.specs.Budget.{open_count, open_above, walk_at, if_any, reserve_by, reserve, detour, own_missing_by, own_missing, left_at, left_by_others, for_walks, fresh_of, fresh_budget, is_fresh_at, stale_at, budget_at}
+use Rattle.bz_machine.specs.Budget.{for_stale_entry, open_count, open_above, walk_at, if_any, reserve_by, reserve, detour, own_missing_by, own_missing, left_at, for_walks, left_by_others, fresh_of, fresh_budget, is_fresh_at, stale_at, budget_at}
 
 -- what w meets in this memory
 abbrev pub meets : (ℕ → Entries) → (ℕ → Local) → Memory → Scene
@@ -77,7 +77,7 @@ spends-look e local m w n l = by_found (m.status l.current) refl
 decided-fresh : (found : SwapStatus) (b : Bool) → is_decided found ≡ true → (not (is_decided found) && b) ≡ true → ⊥
 decided-fresh found b decided told = absurd (grind (arith, common_steps, rw decided at told))
 
-dirty-falls : (k : ℕ) (b : Bool) → (k + (if b then 5 else 8)) + 1 ≤ k + (if b then 6 else 9)
+dirty-falls : (k : ℕ) (b : Bool) → (k + (if b then 5 else 9)) + 1 ≤ k + (if b then 7 else 11)
 dirty-falls k true = omega arith
 dirty-falls k false = omega arith
 
@@ -104,7 +104,7 @@ spends-flush_dirty e local m w n l i v = by_fresh (is_fresh_at (meets e local m)
     by_fresh true told =
         fresh-falls (meets e local m) w n l (Help (FlushDirty i v)) (Help (ClearDirty i v)) told told
         (here-falls (meets e local m) w n l l (Help (FlushDirty i v)) (Help (ClearDirty i v)) refl refl refl refl refl (omega arith))
-    by_fresh false told = stale-falls (meets e local m) w n l (Help (FlushDirty i v)) (Help (ClearDirty i v)) told told (dirty-falls (20 * (4 - i)) (is_dirty (m.cached ((e l.current).target i)) v))
+    by_fresh false told = stale-falls (meets e local m) w n l (Help (FlushDirty i v)) (Help (ClearDirty i v)) told told (dirty-falls (for_stale_entry * (4 - i)) (is_dirty (m.cached ((e l.current).target i)) v))
 
 pub spends-flush_target : (e : ℕ → Entries) (local : ℕ → Local) (m : Memory) (w n : ℕ) (l : Local) (i : ℕ) → i < 4 → Spends e local m w n l (Help (FlushTarget i))
 spends-flush_target e local m w n l i few = by_last (i + 1 == l.list 0) (is_fresh_at (meets e local m) l.current (Help (FlushTarget i))) refl
@@ -154,10 +154,3 @@ spends-read_value e local m w n l a v is reads =
     subst (λ f. budget_at (meets e local (read_act m l a f).memory) w n (read_act m l a f).local (read_act m l a f).local.place + 1 ≤ budget_at (meets e local m) w n l (ReadWord a)) (sym is)
     (here-falls (meets e local m) w n l (record l { operation = Nothing; place = Idle }) (ReadWord a) Idle refl (ap (λ o. reserve_by o (if_any (open_count (meets e local m) w n))) (sym reads)) refl
     (ap (λ o. own_missing_by (meets e local m) o) (sym reads)) refl (omega arith))
-
-pub spends-read_dirty : (e : ℕ → Entries) (local : ℕ → Local) (m : Memory) (w n : ℕ) (l : Local) (a v : ℕ) → m.cached a ≡ Dirty v → Spends e local m w n l (ReadWord a)
-spends-read_dirty e local m w n l a v is =
-    let here : (v == v) ≡ true = grind (arith, common_steps) in
-    subst (λ f. budget_at (meets e local (read_act m l a f).memory) w n (read_act m l a f).local (read_act m l a f).local.place + 1 ≤ budget_at (meets e local m) w n l (ReadWord a)) (sym is)
-    (fresh-falls (meets e local m) w n l (ReadWord a) (FlushRead a v) refl (ap (λ k. is_dirty k v) is ∙ here)
-    (here-falls (meets e local m) w n l l (ReadWord a) (FlushRead a v) refl refl refl refl refl (omega arith)))

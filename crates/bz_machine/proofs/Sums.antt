@@ -61,12 +61,16 @@ pub others-split : (w : ℕ) (f : ℕ → ℕ) (n : ℕ) → w < n → sum_below
 others-split w f zero lt = absurd (omega (arith, lt))
 others-split w f (suc n) lt = others-split-if f w n (n == w) refl (others-below w f n) (others-split w f n) (omega (arith, lt))
 
+-- what an open swap of another takes at most: of what pays for the walks, and of what the worker itself counts by their number
+abbrev pub for_open : ℕ
+for_open = 756
+
 -- a weight for each that is counted, and something beside it
-weigh-if : (f g h : ℕ → ℕ) (v : ℕ) → 750 * f v + g v ≤ h v → (b : Bool) → 750 * (if b then 0 else f v) + (if b then 0 else g v) ≤ (if b then 0 else h v)
+weigh-if : (f g h : ℕ → ℕ) (v : ℕ) → for_open * f v + g v ≤ h v → (b : Bool) → for_open * (if b then 0 else f v) + (if b then 0 else g v) ≤ (if b then 0 else h v)
 weigh-if f g h v le true = omega arith
 weigh-if f g h v le false = le
 
-pub others-weigh : (w : ℕ) (f g h : ℕ → ℕ) (n : ℕ) → ((v : ℕ) → 750 * f v + g v ≤ h v) → 750 * sum_others w f n + sum_others w g n ≤ sum_others w h n
+pub others-weigh : (w : ℕ) (f g h : ℕ → ℕ) (n : ℕ) → ((v : ℕ) → for_open * f v + g v ≤ h v) → for_open * sum_others w f n + sum_others w g n ≤ sum_others w h n
 others-weigh w f g h zero le = omega arith
 others-weigh w f g h (suc n) le = omega (arith, others-weigh w f g h n le, weigh-if f g h n (le n) (n == w))
 

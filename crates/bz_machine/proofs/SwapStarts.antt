@@ -9,7 +9,7 @@ use Rattle.bz_machine.specs.declared.place.PrepareStep.TheVariants.{WriteWord}
 use Rattle.bz_machine.specs.declared.worker.Operation.{Operation}
 use Rattle.bz_machine.specs.declared.worker.Operation.TheVariants.{Nothing, Reading, Swapping}
 use Rattle.bz_machine.specs.Allowed.{sum_below, counted}
-use Rattle.bz_machine.specs.Budget.{open_count, left_by_help, left_by_place, left_by, left_by_others, budget_at, budget}
+use Rattle.bz_machine.specs.Budget.{level, for_first, for_tag, for_pointer, for_dirty, open_count, left_at, left_by_help, left_by_place, left_by, left_by_others, budget_at, budget}
 use Rattle.bz_machine.specs.Budgets.{IsBounded, SwapsAddAllowed}
 use Rattle.bz_machine.specs.Changes.{put, with_taken}
 use Rattle.bz_machine.specs.HelpActs.{final_value}
@@ -82,11 +82,11 @@ beginner x w new = swapping (x.local w) x.memory.taken new
 
 help-same : (x : State) (new : Entries) (l k : Local) (v : ℕ) (o : Local) (step : HelpStep) → (o.current == x.memory.taken) ≡ false
     → left_by_help (begun x new) false k (Prepare (WriteWord 0)) v o step ≡ left_by_help (scene_of x) false l Idle v o step
-help-same x new l k v o (LookUnderTag i u q) apart = ap (λ (e : Entries). counted ((u == v) && (is_tag (x.memory.cached (e.target i)) o.current i v q && true)) 80) (put-other x.entries x.memory.taken new o.current apart)
-help-same x new l k v o (InstallPointer i u q) apart = ap (λ (e : Entries). counted ((u == v) && (is_tag (x.memory.cached (e.target i)) o.current i v q && true)) 80) (put-other x.entries x.memory.taken new o.current apart)
-help-same x new l k v o (RemoveTag i u q) apart = ap (λ (e : Entries). counted ((u == v) && (is_tag (x.memory.cached (e.target i)) o.current i v q && true)) 80) (put-other x.entries x.memory.taken new o.current apart)
-help-same x new l k v o (FlushFinal i d) apart = ap (λ (e : Entries). counted (is_dirty (x.memory.cached (e.target i)) (final_value e i d) && true) 3) (put-other x.entries x.memory.taken new o.current apart)
-help-same x new l k v o (ClearFinal i d) apart = ap (λ (e : Entries). counted (is_dirty (x.memory.cached (e.target i)) (final_value e i d) && true) 3) (put-other x.entries x.memory.taken new o.current apart)
+help-same x new l k v o (LookUnderTag i u q) apart = ap (λ (e : Entries). counted ((u == v) && (is_tag (x.memory.cached (e.target i)) o.current i v q && true)) for_tag) (put-other x.entries x.memory.taken new o.current apart)
+help-same x new l k v o (InstallPointer i u q) apart = ap (λ (e : Entries). counted ((u == v) && (is_tag (x.memory.cached (e.target i)) o.current i v q && true)) for_tag) (put-other x.entries x.memory.taken new o.current apart)
+help-same x new l k v o (RemoveTag i u q) apart = ap (λ (e : Entries). counted ((u == v) && (is_tag (x.memory.cached (e.target i)) o.current i v q && true)) for_tag) (put-other x.entries x.memory.taken new o.current apart)
+help-same x new l k v o (FlushFinal i d) apart = ap (λ (e : Entries). counted (is_dirty (x.memory.cached (e.target i)) (final_value e i d) && true) for_dirty) (put-other x.entries x.memory.taken new o.current apart)
+help-same x new l k v o (ClearFinal i d) apart = ap (λ (e : Entries). counted (is_dirty (x.memory.cached (e.target i)) (final_value e i d) && true) for_dirty) (put-other x.entries x.memory.taken new o.current apart)
 help-same x new l k v o step apart = refl
 
 published-apart : (x : State) (n s : ℕ) → IsBounded x n → x.memory.published s ≡ true → (b : Bool) → (s == x.memory.taken) ≡ b → b ≡ false
@@ -120,7 +120,7 @@ count-same x w n new bounded =
 put-same : (e : ℕ → Entries) (t : ℕ) (new : Entries) → put e t new t ≡ new
 put-same e t new = let self : (t == t) ≡ true = grind (arith, common_steps) in rw self refl
 
--- twenty for the first visit, forty for the visits, and eight for the pointers
+-- what the first visit takes, the acts of its own, and the pointers
 adds : (x : State) (w n : ℕ) (new : Entries) → IsBounded x n → new.count ≤ 4 → budget_at (begun x new) w n (beginner x w new) (Prepare (WriteWord 0)) ≤ budget_at (scene_of x) w n (x.local w) Idle + 128
 adds x w n new bounded few =
     sums _ _ _ _ _ _ _ _ (walks-less (open_count (begun x new) w n) (open_count (scene_of x) w n) (count-same x w n new bounded)) (count-same x w n new bounded) (few-missing (is_decided (x.memory.status x.memory.taken))) (left-same x w n new bounded)
@@ -131,7 +131,7 @@ adds x w n new bounded few =
         let count : (put x.entries x.memory.taken new x.memory.taken).count ≡ new.count = ap (λ (k : Entries). k.count) (put-same x.entries x.memory.taken new) in
         omega (arith, ones-le (λ i. not (is_pointer (x.memory.cached ((put x.entries x.memory.taken new x.memory.taken).target i)) x.memory.taken)) (put x.entries x.memory.taken new x.memory.taken).count, count, few)
 
-    sums : (z u r z' u' r' g k : ℕ) → z' ≤ z → u' ≤ u → k ≤ 4 → r' ≤ r → z' + 18 * u' + 20 + 0 + 2 * k + 40 + r' ≤ z + 18 * u + g + 0 + 0 + 0 + r + 128
+    sums : (z u r z' u' r' g k : ℕ) → z' ≤ z → u' ≤ u → k ≤ 4 → r' ≤ r → z' + level * u' + for_first + 0 + for_pointer * k + left_at (Prepare (WriteWord 0)) + r' ≤ z + level * u + g + 0 + 0 + 0 + r + 128
     sums z u r z' u' r' g k f1 f2 f3 f4 = omega (arith, f1, f2, f3, f4)
 
 pub swaps_add_allowed : SwapsAddAllowed

@@ -10,7 +10,7 @@ use Rattle.bz_machine.specs.declared.status.SwapStatus.TheVariants.{Free, Undeci
 use Rattle.bz_machine.specs.declared.worker.Operation.{Operation}
 use Rattle.bz_machine.specs.declared.worker.Operation.TheVariants.{Nothing, Reading, Swapping}
 use Rattle.bz_machine.specs.Allowed.{sum_below, counted}
-use Rattle.bz_machine.specs.Budget.{open_count, open_above, walk_back, walk_on, walk_at, reserve, lags, lags_back, detour_on, detour, own_missing_by, own_missing, left_at, left_by_others, is_over, for_walks, fresh_budget}
+use Rattle.bz_machine.specs.Budget.{level, for_sweep, for_detour, open_count, open_above, walk_back, is_over, walk_on, walk_at, reserve, lags, lags_back, detour_on, detour, own_missing_by, own_missing, left_at, for_walks, left_by_others, fresh_budget}
 use Rattle.bz_machine.specs.Changes.{put}
 use Rattle.bz_machine.specs.Machine.{Entries, Memory}
 use Rattle.bz_machine.specs.Standing.{Scene, is_pointer, is_decided, is_clean, is_through, missing, top, swap_of, is_open}
@@ -130,7 +130,7 @@ pub detour-less : (e : ℕ → Entries) (local : ℕ → Local) (m r : Memory) (
     → (is_own l.operation l.current ≡ false → lags (meets e local r) l.operation l.current ≡ true → lags (meets e local m) l.operation l.current ≡ true)
     → (is_own l.operation l.current ≡ false → lags_back (meets e local r) l.operation l.back ≡ true → lags_back (meets e local m) l.operation l.back ≡ true) → detour_on (meets e local r) u' l ≤ detour_on (meets e local m) u l
 detour-less e local m r u' u l le here there =
-    detour-if (is_own l.operation l.current) _ _ (lags (meets e local m) l.operation l.current) (lags_back (meets e local m) l.operation l.back) (18 * u' + 40) (18 * u + 40) (λ own is. or-first _ _ (here own is)) (λ own is. or-second _ _ (there own is))
+    detour-if (is_own l.operation l.current) _ _ (lags (meets e local m) l.operation l.current) (lags_back (meets e local m) l.operation l.back) (level * u' + for_detour) (level * u + for_detour) (λ own is. or-first _ _ (here own is)) (λ own is. or-second _ _ (there own is))
     (omega (arith, le))
 
 -- no more pointers are missing
@@ -160,10 +160,10 @@ own-less e local m r (Reading a) less = omega arith
 own-less e local m r (Swapping s) less = omega (arith, less s)
 
 -- a visit to an undecided swap, to one that is not through, and to one that is
-pub walk-own : (x : Scene) (u : ℕ) (above : ℕ → ℕ) (l : Local) → is_own l.operation l.current ≡ true → walk_on x u above l ≡ 18 * u
+pub walk-own : (x : Scene) (u : ℕ) (above : ℕ → ℕ) (l : Local) → is_own l.operation l.current ≡ true → walk_on x u above l ≡ level * u
 walk-own x u above l own = rw own refl
 
-pub walk-undecided : (e : ℕ → Entries) (local : ℕ → Local) (m : Memory) (u : ℕ) (above : ℕ → ℕ) (l : Local) → is_own l.operation l.current ≡ false → is_decided (m.status l.current) ≡ false → walk_on (meets e local m) u above l ≡ 18 * above l.current
+pub walk-undecided : (e : ℕ → Entries) (local : ℕ → Local) (m : Memory) (u : ℕ) (above : ℕ → ℕ) (l : Local) → is_own l.operation l.current ≡ false → is_decided (m.status l.current) ≡ false → walk_on (meets e local m) u above l ≡ level * above l.current
 walk-undecided e local m u above l own is =
     let clean : is_clean (m.status l.current) ≡ false = undecided-clean (m.status l.current) is in
     rw (own, clean, is) refl
@@ -171,12 +171,12 @@ walk-undecided e local m u above l own is =
 pub walk-decided : (e : ℕ → Entries) (local : ℕ → Local) (m : Memory) (u : ℕ) (above : ℕ → ℕ) (l : Local) → is_own l.operation l.current ≡ false → is_through (meets e local m) l.current ≡ false → is_decided (m.status l.current) ≡ true
     → walk_on (meets e local m) u above l ≡ 0
 walk-decided e local m u above l own through is =
-    let chosen : (b : Bool) → b ≡ false → (j : ℕ) → (if b then j else (if is_decided (m.status l.current) then 0 else 18 * above l.current)) ≡ 0 = λ b no j. rw (no, is) refl in
+    let chosen : (b : Bool) → b ≡ false → (j : ℕ) → (if b then j else (if is_decided (m.status l.current) then 0 else level * above l.current)) ≡ 0 = λ b no j. rw (no, is) refl in
     rw own (chosen (is_through (meets e local m) l.current) through _)
 
-pub walk-through : (x : Scene) (u : ℕ) (above : ℕ → ℕ) (l : Local) → is_own l.operation l.current ≡ false → is_through x l.current ≡ true → walk_on x u above l ≡ walk_back x u above l l.back + 37
+pub walk-through : (x : Scene) (u : ℕ) (above : ℕ → ℕ) (l : Local) → is_own l.operation l.current ≡ false → is_through x l.current ≡ true → walk_on x u above l ≡ walk_back x u above l l.back + for_sweep
 walk-through x u above l own through =
-    let chosen : (b : Bool) → b ≡ true → (j : ℕ) → (if b then walk_back x u above l l.back + 37 else j) ≡ walk_back x u above l l.back + 37 = λ b yes j. rw yes refl in
+    let chosen : (b : Bool) → b ≡ true → (j : ℕ) → (if b then walk_back x u above l l.back + for_sweep else j) ≡ walk_back x u above l l.back + for_sweep = λ b yes j. rw yes refl in
     rw own (chosen (is_through x l.current) through _)
 
 -- the visited swap is undecided, in both memories, and no other comes to reach higher than it
@@ -188,7 +188,7 @@ pub record Quiet (e : ℕ → Entries) (local : ℕ → Local) (m r : Memory) (c
   pub above : (t : ℕ) → nat_lt (top (meets e local r) c) (top (meets e local r) t) ≡ true → nat_lt (top (meets e local m) c) (top (meets e local m) t) ≡ true
   pub others : (s t : ℕ) → (c == t) ≡ false → nat_lt (top (meets e local r) s) (top (meets e local r) t) ≡ true → nat_lt (top (meets e local m) s) (top (meets e local m) t) ≡ true
 
-eighteen : {j k : ℕ} → j ≤ k → 18 * j ≤ 18 * k
+eighteen : {j k : ℕ} → j ≤ k → level * j ≤ level * k
 eighteen le = omega (arith, le)
 
 pub walk-quiet : (e : ℕ → Entries) (local : ℕ → Local) (m r : Memory) (w n : ℕ) (l : Local) → Quiet e local m r l.current

@@ -10,6 +10,13 @@ use Rattle.bz_machine.specs.State.{State, Event, StartRead, StartStore, StartFlu
 abbrev pub for_act : ℕ
 for_act = 2
 
+-- by kind: a read, load or store; a flush
+abbrev pub for_word : ℕ
+for_word = 1
+
+abbrev pub for_flush : ℕ
+for_flush = 2
+
 -- a swap
 abbrev pub for_swap : ℕ
 for_swap = 128
@@ -24,6 +31,14 @@ allowed (StartStore w a v) = for_act
 allowed (StartFlush w line) = for_act
 allowed (StartSwap w new targets) = for_swap
 allowed event = 0
+
+-- the finer count, by the kind of the start: it is never more
+abbrev pub allowed_by_kind : Event → ℕ
+allowed_by_kind (StartRead w a) = for_word
+allowed_by_kind (StartStore w a v) = for_word
+allowed_by_kind (StartFlush w line) = for_flush
+allowed_by_kind (StartSwap w new targets) = for_swap
+allowed_by_kind event = 0
 
 -- the sum of a function below a number, and a number that counts where a test holds
 abbrev pub sum_below : (ℕ → ℕ) → ℕ → ℕ

@@ -1,4 +1,5 @@
--- The budget of a worker: how many steps it takes at most while it steps alone, as a number that each of them lowers.
+-- The budget of a worker: how many steps it takes at most while it steps alone, as a number that each of them lowers. A flush counts
+-- one, and the last one before the worker goes on counts two: as many acts as it takes to ask for the lines and then to fence.
 use Rattle.std.specs.Prelude.{if◌then◌else◌, ℕ, ◌+◌, ◌-◌, ◌*◌, ◌==◌, ◌&&◌, ◌||◌, not, nat_lt, Bool, true, false, Some, None}
 use Rattle.std.specs.declared.option.Option.{Option}
 use Rattle.bz_machine.specs.declared.status.Verdict.{Verdict}
@@ -26,33 +27,33 @@ half_level = 9
 
 -- what the first visit of a walk takes beyond its level
 abbrev pub for_first : ℕ
-for_first = 20
+for_first = 26
 
 -- a visit to a swap that is through, which sweeps its tags; the visit back that follows; and both, to a tag that is met
 abbrev pub for_sweep : ℕ
-for_sweep = 37
+for_sweep = 43
 
 abbrev pub for_return : ℕ
-for_return = 38
+for_return = 44
 
 abbrev pub for_tag : ℕ
-for_tag = 80
+for_tag = 92
 
 -- a visit that comes by the own swap, on the way to a higher one
 abbrev pub for_detour : ℕ
-for_detour = 40
+for_detour = 46
 
 -- a pointer that a swap has yet to put
 abbrev pub for_pointer : ℕ
 for_pointer = 2
 
--- a dirty value: its flush, a compare-and-swap, and the act again
+-- a dirty value: its flush, which counts two, a compare-and-swap, and the act again
 abbrev pub for_dirty : ℕ
-for_dirty = 3
+for_dirty = 4
 
 -- a swap that is completed, beside the walk along those that are left
 abbrev pub for_close : ℕ
-for_close = 100
+for_close = 118
 
 -- what w goes by no longer holds: more than any budget without what the others allow; and each entry that it may yet try
 abbrev pub for_stale : ℕ
@@ -146,39 +147,39 @@ own_missing x place o = own_missing_by x o
 
 -- the acts left in this visit, where nothing stands in the way
 abbrev pub left_in_prepare : PrepareStep → ℕ
-left_in_prepare (WriteWord k) = 27 + (descriptor_words - k)
-left_in_prepare WriteStatus = 27
-left_in_prepare FlushHead = 26
-left_in_prepare FlushTail = 25
+left_in_prepare (WriteWord k) = 33 + (descriptor_words - k)
+left_in_prepare WriteStatus = 33
+left_in_prepare FlushHead = 32
+left_in_prepare FlushTail = 31
 
 abbrev pub left_in_help : HelpStep → ℕ
-left_in_help Look = 24
-left_in_help (InstallTag i) = 19 + (most_entries - i)
-left_in_help (LookUnderTag i v q) = 18 + (most_entries - i)
-left_in_help (InstallPointer i v q) = 17 + (most_entries - i)
+left_in_help Look = 30
+left_in_help (InstallTag i) = 25 + (most_entries - i)
+left_in_help (LookUnderTag i v q) = 24 + (most_entries - i)
+left_in_help (InstallPointer i v q) = 23 + (most_entries - i)
 left_in_help (RemoveTag i v q) = 0
-left_in_help (FlushDirty i v) = 18 + (most_entries - i)
-left_in_help (ClearDirty i v) = 17 + (most_entries - i)
-left_in_help (FlushTarget i) = 15 + (most_entries - i)
-left_in_help (Decide d) = 15
-left_in_help (FlushStatus d) = 14
-left_in_help (ClearStatus d) = 13
-left_in_help (PutFinal i d) = 3 * (most_entries - i)
-left_in_help (FlushFinal i d) = 2 + 3 * (3 - i)
-left_in_help (ClearFinal i d) = 1 + 3 * (3 - i)
-left_in_help (SweepTag i d v q) = 2 + 3 * (3 - i)
+left_in_help (FlushDirty i v) = 24 + (most_entries - i)
+left_in_help (ClearDirty i v) = 22 + (most_entries - i)
+left_in_help (FlushTarget i) = 21 + (most_entries - i)
+left_in_help (Decide d) = 20
+left_in_help (FlushStatus d) = 19
+left_in_help (ClearStatus d) = 17
+left_in_help (PutFinal i d) = 4 * (most_entries - i)
+left_in_help (FlushFinal i d) = 3 + 4 * (3 - i)
+left_in_help (ClearFinal i d) = 1 + 4 * (3 - i)
+left_in_help (SweepTag i d v q) = 3 + 4 * (3 - i)
 
 abbrev pub left_at : Place → ℕ
 left_at Idle = 0
 left_at (Prepare step) = left_in_prepare step
-left_at (Learn k) = 24 + (descriptor_words - k)
+left_at (Learn k) = 30 + (descriptor_words - k)
 left_at (Help step) = left_in_help step
-left_at (ReadWord a) = 2
-left_at (FlushRead a v) = 1
-left_at (ClearRead a v) = 0
+left_at (ReadWord a) = 1
+left_at (FlushRead a v) = 4
+left_at (ClearRead a v) = 2
 left_at (LoadWord a) = 1
 left_at (StoreWord a v) = 1
-left_at (FlushLine line) = 1
+left_at (FlushLine line) = 2
 
 -- the first entry at which this visit still takes tags away
 abbrev pub swept_in : HelpStep → ℕ
@@ -215,9 +216,11 @@ cleans_in x s (FlushFinal i d) a v = ((x.entries s).target i == a) && (final_val
 cleans_in x s (ClearFinal i d) a v = ((x.entries s).target i == a) && (final_value (x.entries s) i d == v)
 cleans_in x s step a v = false
 
--- worker w is about to clean this dirty value
+-- worker w is about to clean this dirty value: its place counts what that takes
 abbrev pub cleans_at : Scene → ℕ → Place → ℕ → ℕ → Bool
 cleans_at x s (Help step) a v = cleans_in x s step a v
+cleans_at x s (FlushRead b u) a v = (b == a) && (u == v)
+cleans_at x s (ClearRead b u) a v = (b == a) && (u == v)
 cleans_at x s place a v = false
 
 -- a dirty value of worker v that stands
@@ -277,20 +280,20 @@ is_fresh_at x s place = true
 
 -- the acts left until it goes by what holds
 abbrev pub stale_in : Scene → ℕ → HelpStep → ℕ
-stale_in x s (InstallTag i) = for_stale_entry * (most_entries - i) + (if x.any_dirty (target_at x s i) then 7 else 4)
+stale_in x s (InstallTag i) = for_stale_entry * (most_entries - i) + (if x.any_dirty (target_at x s i) then 8 else 4)
 stale_in x s (LookUnderTag i v q) = 2
-stale_in x s (InstallPointer i v q) = if x.decided s then for_stale_entry * (most_entries - i) + 8 else 1
+stale_in x s (InstallPointer i v q) = if x.decided s then for_stale_entry * (most_entries - i) + 9 else 1
 stale_in x s (RemoveTag i v q) = 1
-stale_in x s (FlushDirty i v) = for_stale_entry * (most_entries - i) + (if x.dirty (target_at x s i) v then 6 else 9)
-stale_in x s (ClearDirty i v) = for_stale_entry * (most_entries - i) + (if x.dirty (target_at x s i) v then 5 else 8)
-stale_in x s (FlushTarget i) = 6 + (most_entries - i)
+stale_in x s (FlushDirty i v) = for_stale_entry * (most_entries - i) + (if x.dirty (target_at x s i) v then 7 else 11)
+stale_in x s (ClearDirty i v) = for_stale_entry * (most_entries - i) + (if x.dirty (target_at x s i) v then 5 else 9)
+stale_in x s (FlushTarget i) = 7 + (most_entries - i)
 stale_in x s (Decide d) = 1
 stale_in x s (SweepTag i d v q) = 1
 stale_in x s step = 0
 
 abbrev pub stale_at : Scene → ℕ → Place → ℕ
 stale_at x s (Help step) = stale_in x s step
-stale_at x s (FlushRead a v) = 2
+stale_at x s (FlushRead a v) = 3
 stale_at x s (ClearRead a v) = 1
 stale_at x s place = 0
 

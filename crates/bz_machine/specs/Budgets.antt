@@ -1,7 +1,7 @@
 -- The laws of budgets: what a worker may have, what starts add, and that each step spends one.
 use Rattle.std.specs.Prelude.{◌≡◌, ◌≢◌, ℕ, ◌+◌, ◌<◌, ◌≤◌, Bool}
 use Rattle.bz_machine.specs.declared.place.Place.TheVariants.{Idle}
-use Rattle.bz_machine.specs.Allowed.{allowed, allowed_by}
+use Rattle.bz_machine.specs.Allowed.{allowed, allowed_by_kind, allowed_by}
 use Rattle.bz_machine.specs.Budget.{budget}
 use Rattle.bz_machine.specs.Machine.{Entries, Memory}
 use Rattle.bz_machine.specs.DirtyHomes.{DirtyAreHome}
@@ -28,6 +28,15 @@ pub record AddsAllowed (x : State) (w n : ℕ) : Type 0 where
 
 abbrev pub StartsAddAllowed : Type 0
 StartsAddAllowed = (x : State) (w n : ℕ) → AreOwned x → (x.local w).place ≡ Idle → AddsAllowed x w n
+
+-- and by the finer count: one for a read or a store, two for a flush
+pub record AddsByKind (x : State) (w n : ℕ) : Type 0 where
+  pub read : (a : ℕ) → budget (happens x (StartRead w a)) w n ≤ budget x w n + allowed_by_kind (StartRead w a)
+  pub store : (a v : ℕ) → budget (happens x (StartStore w a v)) w n ≤ budget x w n + allowed_by_kind (StartStore w a v)
+  pub flush : (line : ℕ) → budget (happens x (StartFlush w line)) w n ≤ budget x w n + allowed_by_kind (StartFlush w line)
+
+abbrev pub StartsAddByKind : Type 0
+StartsAddByKind = (x : State) (w n : ℕ) → AreOwned x → (x.local w).place ≡ Idle → AddsByKind x w n
 
 -- what holds at every moment of a state whose workers have numbers below n: its invariant, and what makes a lone worker end
 pub record IsBounded (x : State) (n : ℕ) : Type 0 where

@@ -1,7 +1,7 @@
 -- A run of one worker alone: its starts and its steps, while no other worker does anything, and evictions at any moment.
 use Rattle.std.specs.Prelude.{◌≡◌, ◌≢◌, ℕ, ◌+◌, ◌<◌, ◌≤◌, List, [], ◌∷◌}
 use Rattle.bz_machine.specs.declared.place.Place.TheVariants.{Idle}
-use Rattle.bz_machine.specs.Allowed.{allowed, allowed_by}
+use Rattle.bz_machine.specs.Allowed.{allowed, allowed_by_kind, allowed_by}
 use Rattle.bz_machine.specs.Budgets.{IsBounded}
 use Rattle.bz_machine.specs.Fronts.{Rises}
 use Rattle.bz_machine.specs.Sizes.{most_entries}
@@ -35,6 +35,14 @@ abbrev pub allowed_in : List Event → ℕ
 allowed_in [] = 0
 allowed_in (v ∷ vs) = allowed v + allowed_in vs
 
+abbrev pub allowed_by_kind_in : List Event → ℕ
+allowed_by_kind_in [] = 0
+allowed_by_kind_in (v ∷ vs) = allowed_by_kind v + allowed_by_kind_in vs
+
 -- they are no more than what the starts allow, and what each worker that is not idle at first allows once
 abbrev pub LoneStepsAreAllowed : Type 0
 LoneStepsAreAllowed = (x : State) (w n : ℕ) (events : List Event) → w < n → IsBounded x n → AreLone x w events → steps_in events ≤ allowed_by x n + allowed_in events
+
+-- and by the finer count
+abbrev pub LoneStepsAreAllowedByKind : Type 0
+LoneStepsAreAllowedByKind = (x : State) (w n : ℕ) (events : List Event) → w < n → IsBounded x n → AreLone x w events → steps_in events ≤ allowed_by x n + allowed_by_kind_in events

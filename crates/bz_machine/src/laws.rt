@@ -1,13 +1,13 @@
 //! The laws of the machine. Each function does nothing: its contract is the law.
 
-ghost use Rattle.bz_machine.specs.Budgets.{BeginsBounded, StaysBounded, BudgetsAreAllowed, StartsAddAllowed, SwapsAddAllowed, EvictionsKeepBudgets, ActsSpend};
+ghost use Rattle.bz_machine.specs.Budgets.{BeginsBounded, StaysBounded, BudgetsAreAllowed, StartsAddAllowed, StartsAddByKind, SwapsAddAllowed, EvictionsKeepBudgets, ActsSpend};
 ghost use Rattle.bz_machine.specs.DirtyHomes.{DirtyStayHome};
 ghost use Rattle.bz_machine.specs.Ends.{EndsStayWhole};
 ghost use Rattle.bz_machine.specs.Examples.{SwapsAlone};
 ghost use Rattle.bz_machine.specs.Fronts.{FrontsStay, AllStayRising};
 ghost use Rattle.bz_machine.specs.Invariance.{BeginsAsState, KeepsState, ActsAtomically, KeepsRange, BeginsInRange, CutRecovers};
 ghost use Rattle.bz_machine.specs.Lawful.{StayInRange};
-ghost use Rattle.bz_machine.specs.LoneRuns.{LoneStepsAreAllowed};
+ghost use Rattle.bz_machine.specs.LoneRuns.{LoneStepsAreAllowed, LoneStepsAreAllowedByKind};
 ghost use Rattle.bz_machine.specs.Sleeper.{SleeperIsHarmless};
 ghost use Rattle.bz_machine.specs.Owners.{OwnersStay};
 ghost use Rattle.bz_machine.specs.Progress.{TagsStayHome};
@@ -134,6 +134,11 @@ pub fn starts_add_allowed()
     ensures { StartsAddAllowed }
 {}
 
+/// By the finer count, that of a read or a store adds one at most, and that of a flush two.
+pub fn starts_add_by_kind()
+    ensures { StartsAddByKind }
+{}
+
 /// No eviction changes a budget.
 pub fn evictions_keep_budgets()
     ensures { EvictionsKeepBudgets }
@@ -152,4 +157,9 @@ pub fn swaps_add_allowed()
 /// A worker that steps alone takes no more steps than its starts allow, and the workers that are not idle at first.
 pub fn lone_steps_are_allowed()
     ensures { LoneStepsAreAllowed }
+{}
+
+/// By the finer count too, where a read, a load or a store allows one step.
+pub fn lone_steps_are_allowed_by_kind()
+    ensures { LoneStepsAreAllowedByKind }
 {}
