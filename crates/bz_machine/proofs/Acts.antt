@@ -40,10 +40,10 @@ begun-published : (e : ℕ → Entries) (m : Memory) (s : ℕ) → m.published s
 begun-published e m s p g = grind (arith, g.begun s, g.not_begun s)
 
 -- an act on a published swap
-good-help : (e : ℕ → Entries) (m : Memory) (w : ℕ) (l : Local) (step : HelpStep) → AreApart e → OnSwap e m w l → Fact e m l.current step → Sound e m → Good e m w l (act m w l (Help step))
+good-help : (e : ℕ → Entries) (m : Memory) (w : ℕ) (l : Local) (step : HelpStep) → AreApart e → OnSwap e m w l → Fact e m w l.current step → Sound e m → Good e m w l (act m w l (Help step))
 good-help e m w l step a o f g =
     let s : ℕ = l.current in
-    let fine : Fine e m s (help_act (e s) m w s step) = fine-help_act e m w s step a o.published (begun-published e m s o.published g) f g in
+    let fine : Fine e m w s (help_act (e s) m w s step) = fine-help_act e m w s step a o.published (begun-published e m s o.published g) f g in
     rw (help_act-agrees e (entries_in l.list) m w s step (agree-spell (e s) l.list o.spell) f)
     (good-after_help e m (help_act (e s) m w s step).memory w l (help_act (e s) m w s step).next fine.change o fine.fact (λ d h. help_act-ends e m w s step d f h))
 
@@ -59,7 +59,7 @@ good-read e m w l a (Swap t) h o owns back g = good-same e m w l (helping l t No
 good-read e m w l a (Tag t i v q) h o owns back g = good-same e m w l (helping l t None) g (knows-helping e m w l t None (g.tag a t i v q h).standing (own-read m l.operation a o) owns tt)
 
 -- an act of a reader on a dirty word
-good-reading : (e : ℕ → Entries) (m n : Memory) (w : ℕ) (l : Local) (place : Place) → Change e m n l.current → Owns m w l.operation → BackPublished m l.back → AtPlace e n l place → Good e m w l (goes_on n l place)
+good-reading : (e : ℕ → Entries) (m n : Memory) (w : ℕ) (l : Local) (place : Place) → Change e m n l.current → Owns m w l.operation → BackPublished m l.back → AtPlace e n w l place → Good e m w l (goes_on n l place)
 good-reading e m n w l place c owns back f = good-on e m n w l (record l { place = place }) c (record {
   place = f;
   owns = owns-keeps e m n w l.operation c.keeps (λ s h. c.descriptors s) owns;
@@ -70,15 +70,15 @@ good-reading e m n w l place c owns back f = good-on e m n w l (record l { place
 good-single : (e : ℕ → Entries) (m n : Memory) (w : ℕ) (l : Local) (done : Done) → Change e m n l.current → BackPublished m l.back → IsAnswer e n l.operation done → n.durable_status ≡ m.durable_status → Good e m w l (answers n l done)
 good-single e m n w l done c back i st = good-answers e m n w l done c (back-keeps e m n l.back c.keeps back) i st
 
-own-swap : (e : ℕ → Entries) (m : Memory) (w : ℕ) (l : Local) (step : PrepareStep) → AtPlace e m l (Prepare step) → Owns m w l.operation → BackPublished m l.back → OnOwn e m w l
+own-swap : (e : ℕ → Entries) (m : Memory) (w : ℕ) (l : Local) (step : PrepareStep) → AtPlace e m w l (Prepare step) → Owns m w l.operation → BackPublished m l.back → OnOwn e m w l
 own-swap e m w l step f owns back =
     let own : Owns m w (Swapping l.current) = rw f.0 at owns in
     record { operation = f.0; unpublished = f.1; spell = f.2; owner = own.0; taken = own.1; unanswered = own.2; back = back }
 
-on-swap : (e : ℕ → Entries) (m : Memory) (w : ℕ) (l : Local) (step : HelpStep) → AtPlace e m l (Help step) → Owns m w l.operation → BackPublished m l.back → OnSwap e m w l
+on-swap : (e : ℕ → Entries) (m : Memory) (w : ℕ) (l : Local) (step : HelpStep) → AtPlace e m w l (Help step) → Owns m w l.operation → BackPublished m l.back → OnSwap e m w l
 on-swap e m w l step f owns back = record { published = f.0; own = f.1; spell = f.2; owns = owns; back = back }
 
-pub good-act : (e : ℕ → Entries) (m : Memory) (w : ℕ) (l : Local) (place : Place) → AreApart e → Sound e m → AtPlace e m l place → Owns m w l.operation → BackPublished m l.back → Good e m w l (act m w l place)
+pub good-act : (e : ℕ → Entries) (m : Memory) (w : ℕ) (l : Local) (place : Place) → AreApart e → Sound e m → AtPlace e m w l place → Owns m w l.operation → BackPublished m l.back → Good e m w l (act m w l place)
 good-act e m w l Idle a g f owns back = good-same e m w l (record l { place = Idle }) g (record { place = tt; owns = owns; back = back })
 good-act e m w l (Prepare step) a g f owns back = good-prepare e m w l step a (own-swap e m w l step f owns back) f.3 g
 good-act e m w l (Learn k) a g f owns back = good-learnt e m w l k g f owns back

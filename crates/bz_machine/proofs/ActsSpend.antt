@@ -49,7 +49,7 @@ pub record KnowsEntry (x : State) (h i : ℕ) : Type 0 where
   pub spell : Spell (x.entries (x.local h).current) (x.local h).list
   pub inside : i < (x.entries (x.local h).current).count
 
-at-final : (x : State) (h i : ℕ) (d : Verdict) (p : Place) → IsAtFinal p i d → AtPlace x.entries x.memory (x.local h) p → KnowsEntry x h i
+at-final : (x : State) (h i : ℕ) (d : Verdict) (p : Place) → IsAtFinal p i d → AtPlace x.entries x.memory h (x.local h) p → KnowsEntry x h i
 at-final x h i d (Help (FlushFinal j c)) at known = record { spell = known.2; inside = subst (λ k. k < (x.entries (x.local h).current).count) at.0 known.3.0 }
 at-final x h i d (Help (ClearFinal j c)) at known = record { spell = known.2; inside = subst (λ k. k < (x.entries (x.local h).current).count) at.0 known.3.0 }
 at-final x h i d (Help step) at known = absurd at
@@ -85,14 +85,14 @@ few-words : (k c : ℕ) → k ≤ 3 * c → c ≤ 4 → k < 13
 few-words k c f g = omega (arith, f, g)
 
 -- on the own descriptor
-prepares : (x : State) (w n : ℕ) (step : PrepareStep) → IsBounded x n → AtPlace x.entries x.memory (x.local w) (Prepare step) → Spends x.entries x.local x.memory w n (x.local w) (Prepare step)
+prepares : (x : State) (w n : ℕ) (step : PrepareStep) → IsBounded x n → AtPlace x.entries x.memory w (x.local w) (Prepare step) → Spends x.entries x.local x.memory w n (x.local w) (Prepare step)
 prepares x w n (WriteWord k) bounded known = spends-write_word x.entries x.local x.memory w n (x.local w) k (few-words k _ known.3.0 (bounded.short (x.local w).current))
 prepares x w n WriteStatus bounded known = spends-write_status x.entries x.local x.memory w n (x.local w) (bounded.state.sound.unset (x.local w).current known.1).0
 prepares x w n FlushHead bounded known = spends-flush_head x.entries x.local x.memory w n (x.local w)
 prepares x w n FlushTail bounded known = spends-flush_tail x.entries x.local x.memory w n (x.local w) known.0 known.3.1
 
 -- on a published swap
-helps : (x : State) (w n : ℕ) (step : HelpStep) → IsBounded x n → (x.local w).place ≡ Help step → AtPlace x.entries x.memory (x.local w) (Help step) → Spends x.entries x.local x.memory w n (x.local w) (Help step)
+helps : (x : State) (w n : ℕ) (step : HelpStep) → IsBounded x n → (x.local w).place ≡ Help step → AtPlace x.entries x.memory w (x.local w) (Help step) → Spends x.entries x.local x.memory w n (x.local w) (Help step)
 helps x w n Look bounded at known = spends-look x.entries x.local x.memory w n (x.local w)
 helps x w n (InstallTag i) bounded at known = by_fresh (is_fresh_at (scene_of x) (x.local w).current (Help (InstallTag i))) refl
   where
@@ -130,7 +130,7 @@ helps x w n (SweepTag i d v q) bounded at known = by_fresh (is_fresh_at (scene_o
         spends-stale_sweep x.entries x.local x.memory w n (x.local w) i d v q bounded.few bounded.short ((agree-spell (x.entries (x.local w).current) (x.local w).list known.2).target i known.3.0) told
 
 -- at any place
-acts : (x : State) (w n : ℕ) (p : Place) → IsBounded x n → (x.local w).place ≡ p → p ≢ Idle → AtPlace x.entries x.memory (x.local w) p → RestsAt p (x.local w).operation → Spends x.entries x.local x.memory w n (x.local w) p
+acts : (x : State) (w n : ℕ) (p : Place) → IsBounded x n → (x.local w).place ≡ p → p ≢ Idle → AtPlace x.entries x.memory w (x.local w) p → RestsAt p (x.local w).operation → Spends x.entries x.local x.memory w n (x.local w) p
 acts x w n Idle bounded at busy known rests = absurd (busy refl)
 acts x w n (Prepare step) bounded at busy known rests = prepares x w n step bounded known
 acts x w n (Learn k) bounded at busy known rests = spends-learn x.entries x.local x.memory w n (x.local w) k (few-words k _ known.2 (bounded.short (x.local w).current))

@@ -42,7 +42,7 @@ put_final-agrees x y m s i d (Dirty v) a lt = rw (finished-agrees x y i d a) ref
 put_final-agrees x y m s i d (Swap t) a lt = rw (final-agrees x y i d a lt, a.target i lt, finished-agrees x y i d a) refl
 put_final-agrees x y m s i d (Tag t j v q) a lt = rw (finished-agrees x y i d a) refl
 
-pub help_act-agrees : (e : ℕ → Entries) (x : Entries) (m : Memory) (w s : ℕ) (step : HelpStep) → Agree x (e s) → Fact e m s step → help_act x m w s step ≡ help_act (e s) m w s step
+pub help_act-agrees : (e : ℕ → Entries) (x : Entries) (m : Memory) (w s : ℕ) (step : HelpStep) → Agree x (e s) → Fact e m w s step → help_act x m w s step ≡ help_act (e s) m w s step
 help_act-agrees e x m w s Look a f = refl
 help_act-agrees e x m w s (InstallTag i) a f = ap (λ t. after_install_tag x m w s i (m.cached t)) (a.target i f.0) ∙ install-agrees x (e s) m w s i _ a f.0
 help_act-agrees e x m w s (LookUnderTag i v q) a f = refl

@@ -58,7 +58,7 @@ put_final-ends x m s i c (Dirty v) d k f h = finished-verdict x i c d k f h
 put_final-ends x m s i c (Swap t) d k f h = after-if (t == s) _ _ (is_verdict k d ≡ true) d (goes_on (FlushFinal i c) d (is_verdict k d ≡ true)) (finished-verdict x i c d k f) h
 put_final-ends x m s i c (Tag t j v q) d k f h = ended-if (t == s) _ _ (is_verdict k d ≡ true) d (goes_on (SweepTag i c v q) d (is_verdict k d ≡ true)) (finished-verdict x i c d k f) h
 
-pub help_act-ends : (e : ℕ → Entries) (m : Memory) (w s : ℕ) (step : HelpStep) (d : Verdict) → Fact e m s step → (help_act (e s) m w s step).next ≡ Complete d → is_verdict (m.durable_status s) d ≡ true
+pub help_act-ends : (e : ℕ → Entries) (m : Memory) (w s : ℕ) (step : HelpStep) (d : Verdict) → Fact e m w s step → (help_act (e s) m w s step).next ≡ Complete d → is_verdict (m.durable_status s) d ≡ true
 help_act-ends e m w s Look d f h = goes_on _ d _ h
 help_act-ends e m w s (InstallTag i) d f h = install-goes_on (e s) m w s i (m.cached ((e s).target i)) d _ h
 help_act-ends e m w s (LookUnderTag i v q) d f h = goes_on _ d _ h

@@ -136,7 +136,7 @@ EndsAfter e m w l new step next = NextEnds e (act m w l (Help step)).memory.cach
 before-after : (e : ℕ → Entries) (m : Memory) (w : ℕ) (l : Local) (new : ℕ → Local) (step k : HelpStep) → IsBefore k → EndsAfter e m w l new step (Step k)
 before-after e m w l new step k before = before-ends e (act m w l (Help step)).memory.cached (act m w l (Help step)).memory.status new l.current k before
 
-help-ends : (e : ℕ → Entries) (m : Memory) (w : ℕ) (l : Local) (local new : ℕ → Local) (step : HelpStep) → Sound e m → AtPlace e m l (Help step) → Lasts e m l local new (Help step) (act m w l (Help step))
+help-ends : (e : ℕ → Entries) (m : Memory) (w : ℕ) (l : Local) (local new : ℕ → Local) (step : HelpStep) → Sound e m → AtPlace e m w l (Help step) → Lasts e m l local new (Help step) (act m w l (Help step))
     → NextEnds e (act m w l (Help step)).memory.cached (act m w l (Help step)).memory.status new l.current (help_act (entries_in l.list) m w l.current step).next
 help-ends e m w l local new Look sound at last =
     status-follows (m.status l.current) (EndsAfter e m w l new Look) (before-after e m w l new Look) (λ d clean. (λ k. last.cleans clean, λ j none. absurd (omega (arith, none))))
@@ -187,7 +187,7 @@ help-ends e m w l local new (SweepTag i d v q) sound at last =
 none-ends : (e : ℕ → Entries) (cached : ℕ → WordKind) (status : ℕ → SwapStatus) (new : ℕ → Local) (answer : ℕ → Option Verdict) (l : Local) → (IsInLast l.place → ⊥) → OwnEnds e cached status new answer answer l
 none-ends e cached status new answer l none = record { clean = λ k. absurd (none k); done = λ j k. absurd (none (behind-in_last l.place j k)); answered = λ s d is. inl is }
 
-own-ends : (e : ℕ → Entries) (m : Memory) (w : ℕ) (l : Local) (local new : ℕ → Local) (place : Place) → Sound e m → AtPlace e m l place → Lasts e m l local new place (act m w l place)
+own-ends : (e : ℕ → Entries) (m : Memory) (w : ℕ) (l : Local) (local new : ℕ → Local) (place : Place) → Sound e m → AtPlace e m w l place → Lasts e m l local new place (act m w l place)
     → OwnEnds e (act m w l place).memory.cached (act m w l place).memory.status new m.answer (act m w l place).memory.answer (act m w l place).local
 own-ends e m w l local new Idle sound at last = none-ends e _ _ new m.answer _ (λ k. k)
 own-ends e m w l local new (Prepare (WriteWord k)) sound at last = none-ends e _ _ new m.answer _ (if-case (λ (p : PrepareStep). IsInLast (Prepare p) → ⊥) (k == 3 * l.list 0) WriteStatus (WriteWord (k + 1)) (λ t. t) (λ t. t))
@@ -295,9 +295,9 @@ kept-entries x new s published state = by_test (s == x.memory.taken) refl
     by_test false told = refl
     by_test true told = let same : s ≡ x.memory.taken = grind (arith, common_steps, told) in absurd (grind (arith, published, (state.sound.not_begun s (omega arith)).1))
 
-last-published : (e : ℕ → Entries) (m : Memory) (l : Local) (place : Place) → AtPlace e m l place → IsInLast place → m.published l.current ≡ true
-last-published e m l (Help step) at last = at.0
-last-published e m l place at last = absurd last
+last-published : (e : ℕ → Entries) (m : Memory) (w : ℕ) (l : Local) (place : Place) → AtPlace e m w l place → IsInLast place → m.published l.current ≡ true
+last-published e m w l (Help step) at last = at.0
+last-published e m w l place at last = absurd last
 
 taken-whole : (x : State) (w : ℕ) (new : Entries) (targets : ℕ → Bool) → IsState x → EndWhole x → EndWhole (happens x (StartSwap w new targets))
 taken-whole x w new targets state whole = record {
@@ -321,7 +321,7 @@ taken-whole x w new targets state whole = record {
         → j < (put x.entries x.memory.taken new (if b then swapping (x.local w) x.memory.taken new else x.local v).current).count
         → IsDone (put x.entries x.memory.taken new) x.memory.cached (put x.local w (swapping (x.local w) x.memory.taken new)) (if b then swapping (x.local w) x.memory.taken new else x.local v).current j
     done_of v j true behind below = absurd behind
-    done_of v j false behind below = by_kept (x.local v).current j (last-published x.entries x.memory (x.local v) (x.local v).place (state.knows v).place (behind-in_last (x.local v).place j behind)) below (whole.done v j behind)
+    done_of v j false behind below = by_kept (x.local v).current j (last-published x.entries x.memory w (x.local v) (x.local v).place (state.knows v).place (behind-in_last (x.local v).place j behind)) below (whole.done v j behind)
 
 pub ends_stay_whole : EndsStayWhole
 ends_stay_whole x (StartRead w b) may state whole = started-whole x w _ (λ i v q at. at) (λ k. k) whole

@@ -39,8 +39,8 @@ change-durable_head e m s o g = record {
   misses = no_miss e m (with_durable_head m s) refl;
 }
 
-pub fine-flush_status : (e : ℕ → Entries) (m : Memory) (s : ℕ) (d : Verdict) → AreApart e → Fact e m s (FlushStatus d) → Sound e m → Fine e m s (record { memory = with_durable_head m s; next = Step (ClearStatus d) })
-fine-flush_status e m s d o f g = record {
+pub fine-flush_status : (e : ℕ → Entries) (m : Memory) (w s : ℕ) (d : Verdict) → AreApart e → Fact e m w s (FlushStatus d) → Sound e m → Fine e m w s (record { memory = with_durable_head m s; next = Step (ClearStatus d) })
+fine-flush_status e m w s d o f g = record {
   change = change-durable_head e m s o g;
   fact = grind (arith, common_steps, f);
 }
@@ -58,8 +58,8 @@ cleared e m s Failed (Deciding Succeeded) h p f g = change-same e m s g
 cleared e m s Failed (Deciding Failed) h p f g = change-status e m s (Decided Failed) (may_clear e m s Failed h p f g) g
 cleared e m s d (Decided c) h p f g = change-same e m s g
 
-pub fine-clear_status : (e : ℕ → Entries) (m : Memory) (s : ℕ) (d : Verdict) → m.published s ≡ true → 0 < (e s).count → Fact e m s (ClearStatus d) → Sound e m
-    → Fine e m s (record { memory = cleared_status m s d (m.status s); next = Step (PutFinal 0 d) })
-fine-clear_status e m s d p n f g =
+pub fine-clear_status : (e : ℕ → Entries) (m : Memory) (w s : ℕ) (d : Verdict) → m.published s ≡ true → 0 < (e s).count → Fact e m w s (ClearStatus d) → Sound e m
+    → Fine e m w s (record { memory = cleared_status m s d (m.status s); next = Step (PutFinal 0 d) })
+fine-clear_status e m w s d p n f g =
     let c : Change e m (cleared_status m s d (m.status s)) s = cleared e m s d (m.status s) refl p f g in
     record { change = c; fact = (n, c.keeps.durable_verdict s d f) }

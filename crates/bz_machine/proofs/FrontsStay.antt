@@ -52,17 +52,17 @@ own-stand e m n c i a apart here inside points s j below there same =
     let entry : i ≡ j = sym own ∙ ap (e s).index (sym at) ∙ other in
     subst (λ k. Points e n s k) entry (subst (λ u. Points e n u i) same points)
 
-may-stand : (e : ℕ → Entries) (m : Memory) (w : ℕ) (l : Local) (z : Stepped) → AreApart e → AtPlace e m l l.place → Good e m w l z → Written m w l l.place z → MayStand e m z.memory
+may-stand : (e : ℕ → Entries) (m : Memory) (w : ℕ) (l : Local) (z : Stepped) → AreApart e → AtPlace e m w l l.place → Good e m w l z → Written m w l l.place z → MayStand e m z.memory
 may-stand e m w l z apart at good (Stays same) = λ s j below stands old. old (subst (λ k. StandsFor k s) (same ((e s).target j)) stands)
 may-stand e m w l z apart at good (PutsPlain b v puts) = puts-stand e m z.memory b (Value v) puts (λ s j below there k. absurd k)
 may-stand e m w l z apart at good (PutsFinal i d place found puts goes) = puts-stand e m z.memory (l.list (1 + 3 * i)) (Dirty (final_value (entries_in l.list) i d)) puts (λ s j below there k. absurd k)
 may-stand e m w l z apart at good (PutsTag i place found puts goes) =
-    let known : AtPlace e m l (Help (InstallTag i)) = subst (λ p. AtPlace e m l p) place at in
+    let known : AtPlace e m w l (Help (InstallTag i)) = subst (λ p. AtPlace e m w l p) place at in
     let agree : Agree (entries_in l.list) (e l.current) = agree-spell (e l.current) l.list known.2 in
     puts-stand e m z.memory (l.list (1 + 3 * i)) _ puts
     (own-stand e m z.memory l.current i (l.list (1 + 3 * i)) apart (agree.target i known.3.0) known.3.0 (points-keeps e m z.memory l.current i good.keeps known.0 (omega (arith, known.3.0)) known.3.1))
 may-stand e m w l z apart at good (PutsPointer i v q place found puts goes) =
-    let known : AtPlace e m l (Help (InstallPointer i v q)) = subst (λ p. AtPlace e m l p) place at in
+    let known : AtPlace e m w l (Help (InstallPointer i v q)) = subst (λ p. AtPlace e m w l p) place at in
     let agree : Agree (entries_in l.list) (e l.current) = agree-spell (e l.current) l.list known.2 in
     puts-stand e m z.memory (l.list (1 + 3 * i)) _ puts
     (own-stand e m z.memory l.current i (l.list (1 + 3 * i)) apart (agree.target i known.3.0) known.3.0 (points-keeps e m z.memory l.current i good.keeps known.0 (omega (arith, known.3.0)) known.3.1))

@@ -61,7 +61,7 @@ good-completed e m n w l d c o h before =
     (λ b. good-on e m n w l (resumed l l.back l.operation) c (knows-resumed e n w l l.back l.operation refl refl o'))
 
 -- every act on a published swap, and what follows
-pub good-after_help : (e : ℕ → Entries) (m n : Memory) (w : ℕ) (l : Local) (next : Next) → Change e m n l.current → OnSwap e m w l → FactNext e n l.current next
+pub good-after_help : (e : ℕ → Entries) (m n : Memory) (w : ℕ) (l : Local) (next : Next) → Change e m n l.current → OnSwap e m w l → FactNext e n w l.current next
     → ((d : Verdict) → next ≡ Complete d → is_verdict (m.durable_status l.current) d ≡ true) → Good e m w l (after_help l n next)
 good-after_help e m n w l (Step step) c o f ended =
     let o' : OnSwap e n w l = on_swap-keeps e m n w l c o in

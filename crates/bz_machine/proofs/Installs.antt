@@ -23,24 +23,24 @@ use Rattle.bz_machine.proofs.Fine.{Fine, fine-same, fine-if, fact-if, fact-passe
 not-undecided : (c k : SwapStatus) → Follows c k → is_succeeded k ≡ true → c ≢ Undecided
 not-undecided c k f h = grind arith
 
-noted : (e : ℕ → Entries) (m : Memory) (s : ℕ) → m.published s ≡ true → Sound e m → Fact e (with_miss m s) s (Decide Failed)
-noted e m s p g = λ u. grind (arith, common_steps, not-undecided (m.status s) (m.durable_status s) (g.follows s p))
+noted : (e : ℕ → Entries) (m : Memory) (w s : ℕ) → m.published s ≡ true → Sound e m → Fact e (with_miss m s) w s (Decide Failed)
+noted e m w s p g = λ u. grind (arith, common_steps, not-undecided (m.status s) (m.durable_status s) (g.follows s p))
 
-pub fine-install_tag : (e : ℕ → Entries) (m : Memory) (w s i : ℕ) (found : WordKind) → m.cached ((e s).target i) ≡ found → m.published s ≡ true → Fact e m s (InstallTag i) → Sound e m
-    → Fine e m s (after_install_tag (e s) m w s i found)
-fine-install_tag e m w s i (Value v) h p f g = fine-if e m s (v == (e s).expected i) _ _
+pub fine-install_tag : (e : ℕ → Entries) (m : Memory) (w s i : ℕ) (found : WordKind) → m.cached ((e s).target i) ≡ found → m.published s ≡ true → Fact e m w s (InstallTag i) → Sound e m
+    → Fine e m w s (after_install_tag (e s) m w s i found)
+fine-install_tag e m w s i (Value v) h p f g = fine-if e m w s (v == (e s).expected i) _ _
     (λ b. let eq : m.cached ((e s).target i) ≡ Value ((e s).expected i) = grind (arith, common_steps) in
     let c : Change e m (with_tag m ((e s).target i) s i w) s = change-tag e m s i w p f.0 eq g in
     record { change = c; fact = (f.0, points-keeps e m _ s i c.keeps p (omega arith) f.1, grind (arith, common_steps)) })
-    (λ b. record { change = change-miss e m s i v p f.0 h (grind (arith, common_steps)) g; fact = noted e m s p g })
-fine-install_tag e m w s i (Dirty v) h p f g = fine-same e m s (Step (FlushDirty i v)) g f
-fine-install_tag e m w s i (Swap t) h p f g = fine-same e m s _ g
-    (fact-if e m s (t == s) (Step (passed (e s) i)) (Meet t) (λ b. fact-passed e m s i f.0 f.1 (grind (arith, common_steps))) (λ b. (g.pointer _ t h).standing))
-fine-install_tag e m w s i (Tag t j v q) h p f g = fine-same e m s _ g
-    (fact-if e m s (t == s) (Step (LookUnderTag i v q)) (Meet t) (λ b. (f.0, f.1, g.fresh _ t j v q h)) (λ b. (g.tag _ t j v q h).standing))
+    (λ b. record { change = change-miss e m s i v p f.0 h (grind (arith, common_steps)) g; fact = noted e m w s p g })
+fine-install_tag e m w s i (Dirty v) h p f g = fine-same e m w s (Step (FlushDirty i v)) g f
+fine-install_tag e m w s i (Swap t) h p f g = fine-same e m w s _ g
+    (fact-if e m w s (t == s) (Step (passed (e s) i)) (Meet t) (λ b. fact-passed e m w s i f.0 f.1 (grind (arith, common_steps))) (λ b. (g.pointer _ t h).standing))
+fine-install_tag e m w s i (Tag t j v q) h p f g = fine-same e m w s _ g
+    (fact-if e m w s (t == s) (Step (LookUnderTag i v q)) (Meet t) (λ b. (f.0, f.1, g.fresh _ t j v q h)) (λ b. (g.tag _ t j v q h).standing))
 
-pub fine-look_under : (e : ℕ → Entries) (m : Memory) (s i w q : ℕ) (found : SwapStatus) → m.status s ≡ found → Fact e m s (LookUnderTag i w q) → Sound e m → Fine e m s (stays m (after_look_under i w q found))
-fine-look_under e m s i w q Free h f g = fine-same e m s (Step (RemoveTag i w q)) g f.0
-fine-look_under e m s i w q Undecided h f g = fine-same e m s (Step (InstallPointer i w q)) g (f.0, f.1, f.2, λ k. grind arith)
-fine-look_under e m s i w q (Deciding d) h f g = fine-same e m s (Step (RemoveTag i w q)) g f.0
-fine-look_under e m s i w q (Decided d) h f g = fine-same e m s (Step (RemoveTag i w q)) g f.0
+pub fine-look_under : (e : ℕ → Entries) (m : Memory) (w s i u q : ℕ) (found : SwapStatus) → m.status s ≡ found → Fact e m w s (LookUnderTag i u q) → Sound e m → Fine e m w s (stays m (after_look_under i u q found))
+fine-look_under e m w s i u q Free h f g = fine-same e m w s (Step (RemoveTag i u q)) g f.0
+fine-look_under e m w s i u q Undecided h f g = fine-same e m w s (Step (InstallPointer i u q)) g (f.0, f.1, f.2, λ k. grind arith)
+fine-look_under e m w s i u q (Deciding d) h f g = fine-same e m w s (Step (RemoveTag i u q)) g f.0
+fine-look_under e m w s i u q (Decided d) h f g = fine-same e m w s (Step (RemoveTag i u q)) g f.0

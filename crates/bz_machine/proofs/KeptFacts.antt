@@ -17,22 +17,22 @@ points_durably-keeps e m n s k h p le f d = λ u i x lt may.
 pub points-fewer : (e : ℕ → Entries) (m : Memory) (s j k : ℕ) → j ≤ k → Points e m s k → Points e m s j
 points-fewer e m s j k le f = λ u i lt. f u i (omega arith)
 
-pub fact-keeps : (e : ℕ → Entries) (m n : Memory) (s : ℕ) (step : HelpStep) → Keeps e m n → m.published s ≡ true → Fact e m s step → Fact e n s step
-fact-keeps e m n s Look k p f = tt
-fact-keeps e m n s (InstallTag i) k p f = (f.0, points-keeps e m n s i k p (omega arith) f.1)
-fact-keeps e m n s (LookUnderTag i w q) k p f = (f.0, points-keeps e m n s i k p (omega arith) f.1, omega (arith, k.numbers w))
-fact-keeps e m n s (InstallPointer i w q) k p f =
-    (f.0, points-keeps e m n s i k p (omega arith) f.1, omega (arith, k.numbers w), λ h. k.under_tag s i w q f.0 h (f.3 (k.old_tag _ s i w q f.2 h)))
-fact-keeps e m n s (RemoveTag i w q) k p f = f
-fact-keeps e m n s (FlushDirty i v) k p f = (f.0, points-keeps e m n s i k p (omega arith) f.1)
-fact-keeps e m n s (ClearDirty i v) k p f = (f.0, points-keeps e m n s i k p (omega arith) f.1)
-fact-keeps e m n s (FlushTarget i) k p f =
+pub fact-keeps : (e : ℕ → Entries) (m n : Memory) (w s : ℕ) (step : HelpStep) → Keeps e m n → m.published s ≡ true → Fact e m w s step → Fact e n w s step
+fact-keeps e m n w s Look k p f = tt
+fact-keeps e m n w s (InstallTag i) k p f = (f.0, points-keeps e m n s i k p (omega arith) f.1)
+fact-keeps e m n w s (LookUnderTag i v q) k p f = (f.0, points-keeps e m n s i k p (omega arith) f.1, omega (arith, k.numbers v))
+fact-keeps e m n w s (InstallPointer i v q) k p f =
+    (f.0, points-keeps e m n s i k p (omega arith) f.1, omega (arith, k.numbers v), λ h. k.under_tag s i v q f.0 h (f.3 (k.old_tag _ s i v q f.2 h)))
+fact-keeps e m n w s (RemoveTag i v q) k p f = f
+fact-keeps e m n w s (FlushDirty i v) k p f = (f.0, points-keeps e m n s i k p (omega arith) f.1)
+fact-keeps e m n w s (ClearDirty i v) k p f = (f.0, points-keeps e m n s i k p (omega arith) f.1)
+fact-keeps e m n w s (FlushTarget i) k p f =
     (f.0, points-keeps e m n s _ k p (omega arith) f.1, points_durably-keeps e m n s i k p (omega arith) (points-fewer e m s i (e s).count (omega arith) f.1) f.2)
-fact-keeps e m n s (Decide Succeeded) k p f = (points-keeps e m n s _ k p (omega arith) f.0, points_durably-keeps e m n s _ k p (omega arith) f.0 f.1)
-fact-keeps e m n s (Decide Failed) k p f = λ u. k.missed s (f (k.undecided s p u))
-fact-keeps e m n s (FlushStatus d) k p f = k.verdict s d f
-fact-keeps e m n s (ClearStatus d) k p f = k.durable_verdict s d f
-fact-keeps e m n s (PutFinal i d) k p f = (f.0, k.durable_verdict s d f.1)
-fact-keeps e m n s (FlushFinal i d) k p f = (f.0, k.durable_verdict s d f.1)
-fact-keeps e m n s (ClearFinal i d) k p f = (f.0, k.durable_verdict s d f.1)
-fact-keeps e m n s (SweepTag i d w q) k p f = (f.0, k.durable_verdict s d f.1)
+fact-keeps e m n w s (Decide Succeeded) k p f = (points-keeps e m n s _ k p (omega arith) f.0, points_durably-keeps e m n s _ k p (omega arith) f.0 f.1)
+fact-keeps e m n w s (Decide Failed) k p f = λ u. k.missed s (f (k.undecided s p u))
+fact-keeps e m n w s (FlushStatus d) k p f = k.verdict s d f
+fact-keeps e m n w s (ClearStatus d) k p f = k.durable_verdict s d f
+fact-keeps e m n w s (PutFinal i d) k p f = (f.0, k.durable_verdict s d f.1)
+fact-keeps e m n w s (FlushFinal i d) k p f = (f.0, k.durable_verdict s d f.1)
+fact-keeps e m n w s (ClearFinal i d) k p f = (f.0, k.durable_verdict s d f.1)
+fact-keeps e m n w s (SweepTag i d v q) k p f = (f.0, k.durable_verdict s d f.1)

@@ -28,20 +28,20 @@ owns-keeps e m n w (Reading a) k d p = tt
 owns-keeps e m n w (Swapping s) k d p = (k.owner s ∙ p.0, omega (arith, k.taken, p.1), (d s p.0).answer ∙ p.2)
 
 -- what is stored and flushed of a descriptor that is not published stays
-prepared-keeps : (e : ℕ → Entries) (m n : Memory) (s : ℕ) (step : PrepareStep) → KeepsDescriptor m n s → m.published s ≡ false → Prepared e m s step → Prepared e n s step
-prepared-keeps e m n s (WriteWord k) d p f = (f.0, λ j lt le. d.words j ∙ f.1 j lt le)
-prepared-keeps e m n s WriteStatus d p f = λ j le. d.words j ∙ f j le
-prepared-keeps e m n s FlushHead d p f = ((λ j le. d.words j ∙ f.0 j le), d.status p ∙ f.1)
-prepared-keeps e m n s FlushTail d p f =
+prepared-keeps : (e : ℕ → Entries) (m n : Memory) (w s : ℕ) (step : PrepareStep) → KeepsDescriptor m n s → m.published s ≡ false → Prepared e m w s step → Prepared e n w s step
+prepared-keeps e m n w s (WriteWord k) d p f = (f.0, λ j lt le. d.words j ∙ f.1 j lt le)
+prepared-keeps e m n w s WriteStatus d p f = λ j le. d.words j ∙ f j le
+prepared-keeps e m n w s FlushHead d p f = ((λ j le. d.words j ∙ f.0 j le), d.status p ∙ f.1)
+prepared-keeps e m n w s FlushTail d p f =
     ((λ j le. d.words j ∙ f.0 j le), d.status p ∙ f.1, d.durable_status p (f.2 ∙ sym f.1) ∙ f.1, λ j h le. d.durable_words j (f.3 j h le ∙ sym (f.0 j le)) ∙ f.0 j le)
 
-place-keeps : (e : ℕ → Entries) (m n : Memory) (w : ℕ) (l : Local) (place : Place) → Keeps e m n → ((s : ℕ) → m.owner s ≡ w → KeepsDescriptor m n s) → Owns m w l.operation → AtPlace e m l place → AtPlace e n l place
+place-keeps : (e : ℕ → Entries) (m n : Memory) (w : ℕ) (l : Local) (place : Place) → Keeps e m n → ((s : ℕ) → m.owner s ≡ w → KeepsDescriptor m n s) → Owns m w l.operation → AtPlace e m w l place → AtPlace e n w l place
 place-keeps e m n w l Idle k d o f = tt
 place-keeps e m n w l (Prepare step) k d o f =
     let owns : Owns m w (Swapping l.current) = rw f.0 at o in
-    (f.0, (d l.current owns.0).published ∙ f.1, f.2, prepared-keeps e m n l.current step (d l.current owns.0) f.1 f.3)
+    (f.0, (d l.current owns.0).published ∙ f.1, f.2, prepared-keeps e m n w l.current step (d l.current owns.0) f.1 f.3)
 place-keeps e m n w l (Learn j) k d o f = (k.published l.current f.0, own-keeps e m n l.operation k f.1, f.2, f.3)
-place-keeps e m n w l (Help step) k d o f = (k.published l.current f.0, own-keeps e m n l.operation k f.1, f.2, fact-keeps e m n l.current step k f.0 f.3)
+place-keeps e m n w l (Help step) k d o f = (k.published l.current f.0, own-keeps e m n l.operation k f.1, f.2, fact-keeps e m n w l.current step k f.0 f.3)
 place-keeps e m n w l (ReadWord a) k d o f = f
 place-keeps e m n w l (FlushRead a v) k d o f = f
 place-keeps e m n w l (ClearRead a v) k d o f = f

@@ -28,19 +28,19 @@ last-word k c n h b = grind (arith, common_steps)
 more-words : (k c n : ℕ) → n ≡ c → k ≤ 3 * c → (k == 3 * n) ≡ false → k < 3 * c
 more-words k c n h le b = grind (arith, common_steps)
 
-learnt-place : (e : ℕ → Entries) (m : Memory) (l : Local) (k : ℕ) (b : Bool) → (b ≡ true → k ≡ 3 * (e l.current).count) → (b ≡ false → k < 3 * (e l.current).count) → m.published l.current ≡ true → OwnPublished m l.operation
-    → SpellBelow (e l.current) l.list (k + 1) → AtPlace e m l (if b then Help Look else Learn (k + 1))
-learnt-place e m l k true last more p own s = (p, own, (λ j le. s j (omega (arith, last refl)) le), tt)
-learnt-place e m l k false last more p own s = (p, own, omega (arith, more refl), s)
+learnt-place : (e : ℕ → Entries) (m : Memory) (w : ℕ) (l : Local) (k : ℕ) (b : Bool) → (b ≡ true → k ≡ 3 * (e l.current).count) → (b ≡ false → k < 3 * (e l.current).count) → m.published l.current ≡ true → OwnPublished m l.operation
+    → SpellBelow (e l.current) l.list (k + 1) → AtPlace e m w l (if b then Help Look else Learn (k + 1))
+learnt-place e m w l k true last more p own s = (p, own, (λ j le. s j (omega (arith, last refl)) le), tt)
+learnt-place e m w l k false last more p own s = (p, own, omega (arith, more refl), s)
 
-pub good-learnt : (e : ℕ → Entries) (m : Memory) (w : ℕ) (l : Local) (k : ℕ) → Sound e m → AtPlace e m l (Learn k) → Owns m w l.operation → BackPublished m l.back → Good e m w l (learnt m l k)
+pub good-learnt : (e : ℕ → Entries) (m : Memory) (w : ℕ) (l : Local) (k : ℕ) → Sound e m → AtPlace e m w l (Learn k) → Owns m w l.operation → BackPublished m l.back → Good e m w l (learnt m l k)
 good-learnt e m w l k g f owns back =
     let list : ℕ → ℕ = put l.list k (m.words l.current k) in
     let spells : SpellBelow (e l.current) list (k + 1) = spell-more (e l.current) l.list k (m.words l.current k) (g.words l.current k f.0 f.2) f.3 in
     let count : list 0 ≡ (e l.current).count = count-learnt (e l.current) list k spells in
     let place : Place = if k == 3 * list 0 then Help Look else Learn (k + 1) in
     good-same e m w l (record l { place = place; list = list }) g (record {
-      place = learnt-place e m (record l { place = place; list = list }) k (k == 3 * list 0) (last-word k (e l.current).count (list 0) count) (more-words k (e l.current).count (list 0) count f.2) f.0 f.1 spells;
+      place = learnt-place e m w (record l { place = place; list = list }) k (k == 3 * list 0) (last-word k (e l.current).count (list 0) count) (more-words k (e l.current).count (list 0) count f.2) f.0 f.1 spells;
       owns = owns;
       back = back;
     })

@@ -85,7 +85,7 @@ open-at : (x : State) (n h s : ℕ) → IsBounded x n → x.memory.published s �
 open-at x n h s bounded published unfinished at Idle is =
     absurd (nothing-swaps s (sym (subst (λ (p : Place). RestsAt p (x.local h).operation) is (bounded.owned.rests h)) ∙ at))
 open-at x n h s bounded published unfinished at (Prepare step) is =
-    let known : AtPlace x.entries x.memory (x.local h) (Prepare step) = subst (λ p. AtPlace x.entries x.memory (x.local h) p) is (bounded.state.knows h).place in
+    let known : AtPlace x.entries x.memory h (x.local h) (Prepare step) = subst (λ p. AtPlace x.entries x.memory h (x.local h) p) is (bounded.state.knows h).place in
     let same : (x.local h).current ≡ s = same-swap (x.local h).current s (sym known.0 ∙ at) in
     differ (x.memory.published s) published (sym (ap x.memory.published same) ∙ known.1)
 open-at x n h s bounded published unfinished at p is =

@@ -97,7 +97,7 @@ own-prepares : (answer : ℕ → Option Verdict) (l : Local) (b : Bool) (k : ℕ
 own-prepares answer l true k busy = goes-own answer l _ refl busy
 own-prepares answer l false k busy = goes-own answer l _ refl busy
 
-own-act : (e : ℕ → Entries) (m : Memory) (w : ℕ) (l : Local) (place : Place) → AtPlace e m l place → RestsAt place l.operation → OwnStays m.answer (act m w l place).memory.answer l (act m w l place).local
+own-act : (e : ℕ → Entries) (m : Memory) (w : ℕ) (l : Local) (place : Place) → AtPlace e m w l place → RestsAt place l.operation → OwnStays m.answer (act m w l place).memory.answer l (act m w l place).local
 own-act e m w l Idle at rests = goes-own m.answer l _ refl rests
 own-act e m w l (Prepare (WriteWord k)) at rests = own-prepares m.answer l (k == 3 * l.list 0) k rests
 own-act e m w l (Prepare WriteStatus) at rests = goes-own m.answer l _ refl rests

@@ -38,12 +38,12 @@ last-field k c n h b = grind (arith, common_steps)
 more-fields : (k c n : ℕ) → n ≡ c → k ≤ 3 * c → (k == 3 * n) ≡ false → k + 1 ≤ 3 * c
 more-fields k c n h le b = grind (arith, common_steps)
 
-prepared-if : (e : ℕ → Entries) (m : Memory) (s k : ℕ) (b : Bool) → (b ≡ true → 3 * (e s).count < k + 1) → (b ≡ false → k + 1 ≤ 3 * (e s).count) → SpellBelow (e s) (m.words s) (k + 1) → Prepared e m s (if b then WriteStatus else WriteWord (k + 1))
-prepared-if e m s k true last more h = λ j le. let all : 3 * (e s).count < k + 1 = last refl in h j (omega arith) le
-prepared-if e m s k false last more h = (more refl, h)
+prepared-if : (e : ℕ → Entries) (m : Memory) (w s k : ℕ) (b : Bool) → (b ≡ true → 3 * (e s).count < k + 1) → (b ≡ false → k + 1 ≤ 3 * (e s).count) → SpellBelow (e s) (m.words s) (k + 1) → Prepared e m w s (if b then WriteStatus else WriteWord (k + 1))
+prepared-if e m w s k true last more h = λ j le. let all : 3 * (e s).count < k + 1 = last refl in h j (omega arith) le
+prepared-if e m w s k false last more h = (more refl, h)
 
 -- a word of the descriptor is stored
-good-write : (e : ℕ → Entries) (m : Memory) (w : ℕ) (l : Local) (k : ℕ) → OnOwn e m w l → Prepared e m l.current (WriteWord k) → Sound e m → Good e m w l (prepare_act m l (WriteWord k))
+good-write : (e : ℕ → Entries) (m : Memory) (w : ℕ) (l : Local) (k : ℕ) → OnOwn e m w l → Prepared e m w l.current (WriteWord k) → Sound e m → Good e m w l (prepare_act m l (WriteWord k))
 good-write e m w l k o f g =
     let s : ℕ = l.current in
     let n : Memory = with_field m s k (l.list k) in
@@ -54,10 +54,10 @@ good-write e m w l k o f g =
     good-prepared e m n w l (Prepare next) o
     (sound-field e m s k (l.list k) o.unpublished g) (keeps-field e m s k (l.list k)) (λ t ne. descriptor-field m s k (l.list k) t ne)
     refl refl refl o.unanswered
-    (o.operation, o.unpublished, o.spell, prepared-if e n s k (k == 3 * l.list 0) (last-field k (e s).count (l.list 0) count) (more-fields k (e s).count (l.list 0) count f.0) written)
+    (o.operation, o.unpublished, o.spell, prepared-if e n w s k (k == 3 * l.list 0) (last-field k (e s).count (l.list 0) count) (more-fields k (e s).count (l.list 0) count f.0) written)
 
 -- the status is stored: undecided
-good-write_status : (e : ℕ → Entries) (m : Memory) (w : ℕ) (l : Local) → OnOwn e m w l → Prepared e m l.current WriteStatus → Sound e m → Good e m w l (prepare_act m l WriteStatus)
+good-write_status : (e : ℕ → Entries) (m : Memory) (w : ℕ) (l : Local) → OnOwn e m w l → Prepared e m w l.current WriteStatus → Sound e m → Good e m w l (prepare_act m l WriteStatus)
 good-write_status e m w l o f g =
     let s : ℕ = l.current in
     good-prepared e m (with_status m s Undecided) w l (Prepare FlushHead) o
@@ -69,7 +69,7 @@ head-durable : (f words durable : ℕ → ℕ) (c j : ℕ) → ((k : ℕ) → k 
 head-durable f words durable c j h b le = rw b (h j le)
 
 -- the first line of the descriptor is flushed
-good-flush_head : (e : ℕ → Entries) (m : Memory) (w : ℕ) (l : Local) → AreApart e → OnOwn e m w l → Prepared e m l.current FlushHead → Sound e m → Good e m w l (prepare_act m l FlushHead)
+good-flush_head : (e : ℕ → Entries) (m : Memory) (w : ℕ) (l : Local) → AreApart e → OnOwn e m w l → Prepared e m w l.current FlushHead → Sound e m → Good e m w l (prepare_act m l FlushHead)
 good-flush_head e m w l a o f g =
     let s : ℕ = l.current in
     let n : Memory = with_durable_head m s in
@@ -87,17 +87,17 @@ own-published : (m : Memory) (s : ℕ) (o : Operation) → o ≡ Swapping s → 
 own-published m s o h p = rw h p
 
 -- the second line is flushed, and the swap is published
-good-flush_tail : (e : ℕ → Entries) (m : Memory) (w : ℕ) (l : Local) → OnOwn e m w l → Prepared e m l.current FlushTail → Sound e m → Good e m w l (prepare_act m l FlushTail)
+good-flush_tail : (e : ℕ → Entries) (m : Memory) (w : ℕ) (l : Local) → OnOwn e m w l → Prepared e m w l.current FlushTail → Sound e m → Good e m w l (prepare_act m l FlushTail)
 good-flush_tail e m w l o f g =
     let s : ℕ = l.current in
     let n : Memory = with_published m s in
     let p : n.published s ≡ true = put-at m.published s true in
     good-prepared e m n w l (Help (InstallTag 0)) o
-    (sound-published e m s o.taken f g) (keeps-published e m s) (λ t ne. descriptor-published m s t ne)
+    (sound-published e m w s o.taken f g) (keeps-published e m s) (λ t ne. descriptor-published m s t ne)
     refl refl refl o.unanswered
     (p, own-published n s l.operation o.operation p, o.spell, (g.begun s o.taken, λ u j below. absurd (omega arith)))
 
-pub good-prepare : (e : ℕ → Entries) (m : Memory) (w : ℕ) (l : Local) (step : PrepareStep) → AreApart e → OnOwn e m w l → Prepared e m l.current step → Sound e m → Good e m w l (prepare_act m l step)
+pub good-prepare : (e : ℕ → Entries) (m : Memory) (w : ℕ) (l : Local) (step : PrepareStep) → AreApart e → OnOwn e m w l → Prepared e m w l.current step → Sound e m → Good e m w l (prepare_act m l step)
 good-prepare e m w l (WriteWord k) a o f g = good-write e m w l k o f g
 good-prepare e m w l WriteStatus a o f g = good-write_status e m w l o f g
 good-prepare e m w l FlushHead a o f g = good-flush_head e m w l a o f g

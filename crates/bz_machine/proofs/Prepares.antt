@@ -41,7 +41,7 @@ pub record OnOwn (e : ℕ → Entries) (m : Memory) (w : ℕ) (l : Local) : Type
 
 -- such an act owes this much: it can change the own descriptor
 pub good-prepared : (e : ℕ → Entries) (m n : Memory) (w : ℕ) (l : Local) (place : Place) → OnOwn e m w l → Sound e n → Keeps e m n → ((s : ℕ) → s ≢ l.current → KeepsDescriptor m n s)
-    → n.durable ≡ m.durable → n.durable_status ≡ m.durable_status → n.missed ≡ m.missed → n.answer l.current ≡ None → AtPlace e n l place → Good e m w l (goes_on n l place)
+    → n.durable ≡ m.durable → n.durable_status ≡ m.durable_status → n.missed ≡ m.missed → n.answer l.current ≡ None → AtPlace e n w l place → Good e m w l (goes_on n l place)
 good-prepared e m n w l place o g k d dur st mi an f = record {
   sound = g;
   keeps = k;

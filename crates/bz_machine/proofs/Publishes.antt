@@ -33,8 +33,8 @@ durable-more e m s w d g t true h p k le =
     (λ j below. tail-durable (spelled (e s)) (m.words s) (m.durable_words s) (3 * (e s).count) j w d below) k le
 durable-more e m s w d g t false h p k le = g.durable_words t k p le
 
-pub sound-published : (e : ℕ → Entries) (m : Memory) (s : ℕ) → s < m.taken → Prepared e m s FlushTail → Sound e m → Sound e (with_published m s)
-sound-published e m s taken f g =
+pub sound-published : (e : ℕ → Entries) (m : Memory) (w s : ℕ) → s < m.taken → Prepared e m w s FlushTail → Sound e m → Sound e (with_published m s)
+sound-published e m w s taken f g =
     let n : Memory = with_published m s in
     let pointer : (a t : ℕ) → m.cached a ≡ Swap t → IsTarget e n.published t a = λ a t h. target-more e m.published s t a (g.pointer a t h) in
     let pointer_durable : (a t : ℕ) (x : WordKind) → MayLast m a x → x ≡ Swap t → IsTarget e n.published t a = λ a t x may h. target-more e m.published s t a (g.pointer_durable a t x may h) in

@@ -69,7 +69,7 @@ range-read m l a (Dirty v) e h = record { memory = h; place = subst IsKind e (h.
 range-read m l a (Swap t) e h = record { memory = h; place = tt }
 range-read m l a (Tag t i w q) e h = record { memory = h; place = tt }
 
-range-act : (e : ℕ → Entries) (m : Memory) (w : ℕ) (l : Local) (place : Place) → AtPlace e m l place → PlaceInRange place → (m.published l.current ≡ true → l.current < 2 ^ 16) → AreValues (e l.current)
+range-act : (e : ℕ → Entries) (m : Memory) (w : ℕ) (l : Local) (place : Place) → AtPlace e m w l place → PlaceInRange place → (m.published l.current ≡ true → l.current < 2 ^ 16) → AreValues (e l.current)
     → IsTagger w (m.next_tag w) → HoldsKinds m → SteppedInRange (act m w l place)
 range-act e m w l Idle f r sm a t h = record { memory = h; place = tt }
 range-act e m w l (Prepare step) f r sm a t h = range-prepare m l step h

@@ -130,7 +130,7 @@ range-put_final x m s i d (Tag t j v q) h a lt k =
     let kind : IsKind (Tag t j v q) = found-kind m (x.target i) (Tag t j v q) h k in
     record { memory = k; next = next-if (t == s) (Step (SweepTag i d v q)) (finished x i d) (kind.2, kind.3, kind.4) (range-finished x i d) }
 
-pub range-help_act : (e : ℕ → Entries) (m : Memory) (w s : ℕ) (step : HelpStep) → Fact e m s step → StepInRange step → s < 2 ^ 16 → AreValues (e s) → IsTagger w (m.next_tag w) → HoldsKinds m → InRange (help_act (e s) m w s step)
+pub range-help_act : (e : ℕ → Entries) (m : Memory) (w s : ℕ) (step : HelpStep) → Fact e m w s step → StepInRange step → s < 2 ^ 16 → AreValues (e s) → IsTagger w (m.next_tag w) → HoldsKinds m → InRange (help_act (e s) m w s step)
 range-help_act e m w s Look f r sm a t k = record { memory = k; next = range-by_status (m.status s) }
 range-help_act e m w s (InstallTag i) f r sm a t k = range-install (e s) m w s i (m.cached ((e s).target i)) refl sm (omega (arith, f.0, a.count)) t k
 range-help_act e m w s (LookUnderTag i v q) f r sm a t k = record { memory = k; next = range-look_under i v q (m.status s) r }

@@ -106,7 +106,7 @@ finished-falls x f w n i d p last finishing none = from-fresh _ _ _ _ last.fresh
     from-fresh t k j r is le = rw is le
 
 -- the worker's own words of the entries serve it like the swap's
-pub by-entries : (x : State) (w n : ℕ) (step : HelpStep) → AtPlace x.entries x.memory (x.local w) (Help step) → Owes x.entries x.local x.memory w n (x.local w) (Help step) (help_act (x.entries (x.local w).current) x.memory w (x.local w).current step)
+pub by-entries : (x : State) (w n : ℕ) (step : HelpStep) → AtPlace x.entries x.memory w (x.local w) (Help step) → Owes x.entries x.local x.memory w n (x.local w) (Help step) (help_act (x.entries (x.local w).current) x.memory w (x.local w).current step)
     → Spends x.entries x.local x.memory w n (x.local w) (Help step)
 by-entries x w n step known owes =
     subst (λ a. Owes x.entries x.local x.memory w n (x.local w) (Help step) a)
@@ -162,7 +162,7 @@ swap-not k s none is =
     differ (is_pointer k s) (ap (λ j. is_pointer j s) is ∙ self) none
 
 -- the dirty bit of the final value is cleared, or the value is gone
-pub spends-clear_final : (x : State) (w n i : ℕ) (d : Verdict) → IsBounded x n → (x.local w).place ≡ Help (ClearFinal i d) → AtPlace x.entries x.memory (x.local w) (Help (ClearFinal i d)) → i < 4 → Spends x.entries x.local x.memory w n (x.local w) (Help (ClearFinal i d))
+pub spends-clear_final : (x : State) (w n i : ℕ) (d : Verdict) → IsBounded x n → (x.local w).place ≡ Help (ClearFinal i d) → AtPlace x.entries x.memory w (x.local w) (Help (ClearFinal i d)) → i < 4 → Spends x.entries x.local x.memory w n (x.local w) (Help (ClearFinal i d))
 spends-clear_final x w n i d bounded at known small = by-entries x w n (ClearFinal i d) known (by_dirty (is_dirty (x.memory.cached ((x.entries (x.local w).current).target i)) (final_value (x.entries (x.local w).current) i d)) refl)
   where
     a : ℕ
@@ -192,7 +192,7 @@ spends-clear_final x w n i d bounded at known small = by-entries x w n (ClearFin
         (same-words x w n i (ClearFinal i d) last (λ v q is. omega arith) (λ b v at is. differ (is_dirty (x.memory.cached a) u) (subst (λ j. is_dirty (x.memory.cached j) u ≡ true) (cleaned b v at).0 (subst (λ j. is_dirty (x.memory.cached b) j ≡ true) (cleaned b v at).1 is)) told)) none)
 
 -- a late tag is swept
-pub spends-sweep : (x : State) (w n i : ℕ) (d : Verdict) (v q : ℕ) → IsBounded x n → (x.local w).place ≡ Help (SweepTag i d v q) → AtPlace x.entries x.memory (x.local w) (Help (SweepTag i d v q)) → i < 4
+pub spends-sweep : (x : State) (w n i : ℕ) (d : Verdict) (v q : ℕ) → IsBounded x n → (x.local w).place ≡ Help (SweepTag i d v q) → AtPlace x.entries x.memory w (x.local w) (Help (SweepTag i d v q)) → i < 4
     → is_fresh_at (scene_of x) (x.local w).current (Help (SweepTag i d v q)) ≡ true → Spends x.entries x.local x.memory w n (x.local w) (Help (SweepTag i d v q))
 spends-sweep x w n i d v q bounded at known small fresh =
     by-entries x w n (SweepTag i d v q) known

@@ -33,7 +33,7 @@ not-true false is = refl
 not-true true is = absurd cc
 
 -- another swap stands at the entry's target
-meet-at : (x : State) (w n i t a j v q : ℕ) (k : WordKind) → IsBounded x n → (x.local w).place ≡ Help (InstallTag i) → AtPlace x.entries x.memory (x.local w) (Help (InstallTag i)) → i < 4
+meet-at : (x : State) (w n i t a j v q : ℕ) (k : WordKind) → IsBounded x n → (x.local w).place ≡ Help (InstallTag i) → AtPlace x.entries x.memory w (x.local w) (Help (InstallTag i)) → i < 4
     → is_fresh_at (scene_of x) (x.local w).current (Help (InstallTag i)) ≡ true → x.memory.cached ((x.entries (x.local w).current).target i) ≡ k → stands_for k t ≡ true → (t == (x.local w).current) ≡ false
     → (is_through (scene_of x) t ≡ true → x.memory.cached a ≡ Tag t j v q) → Follows x.entries x.local x.memory w n (x.local w) i (Meet t)
 meet-at x w n i t a j v q k bounded at known small fresh found stands apart tagged =
@@ -44,7 +44,7 @@ meet-at x w n i t a j v q k bounded at known small fresh found stands apart tagg
     (met-published x n t ((x.entries (x.local w).current).target i) bounded k found stands) a j v q tagged)
 
 -- an entry of an undecided swap is tried
-pub spends-try : (x : State) (w n i : ℕ) → IsBounded x n → (x.local w).place ≡ Help (InstallTag i) → AtPlace x.entries x.memory (x.local w) (Help (InstallTag i)) → i < 4
+pub spends-try : (x : State) (w n i : ℕ) → IsBounded x n → (x.local w).place ≡ Help (InstallTag i) → AtPlace x.entries x.memory w (x.local w) (Help (InstallTag i)) → i < 4
     → is_fresh_at (scene_of x) (x.local w).current (Help (InstallTag i)) ≡ true → Spends x.entries x.local x.memory w n (x.local w) (Help (InstallTag i))
 spends-try x w n i bounded at known small fresh = by_found (x.memory.cached ((x.local w).list (1 + 3 * i))) refl
   where

@@ -28,7 +28,7 @@ tag-entry x n s i j v q bounded inside is =
     let entry : IsEntry x.entries x.memory.published s j ((x.entries s).target i) = bounded.state.sound.tag ((x.entries s).target i) s j v q is in
     same-entry x.entries s j i bounded.state.apart entry.entry inside entry.target
 
-pub spends-put_final : (x : State) (w n i : ℕ) (d : Verdict) → IsBounded x n → (x.local w).place ≡ Help (PutFinal i d) → AtPlace x.entries x.memory (x.local w) (Help (PutFinal i d)) → i < 4 → Spends x.entries x.local x.memory w n (x.local w) (Help (PutFinal i d))
+pub spends-put_final : (x : State) (w n i : ℕ) (d : Verdict) → IsBounded x n → (x.local w).place ≡ Help (PutFinal i d) → AtPlace x.entries x.memory w (x.local w) (Help (PutFinal i d)) → i < 4 → Spends x.entries x.local x.memory w n (x.local w) (Help (PutFinal i d))
 spends-put_final x w n i d bounded at known small = by-entries x w n (PutFinal i d) known (by_found (x.memory.cached ((x.entries (x.local w).current).target i)) refl)
   where
     last : Last x w n i (PutFinal i d)

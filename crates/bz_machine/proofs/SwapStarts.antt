@@ -95,7 +95,7 @@ published-apart x n s bounded published true told =
     let same : s ≡ x.memory.taken = grind (arith, common_steps, told) in
     differ (x.memory.published s) published (bounded.state.sound.not_begun s (omega (arith, same))).1
 
-place-same : (x : State) (n : ℕ) (new : Entries) (l k : Local) (v : ℕ) (p : Place) → IsBounded x n → AtPlace x.entries x.memory (x.local v) p
+place-same : (x : State) (n : ℕ) (new : Entries) (l k : Local) (v : ℕ) (p : Place) → IsBounded x n → AtPlace x.entries x.memory v (x.local v) p
     → left_by_place (begun x new) false k (Prepare (WriteWord 0)) v (x.local v) p ≡ left_by_place (scene_of x) false l Idle v (x.local v) p
 place-same x n new l k v (Help step) bounded known = help-same x new l k v (x.local v) step (published-apart x n (x.local v).current bounded known.0 ((x.local v).current == x.memory.taken) refl)
 place-same x n new l k v p bounded known = refl

@@ -117,7 +117,7 @@ gone e m w l j u p new changed unchanged a s i q sound agree none current h stan
     let left : z.memory.cached a ≡ Tag s i w q = ap (λ (c : ℕ → WordKind). c a) (sym (cached-help l z.memory z.next)) ∙ now in
     no-tag new s i w q none (sym after ∙ ap z.memory.cached target ∙ left)
 
-own-stays : (e : ℕ → Entries) (m : Memory) (w : ℕ) (l : Local) (place : Place) (a s i q : ℕ) → Sound e m → AtPlace e m l place → l.current ≡ s → IsAtTag place i w q → m.cached a ≡ Tag s i w q
+own-stays : (e : ℕ → Entries) (m : Memory) (w : ℕ) (l : Local) (place : Place) (a s i q : ℕ) → Sound e m → AtPlace e m w l place → l.current ≡ s → IsAtTag place i w q → m.cached a ≡ Tag s i w q
     → (act m w l place).memory.cached a ≡ Tag s i w q → IsHome (act m w l place).local w s i q
 own-stays e m w l (Help (LookUnderTag j u p)) a s i q sound at current h stands now = record { current = current; place = look-home j u p i w q (m.status l.current) h }
 own-stays e m w l (Help (InstallPointer j u p)) a s i q sound at current h stands now =

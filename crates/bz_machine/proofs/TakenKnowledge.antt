@@ -17,11 +17,11 @@ use Rattle.bz_machine.proofs.Takes.{put-other}
 use Rattle.bz_machine.proofs.PrepareActs.{put-at}
 
 -- what is known at a place rests on the entries of the current swap alone
-at_place-entries : (e : ℕ → Entries) (x : Entries) (m : Memory) (l : Local) (place : Place) → e l.current ≡ x → AtPlace e m l place → AtPlace (λ s. x) m l place
-at_place-entries e x m l place h f = subst (λ y. AtPlace (λ s. y) m l place) h f
+at_place-entries : (e : ℕ → Entries) (x : Entries) (m : Memory) (w : ℕ) (l : Local) (place : Place) → e l.current ≡ x → AtPlace e m w l place → AtPlace (λ s. x) m w l place
+at_place-entries e x m w l place h f = subst (λ y. AtPlace (λ s. y) m w l place) h f
 
-at_place-same : (e e' : ℕ → Entries) (m : Memory) (l : Local) (place : Place) → e' l.current ≡ e l.current → AtPlace e m l place → AtPlace e' m l place
-at_place-same e e' m l place h f = subst (λ y. AtPlace (λ s. y) m l place) (sym h) f
+at_place-same : (e e' : ℕ → Entries) (m : Memory) (w : ℕ) (l : Local) (place : Place) → e' l.current ≡ e l.current → AtPlace e m w l place → AtPlace e' m w l place
+at_place-same e e' m w l place h f = subst (λ y. AtPlace (λ s. y) m w l place) (sym h) f
 
 owns-taken : (m : Memory) (v w : ℕ) (targets : ℕ → Bool) (o : Operation) → Owns m v o → Owns (with_taken m w targets) v o
 owns-taken m v w targets Nothing f = tt
@@ -36,14 +36,14 @@ current-taken : (e : ℕ → Entries) (m : Memory) (new : Entries) (s : ℕ) →
 current-taken e m new s g p = put-other e m.taken new s (λ h. grind (arith, g.not_begun s))
 
 place-taken : (e : ℕ → Entries) (m : Memory) (v w : ℕ) (new : Entries) (targets : ℕ → Bool) (l : Local) (place : Place) → Sound e m → ((a u : ℕ) → place ≡ StoreWord a u → targets a ≡ false)
-    → Owns m v l.operation → AtPlace e m l place → AtPlace (put e m.taken new) (with_taken m w targets) l place
+    → Owns m v l.operation → AtPlace e m v l place → AtPlace (put e m.taken new) (with_taken m w targets) v l place
 place-taken e m v w new targets l Idle g out o f = tt
 place-taken e m v w new targets l (Prepare step) g out o f =
     let owns : Owns m v (Swapping l.current) = rw f.0 at o in
     let same : put e m.taken new l.current ≡ e l.current = put-other e m.taken new l.current (λ h. grind (arith, owns.1, h)) in
-    at_place-same e (put e m.taken new) (with_taken m w targets) l (Prepare step) same f
-place-taken e m v w new targets l (Learn k) g out o f = at_place-same e (put e m.taken new) (with_taken m w targets) l (Learn k) (current-taken e m new l.current g f.0) f
-place-taken e m v w new targets l (Help step) g out o f = at_place-same e (put e m.taken new) (with_taken m w targets) l (Help step) (current-taken e m new l.current g f.0) f
+    at_place-same e (put e m.taken new) (with_taken m w targets) v l (Prepare step) same f
+place-taken e m v w new targets l (Learn k) g out o f = at_place-same e (put e m.taken new) (with_taken m w targets) v l (Learn k) (current-taken e m new l.current g f.0) f
+place-taken e m v w new targets l (Help step) g out o f = at_place-same e (put e m.taken new) (with_taken m w targets) v l (Help step) (current-taken e m new l.current g f.0) f
 place-taken e m v w new targets l (ReadWord a) g out o f = f
 place-taken e m v w new targets l (FlushRead a u) g out o f = f
 place-taken e m v w new targets l (ClearRead a u) g out o f = f

@@ -27,10 +27,10 @@ done-word e cached local s j none = record {
 }
 
 -- the number of a tag that a worker is about to change was used
-pointer-used : (e : ℕ → Entries) (m : Memory) (l : Local) (place : Place) (j v q : ℕ) → AtPlace e m l place → IsAtPointer place j v q → q < m.next_tag v
-pointer-used e m l (Help (InstallPointer i u p)) j v q known at = rw (sym at.1, sym at.2) (known.3.2)
-pointer-used e m l (Help step) j v q known at = absurd at
-pointer-used e m l place j v q known at = absurd at
+pointer-used : (e : ℕ → Entries) (m : Memory) (w : ℕ) (l : Local) (place : Place) (j v q : ℕ) → AtPlace e m w l place → IsAtPointer place j v q → q < m.next_tag v
+pointer-used e m w l (Help (InstallPointer i u p)) j v q known at = rw (sym at.1, sym at.2) (known.3.2)
+pointer-used e m w l (Help step) j v q known at = absurd at
+pointer-used e m w l place j v q known at = absurd at
 
 -- a tag that stands after an act stood before, or is the worker's newest
 tag-comes : (m : Memory) (w : ℕ) (l : Local) (place : Place) (z : Stepped) → Written m w l place z → (a s j v q : ℕ) → z.memory.cached a ≡ Tag s j v q → (m.cached a ≡ Tag s j v q) ⊎ ((v ≡ w) × (q ≡ m.next_tag w))
@@ -100,7 +100,7 @@ pointer-stays x w s j state below done is = by_come (pointer-comes x.memory w (x
         let i : ℕ = h.0 in
         let v : ℕ = h.1 in
         let q : ℕ = h.2 in
-        let known : AtPlace x.entries x.memory (x.local w) (Help (InstallPointer i v q)) = subst (λ p. AtPlace x.entries x.memory (x.local w) p) h.3 (state.knows w).place in
+        let known : AtPlace x.entries x.memory w (x.local w) (Help (InstallPointer i v q)) = subst (λ p. AtPlace x.entries x.memory w (x.local w) p) h.3 (state.knows w).place in
         let agree : Agree (entries_in (x.local w).list) (x.entries (x.local w).current) = agree-spell (x.entries (x.local w).current) (x.local w).list known.2 in
         let inside : i < (x.entries s).count = subst (λ t. i < (x.entries t).count) h.4 known.3.0 in
         let here : (x.entries s).target j ≡ (x.entries s).target i = h.5 ∙ agree.target i known.3.0 ∙ ap (λ t. (x.entries t).target i) h.4 in
@@ -119,7 +119,7 @@ late-stays x w s j state clean done u v q false told current at is =
     by_come : (x.memory.cached ((x.entries s).target j) ≡ Tag s j v q) ⊎ ((v ≡ w) × (q ≡ x.memory.next_tag w)) → ⊥
     by_come (inl stood) = done.late u v q current at stood
     by_come (inr h) =
-        let used : q < x.memory.next_tag v = pointer-used x.entries x.memory (x.local u) (x.local u).place j v q (state.knows u).place at in
+        let used : q < x.memory.next_tag v = pointer-used x.entries x.memory u (x.local u) (x.local u).place j v q (state.knows u).place at in
         let mine : q < x.memory.next_tag w = subst (λ k. q < x.memory.next_tag k) h.0 used in
         absurd (omega (arith, mine, h.1))
 

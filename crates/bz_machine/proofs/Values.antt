@@ -45,13 +45,13 @@ final-value : (e : ℕ → Entries) (m : Memory) (s i : ℕ) (d : Verdict) → A
 final-value e m s i Succeeded o lt h = grind (arith, common_steps, o s i lt)
 final-value e m s i Failed o lt h = grind (arith, common_steps, o s i lt, one_verdict (m.durable_status s))
 
-pub fine-put_final : (e : ℕ → Entries) (m : Memory) (s i : ℕ) (d : Verdict) (found : WordKind) → m.cached ((e s).target i) ≡ found → AreApart e → Fact e m s (PutFinal i d) → Sound e m
-    → Fine e m s (after_put_final (e s) m s i d found)
-fine-put_final e m s i d (Value v) h o f g = fine-same e m s _ g (fact-finished e m s i d f.0 f.1)
-fine-put_final e m s i d (Dirty v) h o f g = fine-same e m s _ g (fact-finished e m s i d f.0 f.1)
-fine-put_final e m s i d (Tag t j v q) h o f g = fine-same e m s _ g (fact-if e m s (t == s) (Step (SweepTag i d v q)) _ (λ b. f) (λ b. fact-finished e m s i d f.0 f.1))
-fine-put_final e m s i d (Swap t) h o f g = fine-if e m s (t == s) _ _
+pub fine-put_final : (e : ℕ → Entries) (m : Memory) (w s i : ℕ) (d : Verdict) (found : WordKind) → m.cached ((e s).target i) ≡ found → AreApart e → Fact e m w s (PutFinal i d) → Sound e m
+    → Fine e m w s (after_put_final (e s) m s i d found)
+fine-put_final e m w s i d (Value v) h o f g = fine-same e m w s _ g (fact-finished e m w s i d f.0 f.1)
+fine-put_final e m w s i d (Dirty v) h o f g = fine-same e m w s _ g (fact-finished e m w s i d f.0 f.1)
+fine-put_final e m w s i d (Tag t j v q) h o f g = fine-same e m w s _ g (fact-if e m w s (t == s) (Step (SweepTag i d v q)) _ (λ b. f) (λ b. fact-finished e m w s i d f.0 f.1))
+fine-put_final e m w s i d (Swap t) h o f g = fine-if e m w s (t == s) _ _
     (λ b. let eq : m.cached ((e s).target i) ≡ Swap s = grind (arith, common_steps) in
     let l : Lawful e m ((e s).target i) (Dirty (final_value (e s) i d)) m.next_tag = lawful-value e m _ _ _ (g.targets s i f.0) (inr refl) (rw eq (final-value e m s i d o f.0 f.1)) (λ u k. (d, grind (arith, f.1))) in
     record { change = change-word e m _ _ s l g; fact = f })
-    (λ b. fine-same e m s _ g (fact-finished e m s i d f.0 f.1))
+    (λ b. fine-same e m w s _ g (fact-finished e m w s i d f.0 f.1))

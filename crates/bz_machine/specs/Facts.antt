@@ -18,27 +18,27 @@ Points e m s k = m.status s ≡ Undecided → (i : ℕ) → i < k → m.cached (
 abbrev pub PointsDurably : (ℕ → Entries) → Memory → ℕ → ℕ → Type 0
 PointsDurably e m s k = m.status s ≡ Undecided → (i : ℕ) (x : WordKind) → i < k → MayLast m ((e s).target i) x → x ≡ Swap s
 
--- what a worker knows of its current swap s, which is published
-abbrev pub Fact : (ℕ → Entries) → Memory → ℕ → HelpStep → Type 0
-Fact e m s Look = Unit {0}
-Fact e m s (InstallTag i) = (i < (e s).count) × Points e m s i
-Fact e m s (LookUnderTag i w q) = (i < (e s).count) × Points e m s i × (q < m.next_tag w)
-Fact e m s (InstallPointer i w q) = (i < (e s).count) × Points e m s i × (q < m.next_tag w) × (m.cached ((e s).target i) ≡ Tag s i w q → is_succeeded (m.status s) ≡ false)
-Fact e m s (RemoveTag i w q) = i < (e s).count
-Fact e m s (FlushDirty i v) = (i < (e s).count) × Points e m s i
-Fact e m s (ClearDirty i v) = (i < (e s).count) × Points e m s i
-Fact e m s (FlushTarget i) = (i < (e s).count) × Points e m s (e s).count × PointsDurably e m s i
-Fact e m s (Decide Succeeded) = Points e m s (e s).count × PointsDurably e m s (e s).count
-Fact e m s (Decide Failed) = m.status s ≡ Undecided → m.missed s ≡ true
-Fact e m s (FlushStatus d) = is_verdict (m.status s) d ≡ true
-Fact e m s (ClearStatus d) = is_verdict (m.durable_status s) d ≡ true
-Fact e m s (PutFinal i d) = (i < (e s).count) × (is_verdict (m.durable_status s) d ≡ true)
-Fact e m s (FlushFinal i d) = (i < (e s).count) × (is_verdict (m.durable_status s) d ≡ true)
-Fact e m s (ClearFinal i d) = (i < (e s).count) × (is_verdict (m.durable_status s) d ≡ true)
-Fact e m s (SweepTag i d w q) = (i < (e s).count) × (is_verdict (m.durable_status s) d ≡ true)
+-- what worker w knows of its current swap s, which is published
+abbrev pub Fact : (ℕ → Entries) → Memory → ℕ → ℕ → HelpStep → Type 0
+Fact e m w s Look = Unit {0}
+Fact e m w s (InstallTag i) = (i < (e s).count) × Points e m s i
+Fact e m w s (LookUnderTag i v q) = (i < (e s).count) × Points e m s i × (q < m.next_tag v)
+Fact e m w s (InstallPointer i v q) = (i < (e s).count) × Points e m s i × (q < m.next_tag v) × (m.cached ((e s).target i) ≡ Tag s i v q → is_succeeded (m.status s) ≡ false)
+Fact e m w s (RemoveTag i v q) = i < (e s).count
+Fact e m w s (FlushDirty i v) = (i < (e s).count) × Points e m s i
+Fact e m w s (ClearDirty i v) = (i < (e s).count) × Points e m s i
+Fact e m w s (FlushTarget i) = (i < (e s).count) × Points e m s (e s).count × PointsDurably e m s i
+Fact e m w s (Decide Succeeded) = Points e m s (e s).count × PointsDurably e m s (e s).count
+Fact e m w s (Decide Failed) = m.status s ≡ Undecided → m.missed s ≡ true
+Fact e m w s (FlushStatus d) = is_verdict (m.status s) d ≡ true
+Fact e m w s (ClearStatus d) = is_verdict (m.durable_status s) d ≡ true
+Fact e m w s (PutFinal i d) = (i < (e s).count) × (is_verdict (m.durable_status s) d ≡ true)
+Fact e m w s (FlushFinal i d) = (i < (e s).count) × (is_verdict (m.durable_status s) d ≡ true)
+Fact e m w s (ClearFinal i d) = (i < (e s).count) × (is_verdict (m.durable_status s) d ≡ true)
+Fact e m w s (SweepTag i d v q) = (i < (e s).count) × (is_verdict (m.durable_status s) d ≡ true)
 
--- what is known where this follows
-abbrev pub FactNext : (ℕ → Entries) → Memory → ℕ → Next → Type 0
-FactNext e m s (Step step) = Fact e m s step
-FactNext e m s (Meet t) = m.published t ≡ true
-FactNext e m s (Complete d) = is_verdict (m.durable_status s) d ≡ true
+-- what it knows where this follows
+abbrev pub FactNext : (ℕ → Entries) → Memory → ℕ → ℕ → Next → Type 0
+FactNext e m w s (Step step) = Fact e m w s step
+FactNext e m w s (Meet t) = m.published t ≡ true
+FactNext e m w s (Complete d) = is_verdict (m.durable_status s) d ≡ true

@@ -25,12 +25,12 @@ Spell x words = (j : ℕ) → j ≤ 3 * x.count → words j ≡ spelled x j
 abbrev pub SpellHead : Entries → (ℕ → ℕ) → Type 0
 SpellHead x words = (j : ℕ) → in_head j ≡ true → j ≤ 3 * x.count → words j ≡ spelled x j
 
--- what is stored and flushed so far of the descriptor of swap s
-abbrev pub Prepared : (ℕ → Entries) → Memory → ℕ → PrepareStep → Type 0
-Prepared e m s (WriteWord k) = (k ≤ 3 * (e s).count) × SpellBelow (e s) (m.words s) k
-Prepared e m s WriteStatus = Spell (e s) (m.words s)
-Prepared e m s FlushHead = Spell (e s) (m.words s) × (m.status s ≡ Undecided)
-Prepared e m s FlushTail = Spell (e s) (m.words s) × (m.status s ≡ Undecided) × (m.durable_status s ≡ Undecided) × SpellHead (e s) (m.durable_words s)
+-- what worker w has stored and flushed so far of the descriptor of its swap s
+abbrev pub Prepared : (ℕ → Entries) → Memory → ℕ → ℕ → PrepareStep → Type 0
+Prepared e m w s (WriteWord k) = (k ≤ 3 * (e s).count) × SpellBelow (e s) (m.words s) k
+Prepared e m w s WriteStatus = Spell (e s) (m.words s)
+Prepared e m w s FlushHead = Spell (e s) (m.words s) × (m.status s ≡ Undecided)
+Prepared e m w s FlushTail = Spell (e s) (m.words s) × (m.status s ≡ Undecided) × (m.durable_status s ≡ Undecided) × SpellHead (e s) (m.durable_words s)
 
 -- the own swap, if there is one, is published
 abbrev pub OwnPublished : Memory → Operation → Type 0
@@ -49,21 +49,21 @@ abbrev pub BackPublished : Memory → Option ℕ → Type 0
 BackPublished m None = Unit {0}
 BackPublished m (Some b) = m.published b ≡ true
 
--- what a worker knows by the place where its next act is due
-abbrev pub AtPlace : (ℕ → Entries) → Memory → Local → Place → Type 0
-AtPlace e m l Idle = Unit {0}
-AtPlace e m l (Prepare step) = (l.operation ≡ Swapping l.current) × (m.published l.current ≡ false) × Spell (e l.current) l.list × Prepared e m l.current step
-AtPlace e m l (Learn k) = (m.published l.current ≡ true) × OwnPublished m l.operation × (k ≤ 3 * (e l.current).count) × SpellBelow (e l.current) l.list k
-AtPlace e m l (Help step) = (m.published l.current ≡ true) × OwnPublished m l.operation × Spell (e l.current) l.list × Fact e m l.current step
-AtPlace e m l (ReadWord a) = l.operation ≡ Reading a
-AtPlace e m l (FlushRead a v) = l.operation ≡ Reading a
-AtPlace e m l (ClearRead a v) = l.operation ≡ Reading a
-AtPlace e m l (LoadWord a) = ⊥
-AtPlace e m l (StoreWord a v) = m.named a ≡ false
-AtPlace e m l (FlushLine line) = Unit {0}
+-- what worker w knows by the place where its next act is due
+abbrev pub AtPlace : (ℕ → Entries) → Memory → ℕ → Local → Place → Type 0
+AtPlace e m w l Idle = Unit {0}
+AtPlace e m w l (Prepare step) = (l.operation ≡ Swapping l.current) × (m.published l.current ≡ false) × Spell (e l.current) l.list × Prepared e m w l.current step
+AtPlace e m w l (Learn k) = (m.published l.current ≡ true) × OwnPublished m l.operation × (k ≤ 3 * (e l.current).count) × SpellBelow (e l.current) l.list k
+AtPlace e m w l (Help step) = (m.published l.current ≡ true) × OwnPublished m l.operation × Spell (e l.current) l.list × Fact e m w l.current step
+AtPlace e m w l (ReadWord a) = l.operation ≡ Reading a
+AtPlace e m w l (FlushRead a v) = l.operation ≡ Reading a
+AtPlace e m w l (ClearRead a v) = l.operation ≡ Reading a
+AtPlace e m w l (LoadWord a) = ⊥
+AtPlace e m w l (StoreWord a v) = m.named a ≡ false
+AtPlace e m w l (FlushLine line) = Unit {0}
 
 -- all that is known of worker w
 pub record Knows (e : ℕ → Entries) (m : Memory) (w : ℕ) (l : Local) : Type 0 where
-  pub place : AtPlace e m l l.place
+  pub place : AtPlace e m w l l.place
   pub owns : Owns m w l.operation
   pub back : BackPublished m l.back

@@ -44,7 +44,7 @@ prepares_or_none st s [] = inr (record { none = λ w. idle-prepares s; words = r
 prepares_or_none st s (l ∷ workers) = first_prepares st s l workers (prepares l s) refl (prepares_or_none st s workers)
 
 -- a worker that prepares a swap has the swap's words
-spell-prepared : (p : Parts) (r : IsRunning p) (w s : ℕ) (at : Place) → AtPlace r.entries (typed p.store r.beside) (local_of (worker_at p w)) at
+spell-prepared : (p : Parts) (r : IsRunning p) (w s : ℕ) (at : Place) → AtPlace r.entries (typed p.store r.beside) w (local_of (worker_at p w)) at
     → prepares_at at (worker_at p w).current s ≡ true → Spell (r.entries s) (slice_index (worker_at p w).list.words)
 spell-prepared p r w s (place.Prepare step) known is =
     let same : (worker_at p w).current ≡ s = grind (arith, common_steps, is) in

@@ -47,7 +47,7 @@ may-tag : (p : Parts) (r : IsRunning p) (w : ℕ) → MayStep p w → length p.w
 may-tag p r w may same = record { worker = omega (arith, may.within, same); range = (omega (arith, may.some), omega (arith, may.within, may.few), omega (arith, r.tags w, may.steps)) }
 
 step-ready : (p : Parts) (r : IsRunning p) (w s : ℕ) (list : ℕ → ℕ) (step : HelpStep) → MayStep p w → length p.workers ≡ length p.store.next_tags
-    → Spell (r.entries s) list → Fact r.entries (typed p.store r.beside) s step → StepInRange step → IsStepReady p.store w (entries_in list) step
+    → Spell (r.entries s) list → Fact r.entries (typed p.store r.beside) w s step → StepInRange step → IsStepReady p.store w (entries_in list) step
 step-ready p r w s list Look may same spell f k = tt
 step-ready p r w s list (InstallTag i) may same spell f k = (usable p r s i list spell f.0, may-tag p r w may same)
 step-ready p r w s list (LookUnderTag i v q) may same spell f k = tt
@@ -64,19 +64,19 @@ step-ready p r w s list (FlushFinal i d) may same spell f k = usable p r s i lis
 step-ready p r w s list (ClearFinal i d) may same spell f k = usable p r s i list spell f.0
 step-ready p r w s list (SweepTag i d v q) may same spell f k = (usable p r s i list spell f.0, k)
 
-prepare-ready : (p : Parts) (r : IsRunning p) (s : ℕ) (step : PrepareStep) → Prepared r.entries (typed p.store r.beside) s step → IsPrepareReady step
-prepare-ready p r s (WriteWord k) f = omega (arith, f.0, (r.range.values s).count)
-prepare-ready p r s WriteStatus f = tt
-prepare-ready p r s FlushHead f = tt
-prepare-ready p r s FlushTail f = tt
+prepare-ready : (p : Parts) (r : IsRunning p) (w s : ℕ) (step : PrepareStep) → Prepared r.entries (typed p.store r.beside) w s step → IsPrepareReady step
+prepare-ready p r w s (WriteWord k) f = omega (arith, f.0, (r.range.values s).count)
+prepare-ready p r w s WriteStatus f = tt
+prepare-ready p r w s FlushHead f = tt
+prepare-ready p r w s FlushTail f = tt
 
 pub ready-at : (p : Parts) (r : IsRunning p) (w : ℕ) → MayStep p w → length p.workers ≡ length p.store.next_tags
-    → (x : Place) → x ≡ (worker_at p w).place → AtPlace r.entries (typed p.store r.beside) (local_of (worker_at p w)) x → PlaceInRange x → PlaceLies p.store x → IsReadyAt p.store (worker_at p w) w x
+    → (x : Place) → x ≡ (worker_at p w).place → AtPlace r.entries (typed p.store r.beside) w (local_of (worker_at p w)) x → PlaceInRange x → PlaceLies p.store x → IsReadyAt p.store (worker_at p w) w x
 ready-at p r w may same place.Idle is at k lies = absurd (may.busy (sym is))
 ready-at p r w may same (place.Prepare step) is at k lies =
     let owns : Owns (typed p.store r.beside) w (worker_at p w).operation = (r.state.knows w).owns in
     let mine = rw at.0 at owns in
-    (begun-descriptor p r (worker_at p w).current mine.1, prepare-ready p r (worker_at p w).current step at.3)
+    (begun-descriptor p r (worker_at p w).current mine.1, prepare-ready p r w (worker_at p w).current step at.3)
 ready-at p r w may same (place.Learn j) is at k lies =
     let s : ℕ = (worker_at p w).current in
     let few = (r.range.values s).count in (

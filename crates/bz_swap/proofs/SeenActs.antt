@@ -80,7 +80,7 @@ read-found m l a v (Swap t) is = absurd cc
 read-found m l a v (Tag t i w q) is = absurd cc
 
 -- a read answers at a load of its address that found the plain word
-read-load : (p : Parts) (r : IsRunning p) (w : ℕ) (store : Store) (told : Act) (x : Place) (a v : ℕ) → ReadsAt x → AtPlace r.entries (typed p.store r.beside) (local_of (worker_at p w)) x
+read-load : (p : Parts) (r : IsRunning p) (w : ℕ) (store : Store) (told : Act) (x : Place) (a v : ℕ) → ReadsAt x → AtPlace r.entries (typed p.store r.beside) w (local_of (worker_at p w)) x
     → PlaceLies p.store x → IsToldAt x told → IsActOf (store_words p.store) told (store_words store) → (act (typed p.store r.beside) w (local_of (worker_at p w)) x).done ≡ Read v
     → (worker_at p w).operation ≡ operation.Reading a → (told ≡ Load a v) × (v < 2 ^ 61)
 read-load p r w store told place.Idle a v reads at lies is rule done o = absurd reads
@@ -125,7 +125,7 @@ answer-going p r w store l done told may phase a made_act leads going =
     reads (inr ended) v is = ended.read v is
 
 -- the answer at any place
-answer-at : (p : Parts) (r : IsRunning p) (w : ℕ) (n : SwapMemory) (done : Done) (told : Act) (x : Place) → AtPlace r.entries (typed p.store r.beside) (local_of (worker_at p w)) x
+answer-at : (p : Parts) (r : IsRunning p) (w : ℕ) (n : SwapMemory) (done : Done) (told : Act) (x : Place) → AtPlace r.entries (typed p.store r.beside) w (local_of (worker_at p w)) x
     → x ≢ place.Idle → (IsGoing x → IsAnswer n (doing_operation (worker_at p w).operation) told done) → IsToldAt x told → done ≡ (act (typed p.store r.beside) w (local_of (worker_at p w)) x).done
     → IsAnswer n (doing_at x (worker_at p w).operation) told done
 answer-at p r w n done told place.Idle at some going is d = absurd (some refl)

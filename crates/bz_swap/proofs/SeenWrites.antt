@@ -102,7 +102,7 @@ own p r w a v is unpublished doing word =
     }
 
 -- a place on the own descriptor
-prepare-writes : (p : Parts) (r : IsRunning p) (w : ℕ) (told : Act) (step : PrepareStep) → AtPlace r.entries (typed p.store r.beside) (local_of (worker_at p w)) (place.Prepare step)
+prepare-writes : (p : Parts) (r : IsRunning p) (w : ℕ) (told : Act) (step : PrepareStep) → AtPlace r.entries (typed p.store r.beside) w (local_of (worker_at p w)) (place.Prepare step)
     → doing_of (seen p) w ≡ doing_operation (worker_at p w).operation → PreparesBy p.store.swaps (worker_at p w) step told → WritesLawfully (seen p) w told
 prepare-writes p r w told (WriteWord k) at doing made =
     let s : ℕ = (worker_at p w).current in
@@ -143,7 +143,7 @@ help-writes p r w s told (ClearStatus d) begun made = status-writes (seen p) w _
 help-writes p r w s told other begun made = outside-writes (seen p) w told made
 
 -- any place
-writes-at : (p : Parts) (r : IsRunning p) (w : ℕ) (told : Act) (x : Place) → p.phase ≢ Recovering → AtPlace r.entries (typed p.store r.beside) (local_of (worker_at p w)) x
+writes-at : (p : Parts) (r : IsRunning p) (w : ℕ) (told : Act) (x : Place) → p.phase ≢ Recovering → AtPlace r.entries (typed p.store r.beside) w (local_of (worker_at p w)) x
     → PlaceInRange x → PlaceLies p.store x → doing_of (seen p) w ≡ doing_at x (worker_at p w).operation → WritesAt p.store.swaps (worker_at p w) x told → WritesLawfully (seen p) w told
 writes-at p r w told (place.Prepare step) phase at range lies doing made = prepare-writes p r w told step at doing made
 writes-at p r w told (place.Help step) phase at range lies doing made =

@@ -69,17 +69,17 @@ busy-going (place.StoreWord a v) o g h = absurd g
 busy-going (place.FlushLine line) o g h = absurd g
 
 -- the address that is read is the operation's
-pub lies-going : (e : ℕ → Entries) (m : Memory) (l : Local) (st : Store) (x : Place) → IsGoing x → AtPlace e m l x → OperationLies st l.operation → PlaceLies st x
-lies-going e m l st place.Idle g at h = tt
-lies-going e m l st (place.Prepare step) g at h = tt
-lies-going e m l st (place.Learn k) g at h = tt
-lies-going e m l st (place.Help step) g at h = tt
-lies-going e m l st (place.ReadWord a) g at h = rw at at h
-lies-going e m l st (place.FlushRead a v) g at h = rw at at h
-lies-going e m l st (place.ClearRead a v) g at h = rw at at h
-lies-going e m l st (place.LoadWord a) g at h = absurd g
-lies-going e m l st (place.StoreWord a v) g at h = absurd g
-lies-going e m l st (place.FlushLine line) g at h = absurd g
+pub lies-going : (e : ℕ → Entries) (m : Memory) (w : ℕ) (l : Local) (st : Store) (x : Place) → IsGoing x → AtPlace e m w l x → OperationLies st l.operation → PlaceLies st x
+lies-going e m w l st place.Idle g at h = tt
+lies-going e m w l st (place.Prepare step) g at h = tt
+lies-going e m w l st (place.Learn k) g at h = tt
+lies-going e m w l st (place.Help step) g at h = tt
+lies-going e m w l st (place.ReadWord a) g at h = rw at at h
+lies-going e m w l st (place.FlushRead a v) g at h = rw at at h
+lies-going e m w l st (place.ClearRead a v) g at h = rw at at h
+lies-going e m w l st (place.LoadWord a) g at h = absurd g
+lies-going e m w l st (place.StoreWord a v) g at h = absurd g
+lies-going e m w l st (place.FlushLine line) g at h = absurd g
 
 -- the worker that stepped
 pub stepped-worker : (p : Parts) (r : IsRunning p) (w : ℕ) (store : Store) (l : Worker) (done : Done) (n : Memory) → Acts p r.beside w store l done
@@ -90,7 +90,7 @@ stepped-worker p r w store l done n a (inl goes) known =
     let old = r.workers w in
     let busy : IsBusy l.operation = rw same (busy-going (worker_at p w).place (worker_at p w).operation goes.from old.rests) in
     let lies : OperationLies store l.operation = rw same (operation-shape p.store store a.shape (worker_at p w).operation old.operation) in
-    record { rests = rests-going l.place l.operation going busy; operation = lies; place = lies-going r.entries n (local_of l) store l.place going known.place lies }
+    record { rests = rests-going l.place l.operation going busy; operation = lies; place = lies-going r.entries n w (local_of l) store l.place going known.place lies }
 stepped-worker p r w store l done n a (inr ended) known =
     let idle : l.place ≡ place.Idle = ap (λ (x : Local). x.place) a.local ∙ ended.place in
     let nothing : l.operation ≡ operation.Nothing = ap (λ (x : Local). x.operation) a.local ∙ ended.operation in

@@ -81,7 +81,7 @@ kept-final x m s i d (Dirty v) a ne = refl
 kept-final x m s i d (Swap t) a ne = cached-if (t == s) _ _ a _ (put-there m.cached (x.target i) _ a ne) refl
 kept-final x m s i d (Tag t j v q) a ne = refl
 
-kept-help : (e : ℕ → Entries) (m : Memory) (w s : ℕ) (x : Entries) (step : HelpStep) (a : ℕ) → ((i : ℕ) → i < (e s).count → a ≢ x.target i) → Fact e m s step → (help_act x m w s step).memory.cached a ≡ m.cached a
+kept-help : (e : ℕ → Entries) (m : Memory) (w s : ℕ) (x : Entries) (step : HelpStep) (a : ℕ) → ((i : ℕ) → i < (e s).count → a ≢ x.target i) → Fact e m w s step → (help_act x m w s step).memory.cached a ≡ m.cached a
 kept-help e m w s x Look a ne f = refl
 kept-help e m w s x (InstallTag i) a ne f = kept-install x m w s i (m.cached (x.target i)) a (ne i f.0)
 kept-help e m w s x (LookUnderTag i v q) a ne f = refl
@@ -119,7 +119,7 @@ no_target e m s list a sound spell private i below is =
     let agree = agree-spell (e s) list spell in
     true≢false (sym (sound.targets s i below) ∙ ap m.named (sym (is ∙ agree.target i below)) ∙ private)
 
-pub kept-act : (e : ℕ → Entries) (m : Memory) (w : ℕ) (l : Local) (at : Place) → Sound e m → AtPlace e m l at → (a : ℕ) → m.named a ≡ false
+pub kept-act : (e : ℕ → Entries) (m : Memory) (w : ℕ) (l : Local) (at : Place) → Sound e m → AtPlace e m w l at → (a : ℕ) → m.named a ≡ false
     → ((v : ℕ) → at ≢ StoreWord a v) → (act m w l at).memory.cached a ≡ m.cached a
 kept-act e m w l Idle sound known a private other = refl
 kept-act e m w l (Prepare (WriteWord k)) sound known a private other = refl
