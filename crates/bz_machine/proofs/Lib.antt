@@ -65,6 +65,7 @@ pub mod SpendTags
 pub mod SpendTries
 pub mod Spends
 pub mod SwapStarts
+pub mod Tables
 pub mod TagHomes
 pub mod TagsHome
 pub mod Sums

@@ -1,6 +1,7 @@
 pub mod Agrees
 pub mod Allowed
 pub mod Budget
+pub mod BudgetTable
 pub mod Budgets
 pub mod Changes
 pub mod Content

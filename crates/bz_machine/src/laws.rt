@@ -1,6 +1,7 @@
 //! The laws of the machine. Each function does nothing: its contract is the law.
 
 ghost use Rattle.bz_machine.specs.Budgets.{BeginsBounded, StaysBounded, BudgetsAreAllowed, StartsAddAllowed, StartsAddByKind, SwapsAddAllowed, EvictionsKeepBudgets, ActsSpend};
+ghost use Rattle.bz_machine.specs.BudgetTable.{PlacesCount, BudgetsAreSpent};
 ghost use Rattle.bz_machine.specs.DirtyHomes.{DirtyStayHome};
 ghost use Rattle.bz_machine.specs.Ends.{EndsStayWhole};
 ghost use Rattle.bz_machine.specs.Examples.{SwapsAlone};
@@ -162,4 +163,14 @@ pub fn lone_steps_are_allowed()
 /// By the finer count too, where a read, a load or a store allows one step.
 pub fn lone_steps_are_allowed_by_kind()
     ensures { LoneStepsAreAllowedByKind }
+{}
+
+/// What each place counts in a lone worker's budget, as a table.
+pub fn places_count()
+    ensures { PlacesCount }
+{}
+
+/// The budgets along a swap of one word alone, and along a read that meets a dirty value.
+pub fn budgets_are_spent()
+    ensures { BudgetsAreSpent }
 {}

@@ -1,0 +1,26 @@
+-- The table of the budget's numbers, by computation.
+use Rattle.std.proofs.Common.{refl}
+use Rattle.bz_machine.specs.BudgetTable.{PlacesCount, BudgetsAreSpent}
+
+pub places_count : PlacesCount
+places_count = record {
+  single = refl;
+  read = refl;
+  write = refl;
+  publish = refl;
+  learn = refl;
+  install_tag = refl;
+  look_under = refl;
+  install_pointer = refl;
+  flush_dirty = refl;
+  clear_dirty = refl;
+  flush_target = refl;
+  verdict = refl;
+  put_final = refl;
+  flush_final = refl;
+  sweep = refl;
+  clear_final = refl;
+}
+
+pub budgets_are_spent : BudgetsAreSpent
+budgets_are_spent = record { swap = refl; read = refl }
