@@ -6,3 +6,5 @@ pub mod OpenLemmas
 pub mod PartLemmas
 pub mod RightReports
 pub mod RightSummaries
+pub mod Fates
+pub mod InTime

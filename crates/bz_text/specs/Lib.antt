@@ -5,3 +5,5 @@ pub mod RightLines
 pub mod Summary
 pub mod RightSummary
 pub mod Summing
+pub mod Fates
+pub mod InTime

@@ -32,19 +32,19 @@ pub record HasEffect (past : List Mark) (w : ℕ) (opened : Open) (at : ℕ) : T
   pub before_now : at < length past
   pub mark : mark_at at past ≡ Some (Effect w opened.number)
 
-later : (mark : Mark) (past : List Mark) (w : ℕ) (opened : Open) (at : ℕ) → HasEffect past w opened at → HasEffect (mark ∷ past) w opened at
+pub later : (mark : Mark) (past : List Mark) (w : ℕ) (opened : Open) (at : ℕ) → HasEffect past w opened at → HasEffect (mark ∷ past) w opened at
 later mark past w opened at h = record { before_now = omega (arith, h.before_now); mark = mark_at-earlier at mark past h.before_now ∙ h.mark }
 
-begin-effect : (b : Bool) (n now : ℕ) (call : Call) (rest : Option Open) (opened : Open) (at : ℕ)
+pub begin-effect : (b : Bool) (n now : ℕ) (call : Call) (rest : Option Open) (opened : Open) (at : ℕ)
     → (if b then Some (record { number = n; call = call; begun = now; effect = None }) else rest) ≡ Some opened → opened.effect ≡ Some at → rest ≡ Some opened
 begin-effect true n now call rest opened at is took = let none : None ≡ opened.effect = cc in absurd (cc)
 begin-effect false n now call rest opened at is took = is
 
-end-effect : (b : Bool) (rest : Option Open) (opened : Open) → (if b then None else rest) ≡ Some opened → rest ≡ Some opened
+pub end-effect : (b : Bool) (rest : Option Open) (opened : Open) → (if b then None else rest) ≡ Some opened → rest ≡ Some opened
 end-effect true rest opened is = absurd (cc)
 end-effect false rest opened is = is
 
-own-effect : (b : Bool) (v w n : ℕ) (past : List Mark) (opened : Open) (at : ℕ) → (v == w) ≡ b → ((other : Open) → open_call v past ≡ Some other → other.number ≡ n)
+pub own-effect : (b : Bool) (v w n : ℕ) (past : List Mark) (opened : Open) (at : ℕ) → (v == w) ≡ b → ((other : Open) → open_call v past ≡ Some other → other.number ≡ n)
     → (if b then option_map (with_effect (length past)) (open_call w past) else open_call w past) ≡ Some opened → opened.effect ≡ Some at
     → (open_call w past ≡ Some opened → HasEffect past w opened at) → HasEffect (Effect v n ∷ past) w opened at
 own-effect true v w n past opened at same number is took before = go (open_call w past) refl is
@@ -66,7 +66,7 @@ own-effect true v w n past opened at same number is took before = go (open_call 
         }
 own-effect false v w n past opened at same number is took before = later (Effect v n) past w opened at (before is)
 
-same-number : (a b : Open) (v n : ℕ) (past : List Mark) → open_call v past ≡ Some a → a.number ≡ n → open_call v past ≡ Some b → b.number ≡ n
+pub same-number : (a b : Open) (v n : ℕ) (past : List Mark) → open_call v past ≡ Some a → a.number ≡ n → open_call v past ≡ Some b → b.number ≡ n
 same-number a b v n past is number also = let same : a ≡ b = cc in subst (λ (o : Open). o.number ≡ n) same number
 
 pub has-effect : (start : Map) (past : List Mark) (w : ℕ) (opened : Open) (at : ℕ) → CallsStand start past → open_call w past ≡ Some opened → opened.effect ≡ Some at → HasEffect past w opened at
