@@ -10,3 +10,4 @@ pub mod Choosing
 pub mod Reached
 pub mod LawProofs
 pub mod ExampleProofs
+mod PageLemmas

@@ -15,12 +15,10 @@ pub record AreTables (calls : List Call) (replies : List Reply) (marks : List Co
 
 pub record IsKept (j : Inside) : Type 0 where
   pub tables : AreTables j.calls.items j.replies.items j.marks.items
-  pub used : j.used ≤ length j.pages.items
   pub few_marks : length j.marks.items ≤ j.most_marks
   pub few_calls : length j.calls.items ≤ j.most_calls
   pub few_replies : length j.replies.items ≤ j.most_calls
   pub fits : j.most_marks < 2 ^ 32
-  pub fits_pages : length j.pages.items < 2 ^ 32
   pub marks_room : j.most_marks ≤ vec_capacity j.marks
   pub calls_room : j.most_calls ≤ vec_capacity j.calls
   pub replies_room : j.most_calls ≤ vec_capacity j.replies

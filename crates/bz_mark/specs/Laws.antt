@@ -1,5 +1,5 @@
 -- What holds of the words after marks whatever the marks are, for the layers above.
-use Rattle.std.specs.Prelude.{◌≡◌, ◌≤◌, ◌<◌, ◌+◌, ◌==◌, ◌⊎◌, ◌↔◌, if◌then◌else◌, ℕ, List, ◌∷◌, ◌++◌, length, slice_index, slice_set, Some}
+use Rattle.std.specs.Prelude.{◌≡◌, ◌≤◌, ◌<◌, ◌+◌, ◌⊎◌, ◌↔◌, ℕ, List, ◌∷◌, ◌++◌, length, slice_index, Some}
 use Rattle.bz_pm.specs.Acts.{compared}
 use Rattle.bz_pm.specs.Words.{Words}
 use Rattle.bz_mark.specs.declared.marks.Mark.{Mark}

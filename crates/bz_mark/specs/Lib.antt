@@ -1,6 +1,7 @@
 pub mod Log
 pub mod Tables
 pub mod Moments
+pub mod PageLists
 pub mod Kept
 pub mod WordsAfter
 pub mod MayHold

@@ -3,8 +3,9 @@ ghost use Rattle.std.specs.Prelude.{◌≡◌, ◌<◌, ◌≤◌, ◌-◌, ◌+
 
 use crate::compact::{CompactMark, whole_mark};
 use crate::marks::Mark;
+use crate::page_list::PageList;
 use bz_call::{Call, Reply};
-use bz_key::{Key, PAGE_PAIRS, PageBuf, Payload};
+use bz_key::{Key, PAGE_PAIRS, Payload};
 use bz_memory::Memory;
 use std::alloc::Global;
 use std::marker::Model;
@@ -16,14 +17,12 @@ pub struct Journal {
     marks: Vec<CompactMark>,
     calls: Vec<Call>,
     replies: Vec<Reply>,
-    pages: Vec<PageBuf>,
-    used: u32,
+    pages: PageList,
     most_marks: u32,
     most_calls: u32,
 }
 
 impl Model for Journal {
-    ghost use Rattle.std.specs.Prelude.{take, length};
     ghost use Rattle.bz_mark.specs.Log.{Log};
     ghost use Rattle.bz_mark.specs.Tables.{past_of};
     ghost use Rattle.bz_mark.specs.Kept.{IsKept};
@@ -33,8 +32,8 @@ impl Model for Journal {
     ghost view = { λ j. record {
       start = j.start.items;
       past = past_of j.calls.items j.replies.items j.marks.items;
-      pages = take j.used j.pages.items;
-      limits = record { marks = j.most_marks; calls = j.most_calls; pages = length j.pages.items };
+      pages = j.pages.pages;
+      limits = record { marks = j.most_marks; calls = j.most_calls; pages = j.pages.most };
     } };
 
     ghost invariant = { IsKept };
@@ -59,17 +58,12 @@ impl Journal {
         ensures pages { IfOk result (λ j. j.pages ≡ []) }
         ensures limits { IfOk result (λ j. j.limits ≡ record { marks = marks; calls = calls; pages = pages }) }
     {
-        let mut buffers: Vec<PageBuf> = Vec::with_capacity(alloc, pages as usize)?;
-        for _ in 0..pages {
-            buffers.push(PageBuf::open(alloc)?)?;
-        }
         Ok(Journal {
             start: Vec::from_slice(alloc, start)?,
             marks: Vec::with_capacity(alloc, marks as usize)?,
             calls: Vec::with_capacity(alloc, calls as usize)?,
             replies: Vec::with_capacity(alloc, calls as usize)?,
-            pages: buffers,
-            used: 0,
+            pages: PageList::open(alloc, pages)?,
             most_marks: marks,
             most_calls: calls,
         })
@@ -168,18 +162,14 @@ impl Journal {
         ensures added { self.new ≡ with_page self.old pairs.now }
         ensures number { result ≡ length self.old.pages }
     {
-        let number = self.used;
-        let page = &mut self.pages[number as usize];
-        fill(page, pairs);
-        self.used = number + 1;
-        number
+        self.pages.push(pairs)
     }
 
     /// How many pages there are.
     pub fn page_count(&self) -> u32
         ensures { result ≡ length self.now.pages }
     {
-        self.used
+        self.pages.count()
     }
 
     /// The pairs of the page with this number.
@@ -188,8 +178,7 @@ impl Journal {
         ensures pairs { slice_get self.now.pages p ≡ Some result.now }
         ensures few { length result.now ≤ PAGE_PAIRS }
     {
-        let page = &self.pages[p as usize];
-        page.pairs()
+        self.pages.page(p)
     }
 
     /// The image from which the journal goes on, kept whole.
@@ -197,16 +186,5 @@ impl Journal {
         ensures { result.now ≡ self.now.start }
     {
         &self.start
-    }
-}
-
-/// Puts these pairs in place of what was there.
-fn fill(page: &mut PageBuf, pairs: &[(Key, Payload)])
-    requires { length pairs.now ≤ PAGE_PAIRS }
-    ensures { page.new ≡ pairs.now }
-{
-    page.clear();
-    for (key, payload) in pairs {
-        page.push(*key, *payload);
     }
 }

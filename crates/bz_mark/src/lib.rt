@@ -5,6 +5,7 @@ mod compact;
 mod journal;
 pub mod laws;
 mod marks;
+mod page_list;
 
 pub use journal::Journal;
 pub use marks::Mark;

@@ -9,12 +9,10 @@ invariant_of-self c =
     let calls : length c.self.inside.calls.items < c.self.inside.most_calls = omega (arith, rw (← c.self.view_is) at c.requires.table, c.self.invariant.tables.begins) in
     record {
       tables = begin_tables c.self.inside.calls.items _ _ c.self.inside.marks.items _ c.args.w c.args.n _ c.args.call c.self.invariant.tables c.push_reserved.ensures.items c.push_reserved-2.ensures.items place;
-      used = c.self.invariant.used;
       few_marks = fits_more _ _ _ _ c.push_reserved-2.ensures.items marks;
       few_calls = fits_more _ _ _ _ c.push_reserved.ensures.items calls;
       few_replies = c.self.invariant.few_replies;
       fits = c.self.invariant.fits;
-      fits_pages = c.self.invariant.fits_pages;
       marks_room = omega (arith, c.self.invariant.marks_room, c.push_reserved-2.ensures.capacity);
       calls_room = omega (arith, c.self.invariant.calls_room, c.push_reserved.ensures.capacity);
       replies_room = c.self.invariant.replies_room;

@@ -9,12 +9,10 @@ invariant_of-self c =
     let replies : length c.self.inside.replies.items < c.self.inside.most_calls = omega (arith, rw (← c.self.view_is) at c.requires.table, c.self.invariant.tables.ends) in
     record {
       tables = end_tables _ c.self.inside.replies.items _ c.self.inside.marks.items _ c.args.w c.args.n _ c.args.at c.args.reply c.self.invariant.tables c.in-Ok.ensures.items c.push_reserved.ensures.items place;
-      used = c.self.invariant.used;
       few_marks = fits_more _ _ _ _ c.push_reserved.ensures.items marks;
       few_calls = c.self.invariant.few_calls;
       few_replies = fits_more _ _ _ _ c.in-Ok.ensures.items replies;
       fits = c.self.invariant.fits;
-      fits_pages = c.self.invariant.fits_pages;
       marks_room = omega (arith, c.self.invariant.marks_room, c.push_reserved.ensures.capacity);
       calls_room = c.self.invariant.calls_room;
       replies_room = omega (arith, c.self.invariant.replies_room, c.in-Ok.ensures.capacity);

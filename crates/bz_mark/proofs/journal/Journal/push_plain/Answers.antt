@@ -7,12 +7,10 @@ invariant_of-self c =
     let marks : length c.self.inside.marks.items < c.self.inside.most_marks = omega (arith, rw (← c.self.view_is) at c.requires.place, length-past c.self.inside.calls.items c.self.inside.replies.items c.self.inside.marks.items) in
     record {
       tables = plain_tables _ _ c.self.inside.marks.items _ c.args.mark c.self.invariant.tables c.push_reserved.ensures.items c.requires.plain;
-      used = c.self.invariant.used;
       few_marks = fits_more _ _ _ _ c.push_reserved.ensures.items marks;
       few_calls = c.self.invariant.few_calls;
       few_replies = c.self.invariant.few_replies;
       fits = c.self.invariant.fits;
-      fits_pages = c.self.invariant.fits_pages;
       marks_room = omega (arith, c.self.invariant.marks_room, c.push_reserved.ensures.capacity);
       calls_room = c.self.invariant.calls_room;
       replies_room = c.self.invariant.replies_room;
