@@ -1,184 +1,29 @@
--- An image keeps its values where words outside the descriptors become them, and where descriptors that no word names
--- become free.
-use Rattle.std.proofs.Common.{◌≡◌, ◌⊎◌, ℕ, ◌^◌, ◌<◌, ◌≤◌, ◌==◌, ◌%◌, Bool, true, false, arith, refl, ap, ◌∙◌, inl, inr, subst}
-use Rattle.std.specs.Prelude.{if◌then◌else◌, not, nat_le, ◌&&◌}
-use Rattle.std.proofs.lemmas.Bool.{cases_Bool, cases_lt}
-use Rattle.std.proofs.lemmas.Bool.Decides.{nat_tests}
-use Rattle.bz_content.specs.Lawful.{is_word, is_value, is_begun, is_named, is_in_descriptor, is_fixed, is_lawful}
-use Rattle.bz_content.specs.Resolving.{status_in, count_in, target_in, expected_in, value_in, entry_for, stands_for, resolve, SUCCEEDED}
-use Rattle.bz_layout.specs.Addresses.{node_address, words_of, swap_word_of}
+-- Images of a configuration are those of its area.
+use Rattle.std.proofs.Common.{◌≡◌, ℕ, sym, ◌∙◌, subst}
 use Rattle.bz_layout.specs.declared.config.Config.{Config}
-use Rattle.bz_layout.specs.declared.sizes.TheConstants.{SUPERBLOCK_WORDS, SWAP_STATUS_AT, SWAP_COUNT_AT, MAX_ENTRIES}
-use Rattle.bz_slotted.specs.Tests.{every}
-use Rattle.bz_word.specs.Kinds.{kind}
-use Rattle.bz_word.proofs.Lemmas.{values, kinds}
-use Rattle.bz_word.specs.declared.kind.WordKind.{WordKind}
-use Rattle.bz_word.specs.declared.kind.WordKind.TheVariants.{Value, Dirty, Swap, Tag}
-use Rattle.bz_recover.proofs.Entries.{every-same, entry-same, entry-least}
-use Rattle.bz_recover.proofs.Named.{told, stands-plain, IsBegun, HasTarget, Pointed, IsNamed, named, pointer-named, tag-named, of-swap, of-entry, not-in-descriptor}
-use Rattle.bz_recover.specs.Sweep.{IsShared, IsOfSwap, IsImage}
+use Rattle.bz_sweep.specs.Areas.{area_of}
+use Rattle.bz_sweep.specs.Knowledge.{ResolvesSome as ResolvesSomeIn}
+use Rattle.bz_sweep.specs.Lawful.{LawfulWordsAreThese}
+use Rattle.bz_sweep.specs.Memory.{Memory}
+use Rattle.bz_sweep.specs.Words.{IsImage as IsImageIn, IsPoweredOn as IsPoweredOnIn}
+use Rattle.bz_sweep.specs.declared.area.Area.{Area}
+use Rattle.bz_recover.specs.Contents.{ResolvesSome}
+use Rattle.bz_recover.specs.Sweep.{IsImage, IsPoweredOn}
 
--- the descriptors are the same
-pub record SameSwaps (c : Config) (x y : ℕ → ℕ) : Type 0 where
-  pub word : (a : ℕ) → IsOfSwap c a → y a ≡ x a
+pub of-area : LawfulWordsAreThese → (c : Config) (v x : ℕ → ℕ) → IsImageIn (area_of c) v x → IsImage c v x
+of-area same c v x h = record { lawful = λ a l. sym (same c x a) ∙ h.lawful a l; resolved = h.resolved }
 
--- what they say then
-pub record SameSwap (x y : ℕ → ℕ) (s : ℕ) : Type 0 where
-  pub status : status_in y s ≡ status_in x s
-  pub count : count_in y s ≡ count_in x s
-  pub target : (i : ℕ) → i < MAX_ENTRIES → target_in y s i ≡ target_in x s i
-  pub expected : (i : ℕ) → i < MAX_ENTRIES → expected_in y s i ≡ expected_in x s i
-  pub value : (i : ℕ) → i < MAX_ENTRIES → value_in y s i ≡ value_in x s i
+pub to-area : LawfulWordsAreThese → (c : Config) (v x : ℕ → ℕ) → IsImage c v x → IsImageIn (area_of c) v x
+to-area same c v x h = record { lawful = λ a l. same c x a ∙ h.lawful a l; resolved = h.resolved }
 
-same-swap : (c : Config) (x y : ℕ → ℕ) (s : ℕ) → SameSwaps c x y → s < c.swaps → SameSwap x y s
-same-swap c x y s h number = record {
-  status = ap (λ n. n % 2 ^ 63) (h.word _ (of-swap c s SWAP_STATUS_AT number (omega arith)));
-  count = h.word _ (of-swap c s SWAP_COUNT_AT number (omega arith));
-  target = λ i l. h.word _ (of-entry c s i 0 number l (omega arith));
-  expected = λ i l. h.word _ (of-entry c s i 1 number l (omega arith));
-  value = λ i l. h.word _ (of-entry c s i 2 number l (omega arith));
-}
+pub powered-of : LawfulWordsAreThese → (c : Config) (v : ℕ → ℕ) (m : Memory) → IsPoweredOnIn (area_of c) v m → IsPoweredOn c v m
+powered-of same c v m h = record { image = of-area same c v m.durable h.image; same = h.same }
 
-same-begun : (c : Config) (x y : ℕ → ℕ) (s : ℕ) → SameSwap x y s → IsBegun c x s → is_begun c y s ≡ is_begun c x s
-same-begun c x y s h b =
-    let each : every (count_in x s) (λ i. is_value (expected_in y s i) && is_value (value_in y s i)) ≡ every (count_in x s) (λ i. is_value (expected_in x s i) && is_value (value_in x s i)) = every-same _ _ _ (λ i l. rw (h.expected i (omega (arith, l, b.few)), h.value i (omega (arith, l, b.few))) refl) in
-    rw (h.status, h.count, each) refl
+-- of an area that is that of a configuration
+pub image-of : LawfulWordsAreThese → (r : Area) (c : Config) (v x : ℕ → ℕ) → r ≡ area_of c → IsImageIn r v x → IsImage c v x
+image-of same r c v x is h = of-area same c v x (subst (λ (z : Area). IsImageIn z v x) is h)
 
--- a word of a kind names what it named, and stands for what it stood for
-pub record SameMeaning (c : Config) (x y : ℕ → ℕ) (a : ℕ) (k : WordKind) : Type 0 where
-  pub named : is_named c y a k ≡ is_named c x a k
-  pub stands : stands_for y a k ≡ stands_for x a k
-
-by-status : (b : Bool) (v w e f : ℕ) → v ≡ w → e ≡ f → (if b then v else e) ≡ (if b then w else f)
-by-status true v w e f p q = p
-by-status false v w e f p q = q
-
-same-pointer : (c : Config) (x y : ℕ → ℕ) (a s : ℕ) → SameSwaps c x y → Pointed c x a s → SameMeaning c x y a (Swap s)
-same-pointer c x y a s h p =
-    let same : SameSwap x y s = same-swap c x y s h p.has.begun.number in
-    let few : count_in x s ≤ MAX_ENTRIES = p.has.begun.few in
-    let least : entry_for x s a 0 (count_in x s) ≤ p.entry = entry-least x s a 0 (count_in x s) p.entry (omega arith) (omega (arith, p.has.entry)) p.has.target in
-    let below : entry_for x s a 0 (count_in x s) < MAX_ENTRIES = omega (arith, p.has.entry, few, least) in
-    let each : every (count_in x s) (λ i. not (target_in y s i == a)) ≡ every (count_in x s) (λ i. not (target_in x s i == a)) = every-same _ _ _ (λ i l. rw (same.target i (omega (arith, l, few))) refl) in
-    let first : entry_for y s a 0 (count_in x s) ≡ entry_for x s a 0 (count_in x s) = entry-same x y s a 0 (count_in x s) (λ j l. same.target j (omega (arith, l, few))) in
-    record {
-      named = rw (same-begun c x y s same p.has.begun, same.count, each) refl;
-      stands = rw (same.status, same.count, first) (by-status (status_in x s == SUCCEEDED) _ _ _ _ (same.value _ below) (same.expected _ below));
-    }
-
-same-tag : (c : Config) (x y : ℕ → ℕ) (a s e w q : ℕ) → SameSwaps c x y → HasTarget c x a s e → SameMeaning c x y a (Tag s e w q)
-same-tag c x y a s e w q h p =
-    let same : SameSwap x y s = same-swap c x y s h p.begun.number in
-    let below : e < MAX_ENTRIES = omega (arith, p.entry, p.begun.few) in
-    record {
-      named = rw (same-begun c x y s same p.begun, same.count, same.target e below) refl;
-      stands = same.expected e below;
-    }
-
-same-meaning : (c : Config) (x y : ℕ → ℕ) (a : ℕ) (k : WordKind) → SameSwaps c x y → is_named c x a k ≡ true → SameMeaning c x y a k
-same-meaning c x y a (Value v) h t = record { named = refl; stands = refl }
-same-meaning c x y a (Dirty v) h t = record { named = refl; stands = refl }
-same-meaning c x y a (Swap s) h t = same-pointer c x y a s h (pointer-named c x a s t)
-same-meaning c x y a (Tag s e w q) h t = same-tag c x y a s e w q h (tag-named c x a s e w q t)
-
--- a word that stays
-stays-lawful : (c : Config) (x y : ℕ → ℕ) (a : ℕ) → SameSwaps c x y → IsShared c a → is_lawful c x a ≡ true → y a ≡ x a → is_lawful c y a ≡ true
-unfolding is_lawful
-stays-lawful c x y a h shared t e =
-    let n : IsNamed c x a = named c x a shared t in
-    let m : SameMeaning c x y a (kind (x a)) = same-meaning c x y a (kind (x a)) h n.named in
-    rw (e, m.named) t
-
-stays-resolved : (c : Config) (x y : ℕ → ℕ) (a : ℕ) → SameSwaps c x y → IsShared c a → is_lawful c x a ≡ true → y a ≡ x a → resolve y a ≡ resolve x a
-unfolding resolve
-stays-resolved c x y a h shared t e =
-    let n : IsNamed c x a = named c x a shared t in
-    let m : SameMeaning c x y a (kind (x a)) = same-meaning c x y a (kind (x a)) h n.named in
-    rw e m.stands
-
--- a plain word
-value-word : (x : ℕ) → x < 2 ^ 61 → is_word x ≡ true
-value-word x small = grind (arith, nat_tests)
-
-by-fixed : (f v n : Bool) → v ≡ true → n ≡ true → (if f then v else n) ≡ true
-by-fixed true v n p q = p
-by-fixed false v n p q = q
-
-pub plain-lawful : (c : Config) (y : ℕ → ℕ) (a : ℕ) → IsShared c a → y a < 2 ^ 61 → is_lawful c y a ≡ true
-unfolding is_lawful
-plain-lawful c y a shared small =
-    let v : is_value (y a) ≡ true = grind (arith, nat_tests) in
-    rw (value-word (y a) small, not-in-descriptor c a shared) (by-fixed (is_fixed a) _ _ v (rw (values (y a) small).1 refl))
-
-pub plain-resolved : (y : ℕ → ℕ) (a : ℕ) → y a < 2 ^ 61 → resolve y a ≡ y a
-unfolding resolve
-plain-resolved y a small = ap (stands_for y a) (values (y a) small).1
-
--- a word of a descriptor
-in-descriptor : (c : Config) (a : ℕ) → IsOfSwap c a → is_in_descriptor c a ≡ true
-in-descriptor c a h = elim (cases_Bool (is_in_descriptor c a)) [
-  | inl t ↦ t
-  | inr f ↦ absurd (h.inside (elim (cases_lt a SUPERBLOCK_WORDS) [ inl l ↦ inl l | inr g ↦ inr (grind (arith, nat_tests)) ]))
-]
-
-swap-lawful : (c : Config) (x y : ℕ → ℕ) (a : ℕ) → IsOfSwap c a → is_lawful c x a ≡ true → y a ≡ x a → is_lawful c y a ≡ true
-unfolding is_lawful
-swap-lawful c x y a h t e = let d : is_in_descriptor c a ≡ true = in-descriptor c a h in rw (e, d) (rw d at t)
-
-by-word : (b : Bool) → (if b then nat_le (0 % 2 ^ 63) 3 else is_value 0) ≡ true
-by-word true = refl
-by-word false = refl
-
-free-lawful : (c : Config) (y : ℕ → ℕ) (a : ℕ) → IsOfSwap c a → y a ≡ 0 → is_lawful c y a ≡ true
-unfolding is_lawful
-free-lawful c y a h e = rw (e, in-descriptor c a h) (by-word (swap_word_of a == SWAP_STATUS_AT))
-
--- an address is of one kind or the other
-pub place : (c : Config) (a : ℕ) → a < words_of c → IsShared c a ⊎ IsOfSwap c a
-place c a within = elim (cases_lt a SUPERBLOCK_WORDS) [
-  | inl low ↦ inl (record { within = within; outside = inl low })
-  | inr above ↦ elim (cases_lt a (node_address c 0)) [
-    | inl low ↦ inr (record { within = within; inside = λ o. elim o [ inl l ↦ omega arith | inr g ↦ omega arith ] })
-    | inr high ↦ inl (record { within = within; outside = inr high })
-  ]
-]
-
--- values are plain
-pub plain-value : (c : Config) (v x : ℕ → ℕ) → IsImage c v x → (a : ℕ) → IsShared c a → v a < 2 ^ 61
-unfolding resolve
-plain-value c v x image a s =
-    let n : IsNamed c x a = named c x a s (image.lawful a s.within) in
-    subst (λ y. y < 2 ^ 61) (image.resolved a s) (stands-plain c x a (kind (x a)) n.named (kinds.range (x a) (told (x a) n.word)))
-
--- words outside the descriptors stay or become their values
-pub resolves : (c : Config) (v x y : ℕ → ℕ) → IsImage c v x → ((a : ℕ) → IsShared c a → (y a ≡ x a) ⊎ (y a ≡ v a)) → ((a : ℕ) → IsOfSwap c a → y a ≡ x a) → IsImage c v y
-resolves c v x y image shared swaps = record {
-  lawful = λ a within. elim (place c a within) [
-    | inl s ↦ elim (shared a s) [
-      | inl stays ↦ stays-lawful c x y a (record { word = swaps }) s (image.lawful a within) stays
-      | inr becomes ↦ plain-lawful c y a s (rw becomes (plain-value c v x image a s))
-    ]
-    | inr s ↦ swap-lawful c x y a s (image.lawful a within) (swaps a s)
-  ];
-  resolved = λ a s. elim (shared a s) [
-    | inl stays ↦ stays-resolved c x y a (record { word = swaps }) s (image.lawful a s.within) stays ∙ image.resolved a s
-    | inr becomes ↦ plain-resolved y a (rw becomes (plain-value c v x image a s)) ∙ becomes
-  ];
-}
-
--- words outside the descriptors are their values, and words of descriptors stay or become 0
-pub frees : (c : Config) (v x y : ℕ → ℕ) → IsImage c v x → ((a : ℕ) → IsShared c a → y a ≡ v a) → ((a : ℕ) → IsOfSwap c a → (y a ≡ x a) ⊎ (y a ≡ 0)) → IsImage c v y
-frees c v x y image shared swaps = record {
-  lawful = λ a within. elim (place c a within) [
-    | inl s ↦ plain-lawful c y a s (rw (shared a s) (plain-value c v x image a s))
-    | inr s ↦ elim (swaps a s) [
-      | inl stays ↦ swap-lawful c x y a s (image.lawful a within) stays
-      | inr becomes ↦ free-lawful c y a s becomes
-    ]
-  ];
-  resolved = λ a s. plain-resolved y a (rw (shared a s) (plain-value c v x image a s)) ∙ shared a s;
-}
-
--- a power cut changes no durable word
-pub keeps : (c : Config) (v x y : ℕ → ℕ) → IsImage c v x → ((a : ℕ) → y a ≡ x a) → IsImage c v y
-keeps c v x y image same = resolves c v x y image (λ a s. inl (same a)) (λ a s. same a)
+pub resolves-of : LawfulWordsAreThese → (r : Area) (c : Config) (v x y : ℕ → ℕ) → r ≡ area_of c → ResolvesSomeIn r v x y → ResolvesSome c v x y
+resolves-of same r c v x y is h =
+    let g : ResolvesSomeIn (area_of c) v x y = subst (λ (z : Area). ResolvesSomeIn z v x y) is h in
+    record { before = of-area same c v x g.before; after = of-area same c v y g.after; words = g.words }

@@ -9,7 +9,7 @@ use Rattle.bz_content.proofs.Honesty.{no}
 use Rattle.bz_content.proofs.Sames.{node-same, same-super}
 use Rattle.bz_content.specs.Content.{image_fault, image_of, is_super, view_in, IsWellFormed}
 use Rattle.bz_content.specs.Image.{node, root}
-use Rattle.bz_content.specs.Lawful.{is_fixed, is_lawful, is_value, is_word}
+use Rattle.bz_content.specs.Lawful.{is_fixed, is_in_descriptor, is_lawful, is_value, is_word}
 use Rattle.bz_content.specs.Laws.{WellFormedImagesHaveNoFault, ViewsAreHonest}
 use Rattle.bz_content.specs.Resolving.{resolve}
 use Rattle.bz_layout.specs.Addresses.{node_address}
@@ -28,9 +28,10 @@ use Rattle.bz_task.specs.Good.{IsGood}
 use Rattle.bz_task.specs.Laws.{RootsAreReached}
 use Rattle.bz_task.specs.Settled.{settled, SettledMemoriesAreGood}
 use Rattle.bz_word.specs.declared.meta.Extent.{Extent}
-use Rattle.bz_recover.proofs.Entries.{every-same}
-use Rattle.bz_recover.proofs.Images.{plain-resolved}
-use Rattle.bz_recover.proofs.Named.{not-in-descriptor}
+use Rattle.bz_sweep.specs.Areas.{area_of}
+use Rattle.bz_sweep.proofs.Entries.{every-same}
+use Rattle.bz_sweep.proofs.Images.{plain-resolved}
+use Rattle.bz_sweep.proofs.Named.{not-in-descriptor}
 use Rattle.bz_recover.specs.Contents.{ResolvesSome, SaysTheSame, ResolvingKeepsTheContent}
 use Rattle.bz_recover.specs.Sweep.{IsShared}
 
@@ -131,7 +132,8 @@ fixed-plain : (c : Config) (raw : ℕ → ℕ) (a : ℕ) → is_fixed a ≡ true
 unfolding is_lawful
 fixed-plain c raw a fix t =
     let p = and_parts (is_word (raw a)) _ t in
-    let v : is_value (raw a) ≡ true = rw (not-in-descriptor c a (fixed-shared c a fix), fix) at p.1 in
+    let d : is_in_descriptor c a ≡ false = not-in-descriptor (area_of c) a (fixed-shared c a fix) in
+    let v : is_value (raw a) ≡ true = rw (d, fix) at p.1 in
     grind (arith, nat_tests)
 
 module _ (b : Laws) (c : Config) (v x y : ℕ → ℕ) (none : image_fault c x ≡ None) (r : ResolvesSome c v x y) where

@@ -1,233 +1,107 @@
--- What each phase knows stays by evictions, goes on by its own act, and says of the memory what it should.
-use Rattle.std.proofs.Common.{◌≡◌, ℕ, ◌+◌, ◌*◌, ◌^◌, ◌<◌, ◌≤◌, Bool, true, false, arith, refl, sym, ap, ◌∙◌, inl, inr, subst}
-use Rattle.std.specs.Prelude.{if◌then◌else◌, ◌==◌, ◌%◌, Option, Some, None}
-use Rattle.bz_content.specs.Resolving.{SUCCEEDED}
-use Rattle.bz_word.specs.Kinds.{kind}
-use Rattle.bz_word.specs.declared.kind.WordKind.TheVariants.{Swap}
-use Rattle.bz_recover.specs.declared.phase.Pointer.{Pointer}
-use Rattle.bz_layout.specs.Addresses.{swap_address, words_of, line_of}
+-- What a recovery knows is what its sweep knows: the acts of its walk are loads, and change nothing.
+use Rattle.std.proofs.Common.{◌≡◌, ℕ, ◌^◌, ◌<◌, Bool, refl, sym, subst, Option}
+use Rattle.std.specs.Prelude.{Some, None}
+use Rattle.bz_layout.specs.Addresses.{words_of}
 use Rattle.bz_layout.specs.declared.config.Config.{Config}
-use Rattle.bz_layout.specs.declared.sizes.TheConstants.{LINE_WORDS, MAX_ENTRIES, SWAP_STATUS_AT}
 use Rattle.bz_task.specs.Scene.{Stage, Waiting, Took}
-use Rattle.bz_task.specs.declared.todo.Outcome.{Outcome}
 use Rattle.bz_task.specs.declared.todo.Outcome.TheVariants.{Recovered as Ended}
 use Rattle.bz_task.specs.declared.todo.Todo.{Todo}
-use Rattle.bz_task.specs.declared.todo.Todo.TheVariants.{Load, Store, Flush as FlushLine, Read as ReadWord, Swap as SwapWords, Finish}
-use Rattle.bz_recover.proofs.Images.{plain-value}
-use Rattle.bz_recover.proofs.Finding.{pointer-found}
-use Rattle.bz_recover.proofs.Named.{Pointed, of-swap, of-entry}
-use Rattle.bz_recover.proofs.Freeings as freeing
-use Rattle.bz_recover.proofs.Sweeps as sweep
-use Rattle.bz_recover.specs.Duties.{IsSought, IsValueAt, knows_before, knows_after, knows_in, asks_in, end_in}
+use Rattle.bz_task.specs.declared.todo.Todo.TheVariants.{Load, Store, Flush, Read as ReadAt, Swap, Finish}
+use Rattle.bz_sweep.specs.Areas.{area_of, size_of}
+use Rattle.bz_sweep.specs.Duties.{Asked, Made, area_in, asks_of as sweep_asks}
+use Rattle.bz_sweep.specs.Knowledge.{SweepsKnow, IsNear as IsNearIn}
+use Rattle.bz_sweep.specs.Laws.{IsAskable as IsAskableIn}
+use Rattle.bz_sweep.specs.Lawful.{LawfulWordsAreThese}
+use Rattle.bz_sweep.specs.Memory.{Memory, StoresWord, Copies, Flushes}
+use Rattle.bz_sweep.specs.Words.{IsRecovered as IsRecoveredIn}
+use Rattle.bz_sweep.specs.declared.area.Area.{Area}
+use Rattle.bz_sweep.specs.declared.ask.Ask.{Ask}
+use Rattle.bz_sweep.specs.declared.ask.Ask.TheVariants.{Load as LoadWord, Store as StoreWord, Flush as FlushLine, Finish as NoMore}
+use Rattle.bz_recover.specs.Contents.{ResolvesSome}
+use Rattle.bz_recover.specs.Duties.{asks_in, asks_of, end_of, stage_of, Knows, IsReady}
+use Rattle.bz_recover.specs.Knowledge.{IsNear}
 use Rattle.bz_recover.specs.Laws.{IsAskable}
-use Rattle.bz_recover.specs.Memory.{Memory, StoresWord, Copies, Flushes}
-use Rattle.bz_recover.specs.Places.{IsPlaced, IsPlace}
-use Rattle.bz_recover.specs.Sweep.{IsShared, IsOfSwap, IsImage, IsPoweredOn, IsSwept, IsRecovered}
-use Rattle.bz_recover.specs.Walking.{IsLoadOrEnd}
-use Rattle.bz_recover.specs.declared.phase.Phase.{Phase}
-use Rattle.bz_recover.specs.declared.phase.Phase.TheVariants.{Fresh, Word, Status, Target, Value, Resolve, Flush, SwapStatus, Free, FlushFree, Walk}
+use Rattle.bz_recover.specs.Sweep.{IsImage, IsRecovered}
+use Rattle.bz_recover.specs.Walking.{IsLoadOrEnd, asks_of_walk, end_in_walk}
+use Rattle.bz_recover.specs.declared.recover.Recover.{Recover}
+use Rattle.bz_recover.proofs.Images.{image-of, resolves-of}
+use Rattle.bz_recover.proofs.Joining.{may-walk, sweep-ends}
 
--- the durable words resolve to the same values in every phase
-pub image-before : (c : Config) (v : ℕ → ℕ) (m : Memory) (p : Phase) → knows_before c v m p → IsImage c v m.durable
-image-before c v m Fresh k = k.image
-image-before c v m (Word p) k = k.image
-image-before c v m (Status p s) k = k.0.image
-image-before c v m (Target p q i) k = k.0.image
-image-before c v m (Value p a) k = k.0.image
-image-before c v m (Resolve p x) k = k.0.image
-image-before c v m (Flush p) k = k.image
-image-before c v m (SwapStatus s) k = k.image
-image-before c v m (Free s) k = k.image
-image-before c v m (FlushFree s) k = k.image
-image-before c v m Walk k = k.image
-
-image-after : (c : Config) (v : ℕ → ℕ) (m : Memory) (p : Phase) → knows_after c v m p → IsImage c v m.durable
-image-after c v m Fresh k = k.image
-image-after c v m (Word p) k = k.image
-image-after c v m (Status p s) k = k.0.image
-image-after c v m (Target p q i) k = k.0.image
-image-after c v m (Value p a) k = k.0.image
-image-after c v m (Resolve p x) k = k.image
-image-after c v m (Flush p) k = k.image
-image-after c v m (SwapStatus s) k = k.image
-image-after c v m (Free s) k = k.image
-image-after c v m (FlushFree s) k = k.image
-image-after c v m Walk k = k.image
-
-pub image : (c : Config) (v : ℕ → ℕ) (m : Memory) (stage : Stage) (p : Phase) → knows_in c v m stage p → IsImage c v m.durable
-image c v m Waiting p k = image-before c v m p k
-image c v m Took p k = image-after c v m p k
-
--- a walk asks for loads alone, or for nothing more
-abbrev pub MayWalk : Config → Option Todo → Type 0
-MayWalk c walks = (todo : Todo) → walks ≡ Some todo → IsLoadOrEnd c todo
-
--- a load changes nothing
-pub loaded : (c : Config) (v : ℕ → ℕ) (m : Memory) (a : ℕ) (p : Phase) (walks : Option Todo) → asks_in p walks ≡ Some (Load a) → knows_before c v m p → knows_after c v m p
-loaded c v m a Fresh walks e k = k
-loaded c v m a (Word p) walks e k = k
-loaded c v m a (Status p s) walks e k = k
-loaded c v m a (Target p q i) walks e k = k
-loaded c v m a (Value p b) walks e k = k
-loaded c v m a (Resolve p x) walks e k = absurd (cc)
-loaded c v m a (Flush p) walks e k = absurd (cc)
-loaded c v m a (SwapStatus s) walks e k = k
-loaded c v m a (Free s) walks e k = absurd (cc)
-loaded c v m a (FlushFree s) walks e k = absurd (cc)
-loaded c v m a Walk walks e k = k
-
-pub ends : (c : Config) (v : ℕ → ℕ) (m : Memory) (stage : Stage) (p : Phase) (ended : Option Outcome) → knows_in c v m stage p → end_in p ended ≡ Some Ended → IsRecovered c v m
-ends c v m Waiting Walk ended k e = freeing.ended c v m k
-ends c v m Took Walk ended k e = freeing.ended c v m k
-ends c v m stage Fresh ended k e = absurd (cc)
-ends c v m stage (Word p) ended k e = absurd (cc)
-ends c v m stage (Status p s) ended k e = absurd (cc)
-ends c v m stage (Target p q i) ended k e = absurd (cc)
-ends c v m stage (Value p b) ended k e = absurd (cc)
-ends c v m stage (Resolve p x) ended k e = absurd (cc)
-ends c v m stage (Flush p) ended k e = absurd (cc)
-ends c v m stage (SwapStatus s) ended k e = absurd (cc)
-ends c v m stage (Free s) ended k e = absurd (cc)
-ends c v m stage (FlushFree s) ended k e = absurd (cc)
-
--- a durable word that a copy does not change
-alike : (b : Bool) (x y z : ℕ) → z ≡ (if b then x else y) → x ≡ y → z ≡ y
-alike true x y z e p = e ∙ p
-alike false x y z e p = e
-
-first-of-swap : (c : Config) (s : ℕ) → s < c.swaps → IsOfSwap c (swap_address s)
-first-of-swap c s number = record {
-  within = omega arith;
-  inside = λ o. elim o [ inl below ↦ omega arith | inr above ↦ omega arith ];
-}
-
-powered-stays : (c : Config) (v : ℕ → ℕ) (m n : Memory) (f : ℕ → Bool) → IsPoweredOn c v m → Copies m n f → IsPoweredOn c v n
-powered-stays c v m n f h k =
-    let g : IsSwept c v n 0 0 = sweep.copied c v m n f 0 0 (sweep.powered-on c v m h) k in
-    record { image = g.image; same = λ a within. k.cached a ∙ (h.same a within ∙ sym (alike (f a) _ _ _ (k.durable a) (h.same a within))) }
-
-sought : (c : Config) (v : ℕ → ℕ) (m n : Memory) (f : ℕ → Bool) (u a : ℕ) (q : Pointer) (i : ℕ) → IsShared c a → i ≤ MAX_ENTRIES → IsSwept c v m u a → Copies m n f → IsSought m a q i → IsSought n a q i
-sought c v m n f u a q i shared few h k t =
-    let p : Pointed c m.durable a q.swap = pointer-found c v m u a q.swap shared h t.pointer in
-    let here : n.durable a ≡ m.durable a = alike (f a) _ _ _ (k.durable a) (h.ahead a shared (omega arith)) in
-    let swaps = λ (b : ℕ) (s : IsOfSwap c b). alike (f b) (m.cached b) (m.durable b) (n.durable b) (k.durable b) (h.swaps b s) in
-    record {
-      pointer = ap kind here ∙ t.pointer;
-      succeeded = t.succeeded ∙ ap (λ y. y % 2 ^ 63 == SUCCEEDED) (sym (swaps _ (of-swap c q.swap SWAP_STATUS_AT p.has.begun.number (omega arith))));
-      others = λ j l e. t.others j l (sym (swaps _ (of-entry c q.swap j 0 p.has.begun.number (omega (arith, l, few)) (omega arith))) ∙ e);
-    }
-
-value : (c : Config) (v : ℕ → ℕ) (m n : Memory) (f : ℕ → Bool) (u a b : ℕ) → IsSwept c v m u a → Copies m n f → IsValueAt c v m a b → IsValueAt c v n a b
-value c v m n f u a b h k t = record { place = t.place; value = alike (f b) _ _ _ (k.durable b) (h.swaps b t.place) ∙ t.value }
-
-pointer : (c : Config) (v : ℕ → ℕ) (m n : Memory) (f : ℕ → Bool) (u a s : ℕ) → IsShared c a → IsSwept c v m u a → Copies m n f → kind (m.durable a) ≡ Swap s → kind (n.durable a) ≡ Swap s
-pointer c v m n f u a s shared h k e = ap kind (alike (f a) _ _ _ (k.durable a) (h.ahead a shared (omega arith))) ∙ e
-
-stable-before : (c : Config) (v : ℕ → ℕ) (m n : Memory) (f : ℕ → Bool) (p : Phase) → IsPlace c p → Copies m n f → knows_before c v m p → knows_before c v n p
-stable-before c v m n f Fresh at k h = powered-stays c v m n f h k
-stable-before c v m n f (Word p) at k h = sweep.copied c v m n f _ _ h k
-stable-before c v m n f (Status p s) at k h = (sweep.copied c v m n f _ _ h.0 k, pointer c v m n f _ _ s at.shared h.0 k h.1)
-stable-before c v m n f (Target p q i) at k h = (sweep.copied c v m n f _ _ h.0 k, sought c v m n f _ _ q i at.0.shared (omega (arith, at.1)) h.0 k h.1)
-stable-before c v m n f (Value p a) at k h = (sweep.copied c v m n f _ _ h.0 k, value c v m n f _ _ a h.0 k h.1)
-stable-before c v m n f (Resolve p x) at k h = (sweep.copied c v m n f _ _ h.0 k, h.1)
-stable-before c v m n f (Flush p) at k h = sweep.copied c v m n f _ _ h k
-stable-before c v m n f (SwapStatus s) at k h = freeing.copied c v m n f s s (omega arith) h k
-stable-before c v m n f (Free s) at k h = freeing.copied c v m n f s s (omega arith) h k
-stable-before c v m n f (FlushFree s) at k h = freeing.copied c v m n f s (s + 1) (omega arith) h k
-stable-before c v m n f Walk at k h = freeing.copied c v m n f c.swaps c.swaps (omega arith) h k
-
-stable-after : (c : Config) (v : ℕ → ℕ) (m n : Memory) (f : ℕ → Bool) (p : Phase) → IsPlace c p → Copies m n f → knows_after c v m p → knows_after c v n p
-stable-after c v m n f Fresh at k h = powered-stays c v m n f h k
-stable-after c v m n f (Word p) at k h = sweep.copied c v m n f _ _ h k
-stable-after c v m n f (Status p s) at k h = (sweep.copied c v m n f _ _ h.0 k, pointer c v m n f _ _ s at.shared h.0 k h.1)
-stable-after c v m n f (Target p q i) at k h = (sweep.copied c v m n f _ _ h.0 k, sought c v m n f _ _ q i at.0.shared (omega (arith, at.1)) h.0 k h.1)
-stable-after c v m n f (Value p a) at k h = (sweep.copied c v m n f _ _ h.0 k, value c v m n f _ _ a h.0 k h.1)
-stable-after c v m n f (Resolve p x) at k h = sweep.copied c v m n f _ _ h k
-stable-after c v m n f (Flush p) at k h = sweep.copied c v m n f _ _ h k
-stable-after c v m n f (SwapStatus s) at k h = freeing.copied c v m n f s s (omega arith) h k
-stable-after c v m n f (Free s) at k h = freeing.copied c v m n f s (s + 1) (omega arith) h k
-stable-after c v m n f (FlushFree s) at k h = freeing.copied c v m n f (s + 1) (s + 1) (omega arith) h k
-stable-after c v m n f Walk at k h = freeing.copied c v m n f c.swaps c.swaps (omega arith) h k
-
--- copies of any words change nothing of what is known
-pub stable : (c : Config) (v : ℕ → ℕ) (m n : Memory) (f : ℕ → Bool) (stage : Stage) (p : Phase) → IsPlaced c p → Copies m n f → knows_in c v m stage p → knows_in c v n stage p
-stable c v m n f Waiting p at k h = stable-before c v m n f p at.place k h
-stable c v m n f Took p at k h = stable-after c v m n f p at.place k h
-
--- its own store
-pub stored : (c : Config) (v : ℕ → ℕ) (m n : Memory) (a x : ℕ) (p : Phase) (walks : Option Todo) → MayWalk c walks → IsPlace c p → asks_in p walks ≡ Some (Store a x) → StoresWord m n a x → knows_before c v m p → knows_after c v n p
-stored c v m n a x Fresh walks may at e k h = absurd (cc)
-stored c v m n a x (Word p) walks may at e k h = absurd (cc)
-stored c v m n a x (Status p s) walks may at e k h = absurd (cc)
-stored c v m n a x (Target p q i) walks may at e k h = absurd (cc)
-stored c v m n a x (Value p b) walks may at e k h = absurd (cc)
-stored c v m n a x (Resolve p y) walks may at e k h =
-    let place : a ≡ p.at = cc in
-    let word : x ≡ y = cc in
-    sweep.stored c v m n p.unflushed p.at y at.shared h.0 h.1 (subst (λ b. StoresWord m n b y) place (subst (StoresWord m n a) word k))
-stored c v m n a x (Flush p) walks may at e k h = absurd (cc)
-stored c v m n a x (SwapStatus s) walks may at e k h = absurd (cc)
-stored c v m n a x (Free s) walks may at e k h =
-    let place : a ≡ swap_address s = cc in
-    let word : x ≡ 0 = cc in
-    freeing.stored c v m n s s (first-of-swap c s at) h (subst (λ b. StoresWord m n b 0) place (subst (StoresWord m n a) word k))
-stored c v m n a x (FlushFree s) walks may at e k h = absurd (cc)
-stored c v m n a x Walk walks may at e k h = absurd (may (Store a x) e)
-
--- its own flush
-pub flushed : (c : Config) (v : ℕ → ℕ) (m n : Memory) (line : ℕ) (p : Phase) (walks : Option Todo) → MayWalk c walks → IsPlace c p → asks_in p walks ≡ Some (FlushLine line) → Flushes m n line → knows_before c v m p → knows_after c v n p
-flushed c v m n line Fresh walks may at e k h = absurd (cc)
-flushed c v m n line (Word p) walks may at e k h = absurd (cc)
-flushed c v m n line (Status p s) walks may at e k h = absurd (cc)
-flushed c v m n line (Target p q i) walks may at e k h = absurd (cc)
-flushed c v m n line (Value p b) walks may at e k h = absurd (cc)
-flushed c v m n line (Resolve p y) walks may at e k h = absurd (cc)
-flushed c v m n line (Flush p) walks may at e k h =
-    let same : line ≡ line_of p.at = cc in
-    sweep.flushed c v m n p.unflushed p.at at.0.order at.0.line h (subst (Flushes m n) same k)
-flushed c v m n line (SwapStatus s) walks may at e k h = absurd (cc)
-flushed c v m n line (Free s) walks may at e k h = absurd (cc)
-flushed c v m n line (FlushFree s) walks may at e k h =
-    let same : line ≡ line_of (swap_address s) = cc in
-    freeing.flushed c v m n s h (subst (Flushes m n) same k)
-flushed c v m n line Walk walks may at e k h = absurd (may (FlushLine line) e)
-
-line-within : (a words : ℕ) → a < words → line_of a * LINE_WORDS < words
-line-within a words l = omega (arith, l)
-
-asked : Config → Option Todo → Type 0
-asked c None = Unit {0}
-asked c (Some todo) = IsAskable c todo
-
--- a load of a walk lies in the memory
+-- a load of the walk lies in the memory
 load-or-end : (c : Config) (todo : Todo) → IsLoadOrEnd c todo → IsAskable c todo
 load-or-end c (Load a) h = h.within
 load-or-end c Finish h = tt
 load-or-end c (Store a x) h = absurd h
-load-or-end c (FlushLine line) h = absurd h
-load-or-end c (ReadWord a) h = absurd h
-load-or-end c (SwapWords entries) h = absurd h
+load-or-end c (Flush line) h = absurd h
+load-or-end c (ReadAt a) h = absurd h
+load-or-end c (Swap entries) h = absurd h
 
-walk-asked : (c : Config) (walks : Option Todo) → MayWalk c walks → asked c walks
-unfolding asked
-walk-asked c None may = tt
-walk-asked c (Some todo) may = load-or-end c todo (may todo refl)
+module _ (same : LawfulWordsAreThese) (know : SweepsKnow) (t : Recover) (ready : IsReady t) (v : ℕ → ℕ) where
+  pub stable : (stage : Stage) (m n : Memory) (copied : ℕ → Bool) → Knows t v stage m → Copies m n copied → Knows t v stage n
+  stable stage m n copied k h = know.stable t.sweep v (stage_of stage) m n copied ready.sweep k h
 
-told : (c : Config) (v : ℕ → ℕ) (m : Memory) (p : Phase) (walks : Option Todo) → MayWalk c walks → IsPlace c p → knows_before c v m p → asked c (asks_in p walks)
-unfolding asked
-told c v m Fresh walks may at h = tt
-told c v m (Word p) walks may at h = at.shared.within
-told c v m (Status p s) walks may at h = let t : Pointed c m.durable p.at s = pointer-found c v m p.unflushed p.at s at.shared h.0 h.1 in (of-swap c s SWAP_STATUS_AT t.has.begun.number (omega arith)).within
-told c v m (Target p q i) walks may at h = let t : Pointed c m.durable p.at q.swap = pointer-found c v m p.unflushed p.at q.swap at.0.shared h.0 h.1.pointer in (of-entry c q.swap i 0 t.has.begun.number at.1 (omega arith)).within
-told c v m (Value p a) walks may at h = h.1.place.within
-told c v m (Resolve p x) walks may at h = (at.shared.within, rw h.1 (plain-value c v m.durable h.0.image p.at at.shared))
-told c v m (Flush p) walks may at h = line-within p.at (words_of c) at.0.shared.within
-told c v m (SwapStatus s) walks may at h = (first-of-swap c s at).within
-told c v m (Free s) walks may at h = ((first-of-swap c s at).within, omega arith)
-told c v m (FlushFree s) walks may at h = line-within (swap_address s) (words_of c) (first-of-swap c s at).within
-told c v m Walk walks may at h = walk-asked c walks may
+  pub resolves : (stage : Stage) (m n : Memory) (copied : ℕ → Bool) → Knows t v stage m → Copies m n copied → ResolvesSome t.config v m.durable n.durable
+  resolves stage m n copied k h = resolves-of same (area_in t.sweep) t.config v m.durable n.durable ready.area (know.resolves t.sweep v (stage_of stage) m n copied ready.sweep k h)
 
--- what is asked for lies in the memory
-pub askable : (c : Config) (v : ℕ → ℕ) (m : Memory) (p : Phase) (walks : Option Todo) (todo : Todo) → MayWalk c walks → IsPlace c p → knows_before c v m p → asks_in p walks ≡ Some todo → IsAskable c todo
-unfolding asked
-askable c v m p walks todo may at h e = subst (asked c) e (told c v m p walks may at h)
+  pub image : (stage : Stage) (m : Memory) → Knows t v stage m → IsImage t.config v m.durable
+  image stage m k = image-of same (area_in t.sweep) t.config v m.durable ready.area (know.image t.sweep v (stage_of stage) m ready.sweep k)
+
+  pub near : (stage : Stage) (m : Memory) → Knows t v stage m → IsNear t.config v m
+  near stage m k = subst (λ (r : Area). IsNearIn r v m) ready.area (know.near t.sweep v (stage_of stage) m ready.sweep k)
+
+  pub words : (stage : Stage) (m : Memory) (a : ℕ) → Knows t v stage m → a < words_of t.config → m.cached a < 2 ^ 64
+  words stage m a k within = know.words t.sweep v (stage_of stage) m a ready.sweep k (subst (λ (r : Area). a < size_of r) (sym ready.area) within)
+
+  -- where the recovery has ended
+  pub ends : (stage : Stage) (m : Memory) → Knows t v stage m → end_of t ≡ Some Ended → IsRecovered t.config v m
+  ends stage m k e = subst (λ (r : Area). IsRecoveredIn r v m) ready.area (know.ends t.sweep v (stage_of stage) m ready.sweep k (sweep-ends (sweep_asks t.sweep) (end_in_walk t.walk.step) e))
+
+  -- its loads
+  pub loaded : (m : Memory) (a : ℕ) → asks_of t ≡ Some (Load a) → Knows t v Waiting m → Knows t v Took m
+  loaded m a e k = go (sweep_asks t.sweep) refl e
+    where
+      go : (o : Option Ask) → sweep_asks t.sweep ≡ o → asks_in o (asks_of_walk t.walk) ≡ Some (Load a) → Knows t v Took m
+      go None p f = absurd (cc)
+      go (Some (LoadWord b)) p f = know.loaded t.sweep v m b ready.sweep p k
+      go (Some (StoreWord b x)) p f = absurd (cc)
+      go (Some (FlushLine line)) p f = absurd (cc)
+      go (Some NoMore) p f = know.ended t.sweep v Asked Made m p k
+
+  -- its stores, which are the sweep's
+  pub stored : (m n : Memory) (a x : ℕ) → asks_of t ≡ Some (Store a x) → Knows t v Waiting m → StoresWord m n a x → Knows t v Took n
+  stored m n a x e k s = go (sweep_asks t.sweep) refl e
+    where
+      go : (o : Option Ask) → sweep_asks t.sweep ≡ o → asks_in o (asks_of_walk t.walk) ≡ Some (Store a x) → Knows t v Took n
+      go None p f = absurd (cc)
+      go (Some (LoadWord b)) p f = absurd (cc)
+      go (Some (StoreWord b y)) p f =
+          let place : a ≡ b = cc in
+          let word : x ≡ y = cc in
+          know.stored t.sweep v m n b y ready.sweep p k (subst (λ z. StoresWord m n z y) place (subst (StoresWord m n a) word s))
+      go (Some (FlushLine line)) p f = absurd (cc)
+      go (Some NoMore) p f = absurd (may-walk t ready (Store a x) f)
+
+  -- and its flushes
+  pub flushed : (m n : Memory) (line : ℕ) → asks_of t ≡ Some (Flush line) → Knows t v Waiting m → Flushes m n line → Knows t v Took n
+  flushed m n line e k s = go (sweep_asks t.sweep) refl e
+    where
+      go : (o : Option Ask) → sweep_asks t.sweep ≡ o → asks_in o (asks_of_walk t.walk) ≡ Some (Flush line) → Knows t v Took n
+      go None p f = absurd (cc)
+      go (Some (LoadWord b)) p f = absurd (cc)
+      go (Some (StoreWord b y)) p f = absurd (cc)
+      go (Some (FlushLine other)) p f = let place : line ≡ other = cc in know.flushed t.sweep v m n other ready.sweep p k (subst (Flushes m n) place s)
+      go (Some NoMore) p f = absurd (may-walk t ready (Flush line) f)
+
+  -- what is asked for lies in the memory
+  pub askable : (m : Memory) (todo : Todo) → Knows t v Waiting m → asks_of t ≡ Some todo → IsAskable t.config todo
+  askable m todo k e = go (sweep_asks t.sweep) refl e
+    where
+      asked : (ask : Ask) → sweep_asks t.sweep ≡ Some ask → IsAskableIn (area_of t.config) ask
+      asked ask p = subst (λ (r : Area). IsAskableIn r ask) ready.area (know.askable t.sweep v m ask ready.sweep k p)
+
+      go : (o : Option Ask) → sweep_asks t.sweep ≡ o → asks_in o (asks_of_walk t.walk) ≡ Some todo → IsAskable t.config todo
+      go None p f = absurd (cc)
+      go (Some (LoadWord b)) p f = let is : Load b ≡ todo = cc in subst (IsAskable t.config) is (asked (LoadWord b) p)
+      go (Some (StoreWord b y)) p f = let is : Store b y ≡ todo = cc in subst (IsAskable t.config) is (asked (StoreWord b y) p)
+      go (Some (FlushLine line)) p f = let is : Flush line ≡ todo = cc in subst (IsAskable t.config) is (asked (FlushLine line) p)
+      go (Some NoMore) p f = load-or-end t.config todo (may-walk t ready todo f)

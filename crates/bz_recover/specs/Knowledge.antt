@@ -1,5 +1,5 @@
 -- What every recovery knows of the memory, whatever its phase: for those who keep a recovery and make its acts.
-use Rattle.std.specs.Prelude.{◌≡◌, ◌⊎◌, ℕ, ◌^◌, ◌<◌, Bool, Some}
+use Rattle.std.specs.Prelude.{◌≡◌, ℕ, ◌^◌, ◌<◌, Bool, Some}
 use Rattle.bz_layout.specs.Addresses.{words_of}
 use Rattle.bz_layout.specs.Slots.{FreeSlots}
 use Rattle.bz_layout.specs.declared.config.Config.{Config}
@@ -10,15 +10,16 @@ use Rattle.bz_task.specs.declared.todo.Todo.TheVariants.{Load, Store, Flush, Fin
 use Rattle.bz_recover.specs.Contents.{ResolvesSome}
 use Rattle.bz_recover.specs.Duties.{config_of, asks_of, end_of, acts_left, Knows, WalksIn, IsReady}
 use Rattle.bz_recover.specs.Laws.{IsAskable}
-use Rattle.bz_recover.specs.Memory.{Memory, StoresWord, Copies, Flushes}
-use Rattle.bz_recover.specs.Sweep.{IsShared, IsOfSwap, IsImage, IsRecovered}
+use Rattle.bz_sweep.specs.Areas.{area_of}
+use Rattle.bz_sweep.specs.Knowledge.{IsNear as IsNearIn}
+use Rattle.bz_sweep.specs.Memory.{Memory, StoresWord, Copies, Flushes}
+use Rattle.bz_recover.specs.Sweep.{IsImage, IsRecovered}
 use Rattle.bz_recover.specs.Walking.{IsTreeOf, AreReached}
 use Rattle.bz_recover.specs.declared.recover.Recover.{Recover}
 
 -- a cached word outside the descriptors is the durable one or the value, and one of a descriptor is the durable one or 0
-pub record IsNear (c : Config) (values : ℕ → ℕ) (m : Memory) : Type 0 where
-  pub shared : (a : ℕ) → IsShared c a → (m.cached a ≡ m.durable a) ⊎ (m.cached a ≡ values a)
-  pub swaps : (a : ℕ) → IsOfSwap c a → (m.cached a ≡ m.durable a) ⊎ (m.cached a ≡ 0)
+abbrev pub IsNear : Config → (ℕ → ℕ) → Memory → Type 0
+IsNear c = IsNearIn (area_of c)
 
 pub record RecoveriesKnow : Type 0 where
   -- no flush and no eviction of anybody changes what is known, nor what the words resolve to

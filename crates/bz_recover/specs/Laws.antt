@@ -3,13 +3,11 @@ use Rattle.std.specs.Prelude.{◌≡◌, ℕ, ◌*◌, ◌^◌, ◌<◌, length}
 use Rattle.bz_layout.specs.Addresses.{words_of}
 use Rattle.bz_layout.specs.declared.config.Config.{Config}
 use Rattle.bz_layout.specs.declared.sizes.TheConstants.{LINE_WORDS}
-use Rattle.bz_pm.specs.Acts.{stored, flushed, evicted, after_cut}
-use Rattle.bz_pm.specs.Words.{Words, IsMemory}
 use Rattle.bz_swap.specs.Power.{MayRenew}
 use Rattle.bz_swap.specs.SwapMemory.{SwapMemory, Idle, doing_of, memory_words as words_in}
 use Rattle.bz_task.specs.declared.todo.Todo.{Todo}
 use Rattle.bz_task.specs.declared.todo.Todo.TheVariants.{Load, Store, Flush, Finish}
-use Rattle.bz_recover.specs.Memory.{Memory, memory_of, StoresWord, Flushes, Evicts, Cuts}
+use Rattle.bz_sweep.specs.Memory.{Memory, memory_of, Cuts}
 use Rattle.bz_recover.specs.Sweep.{IsImage, IsPoweredOn, IsRecovered}
 
 -- what is asked for lies in the memory, and is a load, a store, a flush or the end
@@ -23,13 +21,6 @@ IsAskable c other = ⊥
 -- after a power cut an image resolves to what it resolved to before
 abbrev pub CutsKeepTheImage : Type 0
 CutsKeepTheImage = (c : Config) (values : ℕ → ℕ) (old new : Memory) → IsImage c values old.durable → Cuts old new → IsPoweredOn c values new
-
--- what the acts of a simulated memory leave
-pub record ActsAreThese : Type 0 where
-  pub store : (m : Words) (a x : ℕ) → IsMemory m → a < length m.cached → x < 2 ^ 64 → StoresWord (memory_of m) (memory_of (stored m a x)) a x
-  pub flush : (m : Words) (line : ℕ) → IsMemory m → line * LINE_WORDS < length m.cached → Flushes (memory_of m) (memory_of (flushed m line)) line
-  pub evict : (m : Words) (a : ℕ) → IsMemory m → a < length m.cached → Evicts (memory_of m) (memory_of (evicted m a)) a
-  pub cut : (m : Words) → IsMemory m → Cuts (memory_of m) (memory_of (after_cut m))
 
 -- where a recovery has ended, and nothing else is going on, the swap memory may be renewed
 abbrev pub RecoveredMemoriesMayBeRenewed : Type 0

@@ -1,8 +1,8 @@
 pub mod Contents
 pub mod Duties
+pub mod FromSweep
 pub mod Knowledge
 pub mod Laws
-pub mod Memory
 pub mod Places
 pub mod Sweep
 pub mod Walking

@@ -3,9 +3,7 @@
 #![tactic(auto)]
 
 pub mod laws;
-mod phase;
 mod recover;
-mod sweep;
 mod walk;
 
 pub use recover::Recover;

@@ -11,7 +11,8 @@ use Rattle.bz_layout.specs.declared.sizes.TheConstants.{LINE_WORDS}
 use Rattle.bz_pm.specs.Words.{IsMemory}
 use Rattle.bz_recover.specs.Duties.{hears_in, tells_in, asks_of}
 use Rattle.bz_recover.specs.Knowledge.{RecoveriesKnow}
-use Rattle.bz_recover.specs.Laws.{IsAskable, CutsKeepTheImage, ActsAreThese}
+use Rattle.bz_recover.specs.FromSweep.Laws.{ActsAreThese}
+use Rattle.bz_recover.specs.Laws.{IsAskable, CutsKeepTheImage}
 use Rattle.bz_recover.specs.Sweep.{IsImage}
 use Rattle.bz_recover.specs.declared.recover.Recover.{Recover}
 use Rattle.bz_sight.specs.Sight.{IsSeen}

@@ -14,8 +14,8 @@ use Rattle.bz_pm.specs.Words.{Words, IsMemory}
 use Rattle.bz_recover.specs.Contents.{ResolvesSome, SaysTheSame, ResolvingKeepsTheContent}
 use Rattle.bz_recover.specs.Duties.{config_of, asks_of, acts_left, Knows, hears_in, tells_in}
 use Rattle.bz_recover.specs.Knowledge.{RecoveriesKnow, ActsLeftStay}
-use Rattle.bz_recover.specs.Laws.{ActsAreThese}
-use Rattle.bz_recover.specs.Memory.{StoresWord, Flushes, Evicts, memory_of}
+use Rattle.bz_recover.specs.FromSweep.Laws.{ActsAreThese}
+use Rattle.bz_recover.specs.FromSweep.Memory.{StoresWord, Flushes, Evicts, memory_of}
 use Rattle.bz_recover.specs.declared.recover.Recover.{Recover}
 use Rattle.bz_swap.specs.Evictions.{EvictsIn}
 use Rattle.bz_swap.specs.PlainFields.{PlainFieldsStay, WritesPlain}

@@ -6,7 +6,7 @@ use Rattle.bz_layout.specs.Addresses.{words_of as size_of}
 use Rattle.bz_layout.specs.Config.{IsConfig}
 use Rattle.bz_layout.specs.declared.config.Config.{Config}
 use Rattle.bz_recover.specs.Duties.{config_of, asks_of, acts_left, Knows, Tells, IsReady}
-use Rattle.bz_recover.specs.Memory.{Memory, memory_of}
+use Rattle.bz_recover.specs.FromSweep.Memory.{Memory, memory_of}
 use Rattle.bz_recover.specs.Places.{MOST_ACTS}
 use Rattle.bz_recover.specs.Sweep.{IsPoweredOn}
 use Rattle.bz_recover.specs.declared.recover.Recover.{Recover}

@@ -5,7 +5,7 @@ use Rattle.bz_mark.specs.Log.{Log, with_mark}
 use Rattle.bz_mark.specs.declared.marks.Mark.TheVariants.{Ready}
 use Rattle.bz_layout.specs.Slots.{FreeSlots}
 use Rattle.bz_recover.specs.Duties.{Knows, Tells, WalksIn}
-use Rattle.bz_recover.specs.Memory.{Memory}
+use Rattle.bz_recover.specs.FromSweep.Memory.{Memory}
 use Rattle.bz_recover.specs.declared.recover.Recover.{Recover}
 use Rattle.bz_story.specs.Recovering as recovery
 use Rattle.bz_story.specs.RecoveryLaws.{RecoveriesGoOn}

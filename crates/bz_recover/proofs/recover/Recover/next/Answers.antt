@@ -1,31 +1,38 @@
-use Rattle.std.proofs.Common.{◌≡◌, ◌∙◌, sym, ap}
-use Rattle.std.specs.Prelude.{Some, None}
+use Rattle.std.proofs.Common.{◌≡◌, ℕ, ◌+◌, ◌<◌, arith, sym, ◌∙◌, subst}
+use Rattle.std.specs.Prelude.{Some}
 use Rattle.std.proofs.lemmas.Bool.{true≢false}
-use Rattle.bz_recover.specs.Duties.{asks_in}
-use Rattle.bz_recover.specs.declared.phase.Phase.{Phase}
-use Rattle.bz_task.specs.declared.todo.Todo.TheVariants.{Load}
-use Rattle.bz_recover.proofs.Ahead.{pointers-fall, is-counted, before-walk}
-use Rattle.bz_recover.specs.Places.{pointers_in, walk_acts}
+use Rattle.bz_sweep.specs.Duties.{asks_of as sweep_asks, tells_in as sweep_tells}
+use Rattle.bz_sweep.specs.declared.ask.Answer.{Answer}
+use Rattle.bz_sweep.specs.declared.ask.Ask.TheVariants.{Finish as NoMore}
+use Rattle.bz_recover.specs.Walking.{asks_of_walk, walk_left}
+use Rattle.bz_recover.proofs.Joining.{no-end, tells}
 use Rattle.bz_recover.proofs.recover.Recover.next.Goals as goal
 
--- no walk is the first phase after power on
-pub returns-then-walks-2-clause-first : goal.returns-then-walks-2-clause-first
-returns-then-walks-2-clause-first c e =
-    let bad : None ≡ Some (Load 0) = sym (ap (λ (p : Phase). asks_in p None) (c.walks-2.ensures.0 c.if-walks-2.true)) ∙ c.after-self.ensures.first None e in
-    absurd (cc bad)
+one-less : (a b w : ℕ) → a < b → a + w < b + w
+one-less a b w l = omega (arith, l)
 
-pub returns-clause-ready : goal.returns-clause-ready
-returns-clause-ready c = record {
-  phase = c.after-self.ensures.place;
+pub returns-in-Some-clause-ready : goal.returns-in-Some-clause-ready
+returns-in-Some-clause-ready c = record {
+  sweep = c.next-2.ensures.ready;
   walk = c.requires.ready.walk;
+  area = c.next-2.ensures.area ∙ c.requires.ready.area;
   sizes = c.requires.ready.sizes;
-  before = λ ne. c.requires.ready.before (λ is. absurd (true≢false (sym (c.walks.ensures.1 is) ∙ c.if-walks.false)));
-  begun = λ is. absurd (true≢false (sym (c.walks-2.ensures.1 is) ∙ c.if-walks-2.false));
+  before = λ ne. c.requires.ready.before (λ e. true≢false (sym (c.ended.ensures.1 e) ∙ c.if-ended.false));
+  begun = λ e. absurd (no-end c.next-2.result c.in-Some.todo (sym c.in-Some.ensures) (let same : Some c.next-2.result ≡ Some NoMore = sym c.next-2.ensures.asked ∙ e in cc));
 }
 
--- over a memory that it knows each pointer is one that was counted
-pub returns-clause-sooner : goal.returns-clause-sooner
-returns-clause-sooner c values m k =
-    let t = c.args.self.now in
-    before-walk t.config (pointers_in t.config m.durable) _ (walk_acts t.config) _ c.after-self.result (λ is. absurd (true≢false (sym (c.walks-2.ensures.1 is) ∙ c.if-walks-2.false)))
-    (c.after-self.ensures.nearer (pointers_in t.config m.durable) (pointers-fall t.config m.durable) (is-counted t.config values m t.phase c.requires.ready.phase k))
+pub returns-in-Some-clause-sooner : goal.returns-in-Some-clause-sooner
+returns-in-Some-clause-sooner c v m k = one-less _ _ (walk_left c.args.self.now.walk.left c.args.self.now.walk.step) (c.next-2.ensures.sooner v m k)
+
+-- the sweep is told what came of its act
+pub returns-in-Some-clause-learns : goal.returns-in-Some-clause-learns
+returns-in-Some-clause-learns c v m k t =
+    let asks = sweep_asks c.args.self.now.sweep in
+    let here = tells asks (asks_of_walk c.args.self.now.walk) c.args.seen m (λ e. true≢false (sym (c.ended.ensures.1 e) ∙ c.if-ended.false)) t in
+    c.next-2.ensures.learns v m k (subst (λ (a : Answer). sweep_tells asks a m) (sym c.answer_of.ensures) here)
+
+pub returns-in-None-clause-learns : goal.returns-in-None-clause-learns
+returns-in-None-clause-learns c v m k t =
+    let asks = sweep_asks c.args.self.now.sweep in
+    let here = tells asks (asks_of_walk c.args.self.now.walk) c.args.seen m (λ e. true≢false (sym (c.ended.ensures.1 e) ∙ c.if-ended.false)) t in
+    c.next-2.ensures.learns v m k (subst (λ (a : Answer). sweep_tells asks a m) (sym c.answer_of.ensures) here)

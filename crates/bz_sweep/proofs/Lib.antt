@@ -1,0 +1,11 @@
+pub mod Ahead
+pub mod Entries
+pub mod Finding
+pub mod Freeings
+pub mod Images
+pub mod Lawful
+pub mod Named
+pub mod Nearness
+pub mod Renewing
+pub mod Standing
+pub mod Sweeps

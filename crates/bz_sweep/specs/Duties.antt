@@ -1,0 +1,125 @@
+-- What a sweep asks for and what it knows, phase by phase.
+use Rattle.std.specs.Prelude.{◌≡◌, ◌≢◌, ℕ, ◌+◌, ◌-◌, ◌^◌, ◌<◌, ◌==◌, Option, Some, None}
+use Rattle.bz_content.specs.Resolving.{status_in, target_in, SUCCEEDED}
+use Rattle.bz_layout.specs.Addresses.{swap_address, line_of}
+use Rattle.bz_layout.specs.declared.sizes.TheConstants.{SWAP_STATUS_AT}
+use Rattle.bz_word.specs.Kinds.{kind}
+use Rattle.bz_word.specs.declared.kind.WordKind.TheVariants.{Swap}
+use Rattle.bz_sweep.specs.Areas.{size_of}
+use Rattle.bz_sweep.specs.Memory.{Memory}
+use Rattle.bz_sweep.specs.Places.{entry_address, left_in, pointers_in, IsPlaced}
+use Rattle.bz_sweep.specs.Words.{IsPoweredOn, IsSwept, IsFreeing, IsOfSwap}
+use Rattle.bz_sweep.specs.declared.area.Area.{Area}
+use Rattle.bz_sweep.specs.declared.ask.Answer.{Answer}
+use Rattle.bz_sweep.specs.declared.ask.Answer.TheVariants.{Start, Read, Stored, Flushed}
+use Rattle.bz_sweep.specs.declared.ask.Ask.{Ask}
+use Rattle.bz_sweep.specs.declared.ask.Ask.TheVariants.{Load, Store, Flush as FlushLine, Finish}
+use Rattle.bz_sweep.specs.declared.phase.Phase.{Phase}
+use Rattle.bz_sweep.specs.declared.phase.Phase.TheVariants.{Fresh, Word, Status, Target, Value, Resolve, Flush, SwapStatus, Free, FlushFree, Done}
+use Rattle.bz_sweep.specs.declared.phase.Pointer.{Pointer}
+use Rattle.bz_sweep.specs.declared.sweep.Sweep.{Sweep}
+
+-- what a phase asks for
+abbrev pub asks_in : Phase → Option Ask
+asks_in Fresh = None
+asks_in (Word p) = Some (Load p.at)
+asks_in (Status p s) = Some (Load (swap_address s + SWAP_STATUS_AT))
+asks_in (Target p q i) = Some (Load (entry_address q.swap i 0))
+asks_in (Value p a) = Some (Load a)
+asks_in (Resolve p x) = Some (Store p.at x)
+asks_in (Flush p) = Some (FlushLine (line_of p.at))
+asks_in (SwapStatus s) = Some (Load (swap_address s))
+asks_in (Free s) = Some (Store (swap_address s) 0)
+asks_in (FlushFree s) = Some (FlushLine (line_of (swap_address s)))
+asks_in Done = Some Finish
+
+-- what is known of a pointer whose descriptor's status was read, where the first so many entries have other targets
+pub record IsSought (m : Memory) (a : ℕ) (q : Pointer) (i : ℕ) : Type 0 where
+  pub pointer : kind (m.durable a) ≡ Swap q.swap
+  pub succeeded : q.succeeded ≡ (status_in m.durable q.swap == SUCCEEDED)
+  pub others : (j : ℕ) → j < i → target_in m.durable q.swap j ≢ a
+
+-- the word of a descriptor that is the value of an address
+pub record IsValueAt (r : Area) (values : ℕ → ℕ) (m : Memory) (a at : ℕ) : Type 0 where
+  pub place : IsOfSwap r at
+  pub value : m.durable at ≡ values a
+
+-- what has become of the act that a sweep asked for
+pub data Stage : Type 0 where
+  -- it is still to be made
+  Asked : Stage
+  -- it is made, and the sweep has not been told
+  Made : Stage
+
+-- what a phase knows before its act is made
+abbrev pub knows_before : Area → (ℕ → ℕ) → Memory → Phase → Type 0
+knows_before r v m Fresh = IsPoweredOn r v m
+knows_before r v m (Word p) = IsSwept r v m p.unflushed p.at
+knows_before r v m (Status p s) = IsSwept r v m p.unflushed p.at × (kind (m.durable p.at) ≡ Swap s)
+knows_before r v m (Target p q i) = IsSwept r v m p.unflushed p.at × IsSought m p.at q i
+knows_before r v m (Value p a) = IsSwept r v m p.unflushed p.at × IsValueAt r v m p.at a
+knows_before r v m (Resolve p x) = IsSwept r v m p.unflushed p.at × (x ≡ v p.at)
+knows_before r v m (Flush p) = IsSwept r v m p.unflushed (p.at + 1)
+knows_before r v m (SwapStatus s) = IsFreeing r v m s s
+knows_before r v m (Free s) = IsFreeing r v m s s
+knows_before r v m (FlushFree s) = IsFreeing r v m s (s + 1)
+knows_before r v m Done = IsFreeing r v m r.swaps r.swaps
+
+-- and after it: a store or a flush has changed what is known
+abbrev pub knows_after : Area → (ℕ → ℕ) → Memory → Phase → Type 0
+knows_after r v m (Resolve p x) = IsSwept r v m p.unflushed (p.at + 1)
+knows_after r v m (Flush p) = IsSwept r v m (p.at + 1) (p.at + 1)
+knows_after r v m (Free s) = IsFreeing r v m s (s + 1)
+knows_after r v m (FlushFree s) = IsFreeing r v m (s + 1) (s + 1)
+knows_after r v m p = knows_before r v m p
+
+abbrev pub knows_in : Area → (ℕ → ℕ) → Memory → Stage → Phase → Type 0
+knows_in r v m Asked p = knows_before r v m p
+knows_in r v m Made p = knows_after r v m p
+
+-- what an answer may be: of a load a word
+abbrev pub hears_in : Option Ask → Answer → Type 0
+hears_in None Start = Unit {0}
+hears_in (Some (Load a)) (Read x) = x < 2 ^ 64
+hears_in (Some (Store a x)) Stored = Unit {0}
+hears_in (Some (FlushLine line)) Flushed = Unit {0}
+hears_in asks answer = ⊥
+
+-- a load tells the cached word
+abbrev pub tells_in : Option Ask → Answer → Memory → Type 0
+tells_in (Some (Load a)) (Read x) m = m.cached a ≡ x
+tells_in asks answer m = Unit {0}
+
+abbrev pub area_in : Sweep → Area
+area_in t = t.area
+
+abbrev pub asks_of : Sweep → Option Ask
+asks_of t = asks_in t.phase
+
+-- it asks for nothing more
+abbrev pub HasEnded : Sweep → Type 0
+HasEnded t = asks_of t ≡ Some Finish
+
+abbrev pub left_with : (ℕ → ℕ) → Sweep → ℕ
+left_with pointers t = left_in t.area pointers t.phase
+
+-- the most acts that it still asks for, whatever the words are: each may be a pointer
+abbrev pub left_of : Sweep → ℕ
+left_of t = left_with (λ a. size_of t.area - a) t
+
+-- and over a memory that it knows
+abbrev pub acts_left : Sweep → Memory → ℕ
+acts_left t m = left_with (pointers_in t.area m.durable) t
+
+abbrev pub Knows : Sweep → (ℕ → ℕ) → Stage → Memory → Type 0
+Knows t values stage m = knows_in t.area values m stage t.phase
+
+abbrev pub Hears : Sweep → Answer → Type 0
+Hears t answer = hears_in (asks_of t) answer
+
+abbrev pub Tells : Sweep → Answer → Memory → Type 0
+Tells t answer m = tells_in (asks_of t) answer m
+
+-- a sweep at a phase of such a memory
+abbrev pub IsReady : Sweep → Type 0
+IsReady t = IsPlaced t.area t.phase

@@ -1,0 +1,183 @@
+//! The sweep.
+
+ghost use Rattle.std.specs.Prelude.{◌≡◌, ◌≢◌, ◌+◌, ◌*◌, ◌<◌, ◌≤◌, ◌↔◌, ℕ, Some, None, IsTrue};
+ghost use Rattle.bz_layout.specs.Addresses.{swap_address};
+ghost use Rattle.bz_sweep.specs.Areas.{size_of, IsArea};
+ghost use Rattle.bz_sweep.specs.Duties.{Stage, Asked, Made, knows_before, area_in, asks_in, asks_of, left_with, left_of, acts_left, HasEnded, Knows, Hears, Tells, IsReady};
+ghost use Rattle.bz_sweep.specs.Laws.{IsAskable};
+ghost use Rattle.bz_sweep.specs.Memory.{Memory, StoresWord, Flushes, Evicts};
+ghost use Rattle.bz_sweep.specs.Places.{IsPlaced, left_in, swaps_left, sweep_acts, MOST_ACTS, IsFalling, IsCounted};
+ghost use Rattle.bz_sweep.specs.Words.{IsPoweredOn, IsFreeing, IsImage, IsRecovered};
+ghost use Rattle.bz_sweep.specs.declared.ask.Ask.{Ask};
+ghost use Rattle.bz_sweep.specs.declared.ask.Ask.TheVariants.{Load, Store, Flush, Finish};
+
+use crate::area::Area;
+use crate::ask::{Answer, Ask};
+use crate::phase::{Phase, Pointer, Spot};
+use crate::words::{TARGET, address_in_entry, address_of_swap, flushed, found, resolved, sought};
+use bz_layout::{LINE_WORDS, SUPERBLOCK_WORDS, SWAP_STATUS_AT, SWAP_WORDS};
+
+/// The status of a swap that has succeeded.
+const SUCCEEDED: u64 = 2;
+
+const DIRTY_BIT: u64 = 1 << 63;
+
+/// The sweep over a memory by one worker, which has it alone: every word outside the descriptors is resolved and made
+/// durable, and then every descriptor made free.
+#[derive(Drop)]
+pub struct Sweep {
+    area: Area,
+    phase: Phase,
+}
+
+impl Sweep {
+    /// A sweep over such a memory, from its first word on.
+    pub fn new(area: &Area) -> Sweep
+        requires { IsArea area.now }
+        ensures ready { IsReady result }
+        ensures area { area_in result ≡ area.now }
+        ensures asks { asks_of result ≡ None }
+        // fewer than four acts for each word
+        ensures left { (m : Memory) → acts_left result m ≤ sweep_acts area.now }
+        ensures few { sweep_acts area.now < MOST_ACTS * size_of area.now }
+        // it may begin in every memory whose power has come on again
+        ensures knows { (values : ℕ → ℕ) (m : Memory) → IsPoweredOn area.now values m → Knows result values Made m }
+    {
+        Sweep {
+            area: *area,
+            phase: Phase::Fresh,
+        }
+    }
+
+    /// Whether it has ended: it asks for nothing more.
+    pub fn ended(&self) -> bool
+        ensures { IsTrue result ↔ HasEnded self.now }
+    {
+        match self.phase {
+            Phase::Done => true,
+            _ => false,
+        }
+    }
+
+    /// The next act, after what came of the last one.
+    pub fn next(&mut self, answer: Answer) -> Ask
+        requires ready { IsReady self.old }
+        requires hears { Hears self.old answer }
+        ensures ready { IsReady self.new }
+        ensures asked { asks_of self.new ≡ Some result }
+        ensures nearer { left_of self.new < left_of self.old }
+        // and over a memory that it knows
+        ensures sooner { (values : ℕ → ℕ) (m : Memory) → Knows self.old values Made m → acts_left self.new m < acts_left self.old m }
+        ensures area { area_in self.new ≡ area_in self.old }
+        // a new one begins with the first word
+        ensures first { asks_of self.old ≡ None → result ≡ Load 0 }
+        // what it knows of every memory in which its act is made and the answer is true
+        ensures learns { (values : ℕ → ℕ) (m : Memory) → Knows self.old values Made m → Tells self.old answer m → Knows self.new values Asked m }
+    {
+        self.phase = self.after(answer);
+        self.asked()
+    }
+
+    /// Laws of what is known. Does nothing.
+    pub fn learnt(&self)
+        requires { IsReady self.now }
+        // no eviction changes what is known, nor a load before it is answered
+        ensures stable { (values : ℕ → ℕ) (stage : Stage) (old new : Memory) (a : ℕ) → Knows self.now values stage old → Evicts old new a → Knows self.now values stage new }
+        ensures loaded { (values : ℕ → ℕ) (m : Memory) (a : ℕ) → asks_of self.now ≡ Some (Load a) → Knows self.now values Asked m → Knows self.now values Made m }
+        // at every moment the durable words resolve to the same values
+        ensures image { (values : ℕ → ℕ) (stage : Stage) (m : Memory) → Knows self.now values stage m → IsImage (area_in self.now) values m.durable }
+        // what is asked for may be asked for
+        ensures askable { (values : ℕ → ℕ) (m : Memory) (ask : Ask) → Knows self.now values Asked m → asks_of self.now ≡ Some ask → IsAskable (area_in self.now) ask }
+        // at the end all words are plain and durable, and all descriptors free
+        ensures ends { (values : ℕ → ℕ) (stage : Stage) (m : Memory) → Knows self.now values stage m → HasEnded self.now → IsRecovered (area_in self.now) values m }
+    {}
+
+    /// Laws of the acts by which the memory changes. Does nothing.
+    pub fn acted(&self)
+        requires { IsReady self.now }
+        ensures stored { (values : ℕ → ℕ) (old new : Memory) (a x : ℕ) → asks_of self.now ≡ Some (Store a x) → Knows self.now values Asked old → StoresWord old new a x → Knows self.now values Made new }
+        ensures flushed { (values : ℕ → ℕ) (old new : Memory) (line : ℕ) → asks_of self.now ≡ Some (Flush line) → Knows self.now values Asked old → Flushes old new line → Knows self.now values Made new }
+    {}
+
+    // The phase after what came of the last act.
+    fn after(&self, answer: Answer) -> Phase
+        requires place { IsPlaced self.now.area self.now.phase }
+        requires hears { Hears self.now answer }
+        ensures place { IsPlaced self.now.area result }
+        ensures begun { result ≢ Phase.Fresh }
+        ensures first { asks_of self.now ≡ None → asks_in result ≡ Some (Load 0) }
+        ensures nearer { (pointers : ℕ → ℕ) → IsFalling pointers → IsCounted pointers self.now.phase → left_in self.now.area pointers result < left_with pointers self.now }
+        ensures learns { (v : ℕ → ℕ) (m : Memory) → Knows self.now v Made m → Tells self.now answer m → knows_before self.now.area v m result }
+    {
+        let area = &self.area;
+        match (self.phase, answer) {
+            (Phase::Fresh, _) => Phase::Word(Spot {
+                unflushed: 0,
+                at: 0,
+            }),
+            (Phase::Word(spot), Answer::Read(word)) => found(area, spot, word),
+            (Phase::Status(spot, swap), Answer::Read(status)) => {
+                let succeeded = status % DIRTY_BIT == SUCCEEDED;
+                Phase::Target(spot, Pointer { swap, succeeded }, 0)
+            }
+            (Phase::Target(spot, pointer, entry), Answer::Read(target)) => {
+                sought(spot, pointer, entry, target)
+            }
+            (Phase::Value(spot, _), Answer::Read(value)) => Phase::Resolve(spot, value),
+            (Phase::Resolve(spot, _), Answer::Stored) => resolved(area, spot, true),
+            (Phase::Flush(spot), Answer::Flushed) => flushed(area, spot),
+            (Phase::SwapStatus(swap), Answer::Read(0)) => freed(area, swap),
+            (Phase::SwapStatus(swap), Answer::Read(_)) => Phase::Free(swap),
+            (Phase::Free(swap), Answer::Stored) => Phase::FlushFree(swap),
+            (Phase::FlushFree(swap), Answer::Flushed) => freed(area, swap),
+            _ => Phase::Done,
+        }
+    }
+
+    // What a phase asks for.
+    fn asked(&self) -> Ask
+        requires place { IsPlaced self.now.area self.now.phase }
+        requires begun { self.now.phase ≢ Phase.Fresh }
+        ensures { asks_of self.now ≡ Some result }
+    {
+        match self.phase {
+            Phase::Fresh | Phase::Done => Ask::Finish,
+            Phase::Word(spot) => Ask::Load(spot.at),
+            Phase::Status(_, swap) => Ask::Load(address_of_swap(swap) + SWAP_STATUS_AT),
+            Phase::Target(_, pointer, entry) => {
+                Ask::Load(address_in_entry(pointer.swap, entry, TARGET))
+            }
+            Phase::Value(_, at) => Ask::Load(at),
+            Phase::Resolve(spot, value) => Ask::Store(spot.at, value),
+            Phase::Flush(spot) => Ask::Flush(spot.at / LINE_WORDS),
+            Phase::SwapStatus(swap) => Ask::Load(self.swap_at(swap)),
+            Phase::Free(swap) => Ask::Store(self.swap_at(swap), 0),
+            Phase::FlushFree(swap) => Ask::Flush(self.swap_at(swap) / LINE_WORDS),
+        }
+    }
+
+    // The first word of a descriptor, which has its status.
+    fn swap_at(&self, swap: u32) -> u32
+        requires area { IsArea self.now.area }
+        requires swap { swap < self.now.area.swaps }
+        ensures { result ≡ swap_address swap }
+    {
+        SUPERBLOCK_WORDS + SWAP_WORDS * swap
+    }
+}
+
+// The phase after a descriptor that is free.
+fn freed(area: &Area, swap: u32) -> Phase
+    requires area { IsArea area.now }
+    requires swap { swap < area.now.swaps }
+    ensures place { IsPlaced area.now result }
+    ensures begun { result ≢ Phase.Fresh }
+    ensures nearer { (pointers : ℕ → ℕ) → left_in area.now pointers result < swaps_left area.now swap 2 }
+    ensures learns { (v : ℕ → ℕ) (m : Memory) → IsFreeing area.now v m (swap + 1) (swap + 1) → knows_before area.now v m result }
+{
+    let next = swap + 1;
+    if next == area.swaps {
+        return Phase::Done;
+    }
+    Phase::SwapStatus(next)
+}
