@@ -47,13 +47,17 @@ unfolding in_order
 keys-in-order P [] h = no-keys P _ (sym (len-entries (from_entries {R = slice_cmp nat_cmp} [])) ∙ len-empty (slice_cmp nat_cmp) (List ℕ))
 keys-in-order P (x ∷ xs) h = subst (KeysAre P) (sym (entries-insert nat_list_cmp_total (from_entries xs) x.0 x.1)) (keys-put P x.0 x.1 (entries (from_entries xs)) h.0 (keys-in-order P xs h.1))
 
--- the records of a leaf, by its rule of keys
-pub keys-within : (n : ℕ → ℕ) (meta : ℕ → Meta) (low high : Option (List ℕ)) (count : ℕ) → ((j : ℕ) → j < count → visible (meta j) ≡ true → is_within (key_in n (extent_of (meta j))) low high ≡ true) →
-    KeysAre (λ key. is_within key low high ≡ true) (records_to n meta count)
+-- the records of a leaf, by the keys of its visible ones
+pub keys-each : (P : List ℕ → Type 0) (n : ℕ → ℕ) (meta : ℕ → Meta) (count : ℕ) → ((j : ℕ) → j < count → visible (meta j) ≡ true → P (key_in n (extent_of (meta j)))) → KeysAre P (records_to n meta count)
 unfolding records_to
-keys-within n meta low high zero each = tt
-keys-within n meta low high (suc k) each = keys-join (λ key. is_within key low high ≡ true) (records_to n meta k) _ (keys-within n meta low high k (λ j l. each j (omega arith))) (last (visible (meta k)) refl)
+keys-each P n meta zero each = tt
+keys-each P n meta (suc k) each = keys-join P (records_to n meta k) _ (keys-each P n meta k (λ j l. each j (omega arith))) (last (visible (meta k)) refl)
   where
-    last : (b : Bool) → visible (meta k) ≡ b → KeysAre (λ key. is_within key low high ≡ true) (if b then (key_in n (extent_of (meta k)), payload_in n (extent_of (meta k))) ∷ [] else [])
+    last : (b : Bool) → visible (meta k) ≡ b → KeysAre P (if b then (key_in n (extent_of (meta k)), payload_in n (extent_of (meta k))) ∷ [] else [])
     last true shown = (each k (omega arith) shown, tt)
     last false hidden = tt
+
+-- and by its rule of keys
+pub keys-within : (n : ℕ → ℕ) (meta : ℕ → Meta) (low high : Option (List ℕ)) (count : ℕ) → ((j : ℕ) → j < count → visible (meta j) ≡ true → is_within (key_in n (extent_of (meta j))) low high ≡ true) →
+    KeysAre (λ key. is_within key low high ≡ true) (records_to n meta count)
+keys-within n meta low high count each = keys-each (λ key. is_within key low high ≡ true) n meta count each

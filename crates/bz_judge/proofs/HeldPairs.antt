@@ -25,11 +25,11 @@ use Rattle.bz_judge.proofs.Joined.{Lies}
 use Rattle.bz_judge.proofs.Rising.{LeavesLie, lies-walk}
 use Rattle.bz_judge.proofs.Scanned.{both}
 
-or_else : Option (List ℕ) → Option (List ℕ) → Option (List ℕ)
+unfoldable pub or_else : Option (List ℕ) → Option (List ℕ) → Option (List ℕ)
 or_else (Some x) rest = Some x
 or_else None rest = rest
 
-find-join : (q : List ℕ) (xs ys : Pairs) → find (slice_cmp nat_cmp) q (xs ++ ys) ≡ or_else (find (slice_cmp nat_cmp) q xs) (find (slice_cmp nat_cmp) q ys)
+pub find-join : (q : List ℕ) (xs ys : Pairs) → find (slice_cmp nat_cmp) q (xs ++ ys) ≡ or_else (find (slice_cmp nat_cmp) q xs) (find (slice_cmp nat_cmp) q ys)
 unfolding or_else
 find-join q [] ys = refl
 find-join q (x ∷ xs) ys = go (eq_by_cmp (slice_cmp nat_cmp) q x.0) (find-join q xs ys)

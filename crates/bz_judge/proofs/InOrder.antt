@@ -32,7 +32,7 @@ equal Less e = absurd (cc)
 equal Equal e = refl
 equal Greater e = absurd (cc)
 
-exact : (a b : List ℕ) → same a b ≡ true → a ≡ b
+pub exact : (a b : List ℕ) → same a b ≡ true → a ≡ b
 exact a b e = slice_cmp-IsAntisymmetric nat_cmp-IsAntisymmetric a b (equal (slice_cmp nat_cmp a b) e)
 
 looked-up : (q : List ℕ) (xs : Pairs) → find (slice_cmp nat_cmp) q xs ≡ lookup (same q) xs

@@ -17,3 +17,4 @@ pub mod Scanned
 pub mod Steps
 pub mod Told
 pub mod Walks
+pub mod Counted
