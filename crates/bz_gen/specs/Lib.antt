@@ -2,3 +2,4 @@ pub mod Example
 pub mod Laws
 pub mod Names
 pub mod Workload
+pub mod Numbers

@@ -14,3 +14,4 @@ pub mod Script
 pub mod Texts
 pub mod Words
 pub mod ItemLaws
+pub mod Numbers

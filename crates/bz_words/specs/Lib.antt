@@ -1,3 +1,4 @@
 pub mod CommandLine
 pub mod Laws
 pub mod Inside
+pub mod Numbers
