@@ -7,10 +7,10 @@ use Rattle.bz_machine.specs.declared.place.Place.{Place}
 use Rattle.bz_machine.specs.declared.place.Place.TheVariants as place
 use Rattle.bz_machine.specs.declared.worker.Operation.TheVariants as operation
 use Rattle.bz_machine.specs.declared.worker.Worker.{Worker}
-use Rattle.bz_machine.specs.Allowed.{for_act, for_worker}
+use Rattle.bz_machine.specs.Allowed.{for_worker}
 use Rattle.bz_swap.specs.declared.phase.Phase.{Phase}
 use Rattle.bz_swap.specs.declared.phase.Phase.TheVariants.{Opened, Running, Recovering}
-use Rattle.bz_swap.specs.Alone.{allowed_for}
+use Rattle.bz_swap.specs.Alone.{allowed_by_kind}
 use Rattle.bz_swap.specs.Held.{Holds}
 use Rattle.bz_swap.specs.Starts.{MayRecover, MayLoad, MayStore, MayFlush, started, phase_of, begins_by_flush}
 use Rattle.bz_swap.specs.SwapMemory.{Doing, Loading, Storing, Flushing}
@@ -24,14 +24,14 @@ use Rattle.bz_swap.proofs.Stepping.{worker-read, workers-within}
 use Rattle.bz_swap.proofs.WorkStarts.{placed, nothing-at, store-started, flush-started}
 
 -- the parts after a start
-abbrev pub with_start : Parts → ℕ → Worker → Parts
-with_start p w l = record p { workers = slice_set p.workers w l; phase = phase_of w; allowance = after_start p.allowance w for_act }
+abbrev pub with_start : Parts → ℕ → Worker → ℕ → Parts
+with_start p w l more = record p { workers = slice_set p.workers w l; phase = phase_of w; allowance = after_start p.allowance w more }
 
 -- all that a start owes
 pub record IsBegun (p : Parts) (w : ℕ) (l : Worker) (d : Doing) : Type 0 where
-  pub kept : IsKept (with_start p w l)
-  pub is : seen (with_start p w l) ≡ started (seen p) w d
-  pub holds : Holds (seen (with_start p w l))
+  pub kept : IsKept (with_start p w l (allowed_by_kind d))
+  pub is : seen (with_start p w l (allowed_by_kind d)) ≡ started (seen p) w d
+  pub holds : Holds (seen (with_start p w l (allowed_by_kind d)))
 
 -- nothing goes on where worker 0 may start
 resting : (phase : Phase) (p : Parts) → phase ≢ Running → KeptIn phase p → ((w : ℕ) → (worker_at p w).operation ≡ operation.Nothing) × ((w : ℕ) → 0 < w → (worker_at p w).place ≡ place.Idle)
@@ -45,10 +45,10 @@ none-begun Running p not kept = absurd (not refl)
 none-begun Recovering p not kept = refl
 
 raw-begun : (p : Parts) (k : IsKept p) (at : Place) (l : Worker) (d : Doing) → MayRecover (seen p) → l ≡ worker_at p 0 → RecoversAt p.store at
-    → at ≢ place.Idle → working (placed l at) ≡ record { doing = d; flush_next = begins_by_flush d } → allowed_for d ≡ for_act → IsBegun p 0 (placed l at) d
-raw-begun p k at l d may is lies busy shows act =
+    → at ≢ place.Idle → working (placed l at) ≡ record { doing = d; flush_next = begins_by_flush d } → 0 < allowed_by_kind d → IsBegun p 0 (placed l at) d
+raw-begun p k at l d may is lies busy shows some =
     let (rest, others) = resting p.phase p may.phase k.kept in
-    let here : worker_at (with_start p 0 (placed l at)) 0 ≡ placed l at = get_or-set_same p.workers 0 (placed l at) idle_worker k.some in
+    let here : worker_at (with_start p 0 (placed l at) (allowed_by_kind d)) 0 ≡ placed l at = get_or-set_same p.workers 0 (placed l at) idle_worker k.some in
     let there = λ (w : ℕ) (ne : w ≢ 0). get_or-set_other p.workers 0 w (placed l at) idle_worker ne in
     let none = none-begun p.phase p may.phase k.kept in
     let left = left-seen p k 0 in
@@ -68,26 +68,26 @@ raw-begun p k at l d may is lies busy shows act =
             | inl e ↦ rw (e, here, is) (rest 0)
             | inr ne ↦ rw (there w ne) (rest w)
           ];
-          enough = λ _. omega arith;
+          enough = λ _. omega (arith, some);
         };
       };
-      is = λ i. record (seen p) { phase = Recovering; begun = sym none i; workers = workers i; runner = 0; left = sym left i + sym act i };
+      is = λ i. record (seen p) { phase = Recovering; begun = sym none i; workers = workers i; runner = 0; left = sym left i + allowed_by_kind d };
       holds = tt;
     }
 
 -- with the worker that the code reads
 pub load-begun : (p : Parts) (k : IsKept p) (w a : ℕ) (l : Worker) → MayLoad (seen p) w a → l ≡ get_or p.workers w l → IsBegun p w (placed l (place.LoadWord a)) (Loading a)
-load-begun p k zero a l may is = raw-begun p k (place.LoadWord a) l (Loading a) may.recover (worker-read p 0 l k.some is) may.within (λ idle. (let bad = idle in absurd cc)) refl refl
+load-begun p k zero a l may is = raw-begun p k (place.LoadWord a) l (Loading a) may.recover (worker-read p 0 l k.some is) may.within (λ idle. (let bad = idle in absurd cc)) refl (omega arith)
 load-begun p k (suc w) a l may is = absurd (omega (arith, may.zero))
 
 pub store-begun : (p : Parts) (k : IsKept p) (w a v : ℕ) (l : Worker) → MayStore (seen p) w a v → l ≡ get_or p.workers w l → IsBegun p w (placed l (place.StoreWord a v)) (Storing a v)
-store-begun p k zero a v l may is = raw-begun p k (place.StoreWord a v) l (Storing a v) may.recover (worker-read p 0 l k.some is) may.within (λ idle. (let bad = idle in absurd cc)) refl refl
+store-begun p k zero a v l may is = raw-begun p k (place.StoreWord a v) l (Storing a v) may.recover (worker-read p 0 l k.some is) may.within (λ idle. (let bad = idle in absurd cc)) refl (omega arith)
 store-begun p k (suc w) a v l may is =
     let s = store-started p k (suc w) a v l may (worker-read p (suc w) l (workers-within p (suc w) may.work.within) is) in
     record { kept = s.kept; is = s.is; holds = s.holds }
 
 pub flush-begun : (p : Parts) (k : IsKept p) (w line : ℕ) (l : Worker) → MayFlush (seen p) w line → l ≡ get_or p.workers w l → IsBegun p w (placed l (place.FlushLine line)) (Flushing line)
-flush-begun p k zero line l may is = raw-begun p k (place.FlushLine line) l (Flushing line) may.recover (worker-read p 0 l k.some is) may.within (λ idle. (let bad = idle in absurd cc)) refl refl
+flush-begun p k zero line l may is = raw-begun p k (place.FlushLine line) l (Flushing line) may.recover (worker-read p 0 l k.some is) may.within (λ idle. (let bad = idle in absurd cc)) refl (omega arith)
 flush-begun p k (suc w) line l may is =
     let s = flush-started p k (suc w) line l may (worker-read p (suc w) l (workers-within p (suc w) may.work.within) is) in
     record { kept = s.kept; is = s.is; holds = s.holds }

@@ -7,7 +7,7 @@ use Rattle.bz_machine.specs.declared.worker.Operation.TheVariants as operation
 use Rattle.bz_machine.specs.declared.worker.Worker.{Worker}
 use Rattle.bz_machine.specs.State.{StartRead, StartStore, StartFlush, with_local}
 use Rattle.bz_machine.specs.Workers.{local_of}
-use Rattle.bz_machine.proofs.BudgetStarts.{starts_add_allowed}
+use Rattle.bz_machine.proofs.BudgetStarts.{starts_add_by_kind}
 use Rattle.bz_acts.specs.Ready.{LiesOutside}
 use Rattle.bz_swap.specs.Starts.{IsAddress, MayRead, IsPrivateStore, IsPrivateFlush}
 use Rattle.bz_swap.specs.SwapMemory.{Idle, Reading, Storing, Flushing, doing_of}
@@ -51,8 +51,8 @@ read-started p k w a l may is =
       worker = record { rests = tt; operation = lies; place = lies };
       allowed = k.allowed;
       busy = λ is_idle. (let bad = is_idle in absurd cc);
-      adds = (starts_add_allowed (state_of p r.entries r.beside) w (length p.workers) r.bounded.owned at).read a;
-    }) refl refl
+      adds = (starts_add_by_kind (state_of p r.entries r.beside) w (length p.workers) r.bounded.owned at).read a;
+    }) refl
 
 pub store-started : (p : Parts) (k : IsKept p) (w a v : ℕ) (l : Worker) → IsPrivateStore (seen p) w a v → l ≡ worker_at p w → IsStarted p w (placed l (place.StoreWord a v)) (Storing a v)
 store-started p k w a v l may is =
@@ -71,8 +71,8 @@ store-started p k w a v l may is =
       worker = record { rests = nothing; operation = rw nothing tt; place = lies };
       allowed = k.allowed;
       busy = λ is_idle. (let bad = is_idle in absurd cc);
-      adds = (starts_add_allowed (state_of p r.entries r.beside) w (length p.workers) r.bounded.owned at).store a v;
-    }) refl refl
+      adds = (starts_add_by_kind (state_of p r.entries r.beside) w (length p.workers) r.bounded.owned at).store a v;
+    }) refl
 
 pub flush-started : (p : Parts) (k : IsKept p) (w line : ℕ) (l : Worker) → IsPrivateFlush (seen p) w line → l ≡ worker_at p w → IsStarted p w (placed l (place.FlushLine line)) (Flushing line)
 flush-started p k w line l may is =
@@ -91,5 +91,5 @@ flush-started p k w line l may is =
       worker = record { rests = nothing; operation = rw nothing tt; place = lies };
       allowed = k.allowed;
       busy = λ is_idle. (let bad = is_idle in absurd cc);
-      adds = (starts_add_allowed (state_of p r.entries r.beside) w (length p.workers) r.bounded.owned at).flush line;
-    }) refl refl
+      adds = (starts_add_by_kind (state_of p r.entries r.beside) w (length p.workers) r.bounded.owned at).flush line;
+    }) refl

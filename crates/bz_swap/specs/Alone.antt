@@ -2,13 +2,19 @@
 -- most the sum of what each start allows, and of what each worker allows once that does something when the counting begins,
 -- itself among them.
 use Rattle.std.specs.Prelude.{if◌then◌else◌, ◌==◌, ℕ, min, length}
-use Rattle.bz_machine.specs.Allowed.{for_act, for_swap, for_worker, sum_below}
-use Rattle.bz_swap.specs.SwapMemory.{SwapMemory, Doing, Idle, Swapping, doing_of}
+use Rattle.bz_machine.specs.Allowed.{for_act, for_word, for_flush, for_swap, for_worker, sum_below}
+use Rattle.bz_swap.specs.SwapMemory.{SwapMemory, Doing, Idle, Swapping, Flushing, doing_of}
 
 -- what the start of this allows
 abbrev pub allowed_for : Doing → ℕ
 allowed_for (Swapping s) = for_swap
 allowed_for doing = for_act
+
+-- the finer count, by its kind, which is never more: one step for a read, a load or a store, and two for a flush
+abbrev pub allowed_by_kind : Doing → ℕ
+allowed_by_kind (Swapping s) = for_swap
+allowed_by_kind (Flushing line) = for_flush
+allowed_by_kind doing = for_word
 
 -- what a worker allows that does this
 abbrev pub allowed_while : Doing → ℕ

@@ -4,7 +4,7 @@ use Rattle.bz_word.specs.declared.entry.Entry.{Entry}
 use Rattle.bz_acts.specs.declared.acted.Act.{Act}
 use Rattle.bz_machine.specs.declared.done.Done.{Done}
 use Rattle.bz_machine.specs.Allowed.{for_swap}
-use Rattle.bz_swap.specs.Alone.{allowed_for, allowed_to_all, left_to}
+use Rattle.bz_swap.specs.Alone.{allowed_for, allowed_by_kind, allowed_to_all, left_to}
 use Rattle.bz_swap.specs.Evictions.{IsEviction}
 use Rattle.bz_swap.specs.Starts.{started, swapping}
 use Rattle.bz_swap.specs.Steps.{StepsIn}
@@ -46,6 +46,16 @@ abbrev pub allowed_in : List Turn → ℕ
 allowed_in [] = 0
 allowed_in (turn ∷ turns) = allowed_of turn + allowed_in turns
 
+-- and by the finer count
+abbrev pub allowed_by_kind_of : Turn → ℕ
+allowed_by_kind_of (Start doing) = allowed_by_kind doing
+allowed_by_kind_of (Begin entries) = for_swap
+allowed_by_kind_of turn = 0
+
+abbrev pub allowed_by_kind_in : List Turn → ℕ
+allowed_by_kind_in [] = 0
+allowed_by_kind_in (turn ∷ turns) = allowed_by_kind_of turn + allowed_by_kind_in turns
+
 -- what is left to a worker is at most what all workers allow; a start of its own adds at most what it allows, each step of its
 -- own takes one at least, and an eviction nothing. So the steps of a run are at most what all workers allow at its begin, and
 -- what its starts allow
@@ -56,3 +66,8 @@ pub record LoneStepsAreAllowed : Type 0 where
   pub step : (old new : SwapMemory) (w : ℕ) (made : Act) (done : Done) (told : Option ℕ) → StepsIn old.phase old w made done told new → left_to new w < left_to old w
   pub eviction : (old new : SwapMemory) (w a : ℕ) (told : Option ℕ) → IsEviction old a told new → left_to new w ≡ left_to old w
   pub run : (w : ℕ) (old new : SwapMemory) (turns : List Turn) → IsLoneRun w old turns new → steps_in turns ≤ allowed_to_all old + allowed_in turns
+
+-- by the finer count too: a start of a read, a load or a store adds one at most, and that of a flush two; the rest is as above
+pub record LoneStepsAreAllowedByKind : Type 0 where
+  pub start : (m : SwapMemory) (w : ℕ) (doing : Doing) → left_to (started m w doing) w ≤ left_to m w + allowed_by_kind doing
+  pub run : (w : ℕ) (old new : SwapMemory) (turns : List Turn) → IsLoneRun w old turns new → steps_in turns ≤ allowed_to_all old + allowed_by_kind_in turns

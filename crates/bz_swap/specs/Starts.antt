@@ -4,7 +4,7 @@ use Rattle.bz_word.specs.declared.entry.Entry.{Entry}
 use Rattle.bz_cells.specs.Store.{IsOutside}
 use Rattle.bz_swap.specs.declared.phase.Phase.{Phase}
 use Rattle.bz_swap.specs.declared.phase.Phase.TheVariants.{Running, Recovering}
-use Rattle.bz_swap.specs.Alone.{allowed_for, left_to}
+use Rattle.bz_swap.specs.Alone.{allowed_by_kind, left_to}
 use Rattle.bz_swap.specs.SwapMemory.{SwapMemory, Doing, Idle, Swapping, Storing, Flushing, is_named, doing_of}
 
 -- an address of the memory outside the descriptors
@@ -89,7 +89,7 @@ started m w doing = record m {
   phase = phase_of w;
   workers = slice_set m.workers w (record { doing = doing; flush_next = begins_by_flush doing });
   runner = w;
-  left = left_to m w + allowed_for doing;
+  left = left_to m w + allowed_by_kind doing;
 }
 
 -- worker w has begun a swap of these entries, whose number is the next one

@@ -6,8 +6,11 @@ ghost use Rattle.bz_swap.specs.Inside.Allowances.{after_start, after_step};
 
 use bz_machine::Place;
 
-/// What a read, a load, a store or a flush allows its worker.
-pub(crate) const ACT_STEPS: u32 = 2;
+/// What a read, a load or a store allows its worker.
+pub(crate) const WORD_STEPS: u32 = 1;
+
+/// What a flush allows its worker.
+pub(crate) const FLUSH_STEPS: u32 = 2;
 
 /// What a swap allows its worker.
 pub(crate) const SWAP_STEPS: u32 = 128;

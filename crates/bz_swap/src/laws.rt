@@ -3,7 +3,7 @@
 ghost use Rattle.bz_swap.specs.AtomicCalls.{AccessIsAtomic};
 ghost use Rattle.bz_swap.specs.EffectPlaces.{EffectsStayInside, StatusWords};
 ghost use Rattle.bz_swap.specs.LayoutSizes.{SizesAreOfLayout};
-ghost use Rattle.bz_swap.specs.LoneRuns.{LoneStepsAreAllowed};
+ghost use Rattle.bz_swap.specs.LoneRuns.{LoneStepsAreAllowed, LoneStepsAreAllowedByKind};
 ghost use Rattle.bz_swap.specs.PlainFields.{PlainFieldsStay};
 ghost use Rattle.bz_swap.specs.Settled.{SettledStay, EffectsStay, DroppedStay, OwnedStay};
 ghost use Rattle.bz_swap.specs.Sizes.{SizesStay};
@@ -71,6 +71,11 @@ pub fn status_words()
 /// no more steps than are allowed.
 pub fn lone_steps_are_allowed()
     ensures { LoneStepsAreAllowed }
+{}
+
+/// By the finer count too, where a read, a load or a store allows one step.
+pub fn lone_steps_are_allowed_by_kind()
+    ensures { LoneStepsAreAllowedByKind }
 {}
 
 /// The sizes that the machine speaks of, which knows no layout, are those of the layout.

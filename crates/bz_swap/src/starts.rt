@@ -4,7 +4,7 @@ ghost use Rattle.std.specs.Prelude.{◌≡◌};
 ghost use Rattle.bz_swap.specs.Starts.{phase_of};
 
 use crate::access::Access;
-use crate::allowance::ACT_STEPS;
+use crate::allowance::{FLUSH_STEPS, WORD_STEPS};
 use crate::phase::Phase;
 use bz_machine::{Operation, Place};
 
@@ -37,7 +37,7 @@ impl Access {
         worker.back = None;
         self.workers[w as usize] = worker;
         self.phase = Phase::Running;
-        self.allowance = self.allowance.started(w, ACT_STEPS);
+        self.allowance = self.allowance.started(w, WORD_STEPS);
     }
 
     /// Starts a load of a word as it is, in a recovery time: worker 0.
@@ -50,7 +50,7 @@ impl Access {
         worker.place = Place::LoadWord(a);
         self.workers[w as usize] = worker;
         self.phase = phase_after(w);
-        self.allowance = self.allowance.started(w, ACT_STEPS);
+        self.allowance = self.allowance.started(w, WORD_STEPS);
     }
 
     /// Starts a store of a private word; in a recovery time of any word, by worker 0.
@@ -66,7 +66,7 @@ impl Access {
         };
         self.workers[w as usize] = worker;
         self.phase = phase_after(w);
-        self.allowance = self.allowance.started(w, ACT_STEPS);
+        self.allowance = self.allowance.started(w, WORD_STEPS);
     }
 
     /// Starts a flush of a line outside the descriptors; in a recovery time of any line, by worker 0.
@@ -79,6 +79,6 @@ impl Access {
         worker.place = Place::FlushLine(line);
         self.workers[w as usize] = worker;
         self.phase = phase_after(w);
-        self.allowance = self.allowance.started(w, ACT_STEPS);
+        self.allowance = self.allowance.started(w, FLUSH_STEPS);
     }
 }
