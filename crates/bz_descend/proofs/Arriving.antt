@@ -17,7 +17,7 @@ use Rattle.bz_task.specs.declared.path.Path.{Path}
 use Rattle.bz_descend.specs.Facts.{SawGuard}
 use Rattle.bz_descend.specs.Inners.{HasChosen}
 use Rattle.bz_descend.specs.Ways.{AreThawed, IsWay, Arrives}
-use Rattle.bz_descend.specs.declared.phase.Probe.{Probe}
+use Rattle.bz_descend.specs.declared.sight.Probe.{Probe}
 use Rattle.bz_descend.specs.Grounds.{Laws}
 use Rattle.bz_descend.proofs.Inners.{level-few}
 use Rattle.bz_descend.proofs.Leading.{link_to, Led, led, is-link}

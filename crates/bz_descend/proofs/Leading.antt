@@ -20,7 +20,7 @@ use Rattle.bz_task.specs.declared.path.Link.{Link}
 use Rattle.bz_task.specs.declared.path.Path.{Path}
 use Rattle.bz_descend.specs.Ways.{HasKey, Chooses, Arrives, ArrivesAtInner}
 use Rattle.bz_descend.specs.Inners.{IsInner, Opened, HasChosen}
-use Rattle.bz_descend.specs.declared.phase.Probe.{Probe}
+use Rattle.bz_descend.specs.declared.sight.Probe.{Probe}
 use Rattle.bz_descend.proofs.Children.{HasChild, child-has-key}
 use Rattle.bz_descend.specs.Grounds.{Laws}
 use Rattle.bz_descend.proofs.Inners.{whole-inner, Was, was-inside, is-inner}

@@ -1,10 +1,8 @@
 mod Arriving
 mod Children
 mod Hearing
-mod Going
 mod Inners
 mod Leading
-mod Learning
 mod Lists
 mod Reading
 mod Separators
@@ -17,3 +15,4 @@ mod SeekStaying
 mod SeekHearing
 mod Seeking
 mod SeekGoing
+mod Counts

@@ -20,7 +20,7 @@ use Rattle.bz_task.specs.declared.todo.Todo.TheVariants.{Read}
 use Rattle.bz_descend.specs.Facts.{IsInNode}
 use Rattle.bz_descend.specs.Halving.{sight_in}
 use Rattle.bz_descend.specs.SeekFacts.{seek_asks, seek_left, seek_facts, seek_bounds, seek_heard, seek_differs, reads_at, asks_one, arrived_at, left_from}
-use Rattle.bz_descend.specs.declared.phase.Probe.{Probe}
+use Rattle.bz_descend.specs.declared.sight.Probe.{Probe}
 use Rattle.bz_descend.specs.declared.sight.Sight.{Sight}
 use Rattle.bz_descend.specs.declared.sight.Way.{Way}
 use Rattle.bz_descend.specs.declared.sight.Way.TheVariants.{Fresh, Guard, Root, Header, Status, Meta, Word, First, Pointer, Found, Changed}

@@ -15,7 +15,7 @@ use Rattle.bz_descend.specs.Facts.{IsInNode}
 use Rattle.bz_descend.specs.Grounds.{Laws}
 use Rattle.bz_descend.specs.Halving.{Sees, SeesFirst}
 use Rattle.bz_descend.specs.SeekFacts.{seek_asks, seek_facts, seek_heard}
-use Rattle.bz_descend.specs.declared.phase.Probe.{Probe}
+use Rattle.bz_descend.specs.declared.sight.Probe.{Probe}
 use Rattle.bz_descend.specs.declared.sight.Sight.{Sight}
 use Rattle.bz_descend.specs.declared.sight.Way.{Way}
 use Rattle.bz_descend.specs.declared.sight.Way.TheVariants.{Root, Header, Status, Meta, First, Pointer}
@@ -40,8 +40,8 @@ module _ (b : Laws) (roots : RootsAreReached) (separators : SeparatorsStay) (key
   heard-here : (stage : Stage) (phase : Way) (seen : Seen) → seek_facts key path height ws phase stage s → Tells (seek_asks s.past.config phase) stage seen s → seek_heard s.past.config path.depth phase seen
   heard-here Took phase seen f t = absurd (f)
   heard-here Waiting (Root st) (Was v) f t = let h = root-is b key s good roots st v f.1 t in (omega (arith, h.pointer, t.value), omega (arith, h.slot))
-  heard-here Waiting (Header k) (Was v) f t = header-heard b roots separators key path ws s good k v f.1 t
-  heard-here Waiting (Status k) (Was v) f t = status-heard b roots separators key path ws s good k v f.1.0 t
+  heard-here Waiting (Header k) (Was v) f t = header-heard b key path s good k v f.1 t
+  heard-here Waiting (Status k) (Was v) f t = status-heard b key path s good k v f.1.0 t
   heard-here Waiting (Meta r) (Was v) f t = sight-heard r v f.1.0 t
   heard-here Waiting (First r) (Was v) f t = first-heard r v f.1.0 t
   heard-here Waiting (Pointer r) (Was v) f t = let d = led b key path s good separators r f.1.0 v t in (d.some, omega (arith, d.some, d.has.slot))

@@ -11,11 +11,11 @@ use Rattle.bz_task.specs.Scene.{Past, Scene, Stage, Waiting, Took, Continues, Is
 use Rattle.bz_task.specs.declared.path.Path.{Path}
 use Rattle.bz_descend.specs.Halving.{Narrows, Sees, ReadsSeparator, SeesFirst}
 use Rattle.bz_descend.specs.SeekFacts.{seek_learnt, seek_facts}
-use Rattle.bz_descend.specs.declared.phase.Probe.{Probe}
+use Rattle.bz_descend.specs.declared.sight.Probe.{Probe}
 use Rattle.bz_descend.specs.declared.sight.Sight.{Sight}
 use Rattle.bz_descend.specs.declared.sight.Way.{Way}
 use Rattle.bz_descend.specs.declared.sight.Way.TheVariants.{Fresh, Guard, Root, Header, Status, Meta, Word, First, Pointer, Found, Changed}
-use Rattle.bz_descend.proofs.Staying.{moved, guard, arrives, at-inner, opened, chosen}
+use Rattle.bz_descend.proofs.Staying.{moved, guard, arrives, at-inner, opened, chosen, meets-frozen}
 
 module _ (paths : PathsStay) (p q : Past) (n : Continues p q) where
   abbrev sees : (key : List ℕ) (path : Path) (r : Sight) → Sees key path r p → Sees key path r q
@@ -56,7 +56,7 @@ module _ (paths : PathsStay) (p q : Past) (n : Continues p q) where
   learnt key path height ws (First r) f = (sees-first key path r f.0, level key path height r.slot f.0.opened.at_inner.node.met f.0.opened.at_inner.node.until f.1)
   learnt key path height ws (Pointer r) f = (chosen paths p q n key path r f.0, level key path height r.slot f.0.opened.at_inner.node.met f.0.opened.at_inner.node.until f.1)
   learnt key path height ws Found f = (paths key path p q f.0 n, f.1)
-  learnt key path height ws Changed f = tt
+  learnt key path height ws Changed f = meets-frozen paths p q n key path f
 
 both : PathsStay → (key : List ℕ) (path : Path) (height : ℕ) (ws : List ℕ) (phase : Way) (s after : Scene) → IsLawful s after → HasFilled s × seek_learnt key path height ws phase s.past → HasFilled after × seek_learnt key path height ws phase after.past
 both paths key path height ws phase s after step f = (λ k t. step.filled k ∙ f.0 k (sym (step.took k) ∙ t), learnt paths s.past after.past step.continues key path height ws phase f.1)

@@ -8,7 +8,7 @@ use Rattle.bz_key.specs.Packing.{packed_len, unpacked_key}
 use Rattle.bz_layout.specs.Addresses.{node_address}
 use Rattle.bz_layout.specs.Slots.{FreeSlots}
 use Rattle.bz_layout.specs.declared.config.Config.{Config}
-use Rattle.bz_layout.specs.declared.sizes.TheConstants.{META_AT}
+use Rattle.bz_layout.specs.declared.sizes.TheConstants.{STATUS_AT, META_AT}
 use Rattle.bz_shape.specs.Order.{is_before}
 use Rattle.bz_slotted.specs.Page.{meta_of, extent_of, page}
 use Rattle.bz_slotted.specs.Readers.{key_of}
@@ -19,7 +19,7 @@ use Rattle.bz_task.specs.Instant.{words}
 use Rattle.bz_task.specs.Laws.{RootsAreReached, SeparatorsStay, NothingIsGained}
 use Rattle.bz_task.specs.OwnActs.{gained}
 use Rattle.bz_task.specs.Requests.{Answers, Tells}
-use Rattle.bz_task.specs.Scene.{Scene, Stage, Waiting, Took, IsScene, HasFilled}
+use Rattle.bz_task.specs.Scene.{Scene, Stage, Waiting, Took, IsScene, HasFilled, here}
 use Rattle.bz_task.specs.declared.path.Path.{Path}
 use Rattle.bz_task.specs.declared.todo.Seen.{Seen}
 use Rattle.bz_task.specs.declared.todo.Seen.TheVariants.{Read as Was}
@@ -28,12 +28,12 @@ use Rattle.bz_descend.specs.Halving.{sight_in, Narrows, Sees, SeesFirst}
 use Rattle.bz_descend.specs.Inners.{Opened}
 use Rattle.bz_descend.specs.Ways.{Arrives}
 use Rattle.bz_descend.specs.SeekFacts.{IsUnder, arrived_at, seek_asks, seek_learnt, seek_facts}
-use Rattle.bz_descend.specs.declared.phase.Probe.{Probe}
+use Rattle.bz_descend.specs.declared.sight.Probe.{Probe}
 use Rattle.bz_descend.specs.declared.sight.Sight.{Sight}
 use Rattle.bz_descend.specs.declared.sight.Way.{Way}
 use Rattle.bz_descend.specs.declared.sight.Way.TheVariants.{Fresh, Guard, Root, Header, Status, Meta, Word, First, Pointer, Found, Changed}
 use Rattle.bz_descend.proofs.Arriving.{root_link, root-arrives, child-met}
-use Rattle.bz_descend.proofs.Leading.{link_to}
+use Rattle.bz_descend.proofs.Leading.{word-of, link_to}
 use Rattle.bz_descend.proofs.Narrowing.{narrows-first, narrows-lower, narrows-upper, learns-part}
 use Rattle.bz_descend.proofs.Reading.{header-was, leaf-met, opens}
 use Rattle.bz_descend.proofs.Separating.{meta-at, more-read, all-read}
@@ -75,7 +75,14 @@ module _ (b : Laws) (key : List ℕ) (path : Path) (height : ℕ) (ws : List ℕ
   seen-status Waiting k v phase stops goes f t = (f.0, go (status v).frozen refl)
     where
       go : (z : Bool) → (status v).frozen ≡ z → seek_learnt key path height ws phase s.past
-      go true e = subst (λ y. seek_learnt key path height ws y s.past) (sym (stops e)) tt
+      go true e = subst (λ y. seek_learnt key path height ws y s.past) (sym (stops e)) (record {
+        slot = k;
+        node = f.1.0;
+        moment = s.past.now;
+        order = f.1.0.node.until;
+        now = omega arith;
+        frozen = ap (λ z. (status z).frozen) (sym (word-of s.past.config (here s) k STATUS_AT (omega arith)) ∙ (in-slot k STATUS_AT v t).value) ∙ e;
+      })
       go false e =
           let o : Opened key path k v s.past = opens b key path s good k v f.1.0 (in-slot k _ v t) e in
           let n = words s.past.config (s.past.at o.guarded) k in

@@ -1,24 +1,20 @@
 -- What a descent has learnt stays.
-use Rattle.std.proofs.Common.{◌≡◌, ℕ, ◌+◌, ◌<◌, ◌≤◌, List, arith, sym, subst, ◌∙◌, inl, inr}
-use Rattle.std.specs.Prelude.{slice_index}
+use Rattle.std.proofs.Common.{◌≡◌, ℕ, ◌+◌, ◌<◌, ◌≤◌, true, List, arith, sym, subst, inl, inr}
 use Rattle.bz_layout.specs.declared.config.Config.{Config}
 use Rattle.bz_layout.specs.declared.sizes.TheConstants.{STATUS_AT, ROOT_STATUS_AT}
 use Rattle.bz_layout.specs.declared.thresholds.TheConstants.{MAX_LEVELS}
-use Rattle.bz_slotted.specs.Page.{extent_of, page}
+use Rattle.bz_slotted.specs.Page.{page}
 use Rattle.bz_slotted.specs.Records.{pointer_at}
-use Rattle.bz_word.specs.declared.meta.Extent.{Extent}
 use Rattle.bz_task.specs.Instant.{Instant, words, page_at}
 use Rattle.bz_task.specs.Laws.{PathsStay}
 use Rattle.bz_task.specs.Outcomes.{IsUnderNode, IsGuarded, IsLink}
-use Rattle.bz_task.specs.Scene.{Past, Scene, Stage, Waiting, Took, Continues, IsLawful, HasFilled}
+use Rattle.bz_task.specs.Scene.{Past, Continues}
 use Rattle.bz_task.specs.declared.path.Link.{Link}
 use Rattle.bz_task.specs.declared.path.Path.{Path}
-use Rattle.bz_descend.specs.Facts.{SawGuard, descend_learnt, descend_facts}
-use Rattle.bz_descend.specs.Inners.{IsInner, Opened, HasPassed, Looks, ReadsKey, HasChosen}
-use Rattle.bz_descend.specs.Ways.{HasKey, Chooses, IsWay, Arrives, ArrivesAtInner}
-use Rattle.bz_descend.specs.declared.phase.Phase.{Phase}
-use Rattle.bz_descend.specs.declared.phase.Phase.TheVariants.{Fresh, Guard, Root, Header, Status, Meta, Word, Pointer, Found, Changed}
-use Rattle.bz_descend.specs.declared.phase.Probe.{Probe}
+use Rattle.bz_descend.specs.Facts.{SawGuard}
+use Rattle.bz_descend.specs.Inners.{IsInner, Opened, HasChosen}
+use Rattle.bz_descend.specs.Ways.{HasKey, Chooses, IsWay, Arrives, ArrivesAtInner, MeetsFrozen}
+use Rattle.bz_descend.specs.declared.sight.Probe.{Probe}
 
 module _ (paths : PathsStay) (p q : Past) (n : Continues p q) where
   -- what held of the sizes and the memory at a past moment
@@ -106,24 +102,6 @@ module _ (paths : PathsStay) (p q : Past) (n : Continues p q) where
     inner = moved (λ c x. IsInner (words c x k)) o.guarded o.until o.inner;
   }
 
-  abbrev looks : (key : List ℕ) (path : Path) (r : Probe) → Looks key path r p → Looks key path r q
-  looks key path r l = record {
-    opened = opened key path r.slot r.status l.opened;
-    all = moved (λ c x. r.count ≡ (page (words c x r.slot)).count) l.opened.guarded l.opened.until l.all;
-    counted = l.counted;
-    start = l.start;
-    passed = λ j e. moved (λ c x. HasPassed key (words c x r.slot) j r.pointer) l.opened.guarded l.opened.until (l.passed j e);
-  }
-
-  reads : (key : List ℕ) (path : Path) (ws : List ℕ) (r : Probe) (e : Extent) (i : ℕ) → ReadsKey key path ws r e i p → ReadsKey key path ws r e i q
-  reads key path ws r e i k = record {
-    looks = looks key path r k.looks;
-    later = k.later;
-    extent = moved (λ c x. extent_of ((page (words c x r.slot)).meta r.index) ≡ e) k.looks.opened.guarded k.looks.opened.until k.extent;
-    within = k.within;
-    read = λ t l. moved (λ c x. slice_index ws t ≡ words c x r.slot (e.offset + t)) k.looks.opened.guarded k.looks.opened.until (k.read t l);
-  }
-
   abbrev pub chosen : (key : List ℕ) (path : Path) (r : Probe) → HasChosen key path r p → HasChosen key path r q
   chosen key path r h = record {
     opened = opened key path r.slot r.status h.opened;
@@ -132,30 +110,12 @@ module _ (paths : PathsStay) (p q : Past) (n : Continues p q) where
     place = moved (λ c x. r.pointer ≡ pointer_at (page (words c x r.slot)) h.child) h.opened.guarded h.opened.until h.place;
   }
 
-  learnt : (key : List ℕ) (path : Path) (ws : List ℕ) (phase : Phase) → descend_learnt key path ws phase p → descend_learnt key path ws phase q
-  learnt key path ws Fresh f = tt
-  learnt key path ws Guard f = tt
-  learnt key path ws (Root st) f = guard st f
-  learnt key path ws (Header k) f = arrives key path k f
-  learnt key path ws (Status k) f = at-inner key path k f
-  learnt key path ws (Meta r) f = looks key path r f
-  learnt key path ws (Word r e i) f = reads key path ws r e i f
-  learnt key path ws (Pointer r) f = chosen key path r f
-  learnt key path ws Found f = (paths key path p q f.0 n, f.1)
-  learnt key path ws Changed f = tt
-
-both : PathsStay → (key : List ℕ) (path : Path) (ws : List ℕ) (phase : Phase) (s after : Scene) → IsLawful s after → HasFilled s × descend_learnt key path ws phase s.past → HasFilled after × descend_learnt key path ws phase after.past
-both paths key path ws phase s after step f = (λ k t. step.filled k ∙ f.0 k (sym (step.took k) ∙ t), learnt paths s.past after.past step.continues key path ws phase f.1)
-
-pub stable : PathsStay → (key : List ℕ) (path : Path) (ws : List ℕ) (phase : Phase) (stage : Stage) (s after : Scene) → descend_facts key path ws phase stage s → IsLawful s after → descend_facts key path ws phase stage after
-stable paths key path ws phase Took s after f step = f
-stable paths key path ws Fresh Waiting s after f step = tt
-stable paths key path ws Guard Waiting s after f step = both paths key path ws Guard s after step f
-stable paths key path ws (Root st) Waiting s after f step = both paths key path ws (Root st) s after step f
-stable paths key path ws (Header k) Waiting s after f step = both paths key path ws (Header k) s after step f
-stable paths key path ws (Status k) Waiting s after f step = both paths key path ws (Status k) s after step f
-stable paths key path ws (Meta r) Waiting s after f step = both paths key path ws (Meta r) s after step f
-stable paths key path ws (Word r e i) Waiting s after f step = both paths key path ws (Word r e i) s after step f
-stable paths key path ws (Pointer r) Waiting s after f step = both paths key path ws (Pointer r) s after step f
-stable paths key path ws Found Waiting s after f step = both paths key path ws Found s after step f
-stable paths key path ws Changed Waiting s after f step = both paths key path ws Changed s after step f
+  pub meets-frozen : (key : List ℕ) (path : Path) → MeetsFrozen key path p → MeetsFrozen key path q
+  meets-frozen key path f = record {
+    slot = f.slot;
+    node = at-inner key path f.slot f.node;
+    moment = f.moment;
+    order = f.order;
+    now = omega (arith, f.now, n.now);
+    frozen = moved (λ c x. (page_at c x f.slot).frozen ≡ true) f.moment f.now f.frozen;
+  }

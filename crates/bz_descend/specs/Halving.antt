@@ -1,4 +1,4 @@
--- What a descent by halving has read of an inner node.
+-- What a descent has read of an inner node, whose records it halves.
 use Rattle.std.specs.Prelude.{◌≡◌, ℕ, ◌+◌, ◌<◌, ◌≤◌, nat_lt, if◌then◌else◌, true, List, Option, Some, None, slice_index}
 use Rattle.bz_key.specs.Packing.{packed_len}
 use Rattle.bz_search.specs.Probes.{middle, probe_in}
@@ -11,7 +11,7 @@ use Rattle.bz_task.specs.Instant.{words}
 use Rattle.bz_task.specs.Scene.{Past}
 use Rattle.bz_task.specs.declared.path.Path.{Path}
 use Rattle.bz_descend.specs.Inners.{Opened, HasPassed}
-use Rattle.bz_descend.specs.declared.phase.Probe.{Probe}
+use Rattle.bz_descend.specs.declared.sight.Probe.{Probe}
 use Rattle.bz_descend.specs.declared.sight.Sight.{Sight}
 use Rattle.bz_descend.specs.declared.sight.Way.{Way}
 use Rattle.bz_descend.specs.declared.sight.Way.TheVariants.{Meta, First, Pointer}

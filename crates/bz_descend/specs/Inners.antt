@@ -1,7 +1,7 @@
 -- What a descent has read of an inner node. Separators and children's places never change, so what it has read of them is as
 -- it was when the status was read.
-use Rattle.std.specs.Prelude.{◌≡◌, ◌≢◌, ℕ, ◌+◌, ◌-◌, ◌/◌, ◌<◌, ◌≤◌, false, List, IsSome, slice_index}
-use Rattle.bz_key.specs.Packing.{packed_len, unpacked_key}
+use Rattle.std.specs.Prelude.{◌≡◌, ◌≢◌, ℕ, ◌+◌, ◌-◌, ◌/◌, ◌<◌, ◌≤◌, false, List, IsSome}
+use Rattle.bz_key.specs.Packing.{unpacked_key}
 use Rattle.bz_layout.specs.declared.sizes.TheConstants.{STATUS_AT, SHARED_WORDS}
 use Rattle.bz_layout.specs.declared.thresholds.TheConstants.{LEAST_RECORD_WORDS}
 use Rattle.bz_shape.specs.Order.{is_before}
@@ -10,12 +10,11 @@ use Rattle.bz_slotted.specs.Readers.{key_of}
 use Rattle.bz_slotted.specs.Records.{key_words, pointer_at}
 use Rattle.bz_slotted.specs.Whole.{Disjoint, IsInBlock, IsInnerRecord}
 use Rattle.bz_word.specs.Statuses.{status}
-use Rattle.bz_word.specs.declared.meta.Extent.{Extent}
 use Rattle.bz_task.specs.Instant.{words}
 use Rattle.bz_task.specs.Scene.{Past}
 use Rattle.bz_task.specs.declared.path.Path.{Path}
 use Rattle.bz_descend.specs.Ways.{Chooses, ArrivesAtInner}
-use Rattle.bz_descend.specs.declared.phase.Probe.{Probe}
+use Rattle.bz_descend.specs.declared.sight.Probe.{Probe}
 
 -- the most records of an inner node: the first is a pointer alone, and each other one has a key of a word at least
 abbrev pub most_records : ℕ
@@ -46,22 +45,6 @@ pub record HasPassed (key : List ℕ) (n : ℕ → ℕ) (j pointer : ℕ) : Type
   pub counted : j < (page n).count
   pub from : 0 < j → is_before key (key_of n j) ≡ false
   pub place : pointer ≡ pointer_at (page n) j
-
--- the next record is to be read
-pub record Looks (key : List ℕ) (path : Path) (r : Probe) (p : Past) : Type 0 where
-  pub opened : Opened key path r.slot r.status p
-  pub all : r.count ≡ (page (words p.config (p.at opened.guarded) r.slot)).count
-  pub counted : r.index < r.count
-  pub start : r.index ≡ 0 → r.pointer ≡ 0
-  pub passed : (j : ℕ) → j + 1 ≡ r.index → HasPassed key (words p.config (p.at opened.guarded) r.slot) j r.pointer
-
--- of its key so many words have been read
-pub record ReadsKey (key : List ℕ) (path : Path) (ws : List ℕ) (r : Probe) (e : Extent) (i : ℕ) (p : Past) : Type 0 where
-  pub looks : Looks key path r p
-  pub later : 0 < r.index
-  pub extent : extent_of ((page (words p.config (p.at looks.opened.guarded) r.slot)).meta r.index) ≡ e
-  pub within : i < packed_len e.key
-  pub read : (t : ℕ) → t < i → slice_index ws t ≡ words p.config (p.at looks.opened.guarded) r.slot (e.offset + t)
 
 -- the child of the key has been found
 pub record HasChosen (key : List ℕ) (path : Path) (r : Probe) (p : Past) : Type 0 where

@@ -1,12 +1,12 @@
--- A descent by halving as a task.
-use Rattle.std.specs.Prelude.{ℕ, ◌+◌, ◌-◌, Option}
+-- A descent as a task.
+use Rattle.std.specs.Prelude.{ℕ, ◌+◌, ◌-◌, List, Option}
 use Rattle.bz_layout.specs.declared.config.Config.{Config}
 use Rattle.bz_task.specs.Scene.{Scene, Stage}
 use Rattle.bz_task.specs.declared.todo.Outcome.{Outcome}
 use Rattle.bz_task.specs.declared.todo.Seen.{Seen}
 use Rattle.bz_task.specs.declared.todo.Todo.{Todo}
 use Rattle.bz_descend.specs.Facts.{descend_means}
-use Rattle.bz_descend.specs.SeekFacts.{seek_asks, seek_end, seek_reads, asks_one, seek_facts, seek_differs, path_reads, IsCounted}
+use Rattle.bz_descend.specs.SeekFacts.{seek_asks, seek_end, seek_reads, asks_one, seek_facts, seek_differs, IsCounted}
 use Rattle.bz_descend.specs.declared.seek.Seek.{Seek}
 
 abbrev pub config_of : Seek → Config
@@ -16,9 +16,9 @@ config_of t = t.config
 abbrev pub asked_of : Seek → ℕ
 asked_of t = t.asked
 
--- the most reads along the nodes that it has gone through
-abbrev pub path_reads_of : Seek → ℕ
-path_reads_of t = path_reads t.path
+-- the key whose leaf is sought
+abbrev pub key_of : Seek → List ℕ
+key_of t = t.key
 
 abbrev pub asks_of : Seek → Option Todo
 asks_of t = seek_asks t.config t.phase

@@ -1,4 +1,4 @@
--- What a descent by halving has learnt at each of its phases, and what it costs.
+-- What a descent has learnt at each of its phases, and what it costs.
 use Rattle.std.specs.Prelude.{◌≡◌, ℕ, zero, suc, ◌+◌, ◌-◌, ◌*◌, ◌^◌, ◌<◌, ◌≤◌, nat_lt, if◌then◌else◌, true, List, Option, Some, None, slice_get}
 use Rattle.bz_key.specs.Packing.{packed_len}
 use Rattle.bz_layout.specs.Addresses.{node_address}
@@ -7,11 +7,11 @@ use Rattle.bz_layout.specs.declared.sizes.TheConstants.{NODE_WORDS, STATUS_AT, H
 use Rattle.bz_layout.specs.declared.thresholds.TheConstants.{MAX_LEVELS, DESCEND_READS_AT_ROOT, DESCEND_READS_BESIDES, DESCEND_READS_PER_RECORD}
 use Rattle.bz_search.specs.Digits.{digits}
 use Rattle.bz_search.specs.Probes.{middle, IsProbe}
-use Rattle.bz_slotted.specs.Page.{meta_of, extent_of}
+use Rattle.bz_slotted.specs.Page.{meta_of, extent_of, page}
 use Rattle.bz_word.specs.Headers.{header}
 use Rattle.bz_word.specs.Statuses.{status}
 use Rattle.bz_word.specs.declared.meta.Extent.{Extent}
-use Rattle.bz_task.specs.Instant.{page_at}
+use Rattle.bz_task.specs.Instant.{durable, page_at}
 use Rattle.bz_task.specs.Outcomes.{IsPath}
 use Rattle.bz_task.specs.Scene.{Past, Scene, Stage, Waiting, Took, HasFilled}
 use Rattle.bz_task.specs.declared.path.Link.{Link}
@@ -25,8 +25,8 @@ use Rattle.bz_task.specs.declared.todo.Todo.TheVariants.{Read, Finish}
 use Rattle.bz_descend.specs.Facts.{IsAt, IsInNode, SawGuard}
 use Rattle.bz_descend.specs.Halving.{Sees, ReadsSeparator, SeesFirst}
 use Rattle.bz_descend.specs.Inners.{most_records, HasChosen}
-use Rattle.bz_descend.specs.Ways.{AreThawed, Arrives, ArrivesAtInner}
-use Rattle.bz_descend.specs.declared.phase.Probe.{Probe}
+use Rattle.bz_descend.specs.Ways.{AreThawed, Arrives, ArrivesAtInner, MeetsFrozen}
+use Rattle.bz_descend.specs.declared.sight.Probe.{Probe}
 use Rattle.bz_descend.specs.declared.sight.Sight.{Sight}
 use Rattle.bz_descend.specs.declared.sight.Way.{Way}
 use Rattle.bz_descend.specs.declared.sight.Way.TheVariants.{Fresh, Guard, Root, Header, Status, Meta, Word, First, Pointer, Found, Changed}
@@ -71,6 +71,25 @@ reads_through links (suc n) = reads_through links n + reads_of (count_above (sli
 -- the most reads of a descent along a path: root status, root pointer and the root's header, and those of each inner node
 abbrev pub path_reads : Path → ℕ
 path_reads path = DESCEND_READS_AT_ROOT + reads_through path.links (path.depth - 1)
+
+-- a node had so many records, in the durable image of a moment since the look-up began
+pub record HadRecords (p : Past) (slot n : ℕ) : Type 0 where
+  pub moment : ℕ
+  pub since : p.since ≤ moment
+  pub now : moment ≤ p.now
+  pub count : (page (durable p.config (p.at moment) slot)).count ≡ n
+
+-- the numbers of records by which the reads along a path are reckoned are those of its nodes
+abbrev pub AreCountsOfNodes : Path → Past → Type 0
+AreCountsOfNodes path p =
+    (i : ℕ) (above link : Link) → i + 1 < path.depth → slice_get path.links i ≡ Some above → slice_get path.links (i + 1) ≡ Some link → HadRecords p above.slot (status link.status).count
+
+-- no more reads than these were asked for where a guard was frozen: those of the inner nodes before it on the way, and its own
+pub record StopsAfter (key : List ℕ) (reads : ℕ) (p : Past) : Type 0 where
+  pub path : Path
+  pub frozen : MeetsFrozen key path p
+  pub counts : AreCountsOfNodes path p
+  pub few : reads ≤ path_reads path + 1
 
 -- the most reads that were asked for up to a phase, with its own
 abbrev pub reads_at : Path → Way → ℕ
@@ -150,7 +169,7 @@ seek_learnt key path height ws (Word r e i) p = MeetsSeparator key path height w
 seek_learnt key path height ws (First r) p = MeetsFirst key path height r p
 seek_learnt key path height ws (Pointer r) p = MeetsChosen key path height r p
 seek_learnt key path height ws Found p = IsPath key path p × AreThawed path
-seek_learnt key path height ws Changed p = Unit {0}
+seek_learnt key path height ws Changed p = MeetsFrozen key path p
 
 abbrev pub seek_facts : List ℕ → Path → ℕ → List ℕ → Way → Stage → Scene → Type 0
 seek_facts key path height ws phase Took s = ⊥

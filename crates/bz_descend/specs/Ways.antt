@@ -54,3 +54,12 @@ pub record Arrives (key : List ℕ) (path : Path) (k : ℕ) (p : Past) : Type 0 
 pub record ArrivesAtInner (key : List ℕ) (path : Path) (k : ℕ) (p : Past) : Type 0 where
   pub node : Arrives key path k p
   pub inner : 0 < (page_at p.config (p.at node.met) k).level
+
+-- the way leads to an inner node whose status was frozen at a moment since it was met
+pub record MeetsFrozen (key : List ℕ) (path : Path) (p : Past) : Type 0 where
+  pub slot : ℕ
+  pub node : ArrivesAtInner key path slot p
+  pub moment : ℕ
+  pub order : node.node.met ≤ moment
+  pub now : moment ≤ p.now
+  pub frozen : (page_at p.config (p.at moment) slot).frozen ≡ true

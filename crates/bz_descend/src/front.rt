@@ -1,6 +1,6 @@
 //! What header, status and metadata words of a node say.
 
-ghost use Rattle.std.specs.Prelude.{◌≡◌, ◌<◌, ◌^◌, true, false};
+ghost use Rattle.std.specs.Prelude.{◌≡◌, ◌<◌, ◌^◌};
 ghost use Rattle.bz_key.specs.Packing.{packed_len};
 ghost use Rattle.bz_slotted.specs.Page.{meta_of as said_of, extent_of as said_extent};
 ghost use Rattle.bz_word.specs.Headers.{header};
@@ -8,18 +8,6 @@ ghost use Rattle.bz_word.specs.Statuses.{status};
 
 use bz_layout::BYTES_IN_WORD;
 use bz_word::{Extent, Header, Meta, Status};
-
-/// Whether the header is that of a leaf.
-pub(crate) fn is_leaf(word: u64) -> bool
-    ensures yes { result ≡ true → (header word).level ≡ 0 }
-    ensures no { result ≡ false → word < 2 ^ 32 → 0 < (header word).level }
-{
-    bz_word::laws::headers();
-    match Header::unpack(word) {
-        Some(header) => header.level == 0,
-        None => false,
-    }
-}
 
 /// The level of a node with this header.
 pub(crate) fn level_of(word: u64) -> u32

@@ -1,4 +1,4 @@
-//! The task that finds the way to a leaf by halving.
+//! The task that finds the way to a leaf.
 
 ghost use Rattle.std.specs.Prelude.{◌≡◌, ◌≢◌, ◌+◌, ◌<◌, ◌≤◌, ◌^◌, if◌then◌else◌, ℕ, Bool, List, length, take, Some, None, true, false};
 ghost use Rattle.bz_key.specs.Packing.{packed_len, unpacked_key};
@@ -21,15 +21,14 @@ ghost use Rattle.bz_descend.specs.Grounds.{Laws};
 ghost use Rattle.bz_layout.specs.declared.thresholds.TheConstants.{MAX_LEVELS};
 ghost use Rattle.bz_descend.specs.Halving.{sight_in, settled};
 ghost use Rattle.bz_descend.specs.Inners.{most_records};
-ghost use Rattle.bz_descend.specs.SeekDuties.{config_of, asked_of, path_reads_of, asks_of, end_of, left_of, facts_of, means_of, differs_of};
-ghost use Rattle.bz_descend.specs.SeekFacts.{seek_reads, path_reads, reads_at, asks_one, arrived_at, seek_asks, seek_left, seek_learnt, seek_facts, seek_differs, seek_bounds, seek_heard, IsSight, IsPlace, IsCounted};
+ghost use Rattle.bz_descend.specs.SeekDuties.{config_of, key_of, asked_of, asks_of, end_of, left_of, facts_of, means_of, differs_of};
+ghost use Rattle.bz_descend.specs.SeekFacts.{seek_reads, path_reads, AreCountsOfNodes, StopsAfter, reads_at, asks_one, arrived_at, seek_asks, seek_left, seek_learnt, seek_facts, seek_differs, seek_bounds, seek_heard, IsSight, IsPlace, IsCounted};
 ghost use Rattle.bz_descend.specs.Ways.{AreThawed};
 
 use crate::front::{extent_of, level_of, status_of, words_for};
 use crate::links::{to_root, with_link};
-use crate::phase::Probe;
 use crate::separator::is_before;
-use crate::sight::{Sight, Way};
+use crate::sight::{Probe, Sight, Way};
 use bz_key::Key;
 use bz_layout::{Config, HEADER_AT, META_AT, ROOT_AT, ROOT_STATUS_AT, STATUS_AT, Slots};
 use bz_search::halved;
@@ -62,6 +61,7 @@ impl Seek {
         ensures swaps { ⟦<Seek as Task>⟧.swaps result ≡ 0 }
         ensures made { ⟦<Seek as Task>⟧.made result ≡ 0 }
         ensures needs { ⟦<Seek as Task>⟧.needs result ≡ 0 }
+        ensures key { key_of result ≡ key }
         ensures asked { asked_of result ≡ 0 }
         ensures facts { (s : Scene) → ⟦<Seek as Task>⟧.facts result Waiting s }
         ensures path { (path : Path) (s : Scene) → ⟦<Seek as Task>⟧.means result (Outcome.Path path) s → IsPath key path s.past }
@@ -87,6 +87,7 @@ impl Seek {
         ensures swaps { ⟦<Seek as Task>⟧.swaps result ≡ 0 }
         ensures made { ⟦<Seek as Task>⟧.made result ≡ 0 }
         ensures needs { ⟦<Seek as Task>⟧.needs result ≡ 0 }
+        ensures key { key_of result ≡ key }
         ensures asked { asked_of result ≡ 1 }
         ensures facts { (s : Scene) → HasFilled s → ⟦<Seek as Task>⟧.facts result Waiting s }
         ensures path { (path : Path) (s : Scene) → ⟦<Seek as Task>⟧.means result (Outcome.Path path) s → IsPath key path s.past }
@@ -109,7 +110,8 @@ impl Seek {
         ensures asked { result ≡ asked_of self.now }
         // where it has ended with a path, by the nodes of the path; where a guard was frozen, by those before it and its status
         ensures found { (path : Path) (s : Scene) → ⟦<Seek as Task>⟧.facts self.now Waiting s → ⟦<Seek as Task>⟧.end self.now ≡ Some (Outcome.Path path) → result ≤ path_reads path }
-        ensures ended { (s : Scene) → ⟦<Seek as Task>⟧.facts self.now Waiting s → ⟦<Seek as Task>⟧.asks self.now ≡ Some Todo.Finish → result ≤ path_reads_of self.now + 1 }
+        ensures counts { (path : Path) (s : Scene) → IsScene s → ⟦<Seek as Task>⟧.facts self.now Waiting s → ⟦<Seek as Task>⟧.end self.now ≡ Some (Outcome.Path path) → AreCountsOfNodes path s.past }
+        ensures stopped { (s : Scene) → IsScene s → ⟦<Seek as Task>⟧.facts self.now Waiting s → ⟦<Seek as Task>⟧.end self.now ≡ Some Outcome.Restart → StopsAfter (key_of self.now) result s.past }
     {
         self.asked
     }

@@ -1,6 +1,5 @@
-//! The phases of a descent by halving.
+//! The phases of a descent.
 
-use crate::phase::Probe;
 use bz_search::Probe as Part;
 use bz_word::Extent;
 
@@ -19,7 +18,22 @@ pub(crate) struct Sight {
     pub(crate) pointer: u32,
 }
 
-/// What a descent by halving asks for next. The node that it names is the last one of the path.
+/// A record of an inner node, and where the pointer to its child stands.
+#[derive(Clone, Copy, Drop)]
+pub(crate) struct Probe {
+    /// The node's slot.
+    pub(crate) slot: u16,
+    /// Its status, which was not frozen.
+    pub(crate) status: u64,
+    /// How many records it has.
+    pub(crate) count: u32,
+    /// The record after the one whose child the key belongs to; 0 where that is the first record.
+    pub(crate) index: u32,
+    /// Where the child's pointer stands; 0 at the first record.
+    pub(crate) pointer: u32,
+}
+
+/// What a descent asks for next. The node that it names is the last one of the path.
 #[derive(Clone, Copy, Drop)]
 pub(crate) enum Way {
     /// Nothing was asked for yet.

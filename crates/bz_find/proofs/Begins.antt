@@ -12,11 +12,11 @@ use Rattle.bz_find.specs.Steps.{begun}
 use Rattle.bz_find.specs.Words.{records_in, sorted_in}
 use Rattle.bz_find.proofs.Learning.{begins-knowing}
 
-module _ (raw n : ℕ → ℕ) (lo hi : Option (List ℕ)) (h : Whole raw (page n) lo hi) (key : List ℕ) (st hd : ℕ) (is : n 0 ≡ st) (head : n HEADER_AT ≡ hd) where
-  count-is : records_in st ≡ (page n).count
-  count-is = let e : (status (n 0)).count ≡ (status st).count = ap (λ z. (status z).count) is in omega (arith, e, h.filled.room)
+module _ (raw n : ℕ → ℕ) (lo hi : Option (List ℕ)) (h : Whole raw (page n) lo hi) (key : List ℕ) (st hd : ℕ) (counts : (page n).count ≡ (status st).count) (head : n HEADER_AT ≡ hd) where
+  pub count-is : records_in st ≡ (page n).count
+  count-is = omega (arith, counts, h.filled.room)
 
-  sorted-is : sorted_in hd (records_in st) ≡ (page n).sorted
+  pub sorted-is : sorted_in hd (records_in st) ≡ (page n).sorted
   sorted-is =
       let t : nat_lt hd (2 ^ 32) ≡ true = (let l : hd < 2 ^ 32 = subst (λ z. z < 2 ^ 32) head h.level.header in grind (arith, nat_tests, l)) in
       let e : (header (n HEADER_AT)).sorted ≡ (header hd).sorted = ap (λ z. (header z).sorted) head in

@@ -14,3 +14,4 @@ pub mod Keeping
 pub mod Restarts
 pub mod Causes
 pub mod Telling
+mod Counts

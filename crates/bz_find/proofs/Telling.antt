@@ -1,5 +1,5 @@
 -- What a look-up learns by each answer.
-use Rattle.std.proofs.Common.{◌≡◌, ℕ, ◌+◌, Bool, true, false, List, arith, refl, sym, subst, ◌∙◌}
+use Rattle.std.proofs.Common.{◌≡◌, ℕ, ◌+◌, Bool, true, false, List, arith, refl, sym, ap, subst, ◌∙◌}
 use Rattle.std.specs.Prelude.{Some, None, ◌==◌, if◌then◌else◌}
 use Rattle.std.proofs.lemmas.Bool.Decides.{nat_tests}
 use Rattle.bz_layout.specs.Addresses.{node_address}
@@ -113,7 +113,7 @@ module _ (g : Grounds) (t : Find) (s : Scene) (same : s.past.config ≡ t.config
         f.0,
         goes u u.search.step s.past refl refl o (λ still.
             let head : node_of o.ws HEADER_AT ≡ v = sym (front-word s t.key t.link o.ws o.reading still HEADER_AT (omega arith) (omega arith)) ∙ (sym (word-at s.past.config (here s) t.link.slot HEADER_AT (omega arith)) ∙ (in-slot HEADER_AT v a).value) in
-            knows-first (node_of o.ws) (node_of o.ws) still.low still.high still.whole t.key t.status v o.status head),
+            knows-first (node_of o.ws) (node_of o.ws) still.low still.high still.whole t.key t.status v (ap (λ z. (status z).count) o.status) head),
       )
 
   from-search : (v now : ℕ) → find_bounds t Searching → find_facts t Searching Waiting s → Answers s (node_address t.config t.link.slot + place_of t.search.step) v → Learns (told t Searching (Was v) now) s

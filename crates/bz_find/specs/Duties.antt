@@ -1,17 +1,16 @@
 -- A look-up of a key as a task.
 use Rattle.std.specs.Prelude.{ℕ, ◌+◌, ◌-◌, List, Option}
 use Rattle.bz_layout.specs.declared.config.Config.{Config}
-use Rattle.bz_layout.specs.declared.thresholds.TheConstants.{FIND_READS_BESIDES}
 use Rattle.bz_leaf.specs.Facts.{IsLastLink}
 use Rattle.bz_task.specs.Outcomes.{IsPath}
 use Rattle.bz_task.specs.Scene.{Scene, Stage}
 use Rattle.bz_task.specs.Swaps.{Change}
+use Rattle.bz_task.specs.declared.path.Path.{Path}
 use Rattle.bz_task.specs.declared.todo.Outcome.{Outcome}
 use Rattle.bz_task.specs.declared.todo.Seen.{Seen}
 use Rattle.bz_task.specs.declared.todo.Todo.{Todo}
 use Rattle.bz_task.specs.declared.todo.Todo.TheVariants.{Read}
-use Rattle.bz_find.specs.Costs.{compare_reads}
-use Rattle.bz_find.specs.Facts.{find_acts, find_change, IsBounded, find_facts, find_means, find_differs}
+use Rattle.bz_find.specs.Facts.{find_acts, find_change, IsBounded, find_counts, find_facts, find_means, find_differs}
 use Rattle.bz_find.specs.Phases.{find_asks, find_end, reads_of}
 use Rattle.bz_find.specs.declared.find.Find.{Find}
 
@@ -26,10 +25,9 @@ key_of t = t.key
 abbrev pub asked_of : Find → ℕ
 asked_of t = t.asked
 
--- the most reads of one that has ended: of each record after the sorted ones, of a sorted one for each binary digit of their
--- number, and of each sorted one that was met and is not visible its metadata word, by the counts that it read, and besides
-abbrev pub ended_reads : Find → ℕ
-ended_reads t = compare_reads t.search + FIND_READS_BESIDES
+-- the way to the leaf
+abbrev pub path_of : Find → Path
+path_of t = t.path
 
 -- an answer that asks for a read
 abbrev pub asked_by : Todo → ℕ
@@ -52,7 +50,7 @@ abbrev pub change_of : Find → Change
 change_of t = find_change t.key
 
 abbrev pub facts_of : Find → Stage → Scene → Type 0
-facts_of t stage s = find_facts t t.phase stage s × IsPath t.key t.path s.past × IsBounded t × IsLastLink t.path t.link
+facts_of t stage s = find_facts t t.phase stage s × IsPath t.key t.path s.past × IsBounded t × IsLastLink t.path t.link × find_counts t t.phase s.past
 
 abbrev pub means_of : Find → Outcome → Scene → Type 0
 means_of t = find_means t.key t.path

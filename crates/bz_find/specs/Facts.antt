@@ -121,6 +121,37 @@ pub record IsFoundAt (key : List ℕ) (t : Find) (at : ℕ) (p : Past) : Type 0 
   pub view : IsKeyView key (view_of t at) p
   pub reckoned : IsReckoned (durable p.config (p.at at) t.link.slot) t.search key
 
+-- a leaf had so many records, so many of them sorted, in the durable image of a moment since the look-up began
+pub record HadCounts (p : Past) (slot n m : ℕ) : Type 0 where
+  pub moment : ℕ
+  pub since : p.since ≤ moment
+  pub now : moment ≤ p.now
+  pub count : (page (durable p.config (p.at moment) slot)).count ≡ n
+  pub sorted : (page (durable p.config (p.at moment) slot)).sorted ≡ m
+
+-- the search goes by the numbers of the leaf, and of the sorted records it has met no more than there are
+pub record GoesByLeaf (t : Find) (p : Past) : Type 0 where
+  pub had : HadCounts p t.link.slot t.search.count t.search.sorted
+  pub met : t.search.dead ≤ t.search.sorted
+
+-- so it is once the header was read
+abbrev pub find_counts : Find → Phase → Past → Type 0
+find_counts t Fresh p = Unit {0}
+find_counts t Status p = Unit {0}
+find_counts t Header p = Unit {0}
+find_counts t phase p = GoesByLeaf t p
+
+-- the most reads of a look-up in vain, in a leaf with so many records, so many of them sorted: each of these may have been met
+abbrev pub vain_reads : ℕ → ℕ → ℕ
+vain_reads count sorted = FIND_READS_PER_RECORD * ((count - sorted) + digits sorted) + sorted + FIND_READS_BESIDES
+
+-- no more reads than these were asked for where a validating load found another value, by what the leaf had at a moment
+pub record StopsIn (slot reads : ℕ) (p : Past) : Type 0 where
+  pub count : ℕ
+  pub sorted : ℕ
+  pub had : HadCounts p slot count sorted
+  pub few : reads ≤ vain_reads count sorted
+
 abbrev pub find_learnt : Find → Phase → Past → Type 0
 find_learnt t Fresh p = IsKnownLeaf t.key t.link p
 find_learnt t Status p = IsKnownLeaf t.key t.link p
@@ -142,6 +173,12 @@ abbrev pub find_means : List ℕ → Path → Outcome → Scene → Type 0
 find_means key path (Key view) s = IsKeyView key view s.past × IsPath key path s.past
 find_means key path Restart s = Unit {0}
 find_means key path outcome s = ⊥
+
+-- a look-up ends so and in no other way
+abbrev pub IsEndOfFind : Outcome → Type 0
+IsEndOfFind (Key view) = Unit {0}
+IsEndOfFind Restart = Unit {0}
+IsEndOfFind outcome = ⊥
 
 -- a validating load found another value: another status, another link, or a guard that is frozen
 abbrev pub find_differs : Find → Phase → Seen → Type 0

@@ -10,8 +10,9 @@ ghost use Rattle.bz_task.specs.Outcomes.{IsPath, IsKeyView};
 ghost use Rattle.bz_task.specs.Requests.{Hears, Tells, IsKnown};
 ghost use Rattle.bz_task.specs.Scene.{Scene, Stage, Waiting, IsScene, HasFilled};
 ghost use Rattle.bz_task.specs.declared.path.Link.{Link as LastLink};
-ghost use Rattle.bz_find.specs.Duties.{config_of, key_of, asked_of, asked_by, ended_reads, asks_of, end_of, left_of, change_of, facts_of, means_of, differs_of};
-ghost use Rattle.bz_find.specs.Facts.{find_acts, find_change, find_reads, IsBounded};
+ghost use Rattle.bz_task.specs.declared.todo.Outcome.{Outcome as Ends};
+ghost use Rattle.bz_find.specs.Duties.{config_of, key_of, path_of, asked_of, asked_by, asks_of, end_of, left_of, change_of, facts_of, means_of, differs_of};
+ghost use Rattle.bz_find.specs.Facts.{find_acts, find_change, find_reads, IsBounded, IsEndOfFind, StopsIn};
 ghost use Rattle.bz_find.specs.Grounds.{Grounds};
 ghost use Rattle.bz_find.specs.Phases.{find_asks, gone_on, told, counted, view_of, IsPlain};
 
@@ -52,11 +53,14 @@ impl Find {
         ensures made { ⟦<Find as Task>⟧.made result ≡ 0 }
         ensures needs { ⟦<Find as Task>⟧.needs result ≡ 0 }
         ensures asked { asked_of result ≡ 0 }
+        ensures key { key_of result ≡ key }
+        ensures path { path_of result ≡ path }
         ensures change { ⟦<Find as Task>⟧.change result ≡ find_change key }
         ensures last { (link : LastLink) × IsLastLink path link }
         ensures facts { (s : Scene) → IsScene s → IsPath key path s.past → ⟦<Find as Task>⟧.facts result Waiting s }
         ensures view { (view : KeyView) (s : Scene) → ⟦<Find as Task>⟧.means result (Outcome.Key view) s → IsKeyView key view s.past }
         ensures leads { (view : KeyView) (s : Scene) → ⟦<Find as Task>⟧.means result (Outcome.Key view) s → IsPath key path s.past }
+        ensures only { (outcome : Ends) (s : Scene) → ⟦<Find as Task>⟧.means result outcome s → IsEndOfFind outcome }
         ensures none { (path : Path) (s : Scene) → ⟦<Find as Task>⟧.means result (Outcome.Path path) s → ⊥ }
     {
         laws::fronts_stay();
@@ -76,9 +80,9 @@ impl Find {
     /// How many times `next` has answered that it reads.
     pub fn asked(&self) -> u32
         ensures asked { result ≡ asked_of self.now }
-        // where it has ended: with a view of the key, by the leaf as it was then; and so also without one, by what it has read
+        // where it has ended: with a view of the key, by the leaf as it was then; and without one, by what the leaf was at a moment
         ensures found { (view : KeyView) (s : Scene) → ⟦<Find as Task>⟧.facts self.now Waiting s → ⟦<Find as Task>⟧.end self.now ≡ Some (Outcome.Key view) → result ≤ find_reads (durable s.past.config (s.past.at view.at) view.slot) (key_of self.now) }
-        ensures ended { (s : Scene) → ⟦<Find as Task>⟧.facts self.now Waiting s → ⟦<Find as Task>⟧.asks self.now ≡ Some Todo.Finish → result ≤ ended_reads self.now }
+        ensures stopped { (s : Scene) (link : LastLink) → ⟦<Find as Task>⟧.facts self.now Waiting s → ⟦<Find as Task>⟧.end self.now ≡ Some Outcome.Restart → IsLastLink (path_of self.now) link → StopsIn link.slot result s.past }
     {
         self.asked
     }
@@ -225,6 +229,7 @@ fn on_leaves()
     laws::frozen_nodes_stay();
     laws::fronts_stay();
     laws::ranges_stay();
+    laws::nodes_were_inside();
     laws::separators_stay();
     laws::roots_are_reached();
     laws::leaves_are_in_trees();

@@ -1,10 +1,11 @@
 use Rattle.bz_find.proofs.Causes.{cause}
+use Rattle.bz_find.proofs.Counts.{counts-stay}
 use Rattle.bz_find.proofs.Staying.{stable}
 use Rattle.bz_find.proofs.find.FindTask.learnt.Goals as goal
 
 pub returns-clause-stable : goal.returns-clause-stable
 returns-clause-stable c stage s after same facts good step =
-    let t = c.args.self.now in (stable c.key_views_stay.ensures t t.phase stage s after facts.0 step, c.paths_stay.ensures t.key t.path s.past after.past facts.1 step.continues, facts.2, facts.3)
+    let t = c.args.self.now in (stable c.key_views_stay.ensures t t.phase stage s after facts.0 step, c.paths_stay.ensures t.key t.path s.past after.past facts.1 step.continues, facts.2, facts.3, counts-stay s.past after.past step.continues t t.phase facts.4)
 
 pub returns-clause-cause : goal.returns-clause-cause
 returns-clause-cause c s seen same facts differs = let t = c.args.self.now in cause t t.phase s seen same facts.0 differs

@@ -8,6 +8,7 @@ use Rattle.bz_task.specs.declared.todo.Outcome.TheVariants.{Restart}
 use Rattle.bz_find.specs.Duties.{end_of, facts_of}
 use Rattle.bz_find.specs.Facts.{find_change}
 use Rattle.bz_find.specs.Phases.{find_end, told, counted}
+use Rattle.bz_find.proofs.Counts.{counts-told}
 use Rattle.bz_find.proofs.Keeping.{keeps-at}
 use Rattle.bz_find.proofs.Restarts.{restarts-at, begins-at, end-counted}
 use Rattle.bz_find.proofs.Stepping.{steps, fewer-left}
@@ -42,8 +43,9 @@ returns-clause-learns c stage s now same good free facts told-so =
     let path : IsPath u.key u.path s.past = rw (k.key, k.path) facts.1 in
     let last : IsLastLink u.path u.link = rw (k.path, k.link) facts.3 in
     let learnt = tells c.on_leaves.ensures t s same good stage c.args.seen c.args.moment now facts.2 facts.0 told-so in
+    let counts = counts-told c.on_leaves.ensures t s same good stage c.args.seen c.args.moment facts.2 facts.0 facts.4 told-so in
     let all : facts_of (counted u) Waiting (gained s c.args.slots.now c.args.slots.now) =
-    (no-slot c.nothing_is_gained.ensures (counted u) u.phase s c.args.slots.now learnt, path, (steps t c.args.seen c.args.moment c.heard.ensures.bounded c.requires.hears c.heard.ensures.plain).0, last) in
+    (no-slot c.nothing_is_gained.ensures (counted u) u.phase s c.args.slots.now learnt, path, (steps t c.args.seen c.args.moment c.heard.ensures.bounded c.requires.hears c.heard.ensures.plain).0, last, counts) in
     subst (λ z. facts_of z Waiting (gained s c.args.slots.now c.args.slots.now)) (sym new) all
 
 pub returns-clause-begins : goal.returns-clause-begins
