@@ -206,6 +206,15 @@ crown_means upper (IsFull NoNodes) s = Unit {0}
 crown_means upper (IsFull NoSwaps) s = Unit {0}
 crown_means upper outcome s = ⊥
 
+-- a split of an inner root ends so and in no other way
+abbrev pub IsEndOfCrown : Outcome → Type 0
+IsEndOfCrown IsDone = Unit {0}
+IsEndOfCrown Restarts = Unit {0}
+IsEndOfCrown (IsFull NoLevels) = Unit {0}
+IsEndOfCrown (IsFull NoNodes) = Unit {0}
+IsEndOfCrown (IsFull NoSwaps) = Unit {0}
+IsEndOfCrown outcome = ⊥
+
 -- a guard is another one than the path names
 abbrev pub crown_differs : Link → Link → Phase → Seen → Type 0
 crown_differs upper lower Again (Was v) = v ≢ lower.status

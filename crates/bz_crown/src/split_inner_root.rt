@@ -15,7 +15,7 @@ ghost use Rattle.bz_task.specs.declared.todo.Seen.TheVariants.{Start, Read as Wa
 ghost use Rattle.bz_branch.specs.FromSplit.Facts.{split_change};
 ghost use Rattle.bz_crown.specs.Due.{IsDue};
 ghost use Rattle.bz_crown.specs.Duties.{crown_of, asks_crown, basis_crown, end_crown, left_crown, swaps_crown, made_crown, needs_crown, facts_crown, differs_crown};
-ghost use Rattle.bz_crown.specs.Facts.{crown_nodes, crown_acts, crown_end, crown_left, crown_swaps, crown_facts, crown_means, HasBegunCrown, HasLookedCrown, HasTold, AreMadeOf, IsReadyCrown, IsSplittable, WasSplitAtRoot, WasTooHigh, crown_needs, word_after, store_after, flush_after};
+ghost use Rattle.bz_crown.specs.Facts.{crown_nodes, crown_acts, crown_end, crown_left, crown_swaps, crown_facts, crown_means, IsEndOfCrown, HasBegunCrown, HasLookedCrown, HasTold, AreMadeOf, IsReadyCrown, IsSplittable, WasSplitAtRoot, WasTooHigh, crown_needs, word_after, store_after, flush_after};
 
 use crate::phase::Phase;
 use bz_branch::laws::{inner_root_splits_are_good, read_nodes_were};
@@ -69,6 +69,7 @@ impl SplitInnerRoot {
         ensures facts { (key : List ℕ) (s : Scene) → s.past.config ≡ config.now → IsScene s → IsPath key path s.past → ⟦<SplitInnerRoot as Task>⟧.facts result Waiting s }
         ensures done { (upper : Link) (s : Scene) → slice_get path.links 0 ≡ Some upper → ⟦<SplitInnerRoot as Task>⟧.means result Outcome.Done s → WasSplitAtRoot upper s.past }
         ensures too_high { (upper : Link) (s : Scene) → slice_get path.links 0 ≡ Some upper → ⟦<SplitInnerRoot as Task>⟧.means result (Outcome.Full Height) s → WasTooHigh upper s.past }
+        ensures only { (outcome : Outcome) (s : Scene) → ⟦<SplitInnerRoot as Task>⟧.means result outcome s → IsEndOfCrown outcome }
         ensures no_path { (other : Path) (s : Scene) → ⟦<SplitInnerRoot as Task>⟧.means result (Outcome.Path other) s → ⊥ }
         ensures no_view { (other : LeafView) (s : Scene) → ⟦<SplitInnerRoot as Task>⟧.means result (Outcome.View other) s → ⊥ }
         ensures no_room { (s : Scene) → ⟦<SplitInnerRoot as Task>⟧.means result Outcome.NeedsRoom s → ⊥ }

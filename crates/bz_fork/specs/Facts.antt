@@ -327,6 +327,15 @@ fork_means upper middle (IsFull NoNodes) s = Unit {0}
 fork_means upper middle (IsFull NoSwaps) s = Unit {0}
 fork_means upper middle outcome s = ⊥
 
+-- a split of an inner node below a parent ends so and in no other way
+abbrev pub IsEndOfFork : Outcome → Type 0
+IsEndOfFork IsDone = Unit {0}
+IsEndOfFork NoneFits = Unit {0}
+IsEndOfFork Restarts = Unit {0}
+IsEndOfFork (IsFull NoNodes) = Unit {0}
+IsEndOfFork (IsFull NoSwaps) = Unit {0}
+IsEndOfFork outcome = ⊥
+
 -- a guard is another one than the path names
 abbrev pub fork_differs : Link → Link → Link → Phase → Seen → Type 0
 fork_differs upper middle lower Unread (Was v) = v ≢ lower.status

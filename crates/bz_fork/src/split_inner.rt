@@ -15,7 +15,7 @@ ghost use Rattle.bz_branch.specs.FromSplit.Facts.{split_change};
 ghost use Rattle.bz_branch.specs.Parts.{IsFullNode};
 ghost use Rattle.bz_fork.specs.Due.{IsDue};
 ghost use Rattle.bz_fork.specs.Duties.{fork_of, asks_fork, end_fork, left_fork, swaps_fork, made_fork, needs_fork, facts_fork, differs_fork, basis_fork};
-ghost use Rattle.bz_fork.specs.Facts.{fork_nodes, fork_acts, fork_end, fork_left, fork_swaps, fork_facts, fork_means, HasBegunFork, HasLookedFork, HasRead, HasOpened, HasTold, AreMadeOf, HasPlace, IsReadyFork, WasSplitInner, LackedPart, fork_needs, IsFirst, HasPassed, HasRefused, word_after, above_after, store_after, flush_after, swap_after, HasNode};
+ghost use Rattle.bz_fork.specs.Facts.{fork_nodes, fork_acts, fork_end, fork_left, fork_swaps, fork_facts, fork_means, IsEndOfFork, HasBegunFork, HasLookedFork, HasRead, HasOpened, HasTold, AreMadeOf, HasPlace, IsReadyFork, WasSplitInner, LackedPart, fork_needs, IsFirst, HasPassed, HasRefused, word_after, above_after, store_after, flush_after, swap_after, HasNode};
 
 use crate::laws::full_nodes_have_halves;
 use crate::parent::parent_with;
@@ -76,6 +76,7 @@ impl SplitInner {
         ensures facts { (key : List ℕ) (s : Scene) → s.past.config ≡ config.now → IsScene s → IsPath key path s.past → ⟦<SplitInner as Task>⟧.facts result Waiting s }
         ensures done { (upper middle : Link) (s : Scene) → slice_get path.links place ≡ Some upper → slice_get path.links (place + 1) ≡ Some middle → ⟦<SplitInner as Task>⟧.means result Outcome.Done s → WasSplitInner upper middle s.past }
         ensures no_room { (upper middle : Link) (s : Scene) → slice_get path.links place ≡ Some upper → slice_get path.links (place + 1) ≡ Some middle → ⟦<SplitInner as Task>⟧.means result Outcome.NeedsRoom s → LackedPart upper middle s.past }
+        ensures only { (outcome : Outcome) (s : Scene) → ⟦<SplitInner as Task>⟧.means result outcome s → IsEndOfFork outcome }
         ensures no_path { (other : Path) (s : Scene) → ⟦<SplitInner as Task>⟧.means result (Outcome.Path other) s → ⊥ }
         ensures no_view { (other : LeafView) (s : Scene) → ⟦<SplitInner as Task>⟧.means result (Outcome.View other) s → ⊥ }
     {

@@ -123,13 +123,6 @@ store_after j = if nat_lt (j + 1) MERGE_WORDS then Store (j + 1) else Flush 0
 abbrev pub flush_after : ℕ → Phase
 flush_after j = if nat_lt (j + 1) MERGE_LINES then Flush (j + 1) else Swap
 
--- the first that is to be frozen of a leaf and its neighbour with these statuses
-abbrev pub freeze_after : ℕ → Phase
-freeze_after beside = if (status beside).frozen then Guard else FreezeBeside
-
-abbrev pub freeze_first : ℕ → ℕ → Phase
-freeze_first own beside = if (status own).frozen then freeze_after beside else Freeze
-
 -- the viewed leaf is frozen, and says what was viewed; so the neighbour
 abbrev pub OwnIsFrozen : Merging → Past → Type 0
 OwnIsFrozen r p = StoodFrozen r.lower.slot r.leaf p
@@ -235,6 +228,15 @@ merge_means upper lower leaf Restarts s = Unit {0}
 merge_means upper lower leaf (IsFull NoNodes) s = Unit {0}
 merge_means upper lower leaf (IsFull NoSwaps) s = Unit {0}
 merge_means upper lower leaf outcome s = ⊥
+
+-- a merge ends so and in no other way
+abbrev pub IsEndOfMerge : Outcome → Type 0
+IsEndOfMerge IsDone = Unit {0}
+IsEndOfMerge NoneFits = Unit {0}
+IsEndOfMerge Restarts = Unit {0}
+IsEndOfMerge (IsFull NoNodes) = Unit {0}
+IsEndOfMerge (IsFull NoSwaps) = Unit {0}
+IsEndOfMerge outcome = ⊥
 
 -- a guard, or the neighbour's status, is another one than was read
 abbrev pub merge_differs : Merging → Phase → Seen → Type 0

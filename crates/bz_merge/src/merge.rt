@@ -19,7 +19,7 @@ ghost use Rattle.bz_task.specs.declared.todo.Seen.TheVariants.{Start, Read as Wa
 ghost use Rattle.bz_merge.specs.Counts.{merge_swaps, merge_made};
 ghost use Rattle.bz_merge.specs.Decisions.{IsParentOfLeaf, HasTold, IsWeighable, HasSettled, HasFrozen, HasFirst, HasWon, HasSwapped, MayMerge, HasBegun, HasLooked};
 ghost use Rattle.bz_merge.specs.Duties.{merging_of, asks_of, end_of, left_of, swaps_of, made_of, needs_of, basis_of, facts_of, differs_of};
-ghost use Rattle.bz_merge.specs.Facts.{merge_acts, merge_end, merge_left, merge_needs, merge_facts, merge_means, merge_change, WasMerged, NoneFitted, IsReady, WritesOrSwaps, IsSwapping, word_after, beside_after, store_after, flush_after};
+ghost use Rattle.bz_merge.specs.Facts.{merge_acts, merge_end, merge_left, merge_needs, merge_facts, merge_means, merge_change, IsEndOfMerge, WasMerged, NoneFitted, IsReady, WritesOrSwaps, IsSwapping, word_after, beside_after, store_after, flush_after};
 ghost use Rattle.bz_merge.specs.Plans.{merge_nodes, viewed_leaf, beside_leaf, first_of, second_of};
 ghost use Rattle.bz_merge.specs.Thawed.{IsThawedAbove};
 
@@ -93,6 +93,7 @@ impl Merge {
         ensures change { ⟦<Merge as Task>⟧.change result ≡ merge_change }
         ensures facts { (key : List ℕ) (s : Scene) → s.past.config ≡ config.now → IsScene s → IsPath key path s.past → IsView key view s.past → ⟦<Merge as Task>⟧.facts result Waiting s }
         ensures done { (upper lower : Link) (s : Scene) → slice_get path.links (path.depth - 2) ≡ Some upper → slice_get path.links (path.depth - 1) ≡ Some lower → ⟦<Merge as Task>⟧.means result Outcome.Done s → WasMerged upper lower view.image.0 s.past }
+        ensures only { (outcome : Outcome) (s : Scene) → ⟦<Merge as Task>⟧.means result outcome s → IsEndOfMerge outcome }
         ensures no_path { (other : Path) (s : Scene) → ⟦<Merge as Task>⟧.means result (Outcome.Path other) s → ⊥ }
         ensures no_view { (other : LeafView) (s : Scene) → ⟦<Merge as Task>⟧.means result (Outcome.View other) s → ⊥ }
         ensures no_room { (upper lower : Link) (s : Scene) → slice_get path.links (path.depth - 2) ≡ Some upper → slice_get path.links (path.depth - 1) ≡ Some lower → ⟦<Merge as Task>⟧.means result Outcome.NeedsRoom s → NoneFitted upper lower view.image.0 s.past }
