@@ -1,4 +1,3 @@
 mod Lookups
 mod Views
 mod Shows
-mod Firsts

@@ -1,5 +1,5 @@
 -- What a page shows: of the leaf's words by themselves, and of the image that they were read from.
-use Rattle.std.specs.Prelude.{◌≡◌, ℕ, ◌&&◌, if◌then◌else◌, true, List, filter, bytes_eq, Option, Some, None}
+use Rattle.std.specs.Prelude.{◌≡◌, ℕ, ◌&&◌, if◌then◌else◌, true, List, filter, Option, None}
 use Rattle.std.specs.Cmp.Lexicographic.{slice_cmp}
 use Rattle.std.specs.FinMap.{find, is_sorted}
 use Rattle.std.specs.Ordering.{nat_cmp}
@@ -30,8 +30,3 @@ pub record IsPageOf (c : Config) (image : ℕ → ℕ) (from : List ℕ) (pairs 
   pub next : end ≡ leaf_end_in c image from
   pub rises : is_sorted (slice_cmp nat_cmp) pairs ≡ true
   pub finds : (key : List ℕ) → find (slice_cmp nat_cmp) key pairs ≡ (if is_from from key && is_below key end then content_in c image key else None)
-
--- what a pair says of a key: its payload, where it is one of the key
-abbrev pub payload_for : List ℕ → Option (List ℕ × List ℕ) → Option (List ℕ)
-payload_for key None = None
-payload_for key (Some pair) = if bytes_eq pair.0 key then Some pair.1 else None

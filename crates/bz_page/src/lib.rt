@@ -4,4 +4,4 @@
 pub mod laws;
 mod pages;
 
-pub use pages::{collect, find, live_words};
+pub use pages::{collect, live_words};

@@ -1,19 +1,18 @@
-//! The page of a leaf, and one pair of it.
+//! The page of a leaf.
 
-ghost use Rattle.std.specs.Prelude.{◌≡◌, ℕ, List, Option, None, length, slice_get};
+ghost use Rattle.std.specs.Prelude.{◌≡◌, ℕ, List, Option, None, length};
 ghost use Rattle.bz_slotted.specs.FromLayout.TheConstants.{NODE_WORDS};
-ghost use Rattle.bz_task.specs.FromContent.Content.{content_in};
 ghost use Rattle.bz_slotted.specs.Page.{page as page_of};
 ghost use Rattle.bz_slotted.specs.ReadingLaws.{node_of};
-ghost use Rattle.bz_slotted.specs.Readers.{found_of, live_of};
+ghost use Rattle.bz_slotted.specs.Readers.{live_of};
 ghost use Rattle.bz_slotted.specs.Records.{records as records_of};
 ghost use Rattle.bz_slotted.specs.Rules.{node_fault};
 ghost use Rattle.bz_task.specs.Good.{IsGood};
 ghost use Rattle.bz_task.specs.Outcomes.{IsView};
 ghost use Rattle.bz_task.specs.Scene.{Past};
-ghost use Rattle.bz_page.specs.Pages.{IsLeafByItself, AreRecordsFrom, IsPageOf, payload_for};
+ghost use Rattle.bz_page.specs.Pages.{IsLeafByItself, AreRecordsFrom, IsPageOf};
 
-use bz_key::{Key, PageBuf, Payload};
+use bz_key::{Key, PageBuf};
 use bz_slotted::NodeImage;
 use bz_task::{LeafView, laws};
 
@@ -48,25 +47,6 @@ pub fn collect(view: &LeafView, from: &Key, out: &mut PageBuf) -> Option<Key>
     view.image.high()
 }
 
-/// The payload of a key in a leaf, if the leaf has the key. What was read for it is left in `page`.
-pub fn find(view: &LeafView, key: &Key, page: &mut PageBuf) -> Option<Payload>
-    requires { IsLeafByItself view.now.image.0 }
-    ensures found { result ≡ found_of (node_of view.now.image.0) key.now }
-    // Where the view is one of this key, it is what the image holds for it at the view's moment.
-    ensures content { (p : Past) → IsView key.now view.now p → IsGood p.config (p.at view.now.at) → content_in p.config (p.at view.now.at).image key.now ≡ result }
-{
-    is_whole(&view.image);
-    laws::leaves_are_in_trees();
-    laws::seen_leaves_are_whole();
-    laws::same_records_show_the_same();
-    bz_task::content_laws::well_formed_images_have_no_fault();
-    bz_shape::laws::leaves_tile_the_keys();
-    bz_slotted::laws::leaf_rules_are_facts();
-    bz_slotted::laws::whole_leaves_are_readable();
-    collect(view, key, page);
-    first_of(page.pairs(), key)
-}
-
 /// The words of a leaf's visible records, with their metadata words.
 pub fn live_words(view: &LeafView) -> u32
     requires { IsLeafByItself view.now.image.0 }
@@ -75,14 +55,4 @@ pub fn live_words(view: &LeafView) -> u32
     is_whole(&view.image);
     bz_slotted::laws::whole_leaves_are_readable();
     view.image.live_words()
-}
-
-// The payload of the first pair, where it is one of the key.
-fn first_of(pairs: &[(Key, Payload)], key: &Key) -> Option<Payload>
-    ensures { result ≡ payload_for key.now (slice_get pairs.now 0) }
-{
-    match pairs.first() {
-        Some((first, payload)) if first == key => Some(*payload),
-        _ => None,
-    }
 }

@@ -1,11 +1,11 @@
-//! Pages and look-ups of an empty leaf, of a sorted one with and without fences, and of one with reserved, deleted and unsorted
+//! Pages of an empty leaf, of a sorted one with and without fences, and of one with reserved, deleted and unsorted
 //! records.
 ghost use Rattle.bz_page.specs.Pages.{IsLeafByItself};
 
 use super::bench::{holds, same};
 use bz_key::{Key, PageBuf, Payload};
 use bz_node::NodeImage;
-use bz_page::{collect, find};
+use bz_page::collect;
 use bz_slotted::{Place, node_fault};
 use bz_task::LeafView;
 use std::process::Abort;
@@ -174,61 +174,4 @@ fn shows_nothing_of_an_empty_leaf(rt: HostRuntime) {
     holds(&rt, page.pairs().is_empty());
     page.push(key(&rt, b"k"), payload(&rt, b""));
     shows_none(&rt, &mut page);
-}
-
-/// A key, and the payload that the leaf of b, 1 and d, 2 and f, 3 has for it.
-#[derive(Clone, Copy)]
-struct Sought {
-    key: &'static [u8],
-    payload: Option<&'static [u8]>,
-}
-
-const SOUGHT: [Sought; 6] = [
-    Sought {
-        key: b"a",
-        payload: None,
-    },
-    Sought {
-        key: b"b",
-        payload: Some(b"1"),
-    },
-    Sought {
-        key: b"c",
-        payload: None,
-    },
-    Sought {
-        key: b"d",
-        payload: Some(b"2"),
-    },
-    Sought {
-        key: b"f",
-        payload: Some(b"3"),
-    },
-    Sought {
-        key: b"fa",
-        payload: None,
-    },
-];
-
-// It is what a look-up of the key finds.
-fn finds(rt: &impl Abort, page: &mut PageBuf, view: &LeafView, sought: Sought)
-    requires { IsLeafByItself view.now.image.0 }
-{
-    let found = find(view, &key(rt, sought.key), page);
-    let payload = sought.payload.map(|bytes| payload(rt, bytes));
-    same(rt, found, payload);
-}
-
-// Each of them.
-fn finds_each(rt: &impl Abort, page: &mut PageBuf) {
-    let mixed = view_of(rt, &mixed_leaf(), None, None);
-    for sought in SOUGHT {
-        finds(rt, page, &mixed, sought);
-    }
-}
-
-#[test]
-fn finds_what_a_leaf_has(rt: HostRuntime) {
-    let mut page = PageBuf::open(rt.alloc()).expect(&rt, "a page");
-    finds_each(&rt, &mut page);
 }
