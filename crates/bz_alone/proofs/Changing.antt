@@ -23,7 +23,7 @@ use Rattle.bz_mutate.specs.UpdateFacts.{update_asks, update_made, update_facts}
 use Rattle.bz_mutate.specs.declared.update_phase.UpdatePhase.{UpdatePhase}
 use Rattle.bz_mutate.specs.declared.update_phase.UpdatePhase.TheVariants.{Grow, Replace}
 use Rattle.bz_alone.specs.Alone.{IsAlone, GoesOn}
-use Rattle.bz_alone.specs.Changes.{InsertsGoOn, UpdatesGoOn, PublicationsStand, ReplacementsStand}
+use Rattle.bz_alone.specs.Changes.{InsertsGoOn, UpdatesGoOn}
 use Rattle.bz_alone.specs.Quiet.{IsQuietSince, HadEffects}
 use Rattle.bz_alone.proofs.Basis.{Laws}
 use Rattle.bz_alone.proofs.Freezing.{one-stands}
@@ -99,9 +99,3 @@ inserts-go-on b codec t s same good f a = subst (λ z. GoesOn (insert_asks z t.a
 
 pub updates-go-on : Laws → Statuses → UpdatesGoOn
 updates-go-on b codec t s same good f a = subst (λ z. GoesOn (update_asks z t.added t.phase) (λ seen. ⊥) s) same (update-goes b codec s good t.view t.added t.phase f a)
-
-pub publications-stand : Laws → Statuses → PublicationsStand
-publications-stand b codec r s good f was a = publication-there b codec s good r f was a
-
-pub replacements-stand : Laws → Statuses → ReplacementsStand
-replacements-stand b codec r old place e s good grown a = replacement-there b codec s good r old place e grown a

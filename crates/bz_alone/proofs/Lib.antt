@@ -21,7 +21,6 @@ mod Named
 mod OwnFreezes
 mod Merging
 mod Tasks
-mod Counts
 mod OwnSwaps
 mod Restarts
 mod Trees

@@ -1,8 +1,8 @@
 //! Laws of a worker that is alone. Each function does nothing but call the laws that it follows from: its contract is the law.
 
 ghost use Rattle.bz_alone.specs.Brief.{LookUpsAreBrief, WaysAreBrief, BriefLookUpsGoOn, GetsAreBrief};
-ghost use Rattle.bz_alone.specs.Changes.{InsertsGoOn, UpdatesGoOn, MergesGoOn, PublicationsStand, ReplacementsStand};
-ghost use Rattle.bz_alone.specs.Counts.{OthersAreCounted, OwnSwapsAreCounted};
+ghost use Rattle.bz_alone.specs.Changes.{InsertsGoOn, UpdatesGoOn, MergesGoOn};
+ghost use Rattle.bz_alone.specs.Counts.{OwnSwapsAreCounted};
 ghost use Rattle.bz_alone.specs.Laws.{FreezesGoOn, DeletesGoOn, ConsolidationsGoOn, RootSplitsGoOn, SplitsBelowGoOn, InnerSplitsGoOn, InnerRootSplitsGoOn};
 ghost use Rattle.bz_alone.specs.Lookups.{SeeksGoOn, FindsGoOn, ReadingsGoOn};
 ghost use Rattle.bz_alone.specs.Quiet.{EffectsNeverFall, QuietTimesStay, ReadValuesStand, LonelyTimesAreQuiet};
@@ -213,28 +213,6 @@ pub fn updates_go_on()
     slotted::leaf_rules_are_facts();
 }
 
-/// The second swap of an insert stands after the first, where nobody else's took effect.
-pub fn publications_stand()
-    ensures { PublicationsStand }
-{
-    bz_word::laws::statuses();
-    read_values_stand();
-    lonely_times_are_quiet();
-    task::leaves_are_in_trees();
-    slotted::leaf_rules_are_facts();
-}
-
-/// So does that of an update.
-pub fn replacements_stand()
-    ensures { ReplacementsStand }
-{
-    bz_word::laws::statuses();
-    read_values_stand();
-    lonely_times_are_quiet();
-    task::leaves_are_in_trees();
-    slotted::leaf_rules_are_facts();
-}
-
 /// A merge goes on.
 pub fn merges_go_on()
     ensures { MergesGoOn }
@@ -288,11 +266,6 @@ pub fn own_swaps_are_counted()
     task::leaves_are_in_trees();
     slotted::leaf_rules_are_facts();
 }
-
-/// The swaps of others since a look-up began are counted from moment to moment, beside the worker's own.
-pub fn others_are_counted()
-    ensures { OthersAreCounted }
-{}
 
 /// A look-up that is made while no other call is open meets no effect, and its worker's acts are at most twice the reads that it asks for.
 pub fn look_ups_are_brief()
