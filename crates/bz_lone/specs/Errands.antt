@@ -20,19 +20,27 @@ abbrev pub words_asked : Call → ℕ
 words_asked (call.Insert key payload) = words_for key payload + 1
 words_asked (call.Update key payload) = words_for key payload + 1
 words_asked (call.Upsert key payload) = words_for key payload + 1
-words_asked other = 0
+words_asked (call.Delete key) = 0
+words_asked (call.Get key) = 0
+words_asked (call.Page key) = 0
 
 -- it changes nothing
 abbrev pub is_read : Call → Bool
 is_read (call.Get key) = true
 is_read (call.Page key) = true
-is_read other = false
+is_read (call.Insert key payload) = false
+is_read (call.Delete key) = false
+is_read (call.Update key payload) = false
+is_read (call.Upsert key payload) = false
 
 -- a get looks its key up, and a page reads its leaf; neither does anything else
 abbrev pub IsLookOf : Call → Kind → Type 0
 IsLookOf (call.Get key) k = (k ≡ kinds.Seek) ⊎ (k ≡ kinds.Find)
 IsLookOf (call.Page key) k = (k ≡ kinds.Seek) ⊎ (k ≡ kinds.ReadWhole)
-IsLookOf other k = Unit {0}
+IsLookOf (call.Insert key payload) k = Unit {0}
+IsLookOf (call.Delete key) k = Unit {0}
+IsLookOf (call.Update key payload) k = Unit {0}
+IsLookOf (call.Upsert key payload) k = Unit {0}
 
 -- the call as it is looked up once a task of this kind was done: after a freeze it reads its leaf whole
 abbrev pub is_freeze : Kind → Bool
@@ -44,8 +52,16 @@ after e k = record e { froze = is_freeze k }
 
 -- a task that may have had an effect of its own while its call goes on without one, or has it now
 abbrev pub may_swap_twice : Kind → Bool
+may_swap_twice kinds.Seek = false
+may_swap_twice kinds.Find = false
+may_swap_twice kinds.ReadWhole = false
 may_swap_twice kinds.Insert = true
 may_swap_twice kinds.Update = true
 may_swap_twice kinds.Delete = true
+may_swap_twice kinds.Freeze = false
+may_swap_twice kinds.Copy = false
+may_swap_twice kinds.SplitRootLeaf = false
+may_swap_twice (kinds.SplitLeaf a) = false
+may_swap_twice (kinds.SplitNode a) = false
+may_swap_twice (kinds.SplitRootNode a) = false
 may_swap_twice kinds.Merge = true
-may_swap_twice other = false

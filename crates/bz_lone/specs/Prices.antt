@@ -72,7 +72,18 @@ way_price r q e = if e.froze then most_of_leaf r + q.read else (most_of_find r +
 -- after a task of a call that changes nothing
 abbrev pub coming_to_read : Resource → Kind → ℕ
 coming_to_read r kinds.Seek = max (most_of_find r) (most_of_leaf r)
-coming_to_read r other = 0
+coming_to_read r kinds.Find = 0
+coming_to_read r kinds.ReadWhole = 0
+coming_to_read r kinds.Insert = 0
+coming_to_read r kinds.Update = 0
+coming_to_read r kinds.Delete = 0
+coming_to_read r kinds.Freeze = 0
+coming_to_read r kinds.Copy = 0
+coming_to_read r kinds.SplitRootLeaf = 0
+coming_to_read r (kinds.SplitLeaf a) = 0
+coming_to_read r (kinds.SplitNode a) = 0
+coming_to_read r (kinds.SplitRootNode a) = 0
+coming_to_read r kinds.Merge = 0
 
 -- of one that has a change to make
 abbrev pub coming_to_write : Resource → Prices → Errand → Kind → ℕ
@@ -93,9 +104,18 @@ coming_to_write r q e kinds.Merge = q.merged
 -- and of one that has had it: a delete may look its leaf up once more, and have it merged
 abbrev pub coming_after : Resource → Kind → ℕ
 coming_after r kinds.Seek = most_of_leaf r + most_of_merge r
+coming_after r kinds.Find = 0
 coming_after r kinds.ReadWhole = most_of_merge r
+coming_after r kinds.Insert = 0
+coming_after r kinds.Update = 0
 coming_after r kinds.Delete = most_of_seek r + (most_of_leaf r + most_of_merge r)
-coming_after r other = 0
+coming_after r kinds.Freeze = 0
+coming_after r kinds.Copy = 0
+coming_after r kinds.SplitRootLeaf = 0
+coming_after r (kinds.SplitLeaf a) = 0
+coming_after r (kinds.SplitNode a) = 0
+coming_after r (kinds.SplitRootNode a) = 0
+coming_after r kinds.Merge = 0
 
 abbrev pub coming : Resource → Prices → Errand → Kind → ℕ
 coming r q e kind = if e.effected then coming_after r kind else if is_read e.call then coming_to_read r kind else coming_to_write r q e kind

@@ -45,17 +45,32 @@ abbrev pub is_look : Kind → Bool
 is_look Seek = true
 is_look Find = true
 is_look ReadWhole = true
-is_look k = false
+is_look Insert = false
+is_look Update = false
+is_look Delete = false
+is_look Freeze = false
+is_look Copy = false
+is_look SplitRootLeaf = false
+is_look (SplitLeaf a) = false
+is_look (SplitNode a) = false
+is_look (SplitRootNode a) = false
+is_look Merge = false
 
 -- those that freeze a leaf, or put new nodes in the place of one, by one swap
 abbrev pub is_renewal : Kind → Bool
+is_renewal Seek = false
+is_renewal Find = false
+is_renewal ReadWhole = false
+is_renewal Insert = false
+is_renewal Update = false
+is_renewal Delete = false
 is_renewal Freeze = true
 is_renewal Copy = true
 is_renewal SplitRootLeaf = true
 is_renewal (SplitLeaf a) = true
 is_renewal (SplitNode a) = true
 is_renewal (SplitRootNode a) = true
-is_renewal k = false
+is_renewal Merge = false
 
 -- the level of the node to which an ascent has come: that of the leaf is 0
 abbrev pub level_of : Ascent → ℕ

@@ -2,9 +2,9 @@
 use Rattle.std.specs.Prelude.{◌≡◌, ◌⊎◌, ◌≤◌, ◌+◌, ℕ, true, false, List}
 use Rattle.bz_call.specs.Map.{key_of}
 use Rattle.bz_call.specs.declared.calls.Call.{Call}
-use Rattle.bz_call.specs.declared.calls.Call.TheVariants.{Delete}
+use Rattle.bz_call.specs.declared.calls.Call.TheVariants as call
 use Rattle.bz_call.specs.declared.replies.Reply.{Reply}
-use Rattle.bz_call.specs.declared.replies.Reply.TheVariants.{Deleted, Inserted, Updated}
+use Rattle.bz_call.specs.declared.replies.Reply.TheVariants.{Inserted, Exists, Deleted, Updated, Missing, Value, Page, Full}
 use Rattle.bz_content.specs.Content.{image_of, view_in}
 use Rattle.bz_layout.specs.declared.config.Config.{Config}
 use Rattle.bz_layout.specs.declared.swaps.TheConstants.{DELETE_SWAPS, INSERT_SWAPS, UPDATE_SWAPS}
@@ -23,8 +23,12 @@ StandsAlone c image key more = (MERGE_BELOW + more ≤ own_live c image key) ⊎
 
 -- so the leaf of a delete's key
 abbrev pub KeepsEnough : Config → (ℕ → ℕ) → Call → ℕ → Type 0
-KeepsEnough c image (Delete key) more = StandsAlone c image key more
-KeepsEnough c image other more = Unit {0}
+KeepsEnough c image (call.Delete key) more = StandsAlone c image key more
+KeepsEnough c image (call.Insert key payload) more = Unit {0}
+KeepsEnough c image (call.Update key payload) more = Unit {0}
+KeepsEnough c image (call.Upsert key payload) more = Unit {0}
+KeepsEnough c image (call.Get key) more = Unit {0}
+KeepsEnough c image (call.Page key) more = Unit {0}
 
 -- in the durable image at the begin of a call that may change the map the leaf of its key was not frozen, and had free the words of the record and its
 -- metadata word; and that of a delete stands alone without the words that a record may have
@@ -38,4 +42,8 @@ abbrev pub swaps_told : Reply → ℕ
 swaps_told Inserted = INSERT_SWAPS
 swaps_told (Updated had) = UPDATE_SWAPS
 swaps_told (Deleted had) = DELETE_SWAPS
-swaps_told other = 0
+swaps_told Exists = 0
+swaps_told Missing = 0
+swaps_told (Value payload) = 0
+swaps_told (Page page next) = 0
+swaps_told (Full spent) = 0

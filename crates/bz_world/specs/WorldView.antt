@@ -117,7 +117,11 @@ recovery_most c = MOST_ACTS * words_of c
 -- the call deletes its key
 abbrev pub is_delete : Call → Bool
 is_delete (call.Delete key) = true
-is_delete other = false
+is_delete (call.Insert key payload) = false
+is_delete (call.Update key payload) = false
+is_delete (call.Upsert key payload) = false
+is_delete (call.Get key) = false
+is_delete (call.Page key) = false
 
 -- an open call that has had its effect does nothing but finish the swap that made it, and ends when that is told: but for a delete, which may go on to have its leaf
 -- merged. So none looks for its key again once its change stands
@@ -355,7 +359,10 @@ tells_only Exists = true
 tells_only Missing = true
 tells_only (Value payload) = true
 tells_only (Page page next) = true
-tells_only other = false
+tells_only Inserted = false
+tells_only (Updated had) = false
+tells_only (Deleted had) = false
+tells_only (Full spent) = false
 
 -- a call that is answered so, and beside which no other was open, has taken neither descriptors nor slots since its begin
 abbrev pub EndsUnspent : Log → ℕ → Log → Supply → Supply → Type 0
@@ -369,7 +376,10 @@ TakesAsTold begun supply (Deleted had) = supply ≡ record begun { taken = begun
 TakesAsTold begun supply (Full Swaps) = (supply.taken ≤ begun.taken + 1) × (supply.left ≡ begun.left)
 TakesAsTold begun supply (Full Nodes) = ⊥
 TakesAsTold begun supply (Full Height) = ⊥
-TakesAsTold begun supply other = Unit {0}
+TakesAsTold begun supply Exists = Unit {0}
+TakesAsTold begun supply Missing = Unit {0}
+TakesAsTold begun supply (Value payload) = Unit {0}
+TakesAsTold begun supply (Page page next) = Unit {0}
 
 -- so is a call answered beside which no other was open, and whose leaf had room when it began
 abbrev pub EndsAsTold : Config → Log → ℕ → Log → Supply → Supply → Type 0

@@ -22,7 +22,11 @@ fn pages_asked(call: &Call) -> u32
 {
     match call {
         Call::Page(_) => 1,
-        _ => 0,
+        Call::Insert(_, _)
+        | Call::Delete(_)
+        | Call::Update(_, _)
+        | Call::Upsert(_, _)
+        | Call::Get(_) => 0,
     }
 }
 

@@ -43,7 +43,8 @@ pub(crate) fn effect_reply(call: &Call, had: Option<Payload>) -> Reply
     match (call, had) {
         (Call::Delete(_), Some(had)) => Reply::Deleted(had),
         (Call::Update(_, _) | Call::Upsert(_, _), Some(had)) => Reply::Updated(had),
-        _ => Reply::Inserted,
+        (Call::Insert(_, _) | Call::Get(_) | Call::Page(_), _)
+        | (Call::Delete(_) | Call::Update(_, _) | Call::Upsert(_, _), None) => Reply::Inserted,
     }
 }
 

@@ -41,7 +41,12 @@ fn count_pairs(slot: &Option<OpenCall>, pairs: u64) -> u64
     match effect_reply(&serving.call, serving.had) {
         Reply::Inserted => pairs + 1,
         Reply::Deleted(_) => pairs.saturating_sub(1),
-        _ => pairs,
+        Reply::Exists
+        | Reply::Updated(_)
+        | Reply::Missing
+        | Reply::Value(_)
+        | Reply::Page { .. }
+        | Reply::Full(_) => pairs,
     }
 }
 

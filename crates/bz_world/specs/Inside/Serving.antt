@@ -4,7 +4,7 @@ use Rattle.bz_call.specs.Map.{key_of, apply}
 use Rattle.bz_call.specs.declared.calls.Call.{Call}
 use Rattle.bz_call.specs.declared.calls.Call.TheVariants as call
 use Rattle.bz_call.specs.declared.replies.Reply.{Reply}
-use Rattle.bz_call.specs.declared.replies.Reply.TheVariants.{Inserted, Deleted, Updated}
+use Rattle.bz_call.specs.declared.replies.Reply.TheVariants.{Inserted, Exists, Deleted, Updated, Missing, Value, Page, Full}
 use Rattle.bz_layout.specs.declared.config.Config.{Config}
 use Rattle.bz_layout.specs.declared.thresholds.TheConstants.{SPLIT_SLOTS}
 use Rattle.bz_shape.specs.Walk.{is_among}
@@ -45,16 +45,28 @@ pub record IsChangeFor (called : Call) (had : Option (List ℕ)) (change : Chang
 
 -- the reply to a call that made its change where its key had this payload, or none
 abbrev pub effect_reply : Call → Option (List ℕ) → Reply
+effect_reply (call.Insert key payload) had = Inserted
 effect_reply (call.Delete key) (Some had) = Deleted had
 effect_reply (call.Update key payload) (Some had) = Updated had
 effect_reply (call.Upsert key payload) (Some had) = Updated had
-effect_reply called had = Inserted
+effect_reply (call.Upsert key payload) None = Inserted
+-- the others change nothing so
+effect_reply (call.Delete key) None = Inserted
+effect_reply (call.Update key payload) None = Inserted
+effect_reply (call.Get key) had = Inserted
+effect_reply (call.Page key) had = Inserted
 
 -- how many pairs a map of so many has once a call was answered so
 abbrev pub size_after : Option Reply → ℕ → ℕ
 size_after (Some Inserted) n = n + 1
 size_after (Some (Deleted had)) n = n - 1
-size_after other n = n
+size_after (Some Exists) n = n
+size_after (Some (Updated had)) n = n
+size_after (Some Missing) n = n
+size_after (Some (Value payload)) n = n
+size_after (Some (Page page next)) n = n
+size_after (Some (Full spent)) n = n
+size_after None n = n
 
 -- directly before its effect, if it has had one, the map answers it so
 abbrev pub IsToldBy : Config → Log → Open → Option (List ℕ) → Type 0
