@@ -36,6 +36,7 @@ use Rattle.bz_renew.specs.Nodes.{word_address, word_value, line_number}
 use Rattle.bz_renew.specs.Renewals.{renewal, link_entry, guard_entry, IsTurnable, LinksMayBeTurned}
 use Rattle.bz_renew.proofs.FreshSlots.{unreached}
 use Rattle.bz_task.proofs.FrozenWords.{frozen-plain}
+use Rattle.bz_task.proofs.Guards.{guard-is-status}
 use Rattle.bz_renew.proofs.Freezings.{renewal-holds}
 use Rattle.bz_renew.proofs.Guards.{guard-readable, guard-differed}
 use Rattle.bz_renew.proofs.Inserting.{inserted-other}
@@ -125,13 +126,13 @@ cause c r Again s Stored f d = absurd (d)
 cause c r Again s Flushed f d = absurd (d)
 cause c r Again s (Swapped won) f d = absurd (d)
 cause c r Again s NoneLeft f d = absurd (d)
-cause c r Guard s (Was v) f d = inr d
+cause c r Guard s (Was v) f d = inr (record { guard = guard-is-status s r.upper f.1.parted.links.upper_guard; frozen = d })
 cause c r Guard s Start f d = absurd (d)
 cause c r Guard s Stored f d = absurd (d)
 cause c r Guard s Flushed f d = absurd (d)
 cause c r Guard s (Swapped won) f d = absurd (d)
 cause c r Guard s NoneLeft f d = absurd (d)
-cause c r Named s (Was v) f d = inr d
+cause c r Named s (Was v) f d = inr (record { guard = guard-is-status s r.upper f.1.planned.parted.links.upper_guard; frozen = d })
 cause c r Named s Start f d = absurd (d)
 cause c r Named s Stored f d = absurd (d)
 cause c r Named s Flushed f d = absurd (d)

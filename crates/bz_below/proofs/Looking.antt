@@ -1,11 +1,13 @@
 -- What another look at the guard of the link to the parent leads to, and teaches.
 use Rattle.std.proofs.Common.{◌≡◌, ◌≢◌, ℕ, ◌+◌, ◌<◌, ◌≤◌, true, false, List, arith, refl, sym, ap, subst, ◌∙◌, inl, inr}
+use Rattle.std.specs.Prelude.{Some}
 use Rattle.bz_layout.specs.Addresses.{SlotsApart}
 use Rattle.bz_layout.specs.Slots.{FreeSlots}
 use Rattle.bz_layout.specs.declared.config.Config.{Config}
 use Rattle.bz_layout.specs.declared.sizes.TheConstants.{NODE_WORDS}
 use Rattle.bz_layout.specs.declared.thresholds.TheConstants.{SPLIT_SLOTS}
 use Rattle.bz_word.specs.Statuses.{status}
+use Rattle.bz_task.specs.declared.todo.Outcome.{Outcome}
 use Rattle.bz_task.specs.Laws.{NothingIsGained}
 use Rattle.bz_task.specs.OwnActs.{AreTakenFrom, AreUnreached, gained}
 use Rattle.bz_task.specs.Requests.{Answers}
@@ -16,7 +18,7 @@ use Rattle.bz_task.specs.declared.todo.Seen.TheVariants.{Read as Was, NoSwap as 
 use Rattle.bz_halves.specs.Parents.{ChildrenMayBeParted}
 use Rattle.bz_parted.specs.Laws.{ReadNodesHaveChildren}
 use Rattle.bz_renew.specs.Nodes.{HaveSlots, AreSlotsTaken}
-use Rattle.bz_below.specs.Facts.{Below, below_nodes, HasPartedBelow, IsPlan, IsPlanned, LeavesRoom, HasRoom, HasParent, HasBegunBelow, HasBegunOrWaits, HasLookedBelow, below_differs, below_left, below_needs, below_facts, IsReadyBelow}
+use Rattle.bz_below.specs.Facts.{Below, below_nodes, HasPartedBelow, IsPlan, IsPlanned, LeavesRoom, HasRoom, HasParent, HasBegunBelow, HasBegunOrWaits, HasLookedBelow, below_differs, below_end, below_left, below_needs, below_facts, IsReadyBelow}
 use Rattle.bz_below.specs.Guards.{WasThawed, LinksLeaveTheirNodes}
 use Rattle.bz_below.specs.declared.phase.Phase.{Phase}
 use Rattle.bz_below.specs.declared.phase.Phase.TheVariants.{Fresh, Room, Word, Again, Guard, Store, Flush, Named, Swap, Done, Restart, NoRoom, NoSlot, NoSwap}
@@ -171,3 +173,14 @@ looked-learns apart parts have leave nothing c left before after o r q v old new
       ]
       | inr g ↦ subst (λ z. below_facts r z Waiting (gained s old new)) (sym g.1.0) (subst (λ z. HasFilled (gained s old z)) (sym g.1.1.1) (nothing s old known.0))
     ]
+
+-- where it ends none was taken
+begun-kept : (nodes : ℕ) (r : Below) (p : Phase) (old new : FreeSlots) (outcome : Outcome) → HasBegunBelow nodes r p old new → below_end p ≡ Some outcome → new ≡ old
+begun-kept nodes r (Store j) old new outcome h e = absurd (cc)
+begun-kept nodes r NoSlot old new outcome h e = h.1
+begun-kept nodes r p old new outcome h e = absurd (h)
+
+pub looked-kept : (nodes left before after : ℕ) (read : List ℕ) (r : Below) (word : ℕ) (p : Phase) (old new : FreeSlots) (outcome : Outcome) → HasLookedBelow nodes left before after read r word p old new → below_end p ≡ Some outcome → new ≡ old
+looked-kept nodes left before after read r word p old new outcome (inl (thawed, inl h)) e = begun-kept nodes r p old new outcome h.0 e
+looked-kept nodes left before after read r word p old new outcome (inl (thawed, inr h)) e = h.1.1.0
+looked-kept nodes left before after read r word p old new outcome (inr h) e = h.1.1.1

@@ -311,6 +311,7 @@ impl SplitBelow {
         ensures fewer { swaps_below self.new + swaps_in (asks_below self.old) ≤ swaps_below self.old }
         ensures counted { end_below self.new ≡ None → effects_in seen ≡ 0 }
         ensures slots { AreTakenFrom (needs_below self.old) (needs_below self.new) slots.old slots.new }
+        ensures kept { (outcome : Outcome) → end_below self.new ≡ Some outcome → slots.new ≡ slots.old }
         ensures begins { seen ≡ Start → end_below self.new ≡ None }
         ensures done { end_below self.new ≡ Some Outcome.Done → seen ≡ Swapped true }
         ensures last { seen ≡ Swapped true → end_below self.new ≡ Some Outcome.Done }

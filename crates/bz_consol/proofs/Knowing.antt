@@ -7,6 +7,7 @@ use Rattle.bz_layout.specs.Slots.{FreeSlots}
 use Rattle.bz_layout.specs.declared.config.Config.{Config}
 use Rattle.bz_layout.specs.declared.sizes.TheConstants.{NODE_WORDS, NODE_LINES}
 use Rattle.bz_layout.specs.declared.thresholds.TheConstants.{CONSOLIDATION_SLOTS}
+use Rattle.bz_task.specs.declared.todo.Outcome.{Outcome}
 use Rattle.bz_task.specs.Laws.{NothingIsGained}
 use Rattle.bz_task.specs.OwnActs.{AreTakenFrom, AreUnreached, gained}
 use Rattle.bz_task.specs.Requests.{Answers, Hears, Tells, effects_in}
@@ -287,3 +288,13 @@ looked-learns apart nothing c o r q seen old new same h nodes stage s config fre
       | inl g ↦ begun-knows apart r q s old new g.1 (nodes ∙ ap (λ z. z.nodes) (sym config)) free known.filled known.viewed (known.found g.0) nothing
       | inr g ↦ subst (λ z. consol_facts r z Waiting (gained s old new)) (sym g.1.0) (subst (λ z. HasFilled (gained s old z)) (sym g.1.1) (nothing s old known.filled))
     ]
+
+-- where it ends none was taken
+begun-kept : (slot : ℕ) (p : Phase) (old new : FreeSlots) (outcome : Outcome) → HasBegun slot p old new → consol_end p ≡ Some outcome → new ≡ old
+begun-kept slot (Store j) old new outcome h e = absurd (cc)
+begun-kept slot NoSlot old new outcome h e = h.1
+begun-kept slot p old new outcome h e = absurd (h)
+
+pub looked-kept : (r : Renewal) (seen : Seen) (p : Phase) (old new : FreeSlots) (outcome : Outcome) → HasLooked r seen p old new → consol_end p ≡ Some outcome → new ≡ old
+looked-kept r seen p old new outcome (inl h) e = begun-kept r.slot p old new outcome h.1 e
+looked-kept r seen p old new outcome (inr h) e = h.1.1

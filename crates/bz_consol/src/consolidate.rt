@@ -154,6 +154,7 @@ impl Consolidate {
         ensures fewer { swaps_of self.new + swaps_in (asks_of self.old) ≤ swaps_of self.old }
         ensures counted { end_of self.new ≡ None → effects_in seen ≡ 0 }
         ensures slots { AreTakenFrom (needs_of self.old) (needs_of self.new) slots.old slots.new }
+        ensures kept { (outcome : Outcome) → end_of self.new ≡ Some outcome → slots.new ≡ slots.old }
         ensures begins { seen ≡ Start → end_of self.new ≡ None }
         ensures done { end_of self.new ≡ Some Outcome.Done → seen ≡ Swapped true }
         ensures last { seen ≡ Swapped true → end_of self.new ≡ Some Outcome.Done }

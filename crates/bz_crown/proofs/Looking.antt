@@ -5,6 +5,7 @@ use Rattle.bz_layout.specs.Addresses.{SlotsApart}
 use Rattle.bz_layout.specs.Slots.{FreeSlots}
 use Rattle.bz_layout.specs.declared.config.Config.{Config}
 use Rattle.bz_layout.specs.declared.thresholds.TheConstants.{SPLIT_SLOTS}
+use Rattle.bz_task.specs.declared.todo.Outcome.{Outcome}
 use Rattle.bz_task.specs.Laws.{NothingIsGained}
 use Rattle.bz_task.specs.OwnActs.{AreTakenFrom, AreUnreached, gained}
 use Rattle.bz_task.specs.Requests.{Answers, Hears, Tells}
@@ -15,7 +16,7 @@ use Rattle.bz_task.specs.declared.todo.Todo.TheVariants.{Read as Reads}
 use Rattle.bz_task.specs.declared.todo.Seen.TheVariants.{Read as Was}
 use Rattle.bz_renew.specs.Nodes.{HaveSlots, AreSlotsTaken}
 use Rattle.bz_renew.proofs.Guards.{answered-as-read}
-use Rattle.bz_crown.specs.Facts.{Crown, crown_nodes, HasLinks, IsPlan, IsPlanned, IsSplittable, HasBegunCrown, HasLookedCrown, crown_asks, crown_left, crown_needs, crown_facts, IsReadyCrown}
+use Rattle.bz_crown.specs.Facts.{Crown, crown_nodes, HasLinks, IsPlan, IsPlanned, IsSplittable, HasBegunCrown, HasLookedCrown, crown_asks, crown_end, crown_left, crown_needs, crown_facts, IsReadyCrown}
 use Rattle.bz_crown.specs.declared.phase.Phase.{Phase}
 use Rattle.bz_crown.specs.declared.phase.Phase.TheVariants.{Fresh, Word, Again, Guard, Store, Flush, Swap, Done, Restart, TooHigh, NoSlot, NoSwap}
 use Rattle.bz_crown.proofs.Ending.{EndsWell, other-upper, read-answers, was-no-swap}
@@ -119,3 +120,13 @@ looked-learns apart nothing c o r q seen old new same h nodes stage s config goo
           (answered-as-read s r.upper plan.links.guarded (guarded-now s.past r.upper r.lower plan.links) a))
       | inr g ↦ subst (λ z. crown_facts r z Waiting (gained s old new)) (sym g.1.0) (subst (λ z. HasFilled (gained s old z)) (sym g.1.1) (nothing s old known.0))
     ]
+
+-- where it ends none was taken
+begun-kept : (r : Crown) (p : Phase) (old new : FreeSlots) (outcome : Outcome) → HasBegunCrown r p old new → crown_end p ≡ Some outcome → new ≡ old
+begun-kept r (Store j) old new outcome h e = absurd (cc)
+begun-kept r NoSlot old new outcome h e = h.1
+begun-kept r p old new outcome h e = absurd (h)
+
+pub looked-kept : (r : Crown) (seen : Seen) (p : Phase) (old new : FreeSlots) (outcome : Outcome) → HasLookedCrown r seen p old new → crown_end p ≡ Some outcome → new ≡ old
+looked-kept r seen p old new outcome (inl h) e = begun-kept r p old new outcome h.1 e
+looked-kept r seen p old new outcome (inr h) e = h.1.1

@@ -211,6 +211,7 @@ impl SplitInnerRoot {
         ensures fewer { swaps_crown self.new + swaps_in (asks_crown self.old) ≤ swaps_crown self.old }
         ensures counted { end_crown self.new ≡ None → effects_in seen ≡ 0 }
         ensures slots { AreTakenFrom (needs_crown self.old) (needs_crown self.new) slots.old slots.new }
+        ensures kept { (outcome : Outcome) → end_crown self.new ≡ Some outcome → slots.new ≡ slots.old }
         ensures begins { seen ≡ Start → end_crown self.new ≡ None }
         ensures done { end_crown self.new ≡ Some Outcome.Done → seen ≡ Swapped true }
         ensures last { seen ≡ Swapped true → end_crown self.new ≡ Some Outcome.Done }

@@ -85,6 +85,7 @@ module _ (b : Laws) (key : List ℕ) (s : Scene) (good : IsScene s) where
               low = subst (λ z. is_at_least key z ≡ true) (sym root-is.low) refl;
               high = subst (λ z. is_below key z ≡ true) (sym root-is.high) refl;
             };
+            reached = root-is.reached;
             low = omega (arith, few, deep);
           }
 
@@ -141,6 +142,7 @@ module _ (b : Laws) (key : List ℕ) (s : Scene) (good : IsScene s) where
               since = d.since;
               until = d.until;
               has = d.has;
+              reached = (good.history.good d.was d.since d.until).inside (v - 1) d.has.inside (λ e. omega (arith, e, d.has.slot));
               low = omega (arith, d.level, h.opened.at_inner.node.low, deep);
             },
             d.level,

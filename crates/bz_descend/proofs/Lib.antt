@@ -16,3 +16,4 @@ mod SeekHearing
 mod Seeking
 mod SeekGoing
 mod Counts
+mod Causes

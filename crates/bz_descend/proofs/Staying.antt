@@ -82,6 +82,7 @@ module _ (paths : PathsStay) (p q : Past) (n : Continues p q) where
     since = omega (arith, a.since, n.since);
     until = omega (arith, a.until, n.now);
     has = moved (λ c x. HasKey key c x k) a.met a.until a.has;
+    reached = moved (λ c x. x.reached k ≡ true) a.met a.until a.reached;
     low = moved (λ c x. (page_at c x k).level + path.depth ≤ MAX_LEVELS) a.met a.until a.low;
   }
 

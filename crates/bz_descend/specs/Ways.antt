@@ -48,6 +48,7 @@ pub record Arrives (key : List ℕ) (path : Path) (k : ℕ) (p : Past) : Type 0 
   pub since : p.since ≤ met
   pub until : met ≤ p.now
   pub has : HasKey key p.config (p.at met) k
+  pub reached : (p.at met).reached k ≡ true
   pub low : (page_at p.config (p.at met) k).level + path.depth ≤ MAX_LEVELS
 
 -- and that is an inner node

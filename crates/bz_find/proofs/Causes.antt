@@ -1,10 +1,11 @@
 -- What a validating load that differs says.
 use Rattle.std.proofs.Common.{◌≡◌, ℕ, ◌∙◌, inl, inr}
+use Rattle.bz_layout.specs.declared.sizes.TheConstants.{NODE_WORDS}
 use Rattle.bz_task.specs.Requests.{IsCause}
 use Rattle.bz_task.specs.Scene.{Scene, Waiting}
 use Rattle.bz_task.specs.declared.todo.Seen.{Seen}
 use Rattle.bz_task.specs.declared.todo.Seen.TheVariants.{Read as Was}
-use Rattle.bz_leaf.proofs.Causes.{other-status, other-link}
+use Rattle.bz_leaf.proofs.Causes.{other-status, other-link, guard-read}
 use Rattle.bz_find.specs.Facts.{find_facts, find_differs}
 use Rattle.bz_find.specs.Phases.{find_asks}
 use Rattle.bz_find.specs.declared.find.Find.{Find}
@@ -21,5 +22,5 @@ differs-by-read P t phase h seen d = absurd (d)
 pub cause : (t : Find) (phase : Phase) (s : Scene) (seen : Seen) → s.past.config ≡ t.config → find_facts t phase Waiting s → find_differs t phase seen → IsCause (find_asks t phase) seen s
 cause t Again s (Was v) same f d = inl (other-status t.config t.key t.link f.1.opened.ws v s same f.1.opened.reading (λ e. d (e ∙ f.1.opened.status)))
 cause t Of_link s (Was v) same f d = inl (other-link t.key t.link f.1.opened.ws v s f.1.opened.reading d)
-cause t (Guard at) s (Was v) same f d = inr d
+cause t (Guard at) s (Was v) same f d = inr (record { guard = guard-read t.key t.link f.1.ws NODE_WORDS s f.1.led.leaf.all; frozen = d })
 cause t phase s seen same f d = absurd (d)

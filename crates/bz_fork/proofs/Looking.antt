@@ -5,6 +5,7 @@ use Rattle.bz_layout.specs.Addresses.{SlotsApart}
 use Rattle.bz_layout.specs.Slots.{FreeSlots}
 use Rattle.bz_layout.specs.declared.config.Config.{Config}
 use Rattle.bz_layout.specs.declared.thresholds.TheConstants.{SPLIT_SLOTS}
+use Rattle.bz_task.specs.declared.todo.Outcome.{Outcome}
 use Rattle.bz_task.specs.Laws.{NothingIsGained, RangesStay}
 use Rattle.bz_task.specs.OwnActs.{AreTakenFrom, AreUnreached, gained}
 use Rattle.bz_task.specs.Requests.{Answers, Hears, Tells}
@@ -20,7 +21,7 @@ use Rattle.bz_renew.specs.Renewals.{LinksMayBeTurned}
 use Rattle.bz_renew.specs.Standing.{GuardedLinksStand}
 use Rattle.bz_branch.specs.FromBelow.Facts.{HasRoom, HasParent}
 use Rattle.bz_branch.specs.Parts.{ArePartsOfNode}
-use Rattle.bz_fork.specs.Facts.{Fork, fork_nodes, HasLinks, IsPlan, IsPlanned, AreClear, HasPlace, HasBegunFork, HasLookedFork, fork_asks, fork_left, fork_needs, fork_facts, IsReadyFork}
+use Rattle.bz_fork.specs.Facts.{Fork, fork_nodes, HasLinks, IsPlan, IsPlanned, AreClear, HasPlace, HasBegunFork, HasLookedFork, fork_asks, fork_end, fork_left, fork_needs, fork_facts, IsReadyFork}
 use Rattle.bz_fork.specs.declared.phase.Phase.{Phase}
 use Rattle.bz_fork.specs.declared.phase.Phase.TheVariants.{Fresh, Unread, Tight, Word, Again, Room, Above, Check, Guard, Store, Flush, Swap, Done, Restart, NoRoom, NoSlot, NoSwap}
 use Rattle.bz_fork.proofs.Ending.{EndsWell, other-upper, read-answers, was-no-swap}
@@ -156,3 +157,13 @@ looked-learns b c o r q seen old new same h nodes stage s config good free facts
           (answered-as-read s r.upper plan.links.counted (counted-now s.past r.upper r.middle r.lower plan.links) a) clear)
       | inr g ↦ subst (λ z. fork_facts r z Waiting (gained s old new)) (sym g.1.0) (subst (λ z. HasFilled (gained s old z)) (sym g.1.1) (b.nothing s old known.0))
     ]
+
+-- where it ends none was taken
+begun-kept : (nodes : ℕ) (r : Fork) (p : Phase) (old new : FreeSlots) (outcome : Outcome) → HasBegunFork nodes r p old new → fork_end p ≡ Some outcome → new ≡ old
+begun-kept nodes r (Store j) old new outcome h e = absurd (cc)
+begun-kept nodes r NoSlot old new outcome h e = h.1
+begun-kept nodes r p old new outcome h e = absurd (h)
+
+pub looked-kept : (nodes : ℕ) (r : Fork) (seen : Seen) (p : Phase) (old new : FreeSlots) (outcome : Outcome) → HasLookedFork nodes r seen p old new → fork_end p ≡ Some outcome → new ≡ old
+looked-kept nodes r seen p old new outcome (inl h) e = begun-kept nodes r p old new outcome h.1 e
+looked-kept nodes r seen p old new outcome (inr h) e = h.1.1

@@ -291,6 +291,7 @@ impl SplitInner {
         ensures fewer { swaps_fork self.new + swaps_in (asks_fork self.old) ≤ swaps_fork self.old }
         ensures counted { end_fork self.new ≡ None → effects_in seen ≡ 0 }
         ensures slots { AreTakenFrom (needs_fork self.old) (needs_fork self.new) slots.old slots.new }
+        ensures kept { (outcome : Outcome) → end_fork self.new ≡ Some outcome → slots.new ≡ slots.old }
         ensures begins { seen ≡ Start → end_fork self.new ≡ None }
         ensures done { end_fork self.new ≡ Some Outcome.Done → seen ≡ Swapped true }
         ensures last { seen ≡ Swapped true → end_fork self.new ≡ Some Outcome.Done }

@@ -6,7 +6,7 @@ use Rattle.bz_layout.specs.declared.config.Config.{Config}
 use Rattle.bz_node.specs.declared.image.NodeImage.{NodeImage}
 use Rattle.bz_layout.specs.declared.sizes.TheConstants.{NODE_WORDS, STATUS_AT}
 use Rattle.bz_task.specs.Instant.{words}
-use Rattle.bz_task.specs.Requests.{Differed, IsCause}
+use Rattle.bz_task.specs.Requests.{Differed, IsStatusWord, IsCause}
 use Rattle.bz_task.specs.Scene.{Scene, Waiting}
 use Rattle.bz_task.specs.declared.path.Link.{Link}
 use Rattle.bz_task.specs.declared.todo.Seen.{Seen}
@@ -14,6 +14,7 @@ use Rattle.bz_task.specs.declared.todo.Seen.TheVariants.{Start, Read as Was, Sto
 use Rattle.bz_leaf.specs.Facts.{Reading, leaf_asks, leaf_facts, leaf_differs}
 use Rattle.bz_leaf.specs.declared.phase.Phase.{Phase}
 use Rattle.bz_leaf.specs.declared.phase.Phase.TheVariants.{Fresh, Status, Word, Again, Link as Of_link, Guard, Viewed, Changed}
+use Rattle.bz_task.proofs.Guards.{guards-status}
 use Rattle.bz_leaf.proofs.Viewing.{status-word}
 
 -- the status was another one when it was read first
@@ -28,6 +29,10 @@ other-status c key link ws v s same r ne = record {
 -- the link led to the leaf once
 pub other-link : (key : List ℕ) (link : Link) (ws : List ℕ) (v : ℕ) (s : Scene) → Reading key link ws NODE_WORDS s.past → v ≢ link.slot + 1 → Differed s link.link v
 other-link key link ws v s r ne = record { moment = r.known.moment; since = r.known.since; now = r.known.now; other = λ e. ne (sym e ∙ r.known.led) }
+
+-- the guard of the link is a status word
+pub guard-read : (key : List ℕ) (link : Link) (ws : List ℕ) (place : ℕ) (s : Scene) → Reading key link ws place s.past → IsStatusWord s link.guard
+guard-read key link ws place s r = guards-status s link r.known.hung r.known.hung_since r.known.hung_now r.known.under
 
 pub cause : (c : Config) (key : List ℕ) (link : Link) (image : NodeImage) (ws : List ℕ) (phase : Phase) (s : Scene) (seen : Seen) → s.past.config ≡ c → leaf_facts key link ws phase Waiting s → leaf_differs link ws phase seen → IsCause (leaf_asks c link image phase) seen s
 cause c key link image ws Fresh s (Was v) same f d = absurd (d)
@@ -62,7 +67,7 @@ cause c key link image ws Changed s (Swapped won) same f d = absurd (d)
 cause c key link image ws Changed s NoSwap same f d = absurd (d)
 cause c key link image ws Again s (Was v) same f d = inl (other-status c key link ws v s same f.1.all d)
 cause c key link image ws Of_link s (Was v) same f d = inl (other-link key link ws v s f.1.all d)
-cause c key link image ws (Guard at) s (Was v) same f d = inr d
+cause c key link image ws (Guard at) s (Was v) same f d = inr (record { guard = guard-read key link ws NODE_WORDS s f.1.leaf.all; frozen = d })
 cause c key link image ws Again s Start same f d = absurd (d)
 cause c key link image ws Again s Stored same f d = absurd (d)
 cause c key link image ws Again s Flushed same f d = absurd (d)

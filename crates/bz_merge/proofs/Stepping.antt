@@ -7,6 +7,7 @@ use Rattle.bz_layout.specs.Slots.{FreeSlots}
 use Rattle.bz_layout.specs.declared.config.Config.{Config}
 use Rattle.bz_layout.specs.declared.sizes.TheConstants.{NODE_WORDS, STATUS_AT}
 use Rattle.bz_renew.specs.Nodes.{HaveSlots}
+use Rattle.bz_task.specs.declared.todo.Outcome.{Outcome}
 use Rattle.bz_task.specs.OwnActs.{AreTakenFrom}
 use Rattle.bz_task.specs.Requests.{Hears}
 use Rattle.bz_task.specs.declared.todo.Outcome.TheVariants.{Done as IsDone, Restart as Restarts, Full as IsFull}
@@ -171,3 +172,13 @@ looks c r right o q seen old new is nodes h = subst (λ z. Looks c r right z q o
   | inl g ↦ begun-on c r right q old new nodes g.1
   | inr g ↦ subst (λ z. Looks c r right Guard z old new) (sym g.1.0) (other-on c r right old new g.1.1)
 ])
+
+-- where it ends none was taken
+begun-kept : (r : Merging) (p : Phase) (old new : FreeSlots) (outcome : Outcome) → HasBegun r p old new → merge_end p ≡ Some outcome → new ≡ old
+begun-kept r (Store j) old new outcome h e = absurd (cc)
+begun-kept r NoSlot old new outcome h e = h.1
+begun-kept r p old new outcome h e = absurd (h)
+
+pub looked-kept : (r : Merging) (seen : Seen) (p : Phase) (old new : FreeSlots) (outcome : Outcome) → HasLooked r seen p old new → merge_end p ≡ Some outcome → new ≡ old
+looked-kept r seen p old new outcome (inl h) e = begun-kept r p old new outcome h.1 e
+looked-kept r seen p old new outcome (inr h) e = h.1.1

@@ -31,6 +31,7 @@ pub record Nexts (seen : Seen) (moment : ℕ) (free left : FreeSlots) (todo : To
   pub basis : basis_of new ≡ basis_of old
   pub meant : (outcome : Outcome) (s : Scene) → means_of new outcome s → means_of old outcome s
   pub slots : AreTakenFrom (needs_of old) (needs_of new) free left
+  pub kept : (outcome : Outcome) → end_of new ≡ Some outcome → left ≡ free
   pub begins : (outcome : Outcome) → seen ≡ Start → end_of new ≡ Some outcome → EndsAtOnce (needs_of old) outcome
   pub last : seen ≡ Swapped true → swaps_of old ≡ 1 → end_of new ≡ Some Done
   pub only_last : end_of new ≡ Some Done → swaps_of old ≡ 1

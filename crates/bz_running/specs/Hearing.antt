@@ -51,6 +51,8 @@ pub record HasHeard (old : AnyTask) (seen : Seen) (moment : ℕ) (free : FreeSlo
   pub few : leaves_few_of new ≡ leaves_few_of old
   pub meant : (o : Outcome) (s : Scene) → means_of new o s → means_of old o s
   pub slots : AreTakenFrom (needs_of old) (needs_of new) free left
+  -- none is taken where it ends
+  pub kept : (o : Outcome) → end_of new ≡ Some o → left ≡ free
   -- told to begin it goes on, where it makes no change and is no look-up in a leaf
   pub begins : seen ≡ Start → makes_no_change old ≡ true → kind_of old ≢ Find → end_of new ≡ None
   -- it ends with Done where the last swap that it could still ask for took effect, and nowhere else

@@ -11,6 +11,7 @@ use Rattle.bz_layout.specs.declared.limits.TheConstants.{MAX_NODES}
 use Rattle.bz_layout.specs.declared.sizes.TheConstants.{NODE_WORDS}
 use Rattle.bz_layout.specs.declared.thresholds.TheConstants.{SPLIT_SLOTS}
 use Rattle.bz_node.specs.Records.{IsChild}
+use Rattle.bz_task.specs.declared.todo.Outcome.{Outcome}
 use Rattle.bz_task.specs.Laws.{NothingIsGained}
 use Rattle.bz_task.specs.OwnActs.{AreTakenFrom, AreUnreached, gained}
 use Rattle.bz_task.specs.Requests.{Answers, Hears, Tells}
@@ -335,3 +336,13 @@ looked-learns apart nothing c o r q seen old new same h nodes stage s config goo
       | inl g ↦ begun-knows apart r q s old new good g.1 (nodes ∙ ap (λ z. z.nodes) (sym config)) free known.filled known.parted (known.found g.0) nothing
       | inr g ↦ subst (λ z. split_facts r z Waiting (gained s old new)) (sym g.1.0) (subst (λ z. HasFilled (gained s old z)) (sym g.1.1) (nothing s old known.filled))
     ]
+
+-- where it ends none was taken
+begun-kept : (r : Split) (p : Phase) (old new : FreeSlots) (outcome : Outcome) → HasBegun r p old new → split_end p ≡ Some outcome → new ≡ old
+begun-kept r (Store j) old new outcome h e = absurd (cc)
+begun-kept r NoSlot old new outcome h e = h.1
+begun-kept r p old new outcome h e = absurd (h)
+
+pub looked-kept : (r : Split) (seen : Seen) (p : Phase) (old new : FreeSlots) (outcome : Outcome) → HasLooked r seen p old new → split_end p ≡ Some outcome → new ≡ old
+looked-kept r seen p old new outcome (inl h) e = begun-kept r p old new outcome h.1 e
+looked-kept r seen p old new outcome (inr h) e = h.1.1

@@ -10,6 +10,7 @@ mod Thawed
 pub mod Stays
 mod LeafSwaps
 mod Others
+pub mod Guards
 mod SeenLeaves
 mod Settled
 mod Separators

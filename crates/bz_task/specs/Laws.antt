@@ -34,12 +34,6 @@ NodesStay =
     (c : Config) (at : ℕ → Instant) (first last m i j k : ℕ) → IsHistory c at first last → AreMoments first last m j → m ≤ i → i ≤ j →
     (at m).reached k ≡ true → words c (at j) k STATUS_AT ≡ words c (at m) k STATUS_AT → SameShownNode c (at m) (at i) k
 
--- while it is not frozen, the root pointer leads to the root
-abbrev pub ThawedRootsStay : Type 0
-ThawedRootsStay =
-    (c : Config) (at : ℕ → Instant) (first last m j : ℕ) → IsHistory c at first last → AreMoments first last m j →
-    (page_at c (at j) ((at m).value ROOT_AT - 1)).frozen ≡ false → (at j).value ROOT_AT ≡ (at m).value ROOT_AT
-
 -- once it is frozen, it stays as it was
 abbrev pub FrozenNodesStay : Type 0
 FrozenNodesStay =

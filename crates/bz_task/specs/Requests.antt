@@ -128,8 +128,26 @@ pub record Differed (s : Scene) (a v : ℕ) : Type 0 where
   pub now : moment ≤ s.past.now
   pub other : (s.past.at moment).value a ≢ v
 
+-- the status of a node to which a link had led at a moment since the look-up began
+pub record IsStatusOfNode (s : Scene) (a : ℕ) : Type 0 where
+  pub slot : ℕ
+  pub address : a ≡ node_address s.past.config slot + STATUS_AT
+  pub moment : ℕ
+  pub since : s.past.since ≤ moment
+  pub now : moment ≤ s.past.now
+  pub reached : (s.past.at moment).reached slot ≡ true
+
+-- the address is that of a status word: the root status, or the status of such a node
+abbrev pub IsStatusWord : Scene → ℕ → Type 0
+IsStatusWord s a = (a ≡ ROOT_STATUS_AT) ⊎ IsStatusOfNode s a
+
+-- a guard that is frozen
+pub record IsFrozenGuard (s : Scene) (a v : ℕ) : Type 0 where
+  pub guard : IsStatusWord s a
+  pub frozen : (status v).frozen ≡ true
+
 -- the answer is one that makes what was read worthless: a read found another value than the address held before, or a guard
 -- that is frozen
 abbrev pub IsCause : Option Todo → Seen → Scene → Type 0
-IsCause (Some (Read a)) (Was v) s = Differed s a v ⊎ ((status v).frozen ≡ true)
+IsCause (Some (Read a)) (Was v) s = Differed s a v ⊎ IsFrozenGuard s a v
 IsCause asked seen s = ⊥

@@ -1,6 +1,6 @@
 //! Laws of lawful steps. Each function does nothing: its contract is the law.
 
-ghost use Rattle.bz_task.specs.Laws.{NodesStay, ThawedRootsStay, FrozenNodesStay, SeparatorsStay, FrontsStay, RangesStay, NodesWereInside, RootsAreReached, HeadersSayTheLevel, SameRecordsShowTheSame, SwapsShowInSlots, SeenLeavesAreWhole, LeavesAreInTrees, ChildrenAreInTrees, ThawedLeavesStay, PathsStay, ViewsStay, KeyViewsStay, NothingIsGained};
+ghost use Rattle.bz_task.specs.Laws.{NodesStay, FrozenNodesStay, SeparatorsStay, FrontsStay, RangesStay, NodesWereInside, RootsAreReached, HeadersSayTheLevel, SameRecordsShowTheSame, SwapsShowInSlots, SeenLeavesAreWhole, LeavesAreInTrees, ChildrenAreInTrees, ThawedLeavesStay, PathsStay, ViewsStay, KeyViewsStay, NothingIsGained};
 ghost use Rattle.bz_task.specs.LeafSwaps.{LeafSwapsAreGood};
 ghost use Rattle.bz_task.specs.Resting.{RestingMemoriesAreGood};
 ghost use Rattle.bz_task.specs.Settled.{SettledMemoriesAreGood};
@@ -14,14 +14,6 @@ use bz_shape::laws as shape;
 pub fn nodes_stay()
     ensures { NodesStay }
 {}
-
-/// While the root is not frozen, the root pointer leads to it.
-pub fn thawed_roots_stay()
-    ensures { ThawedRootsStay }
-{
-    frozen_nodes_stay();
-    roots_are_reached();
-}
 
 /// A frozen node stays as it was.
 pub fn frozen_nodes_stay()

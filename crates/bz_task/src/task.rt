@@ -88,6 +88,8 @@ pub trait Task: Drop {
         ensures basis { basis self.new ≡ basis self.old }
         ensures meant { (outcome : Outcome) (s : Scene) → means self.new outcome s → means self.old outcome s }
         ensures slots { AreTakenFrom (needs self.old) (needs self.new) slots.old slots.new }
+        // none is taken where it ends
+        ensures kept { (outcome : Outcome) → end self.new ≡ Some outcome → slots.new ≡ slots.old }
         // how it ends, and why
         // told to begin it asks for an act; only one that takes no slots may end at once: with what its leaf says of the key, or
         // for want of room there

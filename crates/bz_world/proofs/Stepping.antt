@@ -1,5 +1,5 @@
 -- A step: one act, and what its call does without an act.
-use Rattle.std.proofs.Common.{◌≡◌, ◌≢◌, ◌⊎◌, ◌<◌, ◌≤◌, ◌+◌, ◌*◌, ◌==◌, if◌then◌else◌, ℕ, Bool, true, false, List, ◌∷◌, length, arith, sym, ap, subst, ◌∙◌, inl, inr, Option, Some, None}
+use Rattle.std.proofs.Common.{◌≡◌, ◌≢◌, ◌⊎◌, ◌<◌, ◌≤◌, ◌+◌, ◌==◌, if◌then◌else◌, ℕ, Bool, true, false, List, ◌∷◌, length, arith, sym, ap, subst, ◌∙◌, inl, inr, Option, Some, None}
 use Rattle.std.specs.Prelude.{get_or, option_map}
 use Rattle.std.proofs.Math.ListN.{get_or-map}
 use Rattle.arrayvec.specs.ArrayVec.{ArrayVec}
@@ -89,7 +89,7 @@ stepped-on old new w was is some a taken = record {
   struck = new.journal.past;
   effect = a.struck;
   ends = a.journal;
-  spends = spends-shown old new (2 * SPLIT_SLOTS) was is (record { taken = inl taken; fewer = omega (arith, left); few = omega (arith, left) });
+  spends = spends-shown old new SPLIT_SLOTS was is (record { taken = inl taken; fewer = omega (arith, left); few = omega (arith, left) });
   full = λ n at spent e. absurd (not-longer (End w n (Full spent) at) new.journal.past e);
   brief = λ n at reply opened key e. absurd (not-longer (End w n reply at) new.journal.past e);
   config = ap (λ (p : Parts). p.config) a.rest;
@@ -111,17 +111,17 @@ stepped-on old new w was is some a taken = record {
 
 -- an act that ended what was asked for, and then what comes of that
 pub stepped-through : (old mid told new : Parts) (w : ℕ) (answer : Applied) → IsAwake old → HasActed old w mid → mid.access.taken ≡ old.access.taken → told ≡ record mid { slots = told.slots; workers = told.workers }
-    → length told.slots.free ≤ length mid.slots.free → length mid.slots.free ≤ length told.slots.free + SPLIT_SLOTS → WentOn told w answer new → Steps (world_view old) w answer (world_view new)
+    → length told.slots.free ≤ length mid.slots.free → length mid.slots.free ≤ length new.slots.free + SPLIT_SLOTS → WentOn told w answer new → Steps (world_view old) w answer (world_view new)
 stepped-through old mid told new w answer was a taken rest fewer few went = record {
   made = a.made;
   flush = a.flush ∙ sym (flush-is old w);
   struck = mid.journal.past;
   effect = a.struck;
   ends = subst (λ (j : Log). GoesOn j w answer new.journal) journal went.ends;
-  spends = spends-shown old new (2 * SPLIT_SLOTS) was went.kept (record {
+  spends = spends-shown old new SPLIT_SLOTS was went.kept (record {
     taken = subst (λ n. (new.access.taken ≡ n) ⊎ (new.access.taken ≡ n + 1)) (ap (λ (p : Parts). p.access.taken) rest ∙ taken) went.spends.taken;
     fewer = omega (arith, left, fewer, less);
-    few = omega (arith, left, few, most);
+    few = omega (arith, left, few);
   });
   full = subst (EndsFullRightly new.config (record old.journal { past = mid.journal.past }) w new.journal) (sym (shown-on new went.kept.on)) (subst (λ (j : Log). EndsFullRightly new.config j w new.journal (supply_of new)) journal went.full);
   brief = subst (λ (j : Log). GetsBriefly new.config j w new.journal) journal went.brief;
@@ -147,9 +147,6 @@ stepped-through old mid told new w answer was a taken rest fewer few went = reco
 
     less : length new.slots.free ≤ length told.slots.free
     less = went.spends.fewer
-
-    most : length told.slots.free ≤ length new.slots.free + SPLIT_SLOTS
-    most = went.spends.few
 
 -- it leaves room for the End
 pub told-room : (old mid told : Parts) (w : ℕ) → HasActed old w mid → told ≡ record mid { slots = told.slots; workers = told.workers } → length old.journal.past + 3 ≤ old.config.marks → length told.journal.past < told.config.marks

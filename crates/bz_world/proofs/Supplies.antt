@@ -1,14 +1,16 @@
 -- What is taken and left, from one step to the next.
-use Rattle.std.proofs.Common.{◌≡◌, ℕ, ◌+◌, ◌≤◌, List, ◌∷◌, length, arith, ap, inl, inr, Option, Some, None}
-use Rattle.std.specs.Prelude.{get_or}
+use Rattle.std.proofs.Common.{◌≡◌, ◌≢◌, ℕ, ◌+◌, ◌≤◌, List, ◌∷◌, length, drop, arith, refl, ap, ◌∙◌, inl, inr, Option, Some, None}
+use Rattle.std.specs.Prelude.{get_or, IsSome}
 use Rattle.std.proofs.lemmas.List.{length-drop}
 use Rattle.bz_layout.specs.Slots.{FreeSlots}
 use Rattle.bz_layout.specs.declared.thresholds.TheConstants.{SPLIT_SLOTS}
-use Rattle.bz_running.specs.Duties.{needs_of}
+use Rattle.bz_running.specs.Duties.{end_of, needs_of}
 use Rattle.bz_sound.specs.declared.power.Power.TheVariants as power
 use Rattle.bz_task.specs.OwnActs.{AreTakenFrom}
+use Rattle.bz_task.specs.declared.todo.Outcome.{Outcome}
 use Rattle.bz_task.specs.declared.todo.Seen.{Seen}
 use Rattle.bz_task.specs.declared.todo.Todo.{Todo}
+use Rattle.bz_task.specs.declared.todo.Todo.TheVariants.{Finish}
 use Rattle.bz_world.specs.Inside.Acted.{MustTell}
 use Rattle.bz_world.specs.Inside.Beginning.{world_view, supply_of}
 use Rattle.bz_world.specs.Inside.Going.{needs_in}
@@ -54,3 +56,23 @@ few-told p w seen m = omega (arith, ap needs_in m.is, m.told.tasked.laws.few, m.
 
 pub few-asked : (p : Parts) (w : ℕ) (todo : Todo) → MustStart p w todo → needs_in (get_or p.workers.items w None) ≤ SPLIT_SLOTS
 few-asked p w todo m = omega (arith, ap needs_in m.is, m.asking.tasked.laws.few, m.asking.tasked.laws.most)
+
+-- it has ended so
+some-end : (o : Option Outcome) → IsSome o → (outcome : Outcome) × (o ≡ Some outcome)
+some-end None s = absurd (cc)
+some-end (Some outcome) s = (outcome, refl)
+
+-- a task takes none as it ends, and where it goes on no other comes after it: so no more are gone in all than a split takes
+pub few-in-all : (old new : Option OpenCall) (seen : Seen) (moment : ℕ) (free : FreeSlots) (todo : Todo) (left : FreeSlots) (last : ℕ) → HasToldIn old seen moment free todo new left → needs_in old ≤ SPLIT_SLOTS
+    → length left.free ≤ last + SPLIT_SLOTS → (todo ≢ Finish → length left.free ≤ last + needs_in new) → length free.free ≤ last + SPLIT_SLOTS
+few-in-all None new seen moment free todo left last h most went on = absurd h
+few-in-all (Some x) None seen moment free todo left last h most went on = absurd h
+few-in-all (Some x) (Some y) seen moment free todo left last h most went on = elim h.heard.slots [
+  | inr none ↦ omega (arith, went, ap (λ (z : FreeSlots). length z.free) none.slots)
+  | inl all ↦ (
+      let gone : length left.free ≡ length (drop (needs_of x.task) free.free) = ap (λ (z : FreeSlots). length z.free) all.slots in
+      let more : todo ≢ Finish = λ e.
+          let end = some-end (end_of y.task) (h.laws.finish (h.heard.asked ∙ ap Some e)) in
+          omega (arith, gone, length-drop (needs_of x.task) free.free, all.some, all.enough, ap (λ (z : FreeSlots). length z.free) (h.heard.kept end.0 end.1)) in
+      omega (arith, gone, length-drop (needs_of x.task) free.free, all.enough, all.none_left, most, on more))
+]

@@ -390,16 +390,16 @@ abbrev pub EndsMerged : Config → Log → ℕ → Log → Type 0
 EndsMerged c old w new = (n at : ℕ) (reply : Reply) → new.past ≡ End w n reply at ∷ old.past → MergesFor c old.start old.past w reply
 
 -- a step of a worker: exactly one act of it, a flush exactly where that was said before; at most one effect; at most its
--- call's End, which is a Full only where what that names has run out, and that of a lonely get only after few acts. A task takes at
--- most as many slots as a split does: the one that this act ends, and the next one. What the next acts of the others are stays, and
--- which of them have a swap under way.
+-- call's End, which is a Full only where what that names has run out, and that of a lonely get only after few acts. At most as many
+-- slots are taken as a split takes: a task that this act ends takes none, and where it goes on no other task comes. What the next acts of
+-- the others are stays, and which of them have a swap under way.
 pub record Steps (old : WorldView) (w : ℕ) (answer : Applied) (new : WorldView) : Type 0 where
   pub made : Act
   pub flush : is_flush_act made ≡ flush_of old w
   pub struck : List Mark
   pub effect : IsStruck (mark_of w made ∷ old.log.past) struck
   pub ends : GoesOn (record old.log { past = struck }) w answer new.log
-  pub spends : Spends (2 * SPLIT_SLOTS) old.supply new.supply
+  pub spends : Spends SPLIT_SLOTS old.supply new.supply
   pub full : EndsFullRightly new.config (record old.log { past = struck }) w new.log new.supply
   pub config : new.config ≡ old.config
   pub at_start : new.at_start ≡ old.at_start

@@ -1,10 +1,11 @@
 //! Steps of workers, and evictions.
-ghost use Rattle.std.specs.Prelude.{◌≡◌, ◌≢◌, ◌<◌, ◌≤◌, ◌+◌, None, MatchOption, length};
+ghost use Rattle.std.specs.Prelude.{◌≡◌, ◌≢◌, ◌<◌, ◌≤◌, ◌+◌, None, MatchOption, get_or, length};
 ghost use Rattle.bz_layout.specs.Addresses.{words_of};
 ghost use Rattle.bz_sound.specs.Calls.{open_call};
+ghost use Rattle.bz_task.specs.declared.todo.Todo.TheVariants.{Finish};
 ghost use Rattle.bz_world.specs.Inside.Acted.{IsEvicted};
 ghost use Rattle.bz_world.specs.Inside.Beginning.{world_view};
-ghost use Rattle.bz_world.specs.Inside.Going.{IsFullRightly, HasNotLackedSwaps, HasNotLackedRoom, WentOn};
+ghost use Rattle.bz_world.specs.Inside.Going.{IsFullRightly, HasNotLackedSwaps, HasNotLackedRoom, WentOn, needs_in};
 ghost use Rattle.bz_world.specs.Inside.Kept.{IsAwake, IsKept};
 ghost use Rattle.bz_world.specs.WorldView.{idle_refusal, Steps, Evicts, IsApplied};
 ghost use Rattle.bz_world.specs.Inside.Telling.{MustStart};
@@ -32,7 +33,9 @@ fn follow(parts: &mut Parts, w: u8, todo: Todo) -> Applied
     requires swaps { HasNotLackedSwaps parts.old w }
     requires crowded { HasNotLackedRoom parts.old w }
     requires room { length parts.old.journal.past < parts.old.config.marks }
-    ensures { WentOn parts.old w result parts.new }
+    ensures went { WentOn parts.old w result parts.new }
+    // where the task has not ended, no more slots are gone than it was still to take
+    ensures few { todo ≢ Finish → length parts.old.slots.free ≤ length parts.new.slots.free + needs_in (get_or parts.old.workers.items w None) }
 {
     match todo {
         Todo::Finish => settle(parts, w),

@@ -18,7 +18,7 @@ use Rattle.bz_below.proofs.Counting.{Counts, counts}
 use Rattle.bz_below.proofs.Ending.{EndsWell, ends-well, first-ends, takes-none, word-answers}
 use Rattle.bz_below.proofs.Opening.{Opens, opens, opened-learns, found}
 use Rattle.bz_below.proofs.Telling.{Tolds, tolds, told-learns}
-use Rattle.bz_below.proofs.Looking.{Looks, looks, looked-learns, guard-within, planned-parent, planned-room}
+use Rattle.bz_below.proofs.Looking.{Looks, looks, looked-learns, guard-within, planned-parent, planned-room, looked-kept}
 use Rattle.bz_below.proofs.Naming.{Names, IsNamedPhase, named-of, names, named-learns}
 use Rattle.bz_below.proofs.Reading.{Words, word-within, words-on, fresh-known, word-known, word-ready}
 use Rattle.bz_below.proofs.Staying.{no-slot}
@@ -70,6 +70,7 @@ returns-in-Again c =
       fewer = m.fewer;
       counted = λ z. m.counted;
       slots = subst (λ z. AreTakenFrom z (below_needs c.told-self.result) c.args.slots.now c.args.slots.now) (sym needed) b.taken;
+      kept = λ outcome q. refl;
       begins = λ q. absurd (heard-in t.config (below_of t) t.phase Again c.args.seen Start c.in-Again.is q c.requires.hears);
       done = ends.done;
       last = λ q. absurd (heard-in t.config (below_of t) t.phase Again c.args.seen (Swapped true) c.in-Again.is q c.requires.hears);
@@ -112,6 +113,7 @@ returns-in-Guard c =
       fewer = m.fewer;
       counted = λ z. m.counted;
       slots = subst (λ z. AreTakenFrom z (below_needs new.phase) c.args.slots.now left) (sym needed) b.taken;
+      kept = λ outcome q. looked-kept t.config.nodes t.left t.waits new.waits t.read.0 (below_of new) c.word_in-in-Guard.result new.phase c.args.slots.now left outcome e.looked q;
       begins = λ q. absurd (heard-in t.config (below_of t) t.phase Guard c.args.seen Start c.in-Guard.is q c.requires.hears);
       done = ends.done;
       last = λ q. absurd (heard-in t.config (below_of t) t.phase Guard c.args.seen (Swapped true) c.in-Guard.is q c.requires.hears);
@@ -155,6 +157,7 @@ returns-in-Named c =
       fewer = m.fewer;
       counted = λ z. m.counted;
       slots = subst (λ z. AreTakenFrom z (below_needs p) c.args.slots.now c.args.slots.now) (sym (ap below_needs c.in-Named.is)) b.taken;
+      kept = λ outcome q. refl;
       begins = λ q. absurd (heard-in t.config (below_of t) t.phase Named c.args.seen Start c.in-Named.is q c.requires.hears);
       done = ends.done;
       last = λ q. absurd (heard-in t.config (below_of t) t.phase Named c.args.seen (Swapped true) c.in-Named.is q c.requires.hears);
@@ -184,6 +187,7 @@ returns-in_default c =
       fewer = a.fewer;
       counted = a.counted;
       slots = takes-none t.phase c.after-self.result c.args.slots.now (omega (arith, a.needs));
+      kept = λ outcome q. refl;
       begins = λ q. absurd (c.in_default.not-Fresh (begins-fresh t.config (below_of t) t.phase (subst (Hears (below_asks t.config (below_of t) t.phase)) q c.requires.hears)));
       done = e.done;
       last = λ q. ap below_end (a.last q);
@@ -213,6 +217,7 @@ returns-in-Fresh c =
       fewer = m.fewer;
       counted = λ z. m.counted;
       slots = takes-none t.phase Room c.args.slots.now (omega (arith, ap below_needs c.in-Fresh.is));
+      kept = λ outcome q. refl;
       begins = λ q. refl;
       done = e.done;
       last = λ q. absurd (heard-in t.config (below_of t) t.phase Fresh c.args.seen (Swapped true) c.in-Fresh.is q c.requires.hears);
@@ -246,6 +251,7 @@ returns-in-Room c =
       fewer = m.fewer;
       counted = λ z. m.counted;
       slots = takes-none t.phase new.phase c.args.slots.now (omega (arith, b.fewer, ap below_needs c.in-Room.is));
+      kept = λ outcome q. refl;
       begins = λ q. absurd (heard-in t.config (below_of t) t.phase Room c.args.seen Start c.in-Room.is q c.requires.hears);
       done = ends.done;
       last = λ q. absurd (heard-in t.config (below_of t) t.phase Room c.args.seen (Swapped true) c.in-Room.is q c.requires.hears);
@@ -286,6 +292,7 @@ returns-in-Word c =
       fewer = m.fewer;
       counted = λ z. m.counted;
       slots = takes-none t.phase c.after_word-self.result c.args.slots.now (omega (arith, b.fewer, ap below_needs c.in-Word.is));
+      kept = λ outcome q. refl;
       begins = λ q. absurd (heard-in t.config (below_of t) t.phase (Word i) c.args.seen Start c.in-Word.is q c.requires.hears);
       done = e.done;
       last = λ q. absurd (heard-in t.config (below_of t) t.phase (Word i) c.args.seen (Swapped true) c.in-Word.is q c.requires.hears);

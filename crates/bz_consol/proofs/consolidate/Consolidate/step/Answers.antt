@@ -10,7 +10,7 @@ use Rattle.bz_consol.specs.Duties.{renewal_of}
 use Rattle.bz_consol.specs.Facts.{consol_facts, consol_asks, consol_needs, consol_left, consol_swaps, consol_end}
 use Rattle.bz_consol.specs.declared.phase.Phase.TheVariants.{Fresh, Guard}
 use Rattle.bz_consol.proofs.Beginning.{heard-in, begins-fresh}
-use Rattle.bz_consol.proofs.Knowing.{EndsWell, Looks, ends-well, first-ends, takes-none, looks, looked-learns, fresh-known, swaps-few}
+use Rattle.bz_consol.proofs.Knowing.{EndsWell, Looks, ends-well, first-ends, takes-none, looks, looked-learns, fresh-known, swaps-few, looked-kept}
 use Rattle.bz_consol.proofs.Staying.{no-slot}
 use Rattle.bz_consol.proofs.consolidate.Consolidate.step.Goals as goal
 
@@ -29,6 +29,7 @@ returns-in_default c =
       fewer = a.fewer;
       counted = e.counted;
       slots = takes-none c.args.self.now.phase c.after-self.result c.args.slots.now a.begun a.looked;
+      kept = λ outcome q. refl;
       begins = λ q. absurd (c.in_default.not-Fresh (begins-fresh c.args.self.now.config (renewal_of c.args.self.now) c.args.self.now.phase (subst (Hears (consol_asks c.args.self.now.config (renewal_of c.args.self.now) c.args.self.now.phase)) q c.requires.hears)));
       done = e.done;
       last = λ q. ap consol_end (a.last q);
@@ -56,6 +57,7 @@ returns-in-Fresh c =
       fewer = omega (arith, ap consol_swaps c.in-Fresh.is, ap (λ z. swaps_in (consol_asks t.config (renewal_of t) z)) c.in-Fresh.is);
       counted = e.counted;
       slots = inr (record { fewer = omega (arith, ap consol_needs c.in-Fresh.is); slots = refl });
+      kept = λ outcome q. refl;
       begins = λ q. refl;
       done = e.done;
       last = λ q. absurd (heard-in t.config (renewal_of t) t.phase Fresh c.args.seen (Swapped true) c.in-Fresh.is q c.requires.hears);
@@ -93,6 +95,7 @@ returns-in-Guard c =
       fewer = omega (arith, swaps-few new.phase, ap consol_swaps c.in-Guard.is, ap (λ z. swaps_in (consol_asks t.config (renewal_of t) z)) c.in-Guard.is);
       counted = ends.counted;
       slots = subst (λ z. AreTakenFrom z (consol_needs new.phase) c.args.slots.now left) (sym needed) b.taken;
+      kept = λ outcome q. looked-kept (renewal_of new) c.args.seen new.phase c.args.slots.now left outcome e.looked q;
       begins = λ q. absurd (heard-in t.config (renewal_of t) t.phase Guard c.args.seen Start c.in-Guard.is q c.requires.hears);
       done = ends.done;
       last = λ q. absurd (heard-in t.config (renewal_of t) t.phase Guard c.args.seen (Swapped true) c.in-Guard.is q c.requires.hears);

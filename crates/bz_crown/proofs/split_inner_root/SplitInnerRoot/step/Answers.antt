@@ -15,7 +15,7 @@ use Rattle.bz_crown.proofs.Beginning.{heard-in, begins-fresh}
 use Rattle.bz_crown.proofs.Counting.{Counts, counts}
 use Rattle.bz_crown.proofs.Ending.{EndsWell, ends-well, first-ends, takes-none}
 use Rattle.bz_crown.proofs.Telling.{Tolds, tolds, told-learns}
-use Rattle.bz_crown.proofs.Looking.{Looks, looks, looked-learns, planned-node}
+use Rattle.bz_crown.proofs.Looking.{Looks, looks, looked-learns, planned-node, looked-kept}
 use Rattle.bz_crown.proofs.Reading.{Words, fresh-ready, word-within, words-on, fresh-known, word-known, word-ready}
 use Rattle.bz_crown.proofs.Staying.{no-slot}
 use Rattle.bz_crown.proofs.split_inner_root.SplitInnerRoot.step.Goals as goal
@@ -49,6 +49,7 @@ returns-in-Again c =
       fewer = m.fewer;
       counted = λ z. m.counted;
       slots = subst (λ z. AreTakenFrom z (crown_needs c.told-self.result) c.args.slots.now c.args.slots.now) (sym needed) b.taken;
+      kept = λ outcome q. refl;
       begins = λ q. absurd (heard-in t.config (crown_of t) t.phase Again c.args.seen Start c.in-Again.is q c.requires.hears);
       done = ends.done;
       last = λ q. absurd (heard-in t.config (crown_of t) t.phase Again c.args.seen (Swapped true) c.in-Again.is q c.requires.hears);
@@ -87,6 +88,7 @@ returns-in-Guard c =
       fewer = m.fewer;
       counted = λ z. m.counted;
       slots = subst (λ z. AreTakenFrom z (crown_needs new.phase) c.args.slots.now left) (sym needed) b.taken;
+      kept = λ outcome q. looked-kept (crown_of new) c.args.seen new.phase c.args.slots.now left outcome e.looked q;
       begins = λ q. absurd (heard-in t.config (crown_of t) t.phase Guard c.args.seen Start c.in-Guard.is q c.requires.hears);
       done = ends.done;
       last = λ q. absurd (heard-in t.config (crown_of t) t.phase Guard c.args.seen (Swapped true) c.in-Guard.is q c.requires.hears);
@@ -115,6 +117,7 @@ returns-in_default c =
       fewer = a.fewer;
       counted = a.counted;
       slots = takes-none t.phase c.after-self.result c.args.slots.now (omega (arith, a.needs));
+      kept = λ outcome q. refl;
       begins = λ q. absurd (c.in_default.not-Fresh (begins-fresh t.config (crown_of t) t.phase (subst (Hears (crown_asks t.config (crown_of t) t.phase)) q c.requires.hears)));
       done = e.done;
       last = λ q. ap crown_end (a.last q);
@@ -142,6 +145,7 @@ returns-in-Fresh c =
       fewer = m.fewer;
       counted = λ z. m.counted;
       slots = takes-none t.phase (Word 1) c.args.slots.now (omega (arith, ap crown_needs c.in-Fresh.is));
+      kept = λ outcome q. refl;
       begins = λ q. refl;
       done = e.done;
       last = λ q. absurd (heard-in t.config (crown_of t) t.phase Fresh c.args.seen (Swapped true) c.in-Fresh.is q c.requires.hears);
@@ -177,6 +181,7 @@ returns-in-Word c =
       fewer = m.fewer;
       counted = λ z. m.counted;
       slots = takes-none t.phase c.after_word-self.result c.args.slots.now (omega (arith, b.fewer, ap crown_needs c.in-Word.is));
+      kept = λ outcome q. refl;
       begins = λ q. absurd (heard-in t.config (crown_of t) t.phase (Word i) c.args.seen Start c.in-Word.is q c.requires.hears);
       done = e.done;
       last = λ q. absurd (heard-in t.config (crown_of t) t.phase (Word i) c.args.seen (Swapped true) c.in-Word.is q c.requires.hears);

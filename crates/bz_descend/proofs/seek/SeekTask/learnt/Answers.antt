@@ -1,5 +1,9 @@
+use Rattle.bz_descend.proofs.Causes.{cause}
 use Rattle.bz_descend.proofs.SeekStaying.{seek-stable}
 use Rattle.bz_descend.proofs.seek.SeekTask.learnt.Goals as goal
 
 pub returns-clause-stable : goal.returns-clause-stable
 returns-clause-stable c stage s after same facts good step = let t = c.args.self.now in (seek-stable c.paths_stay.ensures t.key t.path t.height t.words t.phase stage s after facts.0 step, facts.1)
+
+pub returns-clause-cause : goal.returns-clause-cause
+returns-clause-cause c s seen same facts differs = let t = c.args.self.now in cause t.config t.key t.path t.height t.words t.phase s seen same facts.0 differs

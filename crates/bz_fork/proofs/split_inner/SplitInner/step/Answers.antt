@@ -16,7 +16,7 @@ use Rattle.bz_fork.proofs.Counting.{Counts, counts}
 use Rattle.bz_fork.proofs.Ending.{EndsWell, ends-well, takes-none}
 use Rattle.bz_fork.proofs.Opening.{Opens, opens, opened-learns, found, full-node}
 use Rattle.bz_fork.proofs.Telling.{Tolds, tolds, told-learns}
-use Rattle.bz_fork.proofs.Looking.{Looks, looks, looked-learns, planned-place}
+use Rattle.bz_fork.proofs.Looking.{Looks, looks, looked-learns, planned-place, looked-kept}
 use Rattle.bz_fork.proofs.Passing.{Passes, passes, passed-learns}
 use Rattle.bz_fork.proofs.Refusing.{Refuses, refuses, refused-learns}
 use Rattle.bz_fork.proofs.Starting.{Firsts, plain, firsts, first-learns}
@@ -74,6 +74,7 @@ returns-in-Unread c =
       fewer = m.fewer;
       counted = λ z. m.counted;
       slots = takes-none t.phase c.passed-self.result c.args.slots.now (omega (arith, b.fewer, ap fork_needs c.in-Unread.is));
+      kept = λ outcome q. refl;
       begins = λ q. absurd (heard-in t.config (fork_of t) t.phase Unread c.args.seen Start c.in-Unread.is q c.requires.hears);
       done = e.done;
       last = λ q. absurd (heard-in t.config (fork_of t) t.phase Unread c.args.seen (Swapped true) c.in-Unread.is q c.requires.hears);
@@ -106,6 +107,7 @@ returns-in-Tight c =
       fewer = m.fewer;
       counted = λ z. m.counted;
       slots = takes-none t.phase c.refused-self.result c.args.slots.now (omega (arith, b.fewer, ap fork_needs c.in-Tight.is));
+      kept = λ outcome q. refl;
       begins = λ q. absurd (heard-in t.config (fork_of t) t.phase Tight c.args.seen Start c.in-Tight.is q c.requires.hears);
       done = e.done;
       last = λ q. absurd (heard-in t.config (fork_of t) t.phase Tight c.args.seen (Swapped true) c.in-Tight.is q c.requires.hears);
@@ -138,6 +140,7 @@ returns-in-Again c =
       fewer = m.fewer;
       counted = λ z. m.counted;
       slots = takes-none t.phase c.read_on-self.result c.args.slots.now (omega (arith, b.fewer, ap fork_needs c.in-Again.is));
+      kept = λ outcome q. refl;
       begins = λ q. absurd (heard-in t.config (fork_of t) t.phase Again c.args.seen Start c.in-Again.is q c.requires.hears);
       done = e.done;
       last = λ q. absurd (heard-in t.config (fork_of t) t.phase Again c.args.seen (Swapped true) c.in-Again.is q c.requires.hears);
@@ -170,6 +173,7 @@ returns-in-Room c =
       fewer = m.fewer;
       counted = λ z. m.counted;
       slots = takes-none t.phase c.opened-self.result c.args.slots.now (omega (arith, b.fewer, ap fork_needs c.in-Room.is));
+      kept = λ outcome q. refl;
       begins = λ q. absurd (heard-in t.config (fork_of t) t.phase Room c.args.seen Start c.in-Room.is q c.requires.hears);
       done = e.done;
       last = λ q. absurd (heard-in t.config (fork_of t) t.phase Room c.args.seen (Swapped true) c.in-Room.is q c.requires.hears);
@@ -203,6 +207,7 @@ returns-in-Check c =
       fewer = m.fewer;
       counted = λ z. m.counted;
       slots = subst (λ z. AreTakenFrom z (fork_needs c.told-self.result) c.args.slots.now c.args.slots.now) (sym needed) b.taken;
+      kept = λ outcome q. refl;
       begins = λ q. absurd (heard-in t.config (fork_of t) t.phase Check c.args.seen Start c.in-Check.is q c.requires.hears);
       done = ends.done;
       last = λ q. absurd (heard-in t.config (fork_of t) t.phase Check c.args.seen (Swapped true) c.in-Check.is q c.requires.hears);
@@ -242,6 +247,7 @@ returns-in-Guard c =
       fewer = m.fewer;
       counted = λ z. m.counted;
       slots = subst (λ z. AreTakenFrom z (fork_needs new.phase) c.args.slots.now left) (sym needed) b.taken;
+      kept = λ outcome q. looked-kept t.config.nodes (fork_of new) c.args.seen new.phase c.args.slots.now left outcome e.looked q;
       begins = λ q. absurd (heard-in t.config (fork_of t) t.phase Guard c.args.seen Start c.in-Guard.is q c.requires.hears);
       done = ends.done;
       last = λ q. absurd (heard-in t.config (fork_of t) t.phase Guard c.args.seen (Swapped true) c.in-Guard.is q c.requires.hears);
@@ -271,6 +277,7 @@ returns-in_default c =
       fewer = a.fewer;
       counted = a.counted;
       slots = takes-none t.phase c.after-self.result c.args.slots.now (omega (arith, a.needs));
+      kept = λ outcome q. refl;
       begins = λ q. absurd (c.in_default.not-Fresh (begins-fresh t.config (fork_of t) t.phase (subst (Hears (fork_asks t.config (fork_of t) t.phase)) q c.requires.hears)));
       done = e.done;
       last = λ q. ap fork_end (a.last q);
@@ -300,6 +307,7 @@ returns-in-Fresh c =
       fewer = m.fewer;
       counted = λ z. m.counted;
       slots = takes-none t.phase c.first-self.result c.args.slots.now (omega (arith, b.fewer, ap fork_needs c.in-Fresh.is));
+      kept = λ outcome q. refl;
       begins = λ q. b.goes;
       done = e.done;
       last = λ q. absurd (heard-in t.config (fork_of t) t.phase Fresh c.args.seen (Swapped true) c.in-Fresh.is q c.requires.hears);
@@ -336,6 +344,7 @@ returns-in-Word c =
       fewer = m.fewer;
       counted = λ z. m.counted;
       slots = takes-none t.phase c.after_word-self.result c.args.slots.now (omega (arith, b.fewer, ap fork_needs c.in-Word.is));
+      kept = λ outcome q. refl;
       begins = λ q. absurd (heard-in t.config (fork_of t) t.phase (Word i) c.args.seen Start c.in-Word.is q c.requires.hears);
       done = e.done;
       last = λ q. absurd (heard-in t.config (fork_of t) t.phase (Word i) c.args.seen (Swapped true) c.in-Word.is q c.requires.hears);
@@ -373,6 +382,7 @@ returns-in-Above c =
       fewer = m.fewer;
       counted = λ z. m.counted;
       slots = takes-none t.phase c.after_above-self.result c.args.slots.now (omega (arith, b.fewer, ap fork_needs c.in-Above.is));
+      kept = λ outcome q. refl;
       begins = λ q. absurd (heard-in t.config (fork_of t) t.phase (Above i) c.args.seen Start c.in-Above.is q c.requires.hears);
       done = e.done;
       last = λ q. absurd (heard-in t.config (fork_of t) t.phase (Above i) c.args.seen (Swapped true) c.in-Above.is q c.requires.hears);

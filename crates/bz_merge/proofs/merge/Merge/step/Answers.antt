@@ -15,7 +15,7 @@ use Rattle.bz_merge.proofs.Reading.{with_read, with_beside, fresh-known, word-kn
 use Rattle.bz_merge.proofs.Ready.{ready-of}
 use Rattle.bz_merge.proofs.Settling.{Laws, with_side, weighable, still-learns}
 use Rattle.bz_merge.proofs.Staying.{no-slot}
-use Rattle.bz_merge.proofs.Stepping.{fresh-picks, word-picks, beside-picks, told-picks, settled-picks, checked-picks, looks}
+use Rattle.bz_merge.proofs.Stepping.{fresh-picks, word-picks, beside-picks, told-picks, settled-picks, checked-picks, looks, looked-kept}
 use Rattle.bz_merge.proofs.Telling.{told-parent, told-learns, checked-learns}
 use Rattle.bz_merge.proofs.merge.Merge.step.Goals as goal
 
@@ -63,6 +63,7 @@ returns-in-Fresh c =
       fewer = choosing-fewer t.config r t.phase Fresh (Word 1) is tt;
       counted = λ e. choosing-counted t.config r r t.phase Fresh (Word 1) c.args.seen is tt refl h;
       slots = inr (record { fewer = g.needs; slots = refl });
+      kept = λ outcome q. refl;
       begins = λ e. refl;
       done = λ e. absurd (g.done e);
       last = λ e n. absurd (heard-in t.config r t.phase Fresh c.args.seen (Swapped true) is e h);
@@ -105,6 +106,7 @@ returns-in-Word c =
       fewer = choosing-fewer t.config r t.phase (Word i) n is tt;
       counted = λ e. choosing-counted t.config r after t.phase (Word i) n c.args.seen is tt (ap (merge_made after) then_is ∙ word-none after next.result) h;
       slots = inr (record { fewer = g.needs; slots = refl });
+      kept = λ outcome q. refl;
       begins = λ e. absurd (heard-in t.config r t.phase (Word i) c.args.seen Start is e h);
       done = λ e. absurd (g.done e);
       last = λ e n. absurd (heard-in t.config r t.phase (Word i) c.args.seen (Swapped true) is e h);
@@ -141,6 +143,7 @@ returns-in-Again c =
       fewer = choosing-fewer t.config r t.phase Again n.phase is tt;
       counted = λ e. choosing-counted t.config r (with_side r n.side) t.phase Again n.phase c.args.seen is tt (told-none r (with_side r n.side) c.args.seen n.side n.phase c.told-next.ensures) h;
       slots = inr (record { fewer = g.needs; slots = refl });
+      kept = λ outcome q. refl;
       begins = λ e. absurd (heard-in t.config r t.phase Again c.args.seen Start is e h);
       done = λ e. absurd (g.done e);
       last = λ e n. absurd (heard-in t.config r t.phase Again c.args.seen (Swapped true) is e h);
@@ -186,6 +189,7 @@ returns-in-Beside c =
       fewer = choosing-fewer t.config r t.phase (Beside i) n is tt;
       counted = λ e. choosing-counted t.config r after t.phase (Beside i) n c.args.seen is tt (ap (merge_made after) then_is ∙ beside-none after next.result) h;
       slots = inr (record { fewer = g.needs; slots = refl });
+      kept = λ outcome q. refl;
       begins = λ e. absurd (heard-in t.config r t.phase (Beside i) c.args.seen Start is e h);
       done = λ e. absurd (g.done e);
       last = λ e n. absurd (heard-in t.config r t.phase (Beside i) c.args.seen (Swapped true) is e h);
@@ -222,6 +226,7 @@ returns-in-Parent c =
       fewer = choosing-fewer t.config r t.phase Parent n is tt;
       counted = λ e. choosing-counted t.config r r t.phase Parent n c.args.seen is tt (elim c.checked-self.ensures [ inl w ↦ ap (merge_made r) w.1 | inr w ↦ ap (merge_made r) w.1 ]) h;
       slots = inr (record { fewer = g.needs; slots = refl });
+      kept = λ outcome q. refl;
       begins = λ e. absurd (heard-in t.config r t.phase Parent c.args.seen Start is e h);
       done = λ e. absurd (g.done e);
       last = λ e n. absurd (heard-in t.config r t.phase Parent c.args.seen (Swapped true) is e h);
@@ -260,6 +265,7 @@ returns-in-Still c =
       fewer = choosing-fewer t.config r t.phase Still n.phase is tt;
       counted = λ e. choosing-counted t.config r (with_side r n.side) t.phase Still n.phase c.args.seen is tt (settled-none r c.args.seen n.side n.phase c.settled-next.ensures.settled) h;
       slots = inr (record { fewer = g.needs; slots = refl });
+      kept = λ outcome q. refl;
       begins = λ e. absurd (heard-in t.config r t.phase Still c.args.seen Start is e h);
       done = λ e. absurd (g.done e);
       last = λ e n. absurd (heard-in t.config r t.phase Still c.args.seen (Swapped true) is e h);
@@ -311,6 +317,7 @@ returns-in-Guard c =
       fewer = looked-fewer t.config r (merging_of n) t.phase n.phase c.args.seen old new is e.looked;
       counted = looked-counted t.config r (merging_of n) t.phase n.phase c.args.seen old new is e.looked e.status (ap (λ z. z.0) e.beside) h;
       slots = g.slots;
+      kept = λ outcome q. looked-kept (merging_of n) c.args.seen n.phase old new outcome e.looked q;
       begins = λ q. absurd (heard-in t.config r t.phase Guard c.args.seen Start is q h);
       done = λ q. absurd (g.done q);
       last = λ q m. absurd (heard-in t.config r t.phase Guard c.args.seen (Swapped true) is q h);
@@ -341,6 +348,7 @@ returns-in_default c =
       fewer = a.fewer;
       counted = a.counted;
       slots = inr (record { fewer = a.needs; slots = refl });
+      kept = λ outcome q. refl;
       begins = (λ q. absurd (c.in_default.not-Fresh (begins-fresh t.config (merging_of t) t.phase (subst (Hears (merge_asks t.config (merging_of t) t.phase)) q c.requires.hears))));
       done = (λ q. a.done (ends-done c.after-self.result q));
       last = (λ q n. ap merge_end (a.last q n));

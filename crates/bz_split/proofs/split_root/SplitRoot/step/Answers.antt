@@ -11,7 +11,7 @@ use Rattle.bz_split.specs.Facts.{split_facts, split_asks, split_needs, split_lef
 use Rattle.bz_split.specs.declared.phase.Phase.TheVariants.{Fresh, Guard}
 use Rattle.bz_split.proofs.Beginning.{heard-in, begins-fresh}
 use Rattle.bz_split.proofs.Counting.{Counts, counts}
-use Rattle.bz_split.proofs.Knowing.{EndsWell, Looks, ends-well, first-ends, takes-none, looks, looked-learns, fresh-known}
+use Rattle.bz_split.proofs.Knowing.{EndsWell, Looks, ends-well, first-ends, takes-none, looks, looked-learns, fresh-known, looked-kept}
 use Rattle.bz_split.proofs.Staying.{no-slot}
 use Rattle.bz_split.proofs.split_root.SplitRoot.step.Goals as goal
 
@@ -30,6 +30,7 @@ returns-in_default c =
       fewer = a.fewer;
       counted = a.counted;
       slots = takes-none c.args.self.now.phase c.after-self.result c.args.slots.now a.begun a.looked;
+      kept = λ outcome q. refl;
       begins = λ q. absurd (c.in_default.not-Fresh (begins-fresh c.args.self.now.config (split_of c.args.self.now) c.args.self.now.phase (subst (Hears (split_asks c.args.self.now.config (split_of c.args.self.now) c.args.self.now.phase)) q c.requires.hears)));
       done = e.done;
       last = λ q. ap split_end (a.last q);
@@ -58,6 +59,7 @@ returns-in-Fresh c =
       fewer = n.fewer;
       counted = λ z. n.counted;
       slots = inr (record { fewer = omega (arith, ap split_needs c.in-Fresh.is); slots = refl });
+      kept = λ outcome q. refl;
       begins = λ q. refl;
       done = e.done;
       last = λ q. absurd (heard-in t.config (split_of t) t.phase Fresh c.args.seen (Swapped true) c.in-Fresh.is q c.requires.hears);
@@ -96,6 +98,7 @@ returns-in-Guard c =
       fewer = n.fewer;
       counted = λ z. n.counted;
       slots = subst (λ z. AreTakenFrom z (split_needs new.phase) c.args.slots.now left) (sym needed) b.taken;
+      kept = λ outcome q. looked-kept (split_of new) c.args.seen new.phase c.args.slots.now left outcome e.looked q;
       begins = λ q. absurd (heard-in t.config (split_of t) t.phase Guard c.args.seen Start c.in-Guard.is q c.requires.hears);
       done = ends.done;
       last = λ q. absurd (heard-in t.config (split_of t) t.phase Guard c.args.seen (Swapped true) c.in-Guard.is q c.requires.hears);
