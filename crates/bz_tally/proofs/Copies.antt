@@ -26,7 +26,7 @@ use Rattle.bz_task.specs.Laws.{SamePlace}
 use Rattle.bz_task.specs.Scene.{Scene, Waiting, IsScene, here}
 use Rattle.bz_task.specs.Swaps.{Stand, SwapsTo}
 use Rattle.bz_task.specs.declared.todo.Todo.TheVariants.{Swap as Swaps_for}
-use Rattle.bz_tally.proofs.Backs.{none-back}
+use Rattle.bz_tally.proofs.Backs.{AreFresh, among-gone, leaf-inside, none-back}
 use Rattle.bz_tally.proofs.Changes.{same-entries}
 use Rattle.bz_tally.proofs.Links.{tree-now}
 use Rattle.bz_tally.proofs.Stored.{one-held, one-fresh}
@@ -96,8 +96,10 @@ copies b t entries s y w =
     let r : Renewal = renewal_of t in
     let f = swapping t.config r t.phase s entries w.knows w.asks in
     let d = copied b r s y w.good f.0 (subst (λ z. SwapsTo s.past.config z (here s) y) (sym f.1) w.leads) (subst (λ z. Stand z (here s)) (sym f.1) w.stand) in
+    let grows = b.grows s.past.config (image_of (here s).image) (image_of y.image) t.link.slot t.slot (tree-now b.formed s w.good) d in
+    let fresh : AreFresh s (t.slot ∷ []) = λ k e. subst (IsFresh s) (sym (only-one t.slot k e)) (one-fresh r.slot r.image s f.0.viewed.size f.0.writing) in
     record {
       same = b.count s.past.config (image_of (here s).image) (image_of y.image) t.link.slot t.slot (tree-now b.formed s w.good) d;
-      back = none-back s y (t.link.slot ∷ []) (t.slot ∷ []) w.good (b.grows s.past.config (image_of (here s).image) (image_of y.image) t.link.slot t.slot (tree-now b.formed s w.good) d)
-          (λ k e. subst (IsFresh s) (sym (only-one t.slot k e)) (one-fresh r.slot r.image s f.0.viewed.size f.0.writing));
+      back = none-back s y (t.link.slot ∷ []) (t.slot ∷ []) w.good grows fresh;
+      only = λ j leaf out. only-one t.link.slot j (among-gone s y (t.link.slot ∷ []) (t.slot ∷ []) w.good grows fresh j (leaf-inside s j leaf) out);
     }

@@ -37,7 +37,8 @@ use Rattle.bz_task.specs.Outcomes.{IsUnderNode}
 use Rattle.bz_task.specs.Scene.{Scene, Waiting, IsScene, here}
 use Rattle.bz_task.specs.Swaps.{Stand, SwapsTo}
 use Rattle.bz_task.specs.declared.todo.Todo.TheVariants.{Swap as Swaps_for}
-use Rattle.bz_tally.proofs.Backs.{none-back, three-fresh}
+use Rattle.bz_leaves.proofs.Splits.{two-cases}
+use Rattle.bz_tally.proofs.Backs.{AreFresh, leaves-stay, none-back, three-fresh}
 use Rattle.bz_tally.proofs.Changes.{same-entries}
 use Rattle.bz_tally.proofs.Links.{Links, in-parent, node-freezable, node-leads, node-place, node-words, out-one, out-two, tree-now}
 use Rattle.bz_tally.proofs.Splitting.{Holds, IsReady, splits}
@@ -111,6 +112,9 @@ module _ (b : Laws) (r : Fork) (s : Scene) (y : Instant) (good : IsScene s) (f :
 
   pub high : 0 < (form_at c (here s)).level r.middle.slot
   high = omega (arith, level, f.planned.node.node.inner)
+
+  pub above-is : 0 < (form_at s.past.config (here s)).level ((form_at s.past.config (here s)).up r.middle.slot)
+  above-is = subst (λ (j : ℕ). 0 < (form_at c (here s)).level j) (sym leads.stands.up) (omega (arith, leads.stands.level))
 
   room : HasRoomToPart c.nodes (children_in r.above) f.planned.parent.level (r.slot 1) (r.slot 2) f.planned.sep
   room = record {
@@ -203,9 +207,15 @@ halves-inner b t entries s y l =
     let is : inner_swap s.past.config r.upper r.middle r.lower (r.slot 0) ≡ entries = ap (λ (z : Config). inner_swap z r.upper r.middle r.lower (r.slot 0)) l.config ∙ f.1 in
     let stand : Stand (inner_swap s.past.config r.upper r.middle r.lower (r.slot 0)) (here s) = subst (λ z. Stand z (here s)) (sym is) l.stand in
     let d = halved b r s y l.good f.0 stand (subst (λ z. SwapsTo s.past.config z (here s) y) (sym is) l.leads) in
+    let high-up : 0 < (form_at s.past.config (here s)).level t.middle.slot = high b r s y l.good f.0 stand in
+    let above : 0 < (form_at s.past.config (here s)).level ((form_at s.past.config (here s)).up t.middle.slot) = above-is b r s y l.good f.0 stand in
+    let fresh : AreFresh s (r.slot 0 ∷ r.slot 1 ∷ r.slot 2 ∷ []) = three-fresh s (r.slot 0) (r.slot 1) (r.slot 2) (node-fresh r.slot r.image s f.0.plain f.0.writing 0 (omega arith)) (node-fresh r.slot r.image s f.0.plain f.0.writing 1 (omega arith)) (node-fresh r.slot r.image s f.0.plain f.0.writing 2 (omega arith)) in
+    let grows = b.grows s.past.config (image_of (here s).image) (image_of y.image) t.middle.slot (r.slot 0) (r.slot 1) (r.slot 2) f.0.halves.cut f.0.planned.sep (tree-now b.formed s l.good) d in
     record {
       same = (b.count s.past.config (image_of (here s).image) (image_of y.image) t.middle.slot (r.slot 0) (r.slot 1) (r.slot 2) f.0.halves.cut f.0.planned.sep (tree-now b.formed s l.good) d).inner (high b r s y l.good f.0 stand);
-      back = none-back s y (t.middle.slot ∷ (form_at s.past.config (here s)).up t.middle.slot ∷ []) (r.slot 0 ∷ r.slot 1 ∷ r.slot 2 ∷ []) l.good
-          (b.grows s.past.config (image_of (here s).image) (image_of y.image) t.middle.slot (r.slot 0) (r.slot 1) (r.slot 2) f.0.halves.cut f.0.planned.sep (tree-now b.formed s l.good) d)
-          (three-fresh s (r.slot 0) (r.slot 1) (r.slot 2) (node-fresh r.slot r.image s f.0.plain f.0.writing 0 (omega arith)) (node-fresh r.slot r.image s f.0.plain f.0.writing 1 (omega arith)) (node-fresh r.slot r.image s f.0.plain f.0.writing 2 (omega arith)));
+      back = none-back s y (t.middle.slot ∷ (form_at s.past.config (here s)).up t.middle.slot ∷ []) (r.slot 0 ∷ r.slot 1 ∷ r.slot 2 ∷ []) l.good grows fresh;
+      stay = leaves-stay s y (t.middle.slot ∷ (form_at s.past.config (here s)).up t.middle.slot ∷ []) (r.slot 0 ∷ r.slot 1 ∷ r.slot 2 ∷ []) l.good grows fresh (λ k e. elim (two-cases t.middle.slot ((form_at s.past.config (here s)).up t.middle.slot) k e) [
+        | inl p ↦ subst (λ (j : ℕ). 0 < (form_at s.past.config (here s)).level j) (sym p) high-up
+        | inr p ↦ subst (λ (j : ℕ). 0 < (form_at s.past.config (here s)).level j) (sym p) above
+      ]);
     }

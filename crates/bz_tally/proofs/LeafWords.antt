@@ -22,6 +22,7 @@ use Rattle.bz_task.specs.Laws.{RangesStay}
 use Rattle.bz_task.specs.Scene.{Scene, IsScene, here}
 use Rattle.bz_task.specs.Swaps.{SwapsTo}
 use Rattle.bz_renew.proofs.Words.{untouched, node-at, node-same}
+use Rattle.bz_tally.proofs.Backs.{leaf-inside}
 use Rattle.bz_tally.specs.Counts.{KeepsTheLeaves}
 
 -- a word of slot k, and not of its header
@@ -96,7 +97,7 @@ module _ (b : Laws) (entries : List Entry) (s : Scene) (y : Instant) (k : ℕ) (
   kept = let w : IsWellFormed c (here s).image = (b.formed c (here s).image).0 g.form in b.count c (image_of (here s).image) (image_of y.image) w.tree on-leaves
 
   pub keeps : KeepsTheLeaves s y
-  keeps = record { same = kept.leaves; back = λ k i. inl (sym (kept.inside k) ∙ i) }
+  keeps = record { same = kept.leaves; back = λ k i. inl (sym (kept.inside k) ∙ i); stay = λ k leaf. kept.inside k ∙ leaf-inside s k leaf }
 
 -- the entries of a leaf's status, and of one of its metadata words besides
 pub names-status : (c : Config) (k : ℕ) (e : Entry) → e.target ≡ node_address c k + STATUS_AT → (a : ℕ) → is_target (e ∷ []) a ≡ true → IsBody c k a

@@ -1,5 +1,5 @@
 -- Of the swaps of a merge the two freezes name words of one leaf, and that of the link leaves one leaf less.
-use Rattle.std.proofs.Common.{◌≡◌, List, [], ◌∷◌, Some, arith, refl, sym, ap, subst, ◌∙◌}
+use Rattle.std.proofs.Common.{◌≡◌, ℕ, false, List, [], ◌∷◌, Some, arith, refl, sym, ap, subst, ◌∙◌}
 use Rattle.bz_freeze.specs.Facts.{entry_of}
 use Rattle.bz_layout.specs.declared.config.Config.{Config}
 use Rattle.bz_layout.specs.declared.sizes.TheConstants.{STATUS_AT}
@@ -14,13 +14,15 @@ use Rattle.bz_running.specs.FromMerge.Phase.TheVariants.{Freeze, FreezeBeside, S
 use Rattle.bz_split.specs.BelowSplits.{below_swap}
 use Rattle.bz_word.specs.declared.entry.Entry.{Entry}
 use Rattle.std.specs.Prelude.{slice_index}
-use Rattle.bz_content.specs.Content.{image_of}
+use Rattle.bz_content.specs.Content.{image_of, view_in}
 use Rattle.bz_content.specs.Laws.{MergesKeepTheContent}
-use Rattle.bz_task.specs.Instant.{Instant, form_at}
+use Rattle.bz_task.specs.Instant.{Instant, form_at, is_inside}
 use Rattle.bz_task.specs.Scene.{Scene, Waiting, IsScene, here}
 use Rattle.bz_task.specs.Swaps.{Stand, SwapsTo}
 use Rattle.bz_task.specs.declared.todo.Todo.TheVariants.{Swap as Swaps_for}
-use Rattle.bz_tally.proofs.Backs.{none-back, two-fresh}
+use Rattle.bz_shape.proofs.Trees.{among-first, among-later}
+use Rattle.bz_shape.specs.Outcomes.{Regrows}
+use Rattle.bz_tally.proofs.Backs.{AreFresh, is-gone, leaf-inside, none-back, two-fresh}
 use Rattle.bz_tally.proofs.Changes.{by-status, same-entries}
 use Rattle.bz_tally.proofs.LeafWords.{Laws as Words}
 use Rattle.bz_tally.proofs.Links.{tree-now}
@@ -54,6 +56,29 @@ module _ (b : Laws) (r : Merging) (s : Scene) (y : Instant) (good : IsScene s) (
   abbrev IsLeafHere : SeenLeaf → Type 0
   IsLeafHere l = IsLeafNow s l.slot
 
+  -- of the slots that go both leaves are
+  abbrev going : List ℕ
+  going = (first_of r.right own other).slot ∷ (second_of r.right own other).slot ∷ (form_at s.past.config (here s)).up (first_of r.right own other).slot ∷ []
+
+  grown : Regrows (view_in s.past.config (here s).image) (view_in s.past.config y.image) going (r.slot 0 ∷ r.slot 1 ∷ [])
+  grown = b.grows s.past.config (image_of (here s).image) (image_of y.image) (first_of r.right own other).slot (second_of r.right own other).slot (r.slot 0) (r.slot 1) (sep_of r.read r.place) (tree-now b.turning.formed s good)
+      (merges b.turning r s good f stand y swaps)
+
+  fresh : AreFresh s (r.slot 0 ∷ r.slot 1 ∷ [])
+  fresh = two-fresh s (r.slot 0) (r.slot 1) (each-fresh MERGE_SLOTS r.slot r.image s f.plain f.writing 0 (omega arith)) (each-fresh MERGE_SLOTS r.slot r.image s f.plain f.writing 1 (omega arith))
+
+  abbrev IsGone : SeenLeaf → Type 0
+  IsGone l = is_inside s.past.config y l.slot ≡ false
+
+  first-gone : IsGone (first_of r.right own other)
+  first-gone = is-gone s y going (r.slot 0 ∷ r.slot 1 ∷ []) good grown fresh (first_of r.right own other).slot (leaf-inside s (first_of r.right own other).slot (first-leaf b.turning r s good f stand))
+      (among-first (first_of r.right own other).slot (first_of r.right own other).slot ((second_of r.right own other).slot ∷ (form_at s.past.config (here s)).up (first_of r.right own other).slot ∷ []) refl)
+
+  second-gone : IsGone (second_of r.right own other)
+  second-gone = is-gone s y going (r.slot 0 ∷ r.slot 1 ∷ []) good grown fresh (second_of r.right own other).slot (leaf-inside s (second_of r.right own other).slot (second-leaf b.turning r s good f stand))
+      (among-later (first_of r.right own other).slot (second_of r.right own other).slot ((second_of r.right own other).slot ∷ (form_at s.past.config (here s)).up (first_of r.right own other).slot ∷ [])
+      (among-first (second_of r.right own other).slot (second_of r.right own other).slot ((form_at s.past.config (here s)).up (first_of r.right own other).slot ∷ []) refl))
+
   merged : MergesLeaves r.lower.slot r.beside_slot r.leaf r.beside s y
   merged = record {
     less = b.count s.past.config (image_of (here s).image) (image_of y.image) (first_of r.right own other).slot (second_of r.right own other).slot (r.slot 0) (r.slot 1) (sep_of r.read r.place)
@@ -65,9 +90,8 @@ module _ (b : Laws) (r : Merging) (s : Scene) (y : Instant) (good : IsScene s) (
     frozen = f.frozen.own;
     beside_frozen = f.frozen.other;
     room = room-of r.right own other f.frozen.planned.room;
-    back = none-back s y ((first_of r.right own other).slot ∷ (second_of r.right own other).slot ∷ (form_at s.past.config (here s)).up (first_of r.right own other).slot ∷ []) (r.slot 0 ∷ r.slot 1 ∷ []) good
-        (b.grows s.past.config (image_of (here s).image) (image_of y.image) (first_of r.right own other).slot (second_of r.right own other).slot (r.slot 0) (r.slot 1) (sep_of r.read r.place) (tree-now b.turning.formed s good) (merges b.turning r s good f stand y swaps))
-        (two-fresh s (r.slot 0) (r.slot 1) (each-fresh MERGE_SLOTS r.slot r.image s f.plain f.writing 0 (omega arith)) (each-fresh MERGE_SLOTS r.slot r.image s f.plain f.writing 1 (omega arith)));
+    gone = to-own IsGone r.right own other first-gone second-gone;
+    back = none-back s y going (r.slot 0 ∷ r.slot 1 ∷ []) good grown fresh;
   }
 
 merge-counts : Laws → (c : Config) (r : Merging) (phase : Phase) (s : Scene) (y : Instant) (entries : List Entry) → s.past.config ≡ c → merge_facts r phase Waiting s → IsScene s → merge_asks c r phase ≡ Some (Swaps_for entries)

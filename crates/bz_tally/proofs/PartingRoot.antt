@@ -43,7 +43,8 @@ use Rattle.bz_task.specs.Laws.{SamePlace, HasRoot, RootsAreReached}
 use Rattle.bz_task.specs.Scene.{Scene, Waiting, IsScene, here}
 use Rattle.bz_task.specs.Swaps.{Stand, SwapsTo}
 use Rattle.bz_task.specs.declared.todo.Todo.TheVariants.{Swap as Swaps_for}
-use Rattle.bz_tally.proofs.Backs.{none-back, three-fresh}
+use Rattle.bz_leaves.proofs.Consolidations.{only-one}
+use Rattle.bz_tally.proofs.Backs.{AreFresh, leaves-stay, none-back, three-fresh}
 use Rattle.bz_tally.proofs.Changes.{same-entries}
 use Rattle.bz_tally.proofs.Links.{Links, node-freezable, node-leads, node-place, node-words, tree-now}
 use Rattle.bz_tally.proofs.Splitting.{Holds, raw-after, after}
@@ -118,6 +119,9 @@ module _ (b : Laws) (r : Crown) (s : Scene) (y : Instant) (good : IsScene s) (f 
   pub high : 0 < level_of (durable s.past.config (here s) (root (resolve (here s).image)))
   high = omega (arith, level, f.planned.node.node.inner)
 
+  pub root-high : 0 < (form_at s.past.config (here s)).level (root (resolve (here s).image))
+  root-high = subst (λ (j : ℕ). 0 < (form_at c (here s)).level j) (sym root-is) (omega (arith, level-now, f.planned.node.node.inner))
+
   no-low : None ≡ f.planned.node.low
   no-low = sym holds-all.low ∙ (place.low ∙ f.planned.node.low_is)
 
@@ -182,9 +186,11 @@ root-parts b t entries s y l =
     let is : below_swap s.past.config r.upper r.lower (r.slot 0) ≡ entries = ap (λ (z : Config). below_swap z r.upper r.lower (r.slot 0)) l.config ∙ f.1 in
     let stand : Stand (below_swap s.past.config r.upper r.lower (r.slot 0)) (here s) = subst (λ z. Stand z (here s)) (sym is) l.stand in
     let d = parts-root b r s y l.good f.0 stand (subst (λ z. SwapsTo s.past.config z (here s) y) (sym is) l.leads) in
+    let fresh : AreFresh s (r.slot 0 ∷ r.slot 1 ∷ r.slot 2 ∷ []) = three-fresh s (r.slot 0) (r.slot 1) (r.slot 2) (node-fresh r.slot r.image s f.0.plain f.0.writing 0 (omega arith)) (node-fresh r.slot r.image s f.0.plain f.0.writing 1 (omega arith)) (node-fresh r.slot r.image s f.0.plain f.0.writing 2 (omega arith)) in
+    let grows = b.grows s.past.config (image_of (here s).image) (image_of y.image) (r.slot 0) (r.slot 1) (r.slot 2) f.0.parts.cut f.0.sep (tree-now b.formed s l.good) d in
     record {
       same = (b.count s.past.config (image_of (here s).image) (image_of y.image) (r.slot 0) (r.slot 1) (r.slot 2) f.0.parts.cut f.0.sep (tree-now b.formed s l.good) d).inner (high b r s y l.good f.0 stand);
-      back = none-back s y (root (resolve (here s).image) ∷ []) (r.slot 0 ∷ r.slot 1 ∷ r.slot 2 ∷ []) l.good
-          (b.grows s.past.config (image_of (here s).image) (image_of y.image) (r.slot 0) (r.slot 1) (r.slot 2) f.0.parts.cut f.0.sep (tree-now b.formed s l.good) d)
-          (three-fresh s (r.slot 0) (r.slot 1) (r.slot 2) (node-fresh r.slot r.image s f.0.plain f.0.writing 0 (omega arith)) (node-fresh r.slot r.image s f.0.plain f.0.writing 1 (omega arith)) (node-fresh r.slot r.image s f.0.plain f.0.writing 2 (omega arith)));
+      back = none-back s y (root (resolve (here s).image) ∷ []) (r.slot 0 ∷ r.slot 1 ∷ r.slot 2 ∷ []) l.good grows fresh;
+      stay = leaves-stay s y (root (resolve (here s).image) ∷ []) (r.slot 0 ∷ r.slot 1 ∷ r.slot 2 ∷ []) l.good grows fresh
+          (λ k e. subst (λ (j : ℕ). 0 < (form_at s.past.config (here s)).level j) (sym (only-one (root (resolve (here s).image)) k e)) (root-high b r s y l.good f.0 stand));
     }

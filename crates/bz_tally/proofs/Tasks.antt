@@ -24,7 +24,7 @@ use Rattle.bz_task.specs.Scene.{Scene}
 use Rattle.bz_task.specs.declared.path.Link.{Link}
 use Rattle.bz_task.specs.declared.todo.Todo.TheVariants.{Swap as Swaps_for}
 use Rattle.bz_tally.specs.Counts.{KeepsTheLeaves}
-use Rattle.bz_tally.specs.Laws.{ChangesKeepTheLeaves, CopiesKeepTheLeaves, RootLeafSplitsCount, LeafSplitsCount, InnerRootSplitsKeepTheLeaves, InnerSplitsKeepTheLeaves, MergeCounts, MergesCount, LeavesFollow, SwapsCount, Grows, Shrinks, LeavesComeAndGo}
+use Rattle.bz_tally.specs.Laws.{ChangesKeepTheLeaves, CopiesKeepTheLeaves, RootLeafSplitsCount, LeafSplitsCount, InnerRootSplitsKeepTheLeaves, InnerSplitsKeepTheLeaves, MergeCounts, MergesCount, LeavesFollow, SwapsCount, Renews, Grows, Shrinks, LeavesComeAndGo}
 
 -- the laws of each
 pub record Each : Type 0 where
@@ -89,13 +89,13 @@ swaps-count b (SplittingInnerRoot t a) entries s y w = b.inner_roots t entries s
 swaps-count b (Merging t) entries s y w = b.merges t entries s y (record { config = w.config; good = w.good; knows = w.knows; asks = w.asks; stand = w.stand; leads = w.leads })
 
 -- of a merge: it keeps them, or takes one away
-merge-cases : (t : Merge) (phase : Phase) (s : Scene) (y : Instant) → MergeCounts t phase s y → KeepsTheLeaves s y ⊎ (Grows (Merging t) s y ⊎ Shrinks (Merging t) s y)
-merge-cases t Swap s y h = inr (inr (record { slot = t.lower.slot; beside = t.side.slot; own = t.leaf.0; other = t.beside.0; is = (refl, (refl, (refl, refl))); merges = h }))
+merge-cases : (t : Merge) (phase : Phase) (s : Scene) (y : Instant) → MergeCounts t phase s y → KeepsTheLeaves s y ⊎ (Renews (Merging t) s y ⊎ (Grows (Merging t) s y ⊎ Shrinks (Merging t) s y))
+merge-cases t Swap s y h = inr (inr (inr (record { slot = t.lower.slot; beside = t.side.slot; own = t.leaf.0; other = t.beside.0; is = (refl, (refl, (refl, refl))); merges = h })))
 merge-cases t phase s y h = inl h
 
-come-and-go : (t : AnyTask) (s : Scene) (y : Instant) → LeavesFollow t s y → KeepsTheLeaves s y ⊎ (Grows t s y ⊎ Shrinks t s y)
-come-and-go (Splitting t) s y h = inr (inl (record { slot = t.link.slot; is = refl; splits = h }))
-come-and-go (SplittingBelow t a) s y h = inr (inl (record { slot = t.lower.slot; is = refl; splits = h }))
+come-and-go : (t : AnyTask) (s : Scene) (y : Instant) → LeavesFollow t s y → KeepsTheLeaves s y ⊎ (Renews t s y ⊎ (Grows t s y ⊎ Shrinks t s y))
+come-and-go (Splitting t) s y h = inr (inr (inl (record { slot = t.link.slot; is = refl; splits = h })))
+come-and-go (SplittingBelow t a) s y h = inr (inr (inl (record { slot = t.lower.slot; is = refl; splits = h })))
 come-and-go (Merging t) s y h = merge-cases t t.phase s y h
 come-and-go (Seeking t) s y h = inl h
 come-and-go (Finding t) s y h = inl h
@@ -104,7 +104,7 @@ come-and-go (Inserting t) s y h = inl h
 come-and-go (Updating t) s y h = inl h
 come-and-go (Deleting t) s y h = inl h
 come-and-go (Freezing t) s y h = inl h
-come-and-go (Consolidating t) s y h = inl h
+come-and-go (Consolidating t) s y h = inr (inl (record { slot = t.link.slot; is = refl; renews = h }))
 come-and-go (SplittingInner t a) s y h = inl h
 come-and-go (SplittingInnerRoot t a) s y h = inl h
 

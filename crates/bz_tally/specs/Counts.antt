@@ -21,14 +21,21 @@ leaves_then s y = leaves_in s.past.config y.image
 abbrev pub BringsNoneBack : Scene → Instant → Type 0
 BringsNoneBack s y = (k : ℕ) → is_inside s.past.config y k ≡ true → (is_inside s.past.config (here s) k ≡ true) ⊎ ((here s).reached k ≡ false)
 
--- there are as many
-pub record KeepsTheLeaves (s : Scene) (y : Instant) : Type 0 where
-  pub same : leaves_then s y ≡ leaves_now s
-  pub back : BringsNoneBack s y
-
 -- slot k is a leaf of the tree now
 abbrev pub IsLeafNow : Scene → ℕ → Type 0
 IsLeafNow s k = is_leaf (view_in s.past.config (here s).image) k ≡ true
+
+-- there are as many, and the tree leaves none of them
+pub record KeepsTheLeaves (s : Scene) (y : Instant) : Type 0 where
+  pub same : leaves_then s y ≡ leaves_now s
+  pub back : BringsNoneBack s y
+  pub stay : (k : ℕ) → IsLeafNow s k → is_inside s.past.config y k ≡ true
+
+-- there are as many, and the tree leaves none of them but the one in slot k
+pub record RenewsLeaf (k : ℕ) (s : Scene) (y : Instant) : Type 0 where
+  pub same : leaves_then s y ≡ leaves_now s
+  pub back : BringsNoneBack s y
+  pub only : (j : ℕ) → IsLeafNow s j → is_inside s.past.config y j ≡ false → j ≡ k
 
 -- at a moment since the call began slot k was a frozen leaf of the tree, with more live words than a leaf may keep
 pub record WasCrowdedLeaf (k : ℕ) (p : Past) : Type 0 where
@@ -53,8 +60,9 @@ pub record SplitsLeaf (k : ℕ) (s : Scene) (y : Instant) : Type 0 where
   pub gone : is_inside s.past.config y k ≡ false
   pub back : BringsNoneBack s y
 
--- there is one less: one for the leaves in the slots k and j. The first one had too few live words to stand alone. Both were frozen at
--- moments since the call began, and said then what these words say; and these have together no more live words than a leaf may keep
+-- there is one less: one for the leaves in the slots k and j. The first one had too few live words to stand alone, and the tree leaves it.
+-- Both were frozen at moments since the call began, and said then what these words say; and these have together no more live words than a
+-- leaf may keep
 pub record MergesLeaves (k j : ℕ) (own other : List ℕ) (s : Scene) (y : Instant) : Type 0 where
   pub less : leaves_then s y + 1 ≡ leaves_now s
   pub two : k ≢ j
@@ -64,4 +72,5 @@ pub record MergesLeaves (k j : ℕ) (own other : List ℕ) (s : Scene) (y : Inst
   pub frozen : StoodFrozen k own s.past
   pub beside_frozen : StoodFrozen j other s.past
   pub room : live_of (node_of own) + live_of (node_of other) ≤ SPLIT_ABOVE
+  pub gone : is_inside s.past.config y k ≡ false
   pub back : BringsNoneBack s y

@@ -24,13 +24,13 @@ use Rattle.bz_running.specs.Duties.{config_of, asks_of, facts_of, swaps_of}
 use Rattle.bz_running.specs.Kinds.{kind_of}
 use Rattle.bz_running.specs.Kinds as kinds
 use Rattle.bz_running.specs.declared.running.AnyTask.{AnyTask}
-use Rattle.bz_running.specs.declared.running.AnyTask.TheVariants.{Splitting, SplittingBelow, Merging}
+use Rattle.bz_running.specs.declared.running.AnyTask.TheVariants.{Consolidating, Splitting, SplittingBelow, Merging}
 use Rattle.bz_split.specs.Duties as split
 use Rattle.bz_split.specs.declared.split_root.SplitRoot.{SplitRoot}
 use Rattle.bz_word.specs.declared.entry.Entry.{Entry}
 use Rattle.bz_task.specs.Instant.{Instant}
 use Rattle.bz_task.specs.Scene.{Scene}
-use Rattle.bz_tally.specs.Counts.{KeepsTheLeaves, SplitsLeaf, MergesLeaves, leaves_now, leaves_then}
+use Rattle.bz_tally.specs.Counts.{KeepsTheLeaves, RenewsLeaf, SplitsLeaf, MergesLeaves, leaves_now, leaves_then}
 use Rattle.bz_tally.specs.Swaps.{IsOwnSwap}
 
 -- both swaps of an insert and of an update, that of a delete and that of a freeze leave the number
@@ -41,9 +41,9 @@ pub record ChangesKeepTheLeaves : Type 0 where
   pub freeze : (t : Freeze) (entries : List Entry) (s : Scene) (y : Instant) →
       IsOwnSwap t.config (freeze_asks t.config t.slot t.status t.phase) (freeze_facts t.slot t.status t.phase) entries s y → KeepsTheLeaves s y
 
--- so does that of a consolidation
+-- so does that of a consolidation, and the tree leaves no other leaf than the one that was copied
 abbrev pub CopiesKeepTheLeaves : Type 0
-CopiesKeepTheLeaves = (t : Consolidate) (entries : List Entry) (s : Scene) (y : Instant) → IsOwnSwap t.config (consol.asks_of t) (consol.facts_of t) entries s y → KeepsTheLeaves s y
+CopiesKeepTheLeaves = (t : Consolidate) (entries : List Entry) (s : Scene) (y : Instant) → IsOwnSwap t.config (consol.asks_of t) (consol.facts_of t) entries s y → RenewsLeaf t.link.slot s y
 
 -- that of the split of a leaf, at the root and below a parent, adds one
 abbrev pub RootLeafSplitsCount : Type 0
@@ -69,6 +69,7 @@ MergesCount = (t : Merge) (entries : List Entry) (s : Scene) (y : Instant) → I
 
 -- what the swap of any task makes of it
 abbrev pub LeavesFollow : AnyTask → Scene → Instant → Type 0
+LeavesFollow (Consolidating t) s y = RenewsLeaf t.link.slot s y
 LeavesFollow (Splitting t) s y = SplitsLeaf t.link.slot s y
 LeavesFollow (SplittingBelow t a) s y = SplitsLeaf t.lower.slot s y
 LeavesFollow (Merging t) s y = MergeCounts t t.phase s y
@@ -76,6 +77,11 @@ LeavesFollow t s y = KeepsTheLeaves s y
 
 abbrev pub SwapsCount : Type 0
 SwapsCount = (t : AnyTask) (entries : List Entry) (s : Scene) (y : Instant) → IsOwnSwap (config_of t) (asks_of t) (facts_of t) entries s y → LeavesFollow t s y
+
+-- the copy of the leaf in this slot
+abbrev pub IsCopyOf : AnyTask → ℕ → Type 0
+IsCopyOf (Consolidating t) k = t.link.slot ≡ k
+IsCopyOf t k = ⊥
 
 -- the split of a leaf, in this slot
 abbrev pub IsSplitOf : AnyTask → ℕ → Type 0
@@ -87,6 +93,12 @@ IsSplitOf t k = ⊥
 abbrev pub IsMergeOf : AnyTask → ℕ → ℕ → List ℕ → List ℕ → Type 0
 IsMergeOf (Merging t) k j own other = (t.lower.slot ≡ k) × ((t.side.slot ≡ j) × ((t.leaf.0 ≡ own) × (t.beside.0 ≡ other)))
 IsMergeOf t k j own other = ⊥
+
+-- there are as many, and another in the place of one, only by the copy of that one
+pub record Renews (t : AnyTask) (s : Scene) (y : Instant) : Type 0 where
+  pub slot : ℕ
+  pub is : IsCopyOf t slot
+  pub renews : RenewsLeaf slot s y
 
 -- there is one more only by the split of a leaf
 pub record Grows (t : AnyTask) (s : Scene) (y : Instant) : Type 0 where
@@ -107,7 +119,7 @@ pub record Shrinks (t : AnyTask) (s : Scene) (y : Instant) : Type 0 where
 abbrev pub LeavesComeAndGo : Type 0
 LeavesComeAndGo =
     (t : AnyTask) (entries : List Entry) (s : Scene) (y : Instant) → IsOwnSwap (config_of t) (asks_of t) (facts_of t) entries s y →
-    KeepsTheLeaves s y ⊎ (Grows t s y ⊎ Shrinks t s y)
+    KeepsTheLeaves s y ⊎ (Renews t s y ⊎ (Grows t s y ⊎ Shrinks t s y))
 
 -- with the last swap that a merge can still ask for there is one leaf less, and with those before it there are as many
 pub record CountsAtLast (t : AnyTask) (s : Scene) (y : Instant) : Type 0 where

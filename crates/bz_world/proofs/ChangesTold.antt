@@ -45,6 +45,7 @@ change-meant p w had task m = record {
   meant = λ quiet. inl (record { slots = m.wants; swaps = inr m.changes });
   later = λ at is. change-renews-none (kind_of task) (changes (kind_of task) m.kind);
   small = λ merge. absurd (cc (sym (changes (kind_of task) m.kind) ∙ ap is_change merge));
+  copied = λ copy. absurd (cc (sym (changes (kind_of task) m.kind) ∙ ap is_change copy));
 }
 
 pub change-spares : RoundLaws → (p : Parts) (w : ℕ) (had : Option (List ℕ)) (task : AnyTask) (m : MustChange p w had task) → HasToSpare p w m.reads.on.serving (known p w m.reads.on).past (λ r q. most_in r (kind_of task) + coming r q (errand_of m.reads.on.serving) (kind_of task))

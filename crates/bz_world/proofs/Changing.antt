@@ -7,7 +7,7 @@ use Rattle.bz_call.specs.declared.calls.Call.{Call}
 use Rattle.bz_call.specs.declared.calls.Call.TheVariants as call
 use Rattle.bz_call.specs.declared.replies.Reply.{Reply}
 use Rattle.bz_call.specs.declared.replies.Reply.TheVariants as reply
-use Rattle.bz_content.specs.Content.{content_in, view_in}
+use Rattle.bz_content.specs.Content.{content_in, leaf_in, view_in}
 use Rattle.bz_lone.specs.Errands.{is_read}
 use Rattle.bz_lone.specs.FromAlone.Counts.{HasOthers}
 use Rattle.bz_layout.specs.declared.sizes.TheConstants.{STATUS_AT}
@@ -21,6 +21,7 @@ use Rattle.bz_running.specs.Hearing.{IsLookup}
 use Rattle.bz_running.specs.Kinds as kinds
 use Rattle.bz_running.specs.Kinds.{kind_of, Kind}
 use Rattle.bz_running.specs.Laws.{AreLaws}
+use Rattle.bz_running.specs.MadeFor.{IsMadeFor}
 use Rattle.bz_running.specs.declared.running.AnyTask.{AnyTask}
 use Rattle.bz_running.specs.declared.running.AnyTask.TheVariants.{Inserting, Updating, Deleting}
 use Rattle.bz_slotted.specs.Page.{Page, page}
@@ -37,7 +38,7 @@ use Rattle.bz_story.specs.Laws.{ScenesAreSeen}
 use Rattle.bz_task.specs.Good.{IsGood}
 use Rattle.bz_task.specs.Instant.{durable}
 use Rattle.bz_task.specs.Outcomes.{payload_of, IsView, IsKeyView, IsPath}
-use Rattle.bz_task.specs.Scene.{Scene, IsScene, Waiting}
+use Rattle.bz_task.specs.Scene.{Past, Scene, IsScene, Waiting}
 use Rattle.bz_task.specs.Swaps.{Change}
 use Rattle.bz_task.specs.declared.path.Path.{Path}
 use Rattle.bz_task.specs.declared.todo.Outcome.TheVariants as outcomes
@@ -50,6 +51,7 @@ use Rattle.bz_word.specs.Statuses.{status}
 use Rattle.bz_world.specs.Inside.Due.{IsDue}
 use Rattle.bz_world.specs.Inside.Exact.{puts, reach_idle, seeks}
 use Rattle.bz_world.specs.Inside.Going.{MustGoOn, MustAnswer, MustAnswerKey, MustChange, IsChangeKind, MayInsert, MayUpdate, known}
+use Rattle.bz_world.specs.Inside.Meant.{IsOfSettled}
 use Rattle.bz_world.specs.Inside.Laws.{AloneLaws, AnswerLaws, HasEnd}
 use Rattle.bz_world.specs.Inside.Room.{LacksRoomFor}
 use Rattle.bz_world.specs.Inside.Paid.{stock_of}
@@ -148,6 +150,28 @@ module _ (scenes : ScenesAreSeen) (b : AnswerLaws) (p : Parts) (w : ℕ) (view :
     where
       key-back : key ≡ key_of m.on.between.opened.call
       key-back = sym key-is ∙ ap key_of (sym m.on.between.call_open.call)
+
+  -- what was known at the moment of the view
+  abbrev at-view : Past
+  at-view = record (known p w m.on).past { since = view.at; now = view.at }
+
+  -- so its copy is one of a leaf that was frozen
+  pub copies-settled : (task : AnyTask) → (status view.status).frozen ≡ true → live_of (node_of view.image.0) ≤ SPLIT_ABOVE → ((q : Past) → IsView key view q → live_of (node_of view.image.0) ≤ SPLIT_ABOVE → IsMadeFor task key 0 q) → IsOfSettled task key (known p w m.on).past
+  unfolding live_of
+  copies-settled task frozen few made = record {
+    slot = view.slot;
+    was = record {
+      moment = view.at;
+      since = of-key.since;
+      now = of-key.now;
+      leaf = of-key.leaf;
+      frozen = ap (λ k. (page (durable p.config (m.on.between.story.at view.at) k)).frozen) of-key.leaf ∙ (ap (λ st. (status st).frozen) status-is ∙ frozen);
+      few = let same : live_words (leaf_page p.config (m.on.between.story.at view.at).image key) ≡ live_of (node_of view.image.0) = ap (λ k. live_words (page (durable p.config (m.on.between.story.at view.at) k))) of-key.leaf ∙ sym said.live in omega (arith, same, few);
+    };
+    known = at-view;
+    only = λ other is. let same : other.at ≡ view.at = omega (arith, is.since, is.now) in sym is.leaf ∙ (ap (λ (n : ℕ). leaf_in p.config (m.on.between.story.at n).image key) same ∙ of-key.leaf);
+    made = made at-view (record { since = omega arith; now = omega arith; loads = of-key.loads; leaf = of-key.leaf; slot = of-key.slot; status = of-key.status; plain = of-key.plain; words = of-key.words; whole = of-key.whole }) few;
+  }
 
   pub needs-copy : (status view.status).frozen ≡ true → NeedsAtLeast p.config p.journal.start p.journal.past m.on.between.opened CONSOLIDATION_SLOTS
   needs-copy frozen = needs-anew CONSOLIDATION_SLOTS (least-slots (live_of (node_of view.image.0))) frozen

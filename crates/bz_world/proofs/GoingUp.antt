@@ -198,6 +198,12 @@ module _ (lone : AloneLaws) (p : Parts) (w : ℕ) (task : AnyTask) (m : MustGoUp
     | inr root ↦ absurd (let both : kinds.Merge ≡ kinds.SplitRootNode m.up.above.up = sym merge ∙ root.0 in cc both)
   ]
 
+  no-copy : kind_of task ≢ kinds.Copy
+  no-copy copy = elim m.up.above.kind [
+    | inl node ↦ absurd (let both : kinds.Copy ≡ kinds.SplitNode m.up.above.up = sym copy ∙ node.0 in cc both)
+    | inr root ↦ absurd (let both : kinds.Copy ≡ kinds.SplitRootNode m.up.above.up = sym copy ∙ root.0 in cc both)
+  ]
+
   pub no-seek : seeks (kind_of task) ≡ true → ⊥
   no-seek seek = elim m.up.above.kind [
     | inl node ↦ true≢false (sym seek ∙ ap seeks node.0)
@@ -217,7 +223,7 @@ module _ (lone : AloneLaws) (p : Parts) (w : ℕ) (task : AnyTask) (m : MustGoUp
   ]
 
   pub up-meant : IsMeant (record m.ends.on.serving { task = task; path = None }) now
-  up-meant = renewal-meant p w m.ends.on m.ends.quiet write task up-within no-merge
+  up-meant = renewal-meant p w m.ends.on m.ends.quiet write task up-within no-merge (λ copy. absurd (no-copy copy))
       (inr (inr (m.up.made_for (key_of m.ends.on.serving.call) (words_asked m.ends.on.serving.call) now (split-meant m.ends.on.serving.call m.ends.on.serving.task now m.up.wanted (m.ends.meant.meant m.ends.quiet)))))
 
   pub up-paid : AreLaws task → IsPaidFor p w (record m.ends.on.serving { task = task; path = None }) 0 no_extra now

@@ -22,7 +22,7 @@ use Rattle.bz_swap.specs.SwapMemory.{SwapMemory}
 use Rattle.bz_task.specs.Instant.{Instant, is_inside}
 use Rattle.bz_task.specs.Laws.{RangesStay}
 use Rattle.bz_task.specs.Steps.{IsHistory}
-use Rattle.bz_world.specs.Leaves.{leaves_after, LeavesFollow, FollowsTree}
+use Rattle.bz_world.specs.Leaves.{in_tree, is_leaf_after, leaves_after, LeavesFollow, FollowsTree, KeepsLeaves}
 use Rattle.bz_lone.specs.FromAlone.Trees.{SameTree, TreesStand}
 use Rattle.bz_lone.specs.FromAlone.Quiet.{IsQuietSince}
 use Rattle.bz_task.specs.Scene.{Scene, IsScene, here}
@@ -81,17 +81,30 @@ quiet-leaves ranges c m log mark after living first same = ap (leaves_in c) (sym
     inside : (k : ℕ) → is_inside c (after.at (length log.past + 1)) k ≡ is_inside c (after.at (length log.past)) k
     inside k = ap (λ (image : ℕ → ℕ). inside_in c image k) new-is ∙ (same k ∙ ap (λ (image : ℕ → ℕ). inside_in c image k) (sym old-is))
 
+-- a leaf is in the tree
+leaf-in : (a i l : Bool) → a && (i && l) ≡ true → a && i ≡ true
+leaf-in true true l e = refl
+leaf-in true false l e = absurd (true≢false (sym e))
+leaf-in false i l e = absurd (true≢false (sym e))
+
+-- so where the same slots are in it, and there are as many leaves, none goes
+kept-leaves : (c : Config) (start : List ℕ) (past : List Mark) (mark : Mark) → leaves_after c start (mark ∷ past) ≡ leaves_after c start past → ((k : ℕ) → in_tree c start (mark ∷ past) k ≡ in_tree c start past k) → KeepsLeaves c start past mark
+kept-leaves c start past mark same inside = record { same = same; copied = λ slot leaf out. absurd (stays slot leaf out); once = λ slot other leaf out also gone. absurd (stays slot leaf out) }
+  where
+    stays : (slot : ℕ) → is_leaf_after c start past slot ≡ true → in_tree c start (mark ∷ past) slot ≡ false → ⊥
+    stays slot leaf out = true≢false (sym (leaf-in (nat_lt slot c.nodes) (inside_in c (image_after start past) slot) ((form (view_in c (image_after start past))).level slot == 0) leaf) ∙ (sym (inside slot) ∙ out))
+
 -- or one that makes no word durable
 pub same-leaves : (c : Config) (start : List ℕ) (past : List Mark) (mark : Mark) → image_after start (mark ∷ past) ≡ image_after start past → FollowsTree c start past mark
 same-leaves c start past mark same = record {
-  leaves = inl (ap (leaves_in c) same);
+  leaves = inl (kept-leaves c start past mark (ap (leaves_in c) same) (λ k. ap (λ (image : ℕ → ℕ). is_reached_in c image k) same));
   back = λ m slot came now. ap (λ (image : ℕ → ℕ). is_reached_in c image slot) same ∙ now;
 }
 
 pub passed-leaves : RangesStay → (c : Config) (at_start : Power) (m new : SwapMemory) (log : Log) (mark : Mark) (story after : Story) → IsLiving c m log story → IsLiving c new (with_mark log mark) after → after.from ≡ story.from → Passed c (story.at (length log.past)) new
     → LeavesFollow c at_start log.start log.past mark
 passed-leaves ranges c at_start m new log mark story after living later from passed on =
-    record { leaves = inl (quiet-leaves ranges c new log mark after later (omega (arith, living.from, from)) same); back = λ m slot came now. ap (λ (b : Bool). nat_lt slot c.nodes && b) (same slot) ∙ now }
+    record { leaves = inl (kept-leaves c log.start log.past mark (quiet-leaves ranges c new log mark after later (omega (arith, living.from, from)) same) (λ k. ap (λ (b : Bool). nat_lt k c.nodes && b) (same k))); back = λ m slot came now. ap (λ (b : Bool). nat_lt slot c.nodes && b) (same slot) ∙ now }
   where
     was : image_after log.start log.past ≡ (story.at (length log.past)).image
     was = sym (living.images (length log.past) living.from (omega arith) ∙ ap (image_after log.start) (at_moment-now log.past))

@@ -26,7 +26,7 @@ use Rattle.bz_word.specs.Statuses.{status}
 use Rattle.bz_world.specs.Inside.Due.{IsDueAlone, only_looks}
 use Rattle.bz_world.specs.Inside.Going.{MustGoOn, MustTakeOn, MustRestructure, MustMakeAnew, MustCopy, MustSplit, MustSplitBelow, MustMerge, known, MustAnswer}
 use Rattle.bz_world.specs.Inside.Laws.{AloneLaws, RoundLaws}
-use Rattle.bz_world.specs.Inside.Meant.{IsMeant}
+use Rattle.bz_world.specs.Inside.Meant.{IsMeant, IsOfSettled}
 use Rattle.bz_world.specs.Inside.Paid.{bound_in, errand_of, no_extra, used_in, IsPaidFor, HasToSpare, HasARound, stock_of}
 use Rattle.bz_world.specs.Inside.Serving.{IsWanted, NeedsAtLeast}
 use Rattle.bz_world.specs.declared.parts.Parts.{Parts}
@@ -90,19 +90,20 @@ pub no-leaf-split : (task : AnyTask) (k : Kind) → kind_of task ≡ k → ((a :
 no-leaf-split task k kind other = within-of task (λ a e. absurd (other a (sym kind ∙ e)))
 
 -- a task that freezes a leaf, or makes it anew, is meant for its call
-pub renewal-meant : (p : Parts) (w : ℕ) (on : MustGoOn p w) → on.serving.effect ≡ None → is_read on.serving.call ≡ false → (task : AnyTask) → IsWithinItsActs task → (kind_of task ≡ kinds.Merge → ⊥) → IsMeantFor on.serving.call task (known p w on).past → IsMeant (record on.serving { task = task; path = None }) (known p w on).past
-renewal-meant p w on quiet write task within other meant = record {
+pub renewal-meant : (p : Parts) (w : ℕ) (on : MustGoOn p w) → on.serving.effect ≡ None → is_read on.serving.call ≡ false → (task : AnyTask) → IsWithinItsActs task → (kind_of task ≡ kinds.Merge → ⊥) → (kind_of task ≡ kinds.Copy → IsOfSettled task (key_of on.serving.call) (known p w on).past) → IsMeantFor on.serving.call task (known p w on).past → IsMeant (record on.serving { task = task; path = None }) (known p w on).past
+renewal-meant p w on quiet write task within other copied meant = record {
   within = within;
   look = λ none. writes-look on.serving.call (kind_of task) write;
   fit = record { words = on.fit.words; thawed = on.fit.thawed };
   meant = λ none. meant;
   later = λ at is. absurd (cc (quiet, is));
   small = λ merge. absurd (other merge);
+  copied = copied;
 }
 
 -- and is paid for
-pub renewal-paid : RoundLaws → (p : Parts) (w : ℕ) (on : MustGoOn p w) (quiet : on.serving.effect ≡ None) (write : is_read on.serving.call ≡ false) (task : AnyTask) (k : Kind) (f : IsFresh p.config task k) → k ≢ kinds.Merge → IsMeantFor on.serving.call task (known p w on).past → HasToSpare p w on.serving (known p w on).past (λ r q. most_in r k + coming_to_write r q (errand_of on.serving) k) → IsPaidFor p w (record on.serving { task = task; path = None }) 0 no_extra (known p w on).past
-renewal-paid b p w on quiet write task k f other meant s = task-paid b p w on task None on.serving.had k f.kind f.laws f.asks f.made (renewal-meant p w on quiet write task f.within (λ merge. other (sym f.kind ∙ merge)) meant) (λ none merge. absurd (other merge)) (spared-so b p w on quiet write k s)
+pub renewal-paid : RoundLaws → (p : Parts) (w : ℕ) (on : MustGoOn p w) (quiet : on.serving.effect ≡ None) (write : is_read on.serving.call ≡ false) (task : AnyTask) (k : Kind) (f : IsFresh p.config task k) → k ≢ kinds.Merge → (k ≡ kinds.Copy → IsOfSettled task (key_of on.serving.call) (known p w on).past) → IsMeantFor on.serving.call task (known p w on).past → HasToSpare p w on.serving (known p w on).past (λ r q. most_in r k + coming_to_write r q (errand_of on.serving) k) → IsPaidFor p w (record on.serving { task = task; path = None }) 0 no_extra (known p w on).past
+renewal-paid b p w on quiet write task k f other copied meant s = task-paid b p w on task None on.serving.had k f.kind f.laws f.asks f.made (renewal-meant p w on quiet write task f.within (λ merge. other (sym f.kind ∙ merge)) (λ copy. copied (sym f.kind ∙ copy)) meant) (λ none merge. absurd (other merge)) (spared-so b p w on quiet write k s)
 
 -- a call that changes the map, and has read its leaf whole, is to change it
 pub read-due : (p : Parts) (w : ℕ) (view : LeafView) (m : MustAnswer p w view) → is_read m.on.serving.call ≡ false → IsDueAlone p.config p.journal w m.on.serving.call
@@ -115,25 +116,28 @@ read-due p w view m write lonely = elim (m.on.between.due m.quiet lonely) [
 pub freeze-no-merge : kinds.Freeze ≢ kinds.Merge
 freeze-no-merge e = cc e
 
+pub freeze-no-copy : kinds.Freeze ≢ kinds.Copy
+freeze-no-copy e = cc e
+
 abbrev pub freeze-taken : AloneLaws → (p : Parts) (w : ℕ) (view : LeafView) (m : MustRestructure p w view) → (status view.status).frozen ≡ false → (task : AnyTask) → IsFresh p.config task kinds.Freeze → ((key : List ℕ) (way : Option Path) → IsLookup key way task) → wants_of task ≡ 0
     → ((key : List ℕ) (s : Scene) → s.past.config ≡ p.config → IsScene s → IsView key view s.past → facts_of task Waiting s) → IsMadeFor task (key_of m.answer.on.serving.call) (words_asked m.answer.on.serving.call) (known p w m.answer.on).past → MustTakeOn p w task None m.answer.on.serving.had None
 freeze-taken lone p w view m thawed task f lookup wants facts made =
     lookup-taken p w m.answer.on (inl m.answer.quiet) task None None (key_of m.answer.on.serving.call) f.config f.laws f.silent (lookup (key_of m.answer.on.serving.call) None) (λ none. lookup (key_of m.answer.on.serving.call)) refl f.asks (facts (key_of m.answer.on.serving.call) (known p w m.answer.on) refl (known-scene lone.scenes p w m.answer.on) m.answer.viewed)
-    (none-wanted p w m.answer.on task wants) (λ key get lonely. absurd (m.answer.other key get lonely)) (renewal-meant p w m.answer.on m.answer.quiet (lacks-write m.answer.on.serving.call view.status m.lacks) task f.within (λ merge. freeze-no-merge (sym f.kind ∙ merge)) (inr (inr made)))
-    (renewal-paid lone.rounds p w m.answer.on m.answer.quiet (lacks-write m.answer.on.serving.call view.status m.lacks) task kinds.Freeze f freeze-no-merge (inr (inr made)) (freeze-spares lone p w view m thawed))
+    (none-wanted p w m.answer.on task wants) (λ key get lonely. absurd (m.answer.other key get lonely)) (renewal-meant p w m.answer.on m.answer.quiet (lacks-write m.answer.on.serving.call view.status m.lacks) task f.within (λ merge. freeze-no-merge (sym f.kind ∙ merge)) (λ copy. absurd (freeze-no-copy (sym f.kind ∙ copy))) (inr (inr made)))
+    (renewal-paid lone.rounds p w m.answer.on m.answer.quiet (lacks-write m.answer.on.serving.call view.status m.lacks) task kinds.Freeze f freeze-no-merge (λ copy. absurd (freeze-no-copy copy)) (inr (inr made)) (freeze-spares lone p w view m thawed))
     (λ quiet lonely. inl (read-due p w view m.answer (lacks-write m.answer.on.serving.call view.status m.lacks) lonely))
     (λ lonely room. absurd (again-kind p w m.answer.on m.answer.quiet kinds.ReadWhole m.answer.kind refl refl lonely room))
     (duly-other p w m.answer.on task None m.answer.quiet (λ seek. true≢false (sym seek ∙ ap seeks f.kind)) (λ delete. cc (f.kind, delete)))
 
 -- its copy or its split
-abbrev pub anew-taken : AloneLaws → (p : Parts) (w : ℕ) (path : Path) (view : LeafView) (m : MustMakeAnew p w path view) (task : AnyTask) (k : Kind) → IsFresh p.config task k → k ≢ kinds.Merge → (seeks k ≡ true → ⊥) × (k ≡ kinds.Delete → ⊥) → ((way : Option Path) → IsLookup (key_of m.answer.on.serving.call) way task) → (slots : ℕ) → wants_of task ≡ slots → NeedsAtLeast p.config p.journal.start p.journal.past m.answer.on.between.opened slots
+abbrev pub anew-taken : AloneLaws → (p : Parts) (w : ℕ) (path : Path) (view : LeafView) (m : MustMakeAnew p w path view) (task : AnyTask) (k : Kind) → IsFresh p.config task k → k ≢ kinds.Merge → (k ≡ kinds.Copy → IsOfSettled task (key_of m.answer.on.serving.call) (known p w m.answer.on).past) → (seeks k ≡ true → ⊥) × (k ≡ kinds.Delete → ⊥) → ((way : Option Path) → IsLookup (key_of m.answer.on.serving.call) way task) → (slots : ℕ) → wants_of task ≡ slots → NeedsAtLeast p.config p.journal.start p.journal.past m.answer.on.between.opened slots
     → ((s : Scene) → s.past.config ≡ p.config → IsScene s → IsPath (key_of m.answer.on.serving.call) path s.past → IsView (key_of m.answer.on.serving.call) view s.past → facts_of task Waiting s) → IsMadeFor task (key_of m.answer.on.serving.call) (words_asked m.answer.on.serving.call) (known p w m.answer.on).past
     → HasToSpare p w m.answer.on.serving (known p w m.answer.on).past (λ r q. most_in r k + coming_to_write r q (errand_of m.answer.on.serving) k) → MustTakeOn p w task None m.answer.on.serving.had None
-anew-taken lone p w path view m task k f other plain lookup slots wants needs facts made spares =
+anew-taken lone p w path view m task k f other copied plain lookup slots wants needs facts made spares =
     lookup-taken p w m.answer.on (inl m.answer.quiet) task None None (key_of m.answer.on.serving.call) f.config f.laws f.silent (lookup None) (λ none. lookup) refl f.asks
     (facts (known p w m.answer.on) refl (known-scene lone.scenes p w m.answer.on) m.way m.answer.viewed)
-    (λ quiet some. subst (NeedsAtLeast p.config p.journal.start p.journal.past m.answer.on.between.opened) (sym wants) needs) (λ key get lonely. absurd (m.answer.other key get lonely)) (renewal-meant p w m.answer.on m.answer.quiet (lacks-write m.answer.on.serving.call view.status m.lacks) task f.within (λ merge. other (sym f.kind ∙ merge)) (inr (inr made)))
-    (renewal-paid lone.rounds p w m.answer.on m.answer.quiet (lacks-write m.answer.on.serving.call view.status m.lacks) task k f other (inr (inr made)) spares)
+    (λ quiet some. subst (NeedsAtLeast p.config p.journal.start p.journal.past m.answer.on.between.opened) (sym wants) needs) (λ key get lonely. absurd (m.answer.other key get lonely)) (renewal-meant p w m.answer.on m.answer.quiet (lacks-write m.answer.on.serving.call view.status m.lacks) task f.within (λ merge. other (sym f.kind ∙ merge)) (λ copy. copied (sym f.kind ∙ copy)) (inr (inr made)))
+    (renewal-paid lone.rounds p w m.answer.on m.answer.quiet (lacks-write m.answer.on.serving.call view.status m.lacks) task k f other copied (inr (inr made)) spares)
     (λ quiet lonely. inl (read-due p w view m.answer (lacks-write m.answer.on.serving.call view.status m.lacks) lonely))
     (λ lonely room. absurd (again-kind p w m.answer.on m.answer.quiet kinds.ReadWhole m.answer.kind refl refl lonely room))
     (duly-other p w m.answer.on task None m.answer.quiet (λ seek. plain.0 (ap seeks (sym f.kind) ∙ seek)) (λ delete. plain.1 (sym f.kind ∙ delete)))
@@ -147,6 +151,7 @@ merge-meant p w path view m task f for small = record {
   meant = λ quiet. inr (inl (for (key_of m.on.serving.call) (known p w m.on).past m.viewed (m.frozen quiet)));
   later = λ at is. ap is_renewal f.kind;
   small = λ merge. small (key_of m.on.serving.call) (known p w m.on).past m.viewed;
+  copied = λ copy. absurd (let other : kinds.Merge ≡ kinds.Copy = sym f.kind ∙ copy in cc other);
 }
 
 -- which it may begin where nobody's swap took effect since the effect of its delete: it has a neighbour that fits

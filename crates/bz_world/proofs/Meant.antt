@@ -1,5 +1,5 @@
 -- What a task is meant for stays, and those that make a leaf anew are made for the key and the words of their call.
-use Rattle.std.proofs.Common.{◌≡◌, ◌⊎◌, ℕ, ◌+◌, ◌<◌, List, true, false, arith, refl, sym, ap, subst, ◌∙◌, inl, inr}
+use Rattle.std.proofs.Common.{◌≡◌, ◌⊎◌, ℕ, ◌+◌, ◌<◌, ◌≤◌, List, true, false, arith, refl, sym, ap, subst, ◌∙◌, inl, inr}
 use Rattle.std.proofs.lemmas.Bool.{true≢false}
 use Rattle.bz_call.specs.Map.{key_of}
 use Rattle.bz_call.specs.declared.calls.Call.{Call}
@@ -24,7 +24,10 @@ use Rattle.bz_task.specs.declared.view.LeafView.{LeafView}
 use Rattle.bz_word.specs.Statuses.{status}
 use Rattle.bz_lone.specs.Errands.{words_asked}
 use Rattle.bz_lone.specs.Meant.{IsMeantFor}
-use Rattle.bz_world.specs.Inside.Meant.{IsMeant}
+use Rattle.bz_content.specs.Content.{leaf_in}
+use Rattle.bz_slotted.specs.Records.{live_words}
+use Rattle.bz_sound.specs.Memory.Spent.{leaf_page}
+use Rattle.bz_world.specs.Inside.Meant.{IsMeant, IsOfSettled}
 use Rattle.bz_world.specs.Inside.Telling.{HasTold}
 use Rattle.bz_world.specs.declared.serving.OpenCall.{OpenCall}
 use Rattle.bz_world.proofs.Paid.{within-told}
@@ -79,9 +82,26 @@ freeze-meant (call.Delete key) t view p lacks thawed viewed made = absurd (true�
 freeze-meant (call.Get key) t view p lacks thawed viewed made = absurd lacks
 freeze-meant (call.Page from) t view p lacks thawed viewed made = absurd lacks
 
+-- what the leaf of a copy was it was
+settled-on : (t : AnyTask) (key : List ℕ) (p q : Past) → Continues p q → IsOfSettled t key p → IsOfSettled t key q
+settled-on t key p q on s = record {
+  slot = s.slot;
+  was = record {
+    moment = s.was.moment;
+    since = omega (arith, on.since, s.was.since);
+    now = omega (arith, on.now, s.was.now);
+    leaf = (λ e. leaf_in (on.config e) (on.at s.was.moment s.was.now e).image key) ∙ s.was.leaf;
+    frozen = (λ e. (leaf_page (on.config e) (on.at s.was.moment s.was.now e).image key).frozen) ∙ s.was.frozen;
+    few = let same : live_words (leaf_page q.config (q.at s.was.moment).image key) ≡ live_words (leaf_page p.config (p.at s.was.moment).image key) = λ e. live_words (leaf_page (on.config e) (on.at s.was.moment s.was.now e).image key) in omega (arith, same, s.was.few);
+  };
+  known = s.known;
+  only = s.only;
+  made = s.made;
+}
+
 -- so it stays of a call, from moment to moment, and once its task was told something
 pub call-meant-on : (x : OpenCall) (p q : Past) → AreLaws x.task → Continues p q → IsMeant x p → IsMeant x q
-call-meant-on x p q laws on m = record { within = m.within; fit = m.fit; look = m.look; meant = λ quiet. meant-on x.call x.task p q laws on (m.meant quiet); later = m.later; small = λ merge. laws.small_for (key_of x.call) p q (m.small merge) on }
+call-meant-on x p q laws on m = record { within = m.within; fit = m.fit; look = m.look; meant = λ quiet. meant-on x.call x.task p q laws on (m.meant quiet); later = m.later; small = λ merge. laws.small_for (key_of x.call) p q (m.small merge) on; copied = λ copy. settled-on x.task (key_of x.call) p q on (m.copied copy) }
 
 pub call-meant-told : (x : OpenCall) (p : Past) (seen : Seen) (moment : ℕ) (free : FreeSlots) (todo : Todo) (y : OpenCall) (left : FreeSlots) → HasTold x seen moment free todo y left → IsMeant x p → IsMeant y p
 call-meant-told x p seen moment free todo y left h m = subst (λ (z : OpenCall). IsMeant z p) (sym h.rest) (record {
@@ -91,6 +111,7 @@ call-meant-told x p seen moment free todo y left h m = subst (λ (z : OpenCall).
   meant = λ quiet. meant-told x.call p x.task y.task seen moment free todo left h.heard (m.meant quiet);
   later = λ at is. ap is_renewal h.heard.kind ∙ m.later at is;
   small = λ merge. h.heard.small_for (key_of x.call) p (m.small (sym h.heard.kind ∙ merge));
+  copied = λ copy. let s = m.copied (sym h.heard.kind ∙ copy) in record { slot = s.slot; was = s.was; known = s.known; only = s.only; made = h.heard.made_for (key_of x.call) 0 s.known s.made };
 })
 
 -- the swap of a change merges nothing
@@ -100,6 +121,15 @@ publishing-no-merge (Inserting t) e merge = cc merge
 publishing-no-merge (Updating t) e merge = cc merge
 publishing-no-merge (Deleting t) e merge = cc merge
 publishing-no-merge t e merge = true≢false (sym e)
+
+-- nor copies
+pub publishing-no-copy : (t : AnyTask) → publishing_of t ≡ true → kind_of t ≡ kinds.Copy → ⊥
+unfolding publishing_of kind_of
+publishing-no-copy (Inserting t) e copy = cc copy
+publishing-no-copy (Updating t) e copy = cc copy
+publishing-no-copy (Deleting t) e copy = cc copy
+publishing-no-copy (Merging t) e copy = cc copy
+publishing-no-copy t e copy = true≢false (sym e)
 
 -- and makes nothing anew
 pub publishing-kind : (t : AnyTask) → publishing_of t ≡ true → is_renewal (kind_of t) ≡ false

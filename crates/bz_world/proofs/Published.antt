@@ -55,7 +55,7 @@ use Rattle.bz_world.specs.Inside.Exact.{HasStood, IsChanging, reach_of, underway
 use Rattle.bz_world.specs.Roomy.{HadRoom, KeepsEnough}
 use Rattle.bz_world.specs.Inside.Paid.{errand_of, no_extra, stock_of, IsPaidIn}
 use Rattle.bz_world.specs.WorldView.{stepper, is_delete}
-use Rattle.bz_world.proofs.Meant.{publishing-kind, publishing-no-merge}
+use Rattle.bz_world.proofs.Meant.{publishing-kind, publishing-no-copy, publishing-no-merge}
 use Rattle.bz_world.proofs.Paid.{flush-runs, next-is}
 use Rattle.bz_world.proofs.PaidSteps.{less-in, marks-in}
 use Rattle.bz_world.proofs.Staying.{Leaves, none-stays, serving-stays}
@@ -325,7 +325,7 @@ module _ (b : StrikeLaws) (p : Parts) (s : ℕ) (h : IsStriking p s) (publishes 
     covered = (its b p s h).covered;
     alone = waits-on c p.access p.access with_flush.past effect_mark (after b p s h) told_story worker since effected effected (x b p s h).task (next_instant p.access ((after b p s h).at (length with_flush.past))) refl (omega (arith, begun-its.by_now)) (struck-alone b p s h)
         refl refl (λ t d. refl) (λ t d well. well);
-    meant = let m = (struck-meant b p s h) in record { within = m.within; fit = record { words = m.fit.words; thawed = m.fit.thawed }; look = λ quiet. absurd (cc quiet); meant = λ quiet. absurd (cc quiet); later = λ at is. publishing-kind (x b p s h).task publishes; small = λ merge. absurd (publishing-no-merge (x b p s h).task publishes merge) };
+    meant = let m = (struck-meant b p s h) in record { within = m.within; fit = record { words = m.fit.words; thawed = m.fit.thawed }; look = λ quiet. absurd (cc quiet); meant = λ quiet. absurd (cc quiet); later = λ at is. publishing-kind (x b p s h).task publishes; small = λ merge. absurd (publishing-no-merge (x b p s h).task publishes merge); copied = λ copy. absurd (publishing-no-copy (x b p s h).task publishes copy) };
     paid = λ steps. subst (λ u. IsPaidIn c p.access (effect_mark ∷ with_flush.past) (stock_of (old b p s h)) worker (errand_of with_moment) (x b p s h).task u no_extra (scene c (effect_mark ∷ with_flush.past) told_story worker since effected).past)
         (sym (ap (untold p.access) (still-does b p s h) ∙ ap (λ (z : Bool). if z then 1 else 0) h.takes.effect.done))
         (marked worker (errand_of with_moment) (x b p s h).task 1 since effected begun-its steps

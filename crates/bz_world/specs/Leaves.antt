@@ -1,12 +1,12 @@
--- What becomes of the leaves of the tree, mark by mark: while the power is on there is one more only by the split of a leaf that had too many live words, which
--- the tree leaves, and one less only by the merge of one that had too few; and no node comes back that the tree has left. So each leaf is split at most once. The
--- newest mark stands first.
-use Rattle.std.specs.Prelude.{◌≡◌, ◌⊎◌, ℕ, ◌+◌, ◌<◌, ◌≤◌, Bool, true, false, List, ◌∷◌, length, Some}
+-- What becomes of the leaves of the tree, mark by mark: while the power is on there is one more only by the split of a leaf that had too many live words, and one
+-- less only by the merge of one that had too few, both of which the tree leaves; it leaves another one only where that is copied, which was frozen, and had no more
+-- live words than it may keep; and no node comes back that it has left. So each leaf is split or copied at most once. The newest mark stands first.
+use Rattle.std.specs.Prelude.{◌≡◌, ◌⊎◌, ℕ, ◌+◌, ◌<◌, ◌≤◌, ◌&&◌, nat_lt, Bool, true, false, List, ◌∷◌, length, Some}
 use Rattle.bz_call.specs.Map.{key_of}
-use Rattle.bz_content.specs.Content.{leaf_in}
+use Rattle.bz_content.specs.Content.{leaf_in, view_in}
 use Rattle.bz_layout.specs.declared.config.Config.{Config}
 use Rattle.bz_layout.specs.declared.thresholds.TheConstants.{MERGE_BELOW, SPLIT_ABOVE}
-use Rattle.bz_lone.specs.FromTally.Leaves.{leaves_in}
+use Rattle.bz_lone.specs.FromTally.Leaves.{is_leaf, leaves_in}
 use Rattle.bz_mark.specs.Log.{Log}
 use Rattle.bz_mark.specs.declared.marks.Mark.{Mark}
 use Rattle.bz_slotted.specs.Records.{live_words}
@@ -38,6 +38,10 @@ pub record IsMomentOfCall (past : List Mark) : Type 0 where
 abbrev pub in_tree : Config → List ℕ → List Mark → ℕ → Bool
 in_tree c start past slot = is_reached_in c (image_after start past) slot
 
+-- and is a leaf of it
+abbrev pub is_leaf_after : Config → List ℕ → List Mark → ℕ → Bool
+is_leaf_after c start past slot = nat_lt slot c.nodes && is_leaf (view_in c (image_after start past)) slot
+
 -- there is one leaf more, and the leaf of that call's key had more live words then than a leaf may keep; with this mark the tree leaves it
 pub record AddsALeaf (c : Config) (start : List ℕ) (past : List Mark) (mark : Mark) : Type 0 where
   pub more : leaves_after c start (mark ∷ past) ≡ leaves_after c start past + 1
@@ -48,15 +52,32 @@ pub record AddsALeaf (c : Config) (start : List ℕ) (past : List Mark) (mark : 
   pub was : in_tree c start past slot ≡ true
   pub gone : in_tree c start (mark ∷ past) slot ≡ false
 
--- there is one less, and that leaf had fewer than one needs to stand alone
+-- there is one less, and the leaf of that call's key had fewer live words then than one needs to stand alone; with this mark the tree leaves it
 pub record TakesALeaf (c : Config) (start : List ℕ) (past : List Mark) (mark : Mark) : Type 0 where
   pub less : leaves_after c start (mark ∷ past) + 1 ≡ leaves_after c start past
   pub call : IsMomentOfCall past
   pub few : live_at c start past call.opened call.moment < MERGE_BELOW
+  pub slot : ℕ
+  pub leaf : leaf_in c (image_at start call.moment past) (key_of call.opened.call) ≡ slot
+  pub was : in_tree c start past slot ≡ true
+  pub gone : in_tree c start (mark ∷ past) slot ≡ false
 
--- there are as many, or one of these
+-- the leaf in this slot was the one of that call's key, frozen, and had no more live words then than a leaf may keep
+pub record MayBeCopied (c : Config) (start : List ℕ) (past : List Mark) (slot : ℕ) : Type 0 where
+  pub call : IsMomentOfCall past
+  pub leaf : leaf_in c (image_at start call.moment past) (key_of call.opened.call) ≡ slot
+  pub frozen : (leaf_page c (image_at start call.moment past) (key_of call.opened.call)).frozen ≡ true
+  pub few : live_at c start past call.opened call.moment ≤ SPLIT_ABOVE
+
+-- there are as many, and the tree leaves a leaf only where that may be copied: at most one
+pub record KeepsLeaves (c : Config) (start : List ℕ) (past : List Mark) (mark : Mark) : Type 0 where
+  pub same : leaves_after c start (mark ∷ past) ≡ leaves_after c start past
+  pub copied : (slot : ℕ) → is_leaf_after c start past slot ≡ true → in_tree c start (mark ∷ past) slot ≡ false → MayBeCopied c start past slot
+  pub once : (slot other : ℕ) → is_leaf_after c start past slot ≡ true → in_tree c start (mark ∷ past) slot ≡ false → is_leaf_after c start past other ≡ true → in_tree c start (mark ∷ past) other ≡ false → slot ≡ other
+
+-- one of these
 abbrev pub FollowsLeaves : Config → List ℕ → List Mark → Mark → Type 0
-FollowsLeaves c start past mark = (leaves_after c start (mark ∷ past) ≡ leaves_after c start past) ⊎ (AddsALeaf c start past mark ⊎ TakesALeaf c start past mark)
+FollowsLeaves c start past mark = KeepsLeaves c start past mark ⊎ (AddsALeaf c start past mark ⊎ TakesALeaf c start past mark)
 
 -- a slot that was in the tree at a moment of an open call, and is not now, is not then
 abbrev pub NoneComesBack : Config → List ℕ → List Mark → Mark → Type 0

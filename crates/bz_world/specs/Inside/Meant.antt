@@ -1,15 +1,39 @@
 -- What the task of a call is meant for.
-use Rattle.std.specs.Prelude.{◌≡◌, ℕ, false, Some, None}
+use Rattle.std.specs.Prelude.{◌≡◌, ℕ, ◌≤◌, true, false, List, Some, None}
 use Rattle.bz_call.specs.Map.{key_of}
+use Rattle.bz_content.specs.Content.{leaf_in}
+use Rattle.bz_layout.specs.declared.thresholds.TheConstants.{SPLIT_ABOVE}
 use Rattle.bz_lone.specs.FromCosts.Most.{IsWithinItsActs}
 use Rattle.bz_lone.specs.Errands.{IsLookOf}
 use Rattle.bz_lone.specs.Meant.{IsMeantFor}
 use Rattle.bz_running.specs.Kinds as kinds
 use Rattle.bz_running.specs.Kinds.{is_renewal, kind_of}
-use Rattle.bz_running.specs.MadeFor.{IsSmallMerge}
+use Rattle.bz_running.specs.MadeFor.{IsMadeFor, IsSmallMerge}
+use Rattle.bz_running.specs.declared.running.AnyTask.{AnyTask}
+use Rattle.bz_slotted.specs.Records.{live_words}
+use Rattle.bz_sound.specs.Memory.Spent.{leaf_page}
+use Rattle.bz_task.specs.Outcomes.{IsView}
 use Rattle.bz_task.specs.Scene.{Past}
+use Rattle.bz_task.specs.declared.view.LeafView.{LeafView}
 use Rattle.bz_world.specs.Inside.Paid.{IsFit}
 use Rattle.bz_world.specs.declared.serving.OpenCall.{OpenCall}
+
+-- at a moment since the look-up began the key's leaf was the one in this slot, frozen, and with no more live words than it may keep
+pub record WasSettled (key : List ℕ) (slot : ℕ) (p : Past) : Type 0 where
+  pub moment : ℕ
+  pub since : p.since ≤ moment
+  pub now : moment ≤ p.now
+  pub leaf : leaf_in p.config (p.at moment).image key ≡ slot
+  pub frozen : (leaf_page p.config (p.at moment).image key).frozen ≡ true
+  pub few : live_words (leaf_page p.config (p.at moment).image key) ≤ SPLIT_ABOVE
+
+-- the task was made of that leaf: for what was known then, when whatever was viewed of the key was in that slot
+pub record IsOfSettled (t : AnyTask) (key : List ℕ) (p : Past) : Type 0 where
+  pub slot : ℕ
+  pub was : WasSettled key slot p
+  pub known : Past
+  pub only : (view : LeafView) → IsView key view known → view.slot ≡ slot
+  pub made : IsMadeFor t key 0 known
 
 -- it has no more acts left than at its begin; a call that changes nothing looks its key up, or reads its leaf; and of a call
 -- without effect each task that freezes a leaf or makes a node anew was made for the key and the words of the call
@@ -22,3 +46,5 @@ pub record IsMeant (x : OpenCall) (p : Past) : Type 0 where
   pub later : (at : ℕ) → x.effect ≡ Some at → is_renewal (kind_of x.task) ≡ false
   -- a merge is one of the leaf of its key, which had too few live words to stand alone
   pub small : kind_of x.task ≡ kinds.Merge → IsSmallMerge x.task (key_of x.call) p
+  -- a copy is one of the leaf of its key, which was frozen, and had no more live words than it may keep
+  pub copied : kind_of x.task ≡ kinds.Copy → IsOfSettled x.task (key_of x.call) p

@@ -28,6 +28,7 @@ start-requires-clause-asks c = taken-asks c.args.parts.now c.args.w c.seek-task.
       meant = λ quiet. inl (record { slots = c.seek-task.ensures.wants; swaps = inl c.seek-task.ensures.swaps });
       later = λ at is. ap is_renewal c.seek-task.ensures.kind;
       small = λ merge. absurd (let other : kinds.Seek ≡ kinds.Merge = sym c.seek-task.ensures.kind ∙ merge in cc other);
+      copied = λ copy. absurd (let other : kinds.Seek ≡ kinds.Copy = sym c.seek-task.ensures.kind ∙ copy in cc other);
     })
     (λ r counted. c.start_laws.ensures.lone.rounds.begin r c.args.parts.now.access c.args.w (errand_of c.requires.on.serving) c.seek-task.result (used_in r c.args.parts.now c.args.w) (bound_in r c.args.parts.now c.args.w) 2 (known c.args.parts.now c.args.w c.requires.on).past
     (known c.args.parts.now c.args.w (looks-anew c.args.parts.now c.args.w c.requires.on c.requires.again c.requires.stands c.requires.over)).past

@@ -47,6 +47,7 @@ begin_task-requires-clause-begins c = task-begins c.args.parts.now c.args.w c.re
       meant = λ quiet. inl (record { slots = c.read_leaf-task.ensures.wants; swaps = inl c.read_leaf-task.ensures.swaps });
       later = λ at is. ap is_renewal c.read_leaf-task.ensures.kind;
       small = λ merge. absurd (let other : kinds.ReadWhole ≡ kinds.Merge = sym c.read_leaf-task.ensures.kind ∙ merge in cc other);
+      copied = λ copy. absurd (let other : kinds.ReadWhole ≡ kinds.Copy = sym c.read_leaf-task.ensures.kind ∙ copy in cc other);
     }
 
     key : c.key_of.result ≡ key_of c.requires.path.on.serving.call

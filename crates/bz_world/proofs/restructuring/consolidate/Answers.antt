@@ -6,7 +6,7 @@ use Rattle.bz_running.specs.Kinds as kinds
 use Rattle.std.specs.Vec.{with_item}
 use Rattle.bz_world.specs.Inside.Going.{known, with_task}
 use Rattle.bz_world.specs.declared.serving.OpenCall.{OpenCall}
-use Rattle.bz_world.proofs.Changing.{needs-copy}
+use Rattle.bz_world.proofs.Changing.{copies-settled, needs-copy}
 use Rattle.bz_world.proofs.MakingAnew.{no-leaf-split, copy-spares, anew-taken, anew-pages}
 use Rattle.bz_world.proofs.TakingOn.{task-begins, slot-is, went-anew}
 use Rattle.bz_world.proofs.restructuring.consolidate.Goals as goal
@@ -19,7 +19,9 @@ begin_task-requires-clause-begins c = task-begins (record c.args.parts.now { pag
     (anew-taken c.start_laws.ensures.lone (record c.args.parts.now { page = c.consolidate-task.new.page }) c.args.w c.args.path c.args.view.now (anew-pages c.args.parts.now c.args.w c.args.path c.args.view.now c.consolidate-task.new.page c.requires.copy.anew)
     c.consolidate-task.result kinds.Copy
     (record { config = c.consolidate-task.ensures.config; laws = c.laws.ensures; silent = c.consolidate-task.ensures.silent; asks = c.consolidate-task.ensures.asks; kind = c.consolidate-task.ensures.kind; made = c.consolidate-task.ensures.made; within = no-leaf-split c.consolidate-task.result kinds.Copy c.consolidate-task.ensures.kind (λ a e. cc e) })
-    (λ merge. cc merge) (λ seek. cc seek, λ delete. cc delete) (c.consolidate-task.ensures.ends (key_of c.requires.copy.anew.answer.on.serving.call)) CONSOLIDATION_SLOTS c.consolidate-task.ensures.wants
+    (λ merge. cc merge)
+    (λ copy. copies-settled c.start_laws.ensures.scenes c.answer_laws.ensures c.args.parts.now c.args.w c.args.view.now c.requires.copy.anew.answer (key_of c.requires.copy.anew.answer.on.serving.call) refl c.consolidate-task.result c.requires.copy.frozen c.requires.copy.few (c.consolidate-task.ensures.made_for (key_of c.requires.copy.anew.answer.on.serving.call) 0))
+    (λ seek. cc seek, λ delete. cc delete) (c.consolidate-task.ensures.ends (key_of c.requires.copy.anew.answer.on.serving.call)) CONSOLIDATION_SLOTS c.consolidate-task.ensures.wants
     (needs-copy c.start_laws.ensures.scenes c.answer_laws.ensures c.args.parts.now c.args.w c.args.view.now c.requires.copy.anew.answer (key_of c.requires.copy.anew.answer.on.serving.call) refl c.requires.copy.frozen)
     (c.consolidate-task.ensures.facts (key_of c.requires.copy.anew.answer.on.serving.call)) (c.consolidate-task.ensures.made_for (key_of c.requires.copy.anew.answer.on.serving.call) (words_asked c.requires.copy.anew.answer.on.serving.call) (known c.args.parts.now c.args.w c.requires.copy.anew.answer.on).past c.requires.copy.anew.answer.viewed c.requires.copy.few)
     (copy-spares c.start_laws.ensures.lone c.args.parts.now c.args.w c.args.path c.args.view.now c.requires.copy))
