@@ -68,6 +68,7 @@ mod LeftSlots
 mod ReachedNow
 mod Openings
 mod Booting
+mod Brief
 mod Takings
 mod Supplies
 mod SpendingSlots

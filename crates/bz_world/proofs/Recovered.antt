@@ -1,5 +1,5 @@
 -- What comes of an act of a recovery: the next one is asked for, or it has ended.
-use Rattle.std.proofs.Common.{◌≡◌, ◌≢◌, ℕ, ◌+◌, ◌<◌, ◌≤◌, length, arith, refl, sym, ap, subst, ◌∙◌}
+use Rattle.std.proofs.Common.{◌≡◌, ◌≢◌, ℕ, ◌+◌, ◌<◌, ◌≤◌, ◌∷◌, length, arith, refl, sym, ap, subst, ◌∙◌}
 use Rattle.bz_layout.specs.declared.config.Config.{Config}
 use Rattle.bz_mark.specs.Log.{Log, with_mark}
 use Rattle.bz_mark.specs.declared.marks.Mark.TheVariants.{Ready}
@@ -9,7 +9,8 @@ use Rattle.bz_recover.specs.FromSweep.Memory.{Memory}
 use Rattle.bz_recover.specs.declared.recover.Recover.{Recover}
 use Rattle.bz_story.specs.Recovering as recovery
 use Rattle.bz_story.specs.RecoveryLaws.{RecoveriesGoOn}
-use Rattle.bz_story.specs.Reviving.{TurnsMakeNoMark}
+use Rattle.bz_sound.specs.Power.Times.{since_on}
+use Rattle.bz_story.specs.Reviving.{TurnsMakeNoMark, acts_by}
 use Rattle.bz_swap.specs.Power.{renewed}
 use Rattle.bz_swap.specs.SwapMemory.{worker_of}
 use Rattle.bz_task.specs.Scene.{Took}
@@ -20,7 +21,7 @@ use Rattle.bz_world.specs.Inside.Kept.{IsRecovering, IsStarted, IsKept}
 use Rattle.bz_world.specs.Inside.Paid.{begun_with}
 use Rattle.bz_world.specs.Inside.Powering.{HasAsked, Wakes}
 use Rattle.bz_sound.specs.declared.power.Power.TheVariants as power
-use Rattle.bz_world.specs.WorldView.{Supply, Recovers, count_reached}
+use Rattle.bz_world.specs.WorldView.{Supply, Recovers, count_reached, mark_of, recovery_most}
 use Rattle.bz_world.specs.declared.answers.Applied.TheVariants as applied
 use Rattle.bz_world.specs.declared.parts.Parts.{Parts}
 use Rattle.bz_world.proofs.Powered.{kept-started}
@@ -52,10 +53,15 @@ asked-on go_on turns p seen next slots k on tells nodes learns = record {
 
 -- an act of worker 0, of which the recovery was told
 module _ (old asked new : Parts) (todo : Todo) (a : HasAsked old todo asked) where
+  -- fewer acts than so many a word were made
+  has-few : acts_by 0 (since_on (mark_of 0 a.made ∷ old.journal.past)) < recovery_most old.config
+  has-few = omega (arith, a.recovering.memory.spent, ap (λ (p : Parts). acts_by 0 (since_on p.journal.past)) a.rest, ap (λ (p : Parts). acts_by 0 (since_on p.journal.past)) a.act.rest, ap (λ (p : Parts). recovery_most p.config) a.rest, ap (λ (p : Parts). recovery_most p.config) a.act.rest)
+
   -- the next one is started
   pub seen-stepped : old.power ≡ power.Recovering → new ≡ record asked { access = new.access } → ((v : ℕ) → v ≢ 0 → worker_of new.access v ≡ worker_of asked.access v) → Recovers (world_view old) applied.Stepped (world_view new)
   seen-stepped recovering rest others = record {
     made = a.made;
+    few = has-few;
     flush = a.act.step.one.flush ∙ sym (flush-is old 0);
     ends = ap (λ (p : Parts). p.journal) rest ∙ (ap (λ (p : Parts). p.journal) a.rest ∙ ap (λ (p : Parts). p.journal) a.act.rest);
     supply = shown-recovering new (power-is ∙ recovering) ∙ sym (shown-recovering old recovering);
@@ -80,6 +86,7 @@ module _ (old asked new : Parts) (todo : Todo) (a : HasAsked old todo asked) whe
   pub seen-woken : Wakes asked new → Recovers (world_view old) applied.Ready (world_view new)
   seen-woken woken = record {
     made = a.made;
+    few = has-few;
     flush = a.act.step.one.flush ∙ sym (flush-is old 0);
     ends = journal ∙ ap (λ (p : Parts). with_mark p.journal Ready) (a.rest ∙ ap (λ (p : Parts). record p { recovery = asked.recovery; slots = asked.slots }) a.act.rest);
     supply = (

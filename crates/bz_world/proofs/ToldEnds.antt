@@ -34,7 +34,7 @@ use Rattle.bz_world.specs.declared.answers.LimitKind.TheVariants as which
 use Rattle.bz_world.proofs.Powered.{leaves-power, power-more}
 
 -- a mark that begins no call
-abbrev BeginsNone : Mark → Type 0
+abbrev pub BeginsNone : Mark → Type 0
 BeginsNone (Begin w n called) = ⊥
 BeginsNone mark = Unit {0}
 
@@ -63,13 +63,14 @@ act-plain w (act.Cas a old new found) = tt
 act-plain w (act.Flush line) = tt
 
 -- a call that is open after a mark was open before it, from the same begin
-record WasOpen (w : ℕ) (past : List Mark) (opened : Open) : Type 0 where
-  was : Open
-  is_open : open_call w past ≡ Some was
-  begun : was.begun ≡ opened.begun
+pub record WasOpen (w : ℕ) (past : List Mark) (opened : Open) : Type 0 where
+  pub was : Open
+  pub is_open : open_call w past ≡ Some was
+  pub begun : was.begun ≡ opened.begun
+  pub call : was.call ≡ opened.call
 
 still-open : (w : ℕ) (past : List Mark) (opened : Open) → open_call w past ≡ Some opened → WasOpen w past opened
-still-open w past opened is = record { was = opened; is_open = is; begun = refl }
+still-open w past opened is = record { was = opened; is_open = is; begun = refl; call = refl }
 
 after-end : (w : ℕ) (past : List Mark) (opened : Open) (t : Bool) → (if t then None else open_call w past) ≡ Some opened → WasOpen w past opened
 after-end w past opened true is = absurd (cc is)
@@ -77,13 +78,13 @@ after-end w past opened false is = still-open w past opened is
 
 with-effect : (w : ℕ) (past : List Mark) (opened : Open) (moment : ℕ) (o : Option Open) → open_call w past ≡ o → option_map (with_effect moment) o ≡ Some opened → WasOpen w past opened
 with-effect w past opened moment None is e = absurd (cc e)
-with-effect w past opened moment (Some was) is e = record { was = was; is_open = is; begun = let same : with_effect moment was ≡ opened = cc e in ap (λ (z : Open). z.begun) same }
+with-effect w past opened moment (Some was) is e = record { was = was; is_open = is; begun = let same : with_effect moment was ≡ opened = cc e in ap (λ (z : Open). z.begun) same; call = let same : with_effect moment was ≡ opened = cc e in ap (λ (z : Open). z.call) same }
 
 after-effect : (w : ℕ) (past : List Mark) (opened : Open) (moment : ℕ) (t : Bool) → (if t then option_map (with_effect moment) (open_call w past) else open_call w past) ≡ Some opened → WasOpen w past opened
 after-effect w past opened moment true is = with-effect w past opened moment (open_call w past) refl is
 after-effect w past opened moment false is = still-open w past opened is
 
-was-open : (w : ℕ) (past : List Mark) (mark : Mark) (opened : Open) → BeginsNone mark → open_call w (mark ∷ past) ≡ Some opened → WasOpen w past opened
+pub was-open : (w : ℕ) (past : List Mark) (mark : Mark) (opened : Open) → BeginsNone mark → open_call w (mark ∷ past) ≡ Some opened → WasOpen w past opened
 was-open w past (Begin v n called) opened none is = absurd none
 was-open w past (End v n reply at) opened none is = after-end w past opened (v == w) is
 was-open w past (Effect v n) opened none is = after-effect w past opened (length past) (v == w) is
@@ -96,7 +97,7 @@ was-open w past (Evict a) opened none is = still-open w past opened is
 was-open w past On opened none is = still-open w past opened is
 was-open w past Ready opened none is = still-open w past opened is
 
-was-lonely : (w : ℕ) (past : List Mark) (mark : Mark) → BeginsNone mark → IsLonely w (mark ∷ past) → IsLonely w past
+pub was-lonely : (w : ℕ) (past : List Mark) (mark : Mark) → BeginsNone mark → IsLonely w (mark ∷ past) → IsLonely w past
 was-lonely w past (Begin v n called) none lonely = absurd none
 was-lonely w past mark none lonely = lonely
 
@@ -205,7 +206,7 @@ evicts-tells : (old : WorldView) (a : ℕ) (answer : Applied) (new : WorldView) 
 evicts-tells old a answer new e told = subst TellsEndsIn (sym e.rest) (struck-on old.config old.log.start (Evict a ∷ old.log.past) e.past old.at_begin e.effect (plain-on old.config old.log.start old.log.past (Evict a) old.at_begin tt told))
 
 -- with the power off no worker steps
-off-refuses : (old : WorldView) (w : ℕ) → view.step_refusal old w ≡ None → power_in old ≡ power.Off → ⊥
+pub off-refuses : (old : WorldView) (w : ℕ) → view.step_refusal old w ≡ None → power_in old ≡ power.Off → ⊥
 off-refuses old w none off = by (nat_lt old.config.workers w) (view.is_short old.log) (power_in old) off none
   where
     by : (a b : Bool) (p : Power) → p ≡ power.Off → (if a then Some applied.NoWorker else (if b then Some applied.Limit else view.step_by p old w)) ≡ None → ⊥

@@ -1,6 +1,7 @@
 pub mod WorldView
 pub mod Solo
 pub mod Leaves
+pub mod Recoveries
 pub mod Roomy
 pub mod Taken
 pub mod Merges

@@ -443,10 +443,11 @@ abbrev pub GivesBack : Config → Log → Applied → Supply → Supply → Type
 GivesBack config log applied.Ready old new = (new.taken ≡ 0) × (new.left + count_reached config log ≡ config.nodes)
 GivesBack config log other old new = new ≡ old
 
--- a step of the recovery: exactly one act of worker 0, a flush exactly where that was said before
+-- a step of the recovery: exactly one act of worker 0, a flush exactly where that was said before; and with it fewer have been made than so many a word
 pub record Recovers (old : WorldView) (answer : Applied) (new : WorldView) : Type 0 where
   pub made : Act
   pub flush : is_flush_act made ≡ flush_of old 0
+  pub few : acts_by 0 (since_on (mark_of 0 made ∷ old.log.past)) < recovery_most old.config
   pub ends : EndsRecovery (with_mark old.log (mark_of 0 made)) answer new.log
   pub supply : GivesBack new.config new.log answer old.supply new.supply
   pub at_begin : new.at_begin ≡ old.at_begin

@@ -1,4 +1,4 @@
--- What a world keeps beside its parts: what its journal tells of descriptors and slots.
+-- What a world keeps beside its parts: what its journal tells of descriptors and slots, and of recoveries.
 use Rattle.std.specs.Prelude.{◌≡◌, ℕ, ◌≤◌, List, length, Some}
 use Rattle.bz_layout.specs.declared.config.Config.{Config}
 use Rattle.bz_mark.specs.Moments.{at_moment}
@@ -8,6 +8,7 @@ use Rattle.bz_sound.specs.Lonely.{IsLonely}
 use Rattle.bz_world.specs.Inside.Beginning.{world_view}
 use Rattle.bz_world.specs.Inside.Kept.{IsKept}
 use Rattle.bz_world.specs.Merges.{AreMergesMade}
+use Rattle.bz_world.specs.Recoveries.{AreRecoveriesBrief}
 use Rattle.bz_world.specs.Taken.{supply_told, AreEndsTold}
 use Rattle.bz_world.specs.WorldView.{WorldView, Supply}
 use Rattle.bz_world.specs.declared.parts.Parts.{Parts}
@@ -30,3 +31,4 @@ TellsEndsIn lab = TellsEnds lab.config lab.log.start lab.log.past lab.at_begin
 pub record IsWorld (p : Parts) : Type 0 where
   pub kept : IsKept p
   pub tells : TellsEndsIn (world_view p)
+  pub brief : AreRecoveriesBrief p.config p.at_start p.journal.past

@@ -15,7 +15,7 @@ pub returns-clause-sound : goal.returns-clause-sound
 returns-clause-sound c = subst (λ (l : WorldView). IsSound l.config l.at_start l.log) c.self.view_is c.self.invariant.kept.sound
 
 pub returns-clause-numbers : goal.returns-clause-numbers
-returns-clause-numbers c = subst (λ (l : WorldView). AreNumbersKept l.config l.at_start l.log) c.self.view_is (record { leaves = c.self.invariant.kept.leaves; taken = c.self.invariant.tells.ends; merged = c.self.invariant.tells.merges })
+returns-clause-numbers c = subst (λ (l : WorldView). AreNumbersKept l.config l.at_start l.log) c.self.view_is (record { leaves = c.self.invariant.kept.leaves; taken = c.self.invariant.tells.ends; merged = c.self.invariant.tells.merges; brief = c.self.invariant.brief })
 
 pub returns-clause-bounded : goal.returns-clause-bounded
 returns-clause-bounded c = subst (λ (l : WorldView). power_in l ≡ Recovering → recovery_acts l < recovery_most l.config) c.self.view_is (few-acts c.self.inside.parts c.self.invariant.kept)
