@@ -40,6 +40,7 @@ mod PaidSteps
 mod Spared
 mod Striking
 mod LeavesStruck
+mod LoneLeaves
 mod StruckQuietly
 mod Published
 mod ActStrikes

@@ -4,6 +4,7 @@ pub mod Leaves
 pub mod Recoveries
 pub mod Roomy
 pub mod Taken
+pub mod LoneLeaves
 pub mod Merges
 pub mod Numbers
 pub mod Inside

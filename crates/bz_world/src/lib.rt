@@ -10,6 +10,7 @@ mod changes;
 mod end;
 mod going;
 mod laws;
+pub mod leaf_laws;
 mod lookups;
 mod mark_effect;
 mod open;
