@@ -72,7 +72,7 @@ few-in-all (Some x) (Some y) seen moment free todo left last h most went on = el
   | inl all ↦ (
       let gone : length left.free ≡ length (drop (needs_of x.task) free.free) = ap (λ (z : FreeSlots). length z.free) all.slots in
       let more : todo ≢ Finish = λ e.
-          let end = some-end (end_of y.task) (h.laws.finish (h.heard.asked ∙ ap Some e)) in
-          omega (arith, gone, length-drop (needs_of x.task) free.free, all.some, all.enough, ap (λ (z : FreeSlots). length z.free) (h.heard.kept end.0 end.1)) in
+      let end = some-end (end_of y.task) (h.laws.finish (h.heard.asked ∙ ap Some e)) in
+      omega (arith, gone, length-drop (needs_of x.task) free.free, all.some, all.enough, ap (λ (z : FreeSlots). length z.free) (h.heard.kept end.0 end.1)) in
       omega (arith, gone, length-drop (needs_of x.task) free.free, all.enough, all.none_left, most, on more))
 ]
