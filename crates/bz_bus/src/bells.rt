@@ -1,4 +1,8 @@
-// The bells that wake a thread which sleeps until its ticket is served.
+// The bells that wake a thread which sleeps until its ticket is served. Other threads change a bell at any time, so no clause
+// tells what one holds; which one is a ticket's is told.
+ghost use Rattle.std.specs.Prelude.{◌≡◌, ◌%◌};
+ghost use Rattle.bz_bus.specs.declared.TheConstants.{PASSES as MANY};
+
 use crate::PASSES;
 use std::sync::Wait;
 use std::sync::atomic::{AtomicU64, Ordering};
@@ -18,6 +22,13 @@ pub(crate) struct Bells {
     bells: [AtomicU64; PASSES],
 }
 
+// The place of a ticket's bell: tickets that are fewer than PASSES apart have bells of their own.
+fn place_of(ticket: u64) -> usize
+    ensures { result ≡ ticket % MANY }
+{
+    (ticket % PASSES as u64) as usize
+}
+
 impl Bells {
     pub(crate) fn new() -> Bells {
         Bells {
@@ -26,7 +37,7 @@ impl Bells {
     }
 
     fn bell(&self, ticket: u64) -> &AtomicU64 {
-        &self.bells[(ticket % PASSES as u64) as usize]
+        &self.bells[place_of(ticket)]
     }
 
     pub(crate) fn set(&self, ticket: u64) {

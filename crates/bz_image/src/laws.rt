@@ -1,5 +1,6 @@
 //! Laws of the definition of an image. The calls do nothing; their contracts are the laws.
 ghost use Rattle.bz_image.specs.Laws.{ImagesReadBack, FrontsReadBack, ImagesAreWritten, FrontsAreWritten, FaultsAreFirst, HeadsStandAlone, MemoriesAreSized};
+ghost use Rattle.bz_image.specs.Numbers.{NumbersOfFormats};
 
 /// What is written of an image reads back as it.
 pub fn images_read_back()
@@ -35,4 +36,9 @@ pub fn heads_stand_alone()
 /// The words of a memory, with its numbers, are an image that has a file.
 pub fn memories_are_sized()
     ensures { MemoriesAreSized }
+{}
+
+/// The value of each public constant of image files.
+pub fn numbers_of_formats()
+    ensures { NumbersOfFormats }
 {}

@@ -6,8 +6,7 @@ ghost use Rattle.bz_layout.specs.Config.{IsConfig};
 
 use crate::scan::{first_unlawful, is_super};
 use crate::walk::walk_tree;
-use bz_content::laws as content;
-use bz_content::{CheckError, Shape};
+use bz_content::{CheckError, Shape, laws as content};
 use bz_layout::Config;
 use bz_shape::{ShapeFault, ShapeRule};
 use bz_slotted::laws as slotted;

@@ -173,6 +173,10 @@ closed-power w at_start old new p closed =
     let whole = closed-whole w (mark.On ∷ turned_off at_start old.past) new.past p.0 off.closed in
     record { ended = whole.ended ∙ off.ended; closed = whole.closed }
 
+-- so no call is open then
+pub closed_on : (w : ℕ) (at_start : State) (old new : Point) → Powers at_start None old new → open_call w old.past ≡ None → open_call w new.past ≡ None
+closed_on w at_start old new p closed = (closed-power w at_start old new p closed).closed
+
 -- the items
 both-plain : (a b : Bool) → (a && b) ≡ true → (a ≡ true) × (b ≡ true)
 both-plain true b e = (refl, e)

@@ -1,4 +1,4 @@
--- Where the power does not come on, the calls of runs of one worker after the other go apart.
+-- Where the power comes on at most at first, the calls of runs of one worker after the other go apart.
 use Rattle.std.proofs.Common.{◌≡◌, ◌≢◌, ℕ, zero, suc, ◌+◌, ◌&&◌, Bool, true, false, List, [], ◌∷◌, ◌++◌, refl, sym, subst, Option, Some, None, inl, inr}
 use Rattle.std.specs.Prelude.{is_some}
 use Rattle.std.proofs.lemmas.Bool.{cases_eq, true≢false}
@@ -10,14 +10,19 @@ use Rattle.bz_script.specs.declared.item.Item.TheVariants.{Queue, Arm, Run, Powe
 use Rattle.bz_script.specs.declared.item.Plan.{Plan}
 use Rattle.bz_sound.specs.Calls.{Open, open_call}
 use Rattle.bz_sound.specs.Memory.Sound.{IsApart}
-use Rattle.bz_sched.specs.AloneLaws.{is_no_power, without_power, CallsGoApart}
+use Rattle.bz_sound.specs.Power.Times.{power_of}
+use Rattle.bz_sound.specs.declared.power.Power.{Power as State}
+use Rattle.bz_sound.specs.declared.power.Power.TheVariants as power
+use Rattle.bz_sched.specs.AloneLaws.{is_no_power, without_power, powers_first, CallsGoApart}
 use Rattle.bz_sched.specs.Enough.{AreClosed}
 use Rattle.bz_sched.specs.Plans.{RunsBy}
 use Rattle.bz_sched.specs.Points.{Point, actor, IsUpToOneEffect, IsUpToOneEnd, IsStep, ready_by, ready, is_busy, IsTurn}
 use Rattle.bz_sched.specs.Queued.{calls_of}
+use Rattle.bz_sched.specs.Recoveries.{off_by, turned_on, Powers, RecoversTimes, RecoversWhole}
+use Rattle.bz_sched.specs.Scripts.{LeadsTo}
 use Rattle.bz_sched.specs.Sums.{is_alone, are_plain}
 use Rattle.bz_sched.specs.Turns.{TakesTurns, EndsOne, EndsFrom}
-use Rattle.bz_sched.proofs.AboveLemmas.{alone_is}
+use Rattle.bz_sched.proofs.AboveLemmas.{alone_is, closed_on}
 use Rattle.bz_sched.proofs.IdleRuns.{idle_is, open_stays_none}
 use Rattle.bz_sched.proofs.TurnAdds.{turn_adds}
 
@@ -96,18 +101,42 @@ both : (a b : Bool) → (a && b) ≡ true → (a ≡ true) × (b ≡ true)
 both true b e = (refl, e)
 both false b e = absurd (true≢false (sym e))
 
-pub calls-go-apart : CallsGoApart
-calls-go-apart at_start start words old [] new plain no_power closed apart is = subst IsApart (sym is) apart
-calls-go-apart at_start start words old (Queue v call ∷ items) new plain no_power closed apart leads =
-    calls-go-apart at_start start words (record { past = old.past; queue = old.queue ++ (v, call) ∷ [] }) items new plain no_power closed apart leads
-calls-go-apart at_start start words old (Arm flush seed ∷ items) new plain no_power closed apart leads = absurd (true≢false (sym plain))
-calls-go-apart at_start start words old (Run plan ∷ items) new plain no_power closed apart (mid, runs, leads) =
+go-apart : (at_start : State) (start : List ℕ) (words : ℕ) (old : Point) (items : List Item) (new : List Mark) → are_plain items ≡ true → without_power items ≡ true → AreClosed old.past → IsApart old.past →
+    LeadsTo at_start start words None old items new → IsApart new
+go-apart at_start start words old [] new plain no_power closed apart is = subst IsApart (sym is) apart
+go-apart at_start start words old (Queue v call ∷ items) new plain no_power closed apart leads =
+    go-apart at_start start words (record { past = old.past; queue = old.queue ++ (v, call) ∷ [] }) items new plain no_power closed apart leads
+go-apart at_start start words old (Arm flush seed ∷ items) new plain no_power closed apart leads = absurd (true≢false (sym plain))
+go-apart at_start start words old (Run plan ∷ items) new plain no_power closed apart (mid, runs, leads) =
     let alone = both (is_alone plan) (are_plain items) plain in
     elim runs [
       | inl whole ↦ (
           let c = ends-apart 1 64 old mid (subst (λ (p : Plan). RunsBy words p old mid) (alone_is plan alone.0) whole.0) (record { closed = closed; apart = apart }) in
-          calls-go-apart at_start start words mid items new alone.1 no_power c.closed c.apart leads
+          go-apart at_start start words mid items new alone.1 no_power c.closed c.apart leads
           )
       | inr cut ↦ absurd cut
     ]
-calls-go-apart at_start start words old (Power ∷ items) new plain no_power closed apart leads = absurd (true≢false (sym no_power))
+go-apart at_start start words old (Power ∷ items) new plain no_power closed apart leads = absurd (true≢false (sym no_power))
+
+-- power on, from the power off
+times-apart : (count : ℕ) (old new : List Mark) → RecoversTimes count old new → IsApart old → IsApart new
+times-apart zero old new is apart = subst IsApart (sym is) apart
+times-apart (suc count) old new (mid, act, rest) apart = times-apart count mid new rest (subst IsApart (sym act.is) (act-apart act.act old 0 act.own apart))
+
+whole-apart : (old new : List Mark) → RecoversWhole old new → IsApart old → IsApart new
+whole-apart old new (count, mid, last, times, act, is) apart = subst IsApart (sym is) (tt, subst IsApart (sym act.is) (act-apart act.act mid 0 act.own (times-apart count old mid times apart)))
+
+power-apart : (at_start : State) (old new : Point) → power_of at_start old.past ≡ power.Off → Powers at_start None old new → IsApart old.past → IsApart new.past
+power-apart at_start old new off on apart =
+    whole-apart (turned_on at_start old.past) new.past on.0 (tt, subst (λ (p : State). IsApart (off_by p old.past)) (sym off) apart)
+
+pub calls-go-apart : CallsGoApart
+calls-go-apart at_start start words old items new plain first closed apart leads = by (power_of at_start old.past) refl items plain first leads
+  where
+    by : (p : State) → power_of at_start old.past ≡ p → (items : List Item) → are_plain items ≡ true → powers_first p items ≡ true → LeadsTo at_start start words None old items new → IsApart new
+    by power.Off off (Power ∷ items) plain first (mid, powers, leads) =
+        elim powers [
+          | inl on ↦ go-apart at_start start words mid items new plain first (λ w. closed_on w at_start old mid on (closed w)) (power-apart at_start old mid off on apart) leads
+          | inr cut ↦ absurd cut
+        ]
+    by p is items plain first leads = go-apart at_start start words old items new plain first closed apart leads

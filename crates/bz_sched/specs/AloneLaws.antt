@@ -1,5 +1,5 @@
 -- What a script leaves whose runs go one worker after the other, and in which no cut is armed: each call that stands above a run has ended, and where the
--- power does not come on no call has begun while another was open. The newest mark stands first.
+-- power comes on at most at first no call has begun while another was open. The newest mark stands first.
 use Rattle.std.specs.Prelude.{◌≡◌, ◌≤◌, ℕ, ◌+◌, ◌==◌, if◌then◌else◌, ◌&&◌, Bool, true, false, List, [], ◌∷◌, length, None}
 use Rattle.bz_layout.specs.declared.limits.TheConstants.{MAX_WORKERS}
 use Rattle.bz_mark.specs.declared.marks.Mark.{Mark}
@@ -8,7 +8,9 @@ use Rattle.bz_script.specs.declared.item.Item.{Item}
 use Rattle.bz_script.specs.declared.item.Item.TheVariants.{Queue, Run, Power}
 use Rattle.bz_sound.specs.Calls.{open_call}
 use Rattle.bz_sound.specs.Memory.Sound.{IsApart}
+use Rattle.bz_sound.specs.Power.Times.{power_of}
 use Rattle.bz_sound.specs.declared.power.Power.{Power as State}
+use Rattle.bz_sound.specs.declared.power.Power.TheVariants as power
 use Rattle.bz_sched.specs.Enough.{AreClosed}
 use Rattle.bz_sched.specs.Points.{Point}
 use Rattle.bz_sched.specs.Queued.{calls_of}
@@ -43,7 +45,13 @@ abbrev pub without_power : List Item → Bool
 without_power [] = true
 without_power (item ∷ items) = is_no_power item && without_power items
 
+-- none does, but the first where the power is off: what a script without such a line comes to, over fresh memory or over an image
+abbrev pub powers_first : State → List Item → Bool
+powers_first power.Off (Power ∷ items) = without_power items
+powers_first other items = without_power items
+
 -- so the calls go one after the other
 abbrev pub CallsGoApart : Type 0
 CallsGoApart =
-    (at_start : State) (start : List ℕ) (words : ℕ) (old : Point) (items : List Item) (new : List Mark) → are_plain items ≡ true → without_power items ≡ true → AreClosed old.past → IsApart old.past → LeadsTo at_start start words None old items new → IsApart new
+    (at_start : State) (start : List ℕ) (words : ℕ) (old : Point) (items : List Item) (new : List Mark) → are_plain items ≡ true → powers_first (power_of at_start old.past) items ≡ true → AreClosed old.past → IsApart old.past →
+    LeadsTo at_start start words None old items new → IsApart new

@@ -19,3 +19,4 @@ pub mod TurnLaws
 pub mod TurnExample
 pub mod AloneLaws
 pub mod FromWorld
+pub mod Numbers

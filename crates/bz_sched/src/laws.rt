@@ -2,6 +2,7 @@
 
 ghost use Rattle.bz_sched.specs.AloneLaws.{CallsAboveEnd, CallsGoApart};
 ghost use Rattle.bz_sched.specs.TurnLaws.{AloneEndsIdle, TurnsEndIdle, WordsAreKept};
+ghost use Rattle.bz_sched.specs.Numbers.{NumbersOfFormats};
 
 /// A turn word adds acts of its worker alone, at most as many as it says, and fewer only where no call of that worker is then
 /// open or waits; and no eviction.
@@ -24,7 +25,12 @@ pub fn calls_above_end()
     ensures { CallsAboveEnd }
 {}
 
-/// Where the power does not come on besides, no call has begun while another was open.
+/// Where the power comes on at most at first besides, no call has begun while another was open.
 pub fn calls_go_apart()
     ensures { CallsGoApart }
+{}
+
+/// The value of each public constant of runs.
+pub fn numbers_of_formats()
+    ensures { NumbersOfFormats }
 {}

@@ -44,12 +44,12 @@ module _ (o : Outside) (status : ℕ) (lab : Option WorldView) (line : CommandLi
       (record { cause = inr (record { line = line; base = base; script = script; asks = asks; world = gives_up.world; is_lab = gives_up.is_lab; led = gives_up.led }); writes = refl })
       gives_up.said
 
-  ended-script : IsReading o.words ⊎ (o.left_after ≡ o.left) → RanScript line.command line.marks base script (sunk o.held o.held_after o.write_faults o.write_faults_after) status lab → IsEnded o status lab
+  pub ended-script : IsReading o.words ⊎ (o.left_after ≡ o.left) → RanScript line.command line.marks base script (sunk o.held o.held_after o.write_faults o.write_faults_after) status lab → IsEnded o status lab
   ended-script asked (inl ran) = ended-world ran
   ended-script asked (inr w) = ended_early o status lab asked w.no_lab w.said
 
 -- a command that reads a script has that script
-has_script : (o : Outside) (command : Command) (base : Base) (script : Job) → ReadsOver command base → ReadsScript o base script → HasScript o command base script
+pub has_script : (o : Outside) (command : Command) (base : Base) (script : Job) → ReadsOver command base → ReadsScript o base script → HasScript o command base script
 has_script o Run base script is reads = (is, subst (λ (b : Base). ReadsScript o b script) is reads)
 has_script o Dump base script is reads = (is, subst (λ (b : Base). ReadsScript o b script) is reads)
 has_script o Load base script (image, is) reads = (image, is, subst (λ (b : Base). ReadsScript o b script) is reads)

@@ -10,3 +10,5 @@ pub mod SumLemmas
 mod RunLemmas
 pub mod FreshLemmas
 pub mod ReportLemmas
+pub mod ThreadLemmas
+pub mod AnswerLemmas

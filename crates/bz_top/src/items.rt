@@ -1,26 +1,22 @@
 //! Running the items of a script.
-ghost use Rattle.std.specs.Prelude.{◌≡◌, ◌≢◌, ◌≤◌, ◌<◌, Bool, List, [], ◌∷◌, length, None};
+ghost use Rattle.std.specs.Prelude.{◌≡◌, ◌≢◌, ◌≤◌, ◌<◌, Bool, List, [], ◌∷◌, length, not, None};
 ghost use Rattle.bz_layout.specs.declared.limits.TheConstants.{MAX_WORKERS};
 ghost use Rattle.bz_sound.specs.declared.power.Power.TheVariants.{On, Recovering};
 ghost use Rattle.bz_sched.specs.FromWorld.WorldView.{power_in};
-ghost use Rattle.bz_sched.specs.Enough.{count_wanting, AreClosed, HasEnough, HasSupply, AreServed, AreSupplied};
+ghost use Rattle.bz_sched.specs.Enough.{count_wanting};
 ghost use Rattle.bz_sched.specs.Runs.{point_of, IsCutPlan};
 ghost use Rattle.bz_sched.specs.Sums.{calls_in, sum_of, SufficesFor, HasStockFor, IsStockedAtFirst, Affords, WantsNothingIf};
 ghost use Rattle.bz_script.specs.ItemLaws.{AreItems};
 ghost use Rattle.bz_script.specs.Order.{at_first, takes_no_cut, AreInOrder};
 ghost use Rattle.bz_script.specs.declared.item.Item.{Item};
-ghost use Rattle.bz_script.specs.declared.item.Item.TheVariants.{Run};
-ghost use Rattle.bz_script.specs.declared.item.Plan.TheVariants.{Alone};
 ghost use Rattle.bz_top.specs.Endings.{items_from};
-ghost use Rattle.bz_top.specs.Items.{ItemsRan, ItemsDone, TurnsOn, IsReadyFor, HasDone, end_in, left_after, end_of_threads};
+ghost use Rattle.bz_top.specs.Items.{ItemsRan, ItemsDone, TurnsOn, IsReadyFor, HasDone, end_in, left_after};
+ghost use Rattle.bz_top.specs.Threads.{RunBy, AreRunBy};
 ghost use Rattle.bz_top.specs.declared.items.ItemsEnd.TheVariants.{Finished};
 
-use bz_sched::{CutPlan, LimitKind, Power, Queue, RunEnd, World, power, run};
-use bz_script::{Item, Plan};
-use bz_threads::{Gate, ThreadsEnd, run_threads};
-use std::alloc::Global;
-use std::sync::Wait;
-use std::thread::Threads;
+use crate::turns::run_turns;
+use bz_sched::{CutPlan, LimitKind, Power, Queue, RunEnd, World, power};
+use bz_script::Item;
 
 /// How an item of a script ended, or all of them.
 #[derive(Clone, Copy, PartialEq, Eq)]
@@ -34,8 +30,8 @@ pub enum ItemsEnd {
     Memory,
 }
 
-// How a run, or power on, ended; a cut that was armed is no reason to stop.
-fn end_of(end: RunEnd) -> ItemsEnd
+/// How a run, or power on, ended; a cut that was armed is no reason to stop.
+pub(crate) fn end_of(end: RunEnd) -> ItemsEnd
     ensures { result ≡ end_in end }
 {
     match end {
@@ -45,56 +41,8 @@ fn end_of(end: RunEnd) -> ItemsEnd
     }
 }
 
-// How a run on threads ended.
-fn threads_end(end: ThreadsEnd) -> ItemsEnd
-    ensures { result ≡ end_of_threads end }
-{
-    match end {
-        ThreadsEnd::Limit(which) => ItemsEnd::Limit(which),
-        ThreadsEnd::Memory => ItemsEnd::Memory,
-        ThreadsEnd::Finished => ItemsEnd::Finished,
-    }
-}
-
-fn is_on_threads(plan: &Plan) -> bool
-    ensures { result ≡ takes_no_cut plan.now }
-{
-    match plan {
-        Plan::Threads => true,
-        Plan::Alone => false,
-        Plan::List(_) => false,
-        Plan::Turns(_) => false,
-    }
-}
-
-// Runs by a plan, with the cut that is armed, if one is.
-fn run_plan<R: Threads + Wait + Sync, G: Gate + Sync>(
-    rt: &R,
-    alloc: Global,
-    world: World,
-    queue: &mut Queue,
-    armed: Option<CutPlan>,
-    plan: &Plan,
-    gate: &G,
-) -> (World, ItemsEnd)
-    requires workers { world.config.workers ≡ MAX_WORKERS }
-    requires armed { IsCutPlan armed }
-    requires item { IsReadyFor armed world (Run plan.now) }
-    ensures ends { HasDone armed world queue.old (Run plan.now) result.1 None result.0 queue.new }
-    ensures enough { armed ≡ None → plan.now ≡ Alone → AreClosed world.log.past → HasEnough world queue.old.calls → (result.1 ≡ Finished) × AreServed world queue.old result.0 queue.new × (HasSupply world queue.old.calls → AreSupplied world queue.old result.0 queue.new) }
-{
-    if is_on_threads(plan) {
-        let (world, end) = run_threads(rt, alloc, world, queue, gate);
-        (world, threads_end(end))
-    } else {
-        let mut world = world;
-        let end = run(&mut world, queue, plan, armed);
-        (world, end_of(end))
-    }
-}
-
-// Drops the calls that wait, where a cut of power on was made.
-fn drop_after(queue: &mut Queue, end: RunEnd)
+/// Drops the calls that wait, where a cut of power on was made.
+pub(crate) fn drop_after(queue: &mut Queue, end: RunEnd)
     ensures calls { queue.new.calls ≡ left_after end queue.old.calls }
     ensures room { queue.old.room ≤ queue.new.room }
 {
@@ -104,20 +52,18 @@ fn drop_after(queue: &mut Queue, end: RunEnd)
 }
 
 // Does what an item asks for. A cut is armed for the next run or power on.
-fn do_item<R: Threads + Wait + Sync, G: Gate + Sync>(
-    rt: &R,
-    alloc: Global,
+fn do_item(
     world: World,
     queue: &mut Queue,
     armed: &mut Option<CutPlan>,
     item: &Item,
-    gate: &G,
 ) -> (World, ItemsEnd)
     requires steady { power_in world ≢ Recovering }
     requires workers { world.config.workers ≡ MAX_WORKERS }
     requires room { 0 < queue.old.room }
     requires armed { IsCutPlan armed.old }
     requires item { IsReadyFor armed.old world item.now }
+    requires runs { RunBy (λ plan. not (takes_no_cut plan)) item.now }
     ensures ends { HasDone armed.old world queue.old item.now result.1 armed.new result.0 queue.new }
     ensures enough { (supplied : Bool) (rest : List Item) → Affords supplied world queue.old.calls armed.old (item.now ∷ rest) → (result.1 ≡ Finished) × Affords supplied result.0 queue.new.calls armed.new rest }
 {
@@ -134,7 +80,7 @@ fn do_item<R: Threads + Wait + Sync, G: Gate + Sync>(
             (world, ItemsEnd::Finished)
         }
         Item::Run(plan) => {
-            let done = run_plan(rt, alloc, world, queue, *armed, plan, gate);
+            let done = run_turns(world, queue, *armed, plan);
             *armed = None;
             done
         }
@@ -149,27 +95,21 @@ fn do_item<R: Threads + Wait + Sync, G: Gate + Sync>(
 }
 
 // Does what the items ask for, one after the other, up to one that does not finish.
-fn do_items<R: Threads + Wait + Sync, G: Gate + Sync>(
-    rt: &R,
-    alloc: Global,
-    world: World,
-    queue: &mut Queue,
-    items: &[Item],
-    gate: &G,
-) -> (World, ItemsEnd)
+fn do_items(world: World, queue: &mut Queue, items: &[Item]) -> (World, ItemsEnd)
     requires steady { power_in world ≢ Recovering }
     requires powered { power_in world ≡ On }
     requires workers { world.config.workers ≡ MAX_WORKERS }
     requires room { length items.now ≤ queue.old.room }
     requires items { AreItems items.now }
     requires order { AreInOrder at_first items.now }
+    requires runs { AreRunBy (λ plan. not (takes_no_cut plan)) items.now }
     ensures ends { ItemsDone (point_of world queue.old) world items.now result.1 result.0 }
     ensures enough { (supplied : Bool) → Affords supplied world queue.old.calls None items.now → (result.1 ≡ Finished) × WantsNothingIf supplied result.0 }
 {
     let mut world = world;
     let mut armed: Option<CutPlan> = None;
     for item in items {
-        let (next, end) = do_item(rt, alloc, world, queue, &mut armed, item, gate);
+        let (next, end) = do_item(world, queue, &mut armed, item);
         world = next;
         match end {
             ItemsEnd::Finished => {}
@@ -180,8 +120,8 @@ fn do_items<R: Threads + Wait + Sync, G: Gate + Sync>(
     (world, ItemsEnd::Finished)
 }
 
-// Turns the power on where it is off. Nothing has happened in the world.
-fn turn_on(world: &mut World) -> ItemsEnd
+/// Turns the power on where it is off. Nothing has happened in the world.
+pub(crate) fn turn_on(world: &mut World) -> ItemsEnd
     requires steady { power_in world.old ≢ Recovering }
     requires new { world.old.log.past ≡ [] }
     ensures ends { TurnsOn world.old result world.new }
@@ -196,14 +136,7 @@ fn turn_on(world: &mut World) -> ItemsEnd
 
 /// Does what the items ask for, one after the other, over a world in which nothing has happened, up to one that does not
 /// finish. Where the power is off it comes on before them.
-pub fn run_items<R: Threads + Wait + Sync, G: Gate + Sync>(
-    rt: &R,
-    alloc: Global,
-    world: World,
-    queue: &mut Queue,
-    items: &[Item],
-    gate: &G,
-) -> (World, ItemsEnd)
+pub fn run_items(world: World, queue: &mut Queue, items: &[Item]) -> (World, ItemsEnd)
     requires first { world.at_start ≢ Recovering }
     requires new { world.log.past ≡ [] }
     requires workers { world.config.workers ≡ MAX_WORKERS }
@@ -211,12 +144,13 @@ pub fn run_items<R: Threads + Wait + Sync, G: Gate + Sync>(
     requires room { queue.old.room ≡ length items.now }
     requires items { AreItems items.now }
     requires order { AreInOrder at_first items.now }
+    requires runs { AreRunBy (λ plan. not (takes_no_cut plan)) items.now }
     ensures ends { ItemsRan world items.now result.1 result.0 }
     ensures enough { SufficesFor world.config world.log.limits (items_from world.at_start items.now) → (result.1 ≡ Finished) × (IsStockedAtFirst world → HasStockFor world.config world.log.start (sum_of calls_in (items_from world.at_start items.now)) → count_wanting result.0.log.past ≡ 0) }
 {
     let mut world = world;
     match turn_on(&mut world) {
-        ItemsEnd::Finished => do_items(rt, alloc, world, queue, items, gate),
+        ItemsEnd::Finished => do_items(world, queue, items),
         ItemsEnd::Limit(which) => (world, ItemsEnd::Limit(which)),
         ItemsEnd::Memory => unreachable!(),
     }

@@ -1,12 +1,16 @@
 //! The program: all that it does between its source and its sink.
 #![tactic(auto)]
 
+mod answer;
 mod dump;
 mod faults;
 mod items;
 mod load;
 mod open;
 mod program;
+mod threads;
+mod turns;
 
+pub use answer::{Answer, Waiting, top_without_threads};
 pub use bz_threads::{Gate, NoGate};
 pub use program::{Outcome, top};

@@ -4,23 +4,21 @@ ghost use Rattle.bz_image.specs.declared.fault.ImageFault.TheVariants.{Memory as
 ghost use Rattle.bz_layout.specs.declared.limits.TheConstants.{MIN_MARKS, MAX_MARKS};
 ghost use Rattle.bz_words.specs.CommandLine.{IsCommandLine};
 ghost use Rattle.bz_words.specs.declared.command.Command.TheVariants.{Load};
-ghost use Rattle.bz_top.specs.Endings.{IsEnded};
+ghost use Rattle.bz_top.specs.Answers.{IsAnswered};
 ghost use Rattle.bz_top.specs.Faults.{fault_line, image_text, shape_text};
 ghost use Rattle.bz_top.specs.Parts.{sunk, Says, SaysOrWants};
 
+use crate::answer::{Answer, run_source};
 use crate::faults::{image_line, shape_line};
-use crate::program::{Outcome, config_for, no_memory, refuse, run_source, written};
+use crate::program::{Outcome, config_for, no_memory, refuse, written};
 use bz_content::CheckError;
 use bz_image::{FetchFault, ImageFault, fetch_image};
 use bz_io::{Sink, Source};
 use bz_judge::check;
 use bz_memory::Memory;
 use bz_shape::ShapeFault;
-use bz_threads::Gate;
 use bz_words::CommandLine;
 use std::alloc::Global;
-use std::sync::Wait;
-use std::thread::Threads;
 
 // Answers bytes that are no image, or want of memory for them.
 fn refuse_image<K: Sink>(fault: ImageFault, sink: &mut K) -> Outcome
@@ -55,17 +53,15 @@ fn refuse_shape<K: Sink>(alloc: Global, fault: ShapeFault, sink: &mut K) -> Outc
 }
 
 /// Goes on from the image that the source gives, by the script behind it. The image is judged before the script is asked for.
-pub(crate) fn load<R: Threads + Wait + Sync, S: Source, K: Sink, G: Gate + Sync>(
-    rt: &R,
+pub(crate) fn load<S: Source, K: Sink>(
     alloc: Global,
     line: CommandLine,
     source: &mut S,
     sink: &mut K,
-    gate: &G,
-) -> Outcome
+) -> Answer
     requires command { line.command ≡ Load }
     requires marks { (MIN_MARKS ≤ line.marks) × (line.marks ≤ MAX_MARKS) }
-    ensures { (words : List (List ℕ)) → IsCommandLine words line → IsEnded
+    ensures { (words : List (List ℕ)) → IsCommandLine words line → IsAnswered
         (record {
           words = words;
           left = S.left source.old;
@@ -77,17 +73,17 @@ pub(crate) fn load<R: Threads + Wait + Sync, S: Source, K: Sink, G: Gate + Sync>
           write_faults = K.faults sink.old;
           write_faults_after = K.faults sink.new;
         })
-        result.status result.lab }
+        result }
 {
     let image = match fetch_image(alloc, source) {
         Ok(image) => image,
-        Err(FetchFault::Read) => return refuse(sink, b"fault: read\n", 1),
-        Err(FetchFault::Image(fault)) => return refuse_image(fault, sink),
+        Err(FetchFault::Read) => return Answer::Ended(refuse(sink, b"fault: read\n", 1)),
+        Err(FetchFault::Image(fault)) => return Answer::Ended(refuse_image(fault, sink)),
     };
     let config = config_for(line.marks, image.nodes, image.swaps);
     match check(alloc, image.words.words(), &config) {
-        Ok(_) => run_source(rt, alloc, line, Some(image), source, sink, gate),
-        Err(CheckError::Shape(fault)) => refuse_shape(alloc, fault, sink),
-        Err(CheckError::Memory) => no_memory(sink),
+        Ok(_) => run_source(alloc, line, Some(image), source, sink),
+        Err(CheckError::Shape(fault)) => Answer::Ended(refuse_shape(alloc, fault, sink)),
+        Err(CheckError::Memory) => Answer::Ended(no_memory(sink)),
     }
 }

@@ -1,38 +1,37 @@
 //! The top call.
-ghost use Rattle.std.specs.Prelude.{◌≡◌, ◌≢◌, ◌≤◌, ◌++◌, [], ℕ, length, map, Some, None, false, codes};
-ghost use Rattle.bz_layout.specs.declared.limits.TheConstants.{MIN_MARKS, MAX_MARKS, MIN_WORKERS, MAX_WORKERS as MOST_WORKERS};
+ghost use Rattle.std.specs.Prelude.{◌≡◌, ◌≢◌, ◌≤◌, ◌++◌, [], length, map, not, Some, None, codes};
+ghost use Rattle.bz_layout.specs.declared.limits.TheConstants.{MIN_MARKS, MAX_MARKS, MAX_WORKERS as MOST_WORKERS};
 ghost use Rattle.bz_judge.specs.Held.{IsImageOf};
-ghost use Rattle.bz_gen.specs.Workload.{workload_of};
-ghost use Rattle.bz_gen.specs.declared.workload.TheConstants.{MOST_CALLS};
 ghost use Rattle.bz_sched.specs.Sums.{IsStockedAtFirst};
 ghost use Rattle.bz_sound.specs.declared.power.Power.TheVariants.{Recovering};
 ghost use Rattle.bz_top.specs.Commands.{config_of};
 ghost use Rattle.bz_sound.specs.Power.Sound.{IsSound};
 ghost use Rattle.bz_script.specs.Script.{job_of};
 ghost use Rattle.bz_script.specs.ItemLaws.{IsJob};
+ghost use Rattle.bz_script.specs.Order.{takes_no_cut};
 ghost use Rattle.bz_text.specs.Report.{report_of};
 ghost use Rattle.bz_text.specs.Summary.{summary_of};
 ghost use Rattle.bz_top.specs.Faults.{fault_line, limit_text, broken_text};
-ghost use Rattle.bz_top.specs.Bases.{Base, IsBase, IsBaseOf};
+ghost use Rattle.bz_top.specs.Bases.{Base, IsBaseOf};
 ghost use Rattle.bz_top.specs.Endings.{IsEnded, IsMadeFor, printed, printed_before};
-ghost use Rattle.bz_top.specs.Parts.{given, sunk, Says, SaysOrWants, RanWorld, RanScript, RanBytes, RanSource};
+ghost use Rattle.bz_top.specs.Parts.{sunk, Says, SaysOrWants, RanWorld, RanScript};
+ghost use Rattle.bz_top.specs.Threads.{AreRunBy};
 
+use crate::answer::{Answer, Waiting, top_without_threads};
 use crate::dump::dump;
 use crate::faults::{broken_line, limit_line};
 use crate::items::{ItemsEnd, run_items};
-use crate::load::load;
-use crate::open::{numbers_of, open_world};
-use bz_gen::generate;
-use bz_gen::laws::workloads_are_jobs;
+use crate::open::open_world;
+use crate::threads::run_on_threads;
 use bz_image::Image;
-use bz_io::{Failed, ReadFault, Sink, Source, read_all, write_all};
+use bz_io::{Failed, Sink, Source, write_all};
 use bz_layout::{Config, MAX_CALLS, MAX_PAGES, MAX_WORKERS};
 use bz_memory::Memory;
 use bz_sched::{LimitKind, Queue, World};
-use bz_script::{SCRIPT_BYTES, Script, ScriptFault, ScriptRule, read_script};
+use bz_script::{Script, ScriptRule};
 use bz_text::{TextError, write_report, write_summary};
 use bz_threads::Gate;
-use bz_words::{Command, CommandLine, WordsError, read_words};
+use bz_words::{Command, CommandLine};
 use std::alloc::Global;
 use std::sync::Wait;
 use std::thread::Threads;
@@ -61,17 +60,16 @@ pub(crate) fn written<K: Sink>(sink: &mut K, text: &[u8], status: u8) -> u8
 }
 
 /// Runs a script in a world that was opened for it.
-fn run_world<R: Threads + Wait + Sync, K: Sink, G: Gate + Sync>(
-    rt: &R,
+fn run_world<K: Sink>(
     alloc: Global,
     line: CommandLine,
     script: &Script,
     world: World,
     mut queue: Queue,
     sink: &mut K,
-    gate: &G,
 ) -> Outcome
     requires script { IsJob (job_of script.now) }
+    requires runs { AreRunBy (λ plan. not (takes_no_cut plan)) (job_of script.now).items }
     requires first { world.at_start ≢ Recovering }
     requires new { world.log.past ≡ [] }
     requires workers { world.config.workers ≡ MOST_WORKERS }
@@ -83,7 +81,7 @@ fn run_world<R: Threads + Wait + Sync, K: Sink, G: Gate + Sync>(
         (sunk (K.held sink.old) (K.held sink.new) (K.faults sink.old) (K.faults sink.new))
         result.status result.lab }
 {
-    let (world, end) = run_items(rt, alloc, world, &mut queue, script.items.items(), gate);
+    let (world, end) = run_items(world, &mut queue, script.items.items());
     world.journal();
     match end {
         ItemsEnd::Finished => print(alloc, line.command, world, sink),
@@ -107,16 +105,15 @@ pub(crate) fn config_for(marks: u32, nodes: u32, swaps: u32) -> Config
 }
 
 /// Runs the script of a command over fresh memory or an image, with its limit on marks.
-fn run_script<R: Threads + Wait + Sync, K: Sink, G: Gate + Sync>(
-    rt: &R,
+pub(crate) fn run_script<K: Sink>(
     alloc: Global,
     line: CommandLine,
     base: Option<Image>,
     script: &Script,
     sink: &mut K,
-    gate: &G,
 ) -> Outcome
     requires script { IsJob (job_of script.now) }
+    requires runs { AreRunBy (λ plan. not (takes_no_cut plan)) (job_of script.now).items }
     requires marks { (MIN_MARKS ≤ line.marks) × (line.marks ≤ MAX_MARKS) }
     requires base { IsBaseOf (config_of line.marks script.now.nodes script.now.swaps) base }
     ensures { RanScript line.command line.marks base (job_of script.now)
@@ -129,7 +126,7 @@ fn run_script<R: Threads + Wait + Sync, K: Sink, G: Gate + Sync>(
         Err(Memory) => return no_memory(sink),
     };
     match open_world(alloc, &config, base) {
-        Ok(world) => run_world(rt, alloc, line, script, world, queue, sink, gate),
+        Ok(world) => run_world(alloc, line, script, world, queue, sink),
         Err(Memory) => no_memory(sink),
     }
 }
@@ -157,7 +154,7 @@ fn give_up<K: Sink>(world: World, sink: &mut K) -> Outcome
 }
 
 /// Answers want of memory for threads.
-fn hold_up<K: Sink>(world: World, sink: &mut K) -> Outcome
+pub(crate) fn hold_up<K: Sink>(world: World, sink: &mut K) -> Outcome
     ensures lab { result.lab ≡ Some world }
     ensures sound { IsSound world.config world.at_start world.log }
     ensures wrote { Says
@@ -244,7 +241,7 @@ fn summarize<K: Sink>(
 }
 
 /// Writes what a command writes of a run that is done.
-fn print<K: Sink>(alloc: Global, command: Command, world: World, sink: &mut K) -> Outcome
+pub(crate) fn print<K: Sink>(alloc: Global, command: Command, world: World, sink: &mut K) -> Outcome
     requires image { IsImageOf world.config world.log.start }
     ensures lab { result.lab ≡ Some world }
     ensures sound { IsSound world.config world.at_start world.log }
@@ -280,7 +277,7 @@ fn tell_limit<K: Sink>(world: World, which: LimitKind, sink: &mut K) -> Outcome
 }
 
 /// Writes what a command writes of a run that met a limit: the fault line, and before it the report of `run` and `load`.
-fn print_limit<K: Sink>(
+pub(crate) fn print_limit<K: Sink>(
     alloc: Global,
     command: Command,
     world: World,
@@ -306,7 +303,12 @@ fn print_limit<K: Sink>(
 }
 
 /// Writes the fault line of a broken rule.
-fn report_broken<K: Sink>(alloc: Global, line: u32, rule: ScriptRule, sink: &mut K) -> Outcome
+pub(crate) fn report_broken<K: Sink>(
+    alloc: Global,
+    line: u32,
+    rule: ScriptRule,
+    sink: &mut K,
+) -> Outcome
     ensures lab { result.lab ≡ None }
     ensures wrote { SaysOrWants
         (sunk (K.held sink.old) (K.held sink.new) (K.faults sink.old) (K.faults sink.new))
@@ -317,80 +319,6 @@ fn report_broken<K: Sink>(alloc: Global, line: u32, rule: ScriptRule, sink: &mut
             let status = written(sink, text.as_bytes(), 3);
             Outcome { status, lab: None }
         }
-        Err(Memory) => no_memory(sink),
-    }
-}
-
-/// Reads the bytes as a script and runs it, with this limit on marks.
-fn run_bytes<R: Threads + Wait + Sync, K: Sink, G: Gate + Sync>(
-    rt: &R,
-    alloc: Global,
-    line: CommandLine,
-    base: Option<Image>,
-    bytes: &[u8],
-    sink: &mut K,
-    gate: &G,
-) -> Outcome
-    requires fits { length bytes.now ≤ SCRIPT_BYTES }
-    requires marks { (MIN_MARKS ≤ line.marks) × (line.marks ≤ MAX_MARKS) }
-    requires base { IsBase line.marks base }
-    ensures { RanBytes line.command line.marks base bytes.now
-        (sunk (K.held sink.old) (K.held sink.new) (K.faults sink.old) (K.faults sink.new))
-        result.status result.lab }
-{
-    match read_script(alloc, bytes, numbers_of(&base)) {
-        Ok(script) => run_script(rt, alloc, line, base, &script, sink, gate),
-        Err(ScriptFault::Rule { line, rule }) => report_broken(alloc, line, rule, sink),
-        Err(ScriptFault::Memory) => no_memory(sink),
-    }
-}
-
-/// Runs the script that the source has left, with this limit on marks.
-pub(crate) fn run_source<R: Threads + Wait + Sync, S: Source, K: Sink, G: Gate + Sync>(
-    rt: &R,
-    alloc: Global,
-    line: CommandLine,
-    base: Option<Image>,
-    source: &mut S,
-    sink: &mut K,
-    gate: &G,
-) -> Outcome
-    requires marks { (MIN_MARKS ≤ line.marks) × (line.marks ≤ MAX_MARKS) }
-    requires base { IsBase line.marks base }
-    ensures { RanSource line.command line.marks base
-        (given (S.left source.old) (S.left source.new) (S.faults source.old) (S.faults source.new))
-        (sunk (K.held sink.old) (K.held sink.new) (K.faults sink.old) (K.faults sink.new))
-        result.status result.lab }
-{
-    match read_all(alloc, source, SCRIPT_BYTES) {
-        Ok(bytes) => run_bytes(rt, alloc, line, base, &bytes, sink, gate),
-        Err(ReadFault::Failed) => refuse(sink, b"fault: read\n", 1),
-        Err(ReadFault::TooLong) => refuse(sink, b"fault: script too long\n", 3),
-        Err(ReadFault::Memory) => no_memory(sink),
-    }
-}
-
-/// Makes the workload of a seed and runs it.
-fn run_workload<R: Threads + Wait + Sync, K: Sink, G: Gate + Sync>(
-    rt: &R,
-    alloc: Global,
-    line: CommandLine,
-    seed: u64,
-    calls: u32,
-    workers: u32,
-    sink: &mut K,
-    gate: &G,
-) -> Outcome
-    requires calls { (1 ≤ calls) × (calls ≤ MOST_CALLS) }
-    requires workers { (MIN_WORKERS ≤ workers) × (workers ≤ MOST_WORKERS) }
-    requires marks { (MIN_MARKS ≤ line.marks) × (line.marks ≤ MAX_MARKS) }
-    ensures { RanScript line.command line.marks None (workload_of seed calls workers)
-        (sunk (K.held sink.old) (K.held sink.new) (K.faults sink.old) (K.faults sink.new))
-        result.status result.lab }
-{
-    workloads_are_jobs();
-    match generate(alloc, seed, calls, workers) {
-        Ok(script) => run_script(rt, alloc, line, None, &script, sink, gate),
         Err(Memory) => no_memory(sink),
     }
 }
@@ -406,7 +334,8 @@ pub(crate) fn refuse<K: Sink>(sink: &mut K, text: &[u8], status: u8) -> Outcome
     Outcome { status, lab: None }
 }
 
-/// All that the program does: `words` are the command line's words without the program's name.
+/// All that the program does: `words` are the command line's words without the program's name. Of the runtime it asks only for a
+/// script with a run on threads.
 pub fn top<R: Threads + Wait + Sync, S: Source, K: Sink, G: Gate + Sync>(
     rt: &R,
     alloc: Global,
@@ -429,19 +358,11 @@ pub fn top<R: Threads + Wait + Sync, S: Source, K: Sink, G: Gate + Sync>(
         })
         result.status result.lab }
 {
-    let line = match read_words(alloc, words) {
-        Ok(line) => line,
-        Err(WordsError::Usage) => return refuse(sink, b"fault: usage\n", 2),
-        Err(WordsError::Memory) => return no_memory(sink),
-    };
-    match line.command {
-        Command::Run => run_source(rt, alloc, line, None, source, sink, gate),
-        Command::Dump => run_source(rt, alloc, line, None, source, sink, gate),
-        Command::Load => load(rt, alloc, line, source, sink, gate),
-        Command::Work {
-            seed,
-            calls,
-            workers,
-        } => run_workload(rt, alloc, line, seed, calls, workers, sink, gate),
+    match top_without_threads(alloc, words, source, sink) {
+        Answer::Ended(outcome) => outcome,
+        Answer::NeedsThreads(waiting) => {
+            let Waiting { line, base, script } = waiting;
+            run_on_threads(rt, alloc, line, base, &script, sink, gate)
+        }
     }
 }

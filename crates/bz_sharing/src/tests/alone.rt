@@ -230,15 +230,19 @@ fn a_call_is_answered_off_after_a_cut_and_again_after_a_recovery(
     Ok(())
 }
 
-// How many acts of a call were made before the last.
+// How often the gate was told, and whether once of another worker than 1, or of another number of acts than one more than before.
 #[derive(Drop)]
 struct Counts {
-    acts: AtomicU32,
+    told: AtomicU32,
+    wrong: AtomicU32,
 }
 
 impl Gate for Counts {
-    fn between<R: Wait>(&self, _rt: &R, _worker: u8, steps: u32) {
-        self.acts.store(steps, Ordering::SeqCst);
+    fn between<R: Wait>(&self, _rt: &R, worker: u8, steps: u32) {
+        let before = self.told.fetch_add(1, Ordering::SeqCst);
+        if worker != 1 || steps != before.saturating_add(1) {
+            self.wrong.store(1, Ordering::SeqCst);
+        }
     }
 }
 
@@ -273,11 +277,13 @@ fn the_gate_comes_between_the_acts_of_a_call(rt: HostRuntime) -> Result<(), Fail
     let mut page = PageBuf::open(rt.alloc())?;
     let (index, mut first) = open(rt.alloc(), &TWO_WORKERS)?;
     let gate = Counts {
-        acts: AtomicU32::new(0),
+        told: AtomicU32::new(0),
+        wrong: AtomicU32::new(0),
     };
     with_gate(&rt, &index, &mut first, &mut page, &gate);
-    // A Begin, the acts, and an End.
-    let acts = gate.acts.load(Ordering::SeqCst).saturating_add(1);
+    same(&rt, gate.wrong.load(Ordering::SeqCst), 0);
+    // A Begin, the acts, and an End: it was told after each act but the last, and not before the first.
+    let acts = gate.told.load(Ordering::SeqCst).saturating_add(1);
     has_marks(&rt, index, first, acts.saturating_add(2));
     Ok(())
 }

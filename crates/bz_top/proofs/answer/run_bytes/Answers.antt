@@ -1,14 +1,18 @@
 use Rattle.std.proofs.Common.{inl, inr}
 use Rattle.bz_script.specs.ItemLaws.{scripts_are_jobs}
 use Rattle.bz_script.specs.Script.{job_of}
+use Rattle.bz_top.proofs.AnswerLemmas.{bytes_answered}
 use Rattle.bz_top.proofs.BaseLemmas.{base_of_script, refused_bytes}
-use Rattle.bz_top.proofs.program.run_bytes.Goals as goal
+use Rattle.bz_top.proofs.answer.run_bytes.Goals as goal
 
-pub run_script-requires-clause-script : goal.run_script-requires-clause-script
-run_script-requires-clause-script g c = λ lives outlive. scripts_are_jobs _ c.args.bytes.now _ c.in-Ok.ensures
+pub answer_script-requires-clause-script : goal.answer_script-requires-clause-script
+answer_script-requires-clause-script g c = scripts_are_jobs _ c.args.bytes.now _ c.in-Ok.ensures
 
-pub run_script-requires-clause-base : goal.run_script-requires-clause-base
-run_script-requires-clause-base g c = λ lives outlive. base_of_script c.args.line.marks c.args.base c.args.bytes.now (job_of c.in-Ok.script) c.requires.base (rw c.numbers_of.ensures at c.in-Ok.ensures)
+pub answer_script-requires-clause-base : goal.answer_script-requires-clause-base
+answer_script-requires-clause-base g c = base_of_script c.args.line.marks c.args.base c.args.bytes.now (job_of c.in-Ok.script) c.requires.base (rw c.numbers_of.ensures at c.in-Ok.ensures)
+
+pub returns-in-Ok : goal.returns-in-Ok
+returns-in-Ok g c = bytes_answered _ _ _ _ _ _ (rw c.numbers_of.ensures at c.in-Ok.ensures) c.answer_script.ensures
 
 pub returns-in-Err-Rule : goal.returns-in-Err-Rule
 returns-in-Err-Rule g c =

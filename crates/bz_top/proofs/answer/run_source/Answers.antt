@@ -1,8 +1,9 @@
 use Rattle.std.proofs.Common.{inl, inr, ap, Err}
-use Rattle.bz_top.proofs.program.run_source.Goals as goal
+use Rattle.bz_top.proofs.AnswerLemmas.{source_answered}
+use Rattle.bz_top.proofs.answer.run_source.Goals as goal
 
 pub returns-in-Ok : goal.returns-in-Ok
-returns-in-Ok g c = inr (inr (inl (record { bytes = c.in-Ok.bytes.items; whole = c.in-Ok.ensures.all; fits = c.in-Ok.ensures.short; ran = rw c.deref.ensures.value at c.run_bytes.ensures })))
+returns-in-Ok g c = source_answered _ _ _ _ c.in-Ok.bytes.items _ c.in-Ok.ensures.all c.in-Ok.ensures.short (rw c.deref.ensures.value at c.run_bytes.ensures)
 
 pub returns-in-Err-Failed : goal.returns-in-Err-Failed
 returns-in-Err-Failed g c = inl (record { rose = c.in-Err-Failed.ensures.failed (ap Err c.in-Err-Failed.field-0-is); no_lab = c.refuse.ensures.lab; said = c.refuse.ensures.wrote })

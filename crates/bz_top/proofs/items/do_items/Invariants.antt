@@ -6,6 +6,6 @@ use Rattle.bz_top.proofs.FollowLemmas.{Staged}
 use Rattle.bz_top.proofs.items.do_items.Given as goal
 
 abbrev pub invariant-loop-item : goal.invariant-loop-item
-invariant-loop-item g l =
+invariant-loop-item l =
     Staged l.items l.item-index l.armed (point_of l.initial.world l.initial.queue) l.initial.world l.world l.queue
     × ((supplied : Bool) → Affords supplied l.initial.world l.initial.queue.calls None l.items → Affords supplied l.world l.queue.calls l.armed (drop l.item-index l.items))

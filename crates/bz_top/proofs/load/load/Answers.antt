@@ -1,7 +1,8 @@
 use Rattle.std.proofs.Common.{inl, ap, Err}
 use Rattle.std.specs.Prelude.{Some}
 use Rattle.bz_top.proofs.BaseLemmas.{fetched_config, fetched_words}
-use Rattle.bz_top.proofs.EndLemmas.{ended_read, ended_early, ended-source}
+use Rattle.bz_top.proofs.AnswerLemmas.{answered_source}
+use Rattle.bz_top.proofs.EndLemmas.{ended_read, ended_early}
 use Rattle.bz_top.proofs.LoadLemmas.{load_reads_over, load_reading, ended-fetch, ended-misshapen}
 use Rattle.bz_top.proofs.load.load.Goals as goal
 
@@ -20,7 +21,7 @@ check-requires g c =
     rw (c.config_for-config.ensures, c.words.ensures) (record { config = config; whole = fetched_words c.args.line.marks c.in-Ok.image c.in-Ok.ensures.sized })
 
 pub run_source-requires-clause-base : goal.run_source-requires-clause-base
-run_source-requires-clause-base g c = λ lives outlive.
+run_source-requires-clause-base g c =
     record {
       config = fetched_config c.args.line.marks c.in-Ok.image c.requires.marks.0 c.requires.marks.1 c.in-Ok.ensures.sized;
       size = fetched_words c.args.line.marks c.in-Ok.image c.in-Ok.ensures.sized;
@@ -29,12 +30,12 @@ run_source-requires-clause-base g c = λ lives outlive.
 
 pub returns-in-Ok-check : goal.returns-in-Ok-check
 returns-in-Ok-check g c words command =
-    ended-source _ _ _ c.args.line command (Some c.in-Ok.image) (load_reads_over c.args.line.command c.in-Ok.image c.requires.command)
+    answered_source _ c.args.line command (Some c.in-Ok.image) (load_reads_over c.args.line.command c.in-Ok.image c.requires.command)
     (record {
       config = fetched_config c.args.line.marks c.in-Ok.image c.requires.marks.0 c.requires.marks.1 c.in-Ok.ensures.sized;
       size = fetched_words c.args.line.marks c.in-Ok.image c.in-Ok.ensures.sized;
       none = rw (c.config_for-config.ensures, c.words.ensures) at c.in-Ok-check.ensures.shape.none;
-    }) _ _ c.in-Ok.ensures.image c.in-Ok.ensures.later c.run_source.ensures
+    }) c.requires.marks _ _ c.in-Ok.ensures.image c.in-Ok.ensures.later _ c.run_source.ensures
 
 pub returns-in-Err-Shape : goal.returns-in-Err-Shape
 returns-in-Err-Shape g c words command =

@@ -1,23 +1,17 @@
-use Rattle.std.proofs.Common.{inr, refl, ap, Err, arith}
-use Rattle.std.specs.Prelude.{None}
-use Rattle.bz_top.proofs.EndLemmas.{ended_usage, ended_early, ended-source, ended-workload, none_before}
+use Rattle.bz_top.proofs.AnswerLemmas.{asked_job, asked_base, ended_threads}
 use Rattle.bz_top.proofs.program.top.Goals as goal
 
-pub returns-in-Err-Usage : goal.returns-in-Err-Usage
-returns-in-Err-Usage g c = record { ended = ended_usage _ _ _ (λ command. c.in-Err-Usage.ensures.usage (ap Err c.in-Err-Usage.field-0-is) command.0 command.1) refl c.refuse.ensures.lab c.refuse.ensures.wrote }
+pub run_on_threads-requires-clause-script : goal.run_on_threads-requires-clause-script
+run_on_threads-requires-clause-script g c = λ lives outlive. asked_job _ c.in-NeedsThreads.waiting c.in-NeedsThreads.ensures.answered
 
-pub returns-in-Err-Memory : goal.returns-in-Err-Memory
-returns-in-Err-Memory g c = record { ended = ended_early _ _ _ (inr refl) c.no_memory.ensures.lab c.no_memory.ensures.wrote }
+pub run_on_threads-requires-clause-marks : goal.run_on_threads-requires-clause-marks
+run_on_threads-requires-clause-marks g c = λ lives outlive. c.in-NeedsThreads.ensures.answered.marks
 
-pub returns-in-Run : goal.returns-in-Run
-returns-in-Run g c = record { ended = ended-source _ _ _ c.in-Ok.line c.in-Ok.ensures.command None (rw c.in-Run.is refl) tt _ _ (none_before _) (omega arith) c.run_source.ensures }
+pub run_on_threads-requires-clause-base : goal.run_on_threads-requires-clause-base
+run_on_threads-requires-clause-base g c = λ lives outlive. asked_base _ c.in-NeedsThreads.waiting c.in-NeedsThreads.ensures.answered
 
-pub returns-in-Dump : goal.returns-in-Dump
-returns-in-Dump g c = record { ended = ended-source _ _ _ c.in-Ok.line c.in-Ok.ensures.command None (rw c.in-Dump.is refl) tt _ _ (none_before _) (omega arith) c.run_source-in-Dump.ensures }
+pub returns-in-Ended : goal.returns-in-Ended
+returns-in-Ended g c = record { ended = c.in-Ended.ensures.answered }
 
-pub returns-in-Load : goal.returns-in-Load
-returns-in-Load g c = record { ended = c.load.ensures _ c.in-Ok.ensures.command }
-
-pub returns-in-Work : goal.returns-in-Work
-returns-in-Work g c =
-    record { ended = ended-workload _ _ _ c.in-Ok.line c.in-Work.seed c.in-Work.calls c.in-Work.workers c.in-Ok.ensures.command c.in-Work.is refl c.run_workload.ensures }
+pub returns-in-NeedsThreads : goal.returns-in-NeedsThreads
+returns-in-NeedsThreads g c = record { ended = ended_threads _ _ _ c.in-NeedsThreads.waiting _ _ c.in-NeedsThreads.ensures.answered c.run_on_threads.ensures }
