@@ -20,9 +20,9 @@ use Rattle.bz_layout.specs.declared.config.Config.{Config}
 use Rattle.bz_mark.specs.Log.{Log, with_mark, count_begins}
 use Rattle.bz_mark.specs.declared.marks.Mark.TheVariants.{Begin}
 use Rattle.bz_sound.specs.Calls.{Open, open_call}
-use Rattle.bz_sound.specs.Power.Times.{power_of}
-use Rattle.bz_sound.specs.declared.power.Power.{Power}
-use Rattle.bz_sound.specs.declared.power.Power.TheVariants as power
+use Rattle.bz_mark.specs.Times.{power_of}
+use Rattle.bz_mark.specs.declared.power.Power.{Power}
+use Rattle.bz_mark.specs.declared.power.Power.TheVariants as power
 use Rattle.bz_world.specs.WorldView.{WorldView, is_short, lacks_page, after_begin}
 use Rattle.bz_world.specs.declared.answers.Begun.{Begun}
 use Rattle.bz_world.specs.declared.answers.Begun.TheVariants as begun

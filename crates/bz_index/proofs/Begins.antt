@@ -6,8 +6,8 @@ use Rattle.bz_index.proofs.Leaves.{Leaves, leaves-same, leaves-mark}
 use Rattle.bz_mark.specs.Log.{count_begins}
 use Rattle.bz_mark.specs.declared.marks.Mark.TheVariants.{Begin}
 use Rattle.bz_sound.specs.Calls.{Open, open_call, begun_calls}
-use Rattle.bz_sound.specs.declared.power.Power.{Power}
-use Rattle.bz_sound.specs.declared.power.Power.TheVariants as power
+use Rattle.bz_mark.specs.declared.power.Power.{Power}
+use Rattle.bz_mark.specs.declared.power.Power.TheVariants as power
 use Rattle.bz_world.specs.WorldView.{WorldView, is_short, lacks_page, power_in, powered_answer, answer_by, begin_answer, after_begin}
 use Rattle.bz_world.specs.declared.answers.Begun.{Begun}
 use Rattle.bz_world.specs.declared.answers.Begun.TheVariants as begun

@@ -4,8 +4,8 @@ use Rattle.std.specs.Prelude.{MatchOption}
 use Rattle.bz_index.specs.Passes.{IsEventOfFirst}
 use Rattle.bz_index.proofs.Leaves.{Leaves, leaves-same, leaves-trans, leaves-any, leaves-mark, leaves-struck, leaves-steps, leaves-recovers}
 use Rattle.bz_mark.specs.declared.marks.Mark.TheVariants.{Evict, Cut, On}
-use Rattle.bz_sound.specs.declared.power.Power.{Power}
-use Rattle.bz_sound.specs.declared.power.Power.TheVariants as power
+use Rattle.bz_mark.specs.declared.power.Power.{Power}
+use Rattle.bz_mark.specs.declared.power.Power.TheVariants as power
 use Rattle.bz_world.specs.WorldView.{WorldView, power_in, step_refusal, evict_refusal, cut_refusal, on_refusal, StepsBy, Evicts, IsApplied}
 use Rattle.bz_world.specs.declared.answers.Applied.{Applied}
 use Rattle.bz_world.specs.declared.answers.Event.{Event}

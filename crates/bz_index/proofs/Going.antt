@@ -24,8 +24,8 @@ use Rattle.bz_sound.specs.Calls.{Open, open_call}
 use Rattle.bz_sound.specs.Memory.Moments.{map_at_start}
 use Rattle.bz_sound.specs.Power.Laws.{PowerTellsWhatFollows}
 use Rattle.bz_sound.specs.Power.Sound.{IsSound}
-use Rattle.bz_sound.specs.declared.power.Power.{Power}
-use Rattle.bz_sound.specs.declared.power.Power.TheVariants as power
+use Rattle.bz_mark.specs.declared.power.Power.{Power}
+use Rattle.bz_mark.specs.declared.power.Power.TheVariants as power
 use Rattle.bz_world.specs.WorldView as world
 use Rattle.bz_world.specs.WorldView.{WorldView, is_short, power_in, IsEnding, IsApplied}
 use Rattle.bz_world.specs.declared.answers.Applied.{Applied}

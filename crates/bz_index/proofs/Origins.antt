@@ -4,8 +4,8 @@ use Rattle.std.specs.Prelude.{MatchOption}
 use Rattle.bz_call.specs.declared.calls.Call.{Call}
 use Rattle.bz_index.specs.Entries.{origin_of}
 use Rattle.bz_mark.specs.Log.{Log, Limits}
-use Rattle.bz_sound.specs.declared.power.Power.{Power}
-use Rattle.bz_sound.specs.declared.power.Power.TheVariants as power
+use Rattle.bz_mark.specs.declared.power.Power.{Power}
+use Rattle.bz_mark.specs.declared.power.Power.TheVariants as power
 use Rattle.bz_world.specs.WorldView.{WorldView, after_begin, power_in, step_refusal, evict_refusal, cut_refusal, on_refusal, GoesOn, Steps, EndsRecovery, StepsBy, IsApplied}
 use Rattle.bz_world.specs.declared.answers.Applied.{Applied}
 use Rattle.bz_world.specs.declared.answers.Applied.TheVariants as applied

@@ -12,8 +12,8 @@ use Rattle.bz_index.specs.declared.shared.Origin.{Origin}
 use Rattle.bz_mark.specs.Log.{count_begins}
 use Rattle.bz_mark.specs.declared.marks.Mark.{Mark}
 use Rattle.bz_mark.specs.declared.marks.Mark.TheVariants.{Begin, End, Cut}
-use Rattle.bz_sound.specs.Power.Times.{power_of}
-use Rattle.bz_sound.specs.declared.power.Power.TheVariants as power
+use Rattle.bz_mark.specs.Times.{power_of}
+use Rattle.bz_mark.specs.declared.power.Power.TheVariants as power
 use Rattle.bz_world.specs.WorldView.{is_short, lacks_page}
 use Rattle.bz_world.specs.declared.answers.LimitKind.TheVariants as which
 

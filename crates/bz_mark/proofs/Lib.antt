@@ -11,3 +11,4 @@ pub mod Reached
 pub mod LawProofs
 pub mod ExampleProofs
 mod PageLemmas
+pub mod TimeLaws

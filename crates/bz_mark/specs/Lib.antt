@@ -4,6 +4,8 @@ pub mod Moments
 pub mod PageLists
 pub mod Kept
 pub mod WordsAfter
+pub mod Times
+pub mod Counts
 pub mod MayHold
 pub mod Evictions
 pub mod Laws

@@ -6,6 +6,8 @@ mod journal;
 pub mod laws;
 mod marks;
 mod page_list;
+mod power;
 
 pub use journal::Journal;
 pub use marks::Mark;
+pub use power::Power;

@@ -10,9 +10,9 @@ use Rattle.bz_script.specs.declared.item.Item.TheVariants.{Queue, Arm, Run, Powe
 use Rattle.bz_script.specs.declared.item.Plan.{Plan}
 use Rattle.bz_sound.specs.Calls.{Open, open_call}
 use Rattle.bz_sound.specs.Memory.Sound.{IsApart}
-use Rattle.bz_sound.specs.Power.Times.{power_of}
-use Rattle.bz_sound.specs.declared.power.Power.{Power as State}
-use Rattle.bz_sound.specs.declared.power.Power.TheVariants as power
+use Rattle.bz_mark.specs.Times.{power_of}
+use Rattle.bz_mark.specs.declared.power.Power.{Power as State}
+use Rattle.bz_mark.specs.declared.power.Power.TheVariants as power
 use Rattle.bz_sched.specs.AloneLaws.{is_no_power, without_power, powers_first, CallsGoApart}
 use Rattle.bz_sched.specs.Enough.{AreClosed}
 use Rattle.bz_sched.specs.Plans.{RunsBy}

@@ -7,9 +7,9 @@ use Rattle.bz_mark.specs.Log.{Limits, count_begins, count_page_calls}
 use Rattle.bz_mark.specs.declared.marks.Mark.{Mark}
 use Rattle.bz_mark.specs.declared.marks.Mark.TheVariants as mark
 use Rattle.bz_sound.specs.Calls.{open_call}
-use Rattle.bz_sound.specs.Power.Times.{power_of}
-use Rattle.bz_sound.specs.declared.power.Power.{Power}
-use Rattle.bz_sound.specs.declared.power.Power.TheVariants as power
+use Rattle.bz_mark.specs.Times.{power_of}
+use Rattle.bz_mark.specs.declared.power.Power.{Power}
+use Rattle.bz_mark.specs.declared.power.Power.TheVariants as power
 use Rattle.bz_world.specs.WorldView.{WorldView, power_in, recovery_acts, recovery_most, KeepsApart}
 use Rattle.bz_world.specs.declared.answers.LimitKind.{LimitKind}
 use Rattle.bz_world.specs.declared.answers.LimitKind.TheVariants as which

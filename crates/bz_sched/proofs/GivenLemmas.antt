@@ -4,9 +4,10 @@ use Rattle.bz_layout.specs.declared.config.Config.{Config}
 use Rattle.bz_mark.specs.declared.marks.Mark.{Mark}
 use Rattle.bz_mark.specs.declared.marks.Mark.TheVariants as mark
 use Rattle.bz_sound.specs.Memory.Moments.{image_after}
-use Rattle.bz_sound.specs.Power.Times.{power_of, image_at_on}
-use Rattle.bz_sound.specs.declared.power.Power.{Power}
-use Rattle.bz_sound.specs.declared.power.Power.TheVariants as power
+use Rattle.bz_mark.specs.Times.{power_of}
+use Rattle.bz_sound.specs.Power.Times.{image_at_on}
+use Rattle.bz_mark.specs.declared.power.Power.{Power}
+use Rattle.bz_mark.specs.declared.power.Power.TheVariants as power
 use Rattle.bz_world.specs.WorldView.{WorldView, count_in, power_in, KeepsApart}
 use Rattle.bz_sched.specs.Enough.{free_by, free_slots}
 use Rattle.bz_sched.specs.Points.{actor}

@@ -5,7 +5,7 @@ use Rattle.std.proofs.lemmas.Bool.Decides.{nat_tests}
 use Rattle.bz_mark.specs.declared.marks.Mark.{Mark}
 use Rattle.bz_mark.specs.declared.marks.Mark.TheVariants as mark
 use Rattle.bz_script.specs.Draws.{next_state, draw_of}
-use Rattle.bz_sound.specs.declared.power.Power.TheVariants as power
+use Rattle.bz_mark.specs.declared.power.Power.TheVariants as power
 use Rattle.bz_world.specs.WorldView.{WorldView, power_in}
 use Rattle.bz_sched.specs.Cuts.{differs_at, is_drawn, Evicts, Passes, PassesBy, state_behind, PassesFrom, PassesInPart, EvictsBy, EvictsByInPart}
 use Rattle.bz_sched.specs.Cutting.{Evolves, WordEvicted, WordPassed, PassStopped, WordsPassed, PassesStopped, AreEvicted, EvictionsStopped}

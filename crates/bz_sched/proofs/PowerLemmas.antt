@@ -5,8 +5,8 @@ use Rattle.bz_acts.specs.Rule.{is_flush_act}
 use Rattle.bz_acts.specs.declared.acted.Act.{Act}
 use Rattle.bz_acts.specs.declared.acted.Act.TheVariants as act
 use Rattle.bz_mark.specs.declared.marks.Mark.{Mark}
-use Rattle.bz_sound.specs.declared.power.Power.{Power}
-use Rattle.bz_sound.specs.Power.Times.{power_of}
+use Rattle.bz_mark.specs.declared.power.Power.{Power}
+use Rattle.bz_mark.specs.Times.{power_of}
 use Rattle.bz_world.specs.WorldView.{IsStruck, mark_of}
 use Rattle.bz_sched.specs.Points.{flushes_of}
 

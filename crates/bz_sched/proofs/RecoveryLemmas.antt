@@ -7,9 +7,9 @@ use Rattle.bz_acts.specs.declared.acted.Act.TheVariants as act
 use Rattle.bz_mark.specs.Log.{Log}
 use Rattle.bz_mark.specs.declared.marks.Mark.{Mark}
 use Rattle.bz_mark.specs.declared.marks.Mark.TheVariants as mark
-use Rattle.bz_sound.specs.Power.Times.{power_of}
-use Rattle.bz_sound.specs.declared.power.Power.{Power}
-use Rattle.bz_sound.specs.declared.power.Power.TheVariants as power
+use Rattle.bz_mark.specs.Times.{power_of}
+use Rattle.bz_mark.specs.declared.power.Power.{Power}
+use Rattle.bz_mark.specs.declared.power.Power.TheVariants as power
 use Rattle.bz_world.specs.WorldView as lab
 use Rattle.bz_world.specs.WorldView.{WorldView, power_in, flush_of, is_short, on_refusal, on_by, step_refusal, after_on, EndsRecovery as EndsSo, mark_of, IsApplied}
 use Rattle.bz_world.specs.declared.answers.Applied.{Applied}

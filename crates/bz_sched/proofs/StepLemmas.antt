@@ -8,9 +8,9 @@ use Rattle.bz_acts.specs.declared.acted.Act.TheVariants as act
 use Rattle.bz_mark.specs.Log.{Log}
 use Rattle.bz_mark.specs.declared.marks.Mark.{Mark}
 use Rattle.bz_mark.specs.declared.marks.Mark.TheVariants as mark
-use Rattle.bz_sound.specs.declared.power.Power.{Power}
+use Rattle.bz_mark.specs.declared.power.Power.{Power}
 use Rattle.bz_sound.specs.Calls.{Open, open_call}
-use Rattle.bz_sound.specs.Power.Times.{power_of}
+use Rattle.bz_mark.specs.Times.{power_of}
 use Rattle.bz_world.specs.WorldView.{WorldView, IsWorker, flush_of, is_short, step_refusal, mark_of, IsStruck, GoesOn, Steps, IsApplied}
 use Rattle.bz_world.specs.declared.answers.Applied.{Applied}
 use Rattle.bz_world.specs.declared.answers.Applied.TheVariants as applied

@@ -14,8 +14,8 @@ use Rattle.bz_script.specs.declared.item.Plan.{Plan}
 use Rattle.bz_script.specs.declared.item.Plan.TheVariants.{Alone}
 use Rattle.bz_sound.specs.Calls.{open_call}
 use Rattle.bz_sound.specs.Memory.Moments.{image_after}
-use Rattle.bz_sound.specs.declared.power.Power.{Power}
-use Rattle.bz_sound.specs.declared.power.Power.TheVariants as power
+use Rattle.bz_mark.specs.declared.power.Power.{Power}
+use Rattle.bz_mark.specs.declared.power.Power.TheVariants as power
 use Rattle.bz_world.specs.WorldView.{WorldView, Supply, power_in, recovery_acts, recovery_most, before_run, begins_alone, count_in, deadline, KeepsSupply}
 use Rattle.bz_sched.specs.Queued.{Queued}
 use Rattle.bz_sched.specs.declared.cut.CutPlan.{CutPlan}

@@ -2,7 +2,7 @@
 use Rattle.std.specs.Prelude.{◌≡◌, ◌<◌, ◌+◌, ℕ, List, ◌∷◌, ◌⊎◌, Option}
 use Rattle.bz_mark.specs.declared.marks.Mark.{Mark}
 use Rattle.bz_mark.specs.declared.marks.Mark.TheVariants.{On, Ready}
-use Rattle.bz_sound.specs.declared.power.Power.TheVariants as power
+use Rattle.bz_mark.specs.declared.power.Power.TheVariants as power
 use Rattle.bz_world.specs.WorldView.{WorldView, count_reached, power_in}
 use Rattle.bz_world.specs.declared.answers.LimitKind.TheVariants as which
 use Rattle.bz_sched.specs.Fuses.{Burns}

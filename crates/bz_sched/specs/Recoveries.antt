@@ -2,9 +2,9 @@
 use Rattle.std.specs.Prelude.{◌≡◌, ℕ, zero, suc, ◌+◌, List, ◌∷◌, ◌⊎◌, Option, Some, None}
 use Rattle.bz_mark.specs.declared.marks.Mark.{Mark}
 use Rattle.bz_mark.specs.declared.marks.Mark.TheVariants.{Cut, On, Ready}
-use Rattle.bz_sound.specs.Power.Times.{power_of}
-use Rattle.bz_sound.specs.declared.power.Power.{Power}
-use Rattle.bz_sound.specs.declared.power.Power.TheVariants as power
+use Rattle.bz_mark.specs.Times.{power_of}
+use Rattle.bz_mark.specs.declared.power.Power.{Power}
+use Rattle.bz_mark.specs.declared.power.Power.TheVariants as power
 use Rattle.bz_world.specs.declared.answers.LimitKind.{LimitKind}
 use Rattle.bz_world.specs.declared.answers.LimitKind.TheVariants as which
 use Rattle.bz_sched.specs.Cuts.{CutsOff, CutsOffInPart}

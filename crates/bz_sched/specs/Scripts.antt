@@ -6,7 +6,7 @@ use Rattle.bz_script.specs.declared.item.Item.{Item}
 use Rattle.bz_script.specs.declared.item.Item.TheVariants.{Queue, Arm, Run, Power}
 use Rattle.bz_script.specs.declared.item.Plan.{Plan}
 use Rattle.bz_script.specs.declared.item.Plan.TheVariants.{Threads}
-use Rattle.bz_sound.specs.declared.power.Power.{Power as State}
+use Rattle.bz_mark.specs.declared.power.Power.{Power as State}
 use Rattle.bz_world.specs.declared.answers.LimitKind.{LimitKind}
 use Rattle.bz_sched.specs.OpenCalls.{EndsCalls}
 use Rattle.bz_sched.specs.Plans.{RunsWhole, RunsCut, RunsInPart}

@@ -9,7 +9,7 @@ use Rattle.bz_script.specs.declared.item.Item.{Item}
 use Rattle.bz_script.specs.declared.item.Item.TheVariants.{Queue, Arm, Run, Power}
 use Rattle.bz_script.specs.declared.item.Plan.{Plan}
 use Rattle.bz_script.specs.declared.item.Plan.TheVariants.{Alone}
-use Rattle.bz_sound.specs.declared.power.Power.TheVariants as power
+use Rattle.bz_mark.specs.declared.power.Power.TheVariants as power
 use Rattle.bz_world.specs.WorldView.{WorldView, count_in, power_in, recovery_most}
 use Rattle.bz_sched.specs.Enough.{AreClosed, count_pages, count_wanting, free_slots}
 use Rattle.bz_sched.specs.declared.cut.CutPlan.{CutPlan}

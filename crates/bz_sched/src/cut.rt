@@ -1,7 +1,7 @@
 //! Cutting the power where a cut is armed.
 ghost use Rattle.std.specs.Prelude.{◌≡◌, ◌≢◌, ◌<◌, true, false};
 ghost use Rattle.bz_layout.specs.Addresses.{words_of};
-ghost use Rattle.bz_sound.specs.declared.power.Power.TheVariants.{Off};
+ghost use Rattle.bz_mark.specs.declared.power.Power.TheVariants.{Off};
 ghost use Rattle.bz_world.specs.WorldView.{power_in};
 ghost use Rattle.bz_sched.specs.Cuts.{differs_at, state_behind};
 ghost use Rattle.bz_sched.specs.Cutting.{WordEvicted, HasNoPlace, WordPassed, PassStopped, WordsPassed, PassesStopped, AreEvicted, EvictionsStopped, IsCutOff};

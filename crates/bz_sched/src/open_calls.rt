@@ -1,6 +1,6 @@
 //! The calls that are open, ended one worker after the other.
 ghost use Rattle.std.specs.Prelude.{◌≡◌};
-ghost use Rattle.bz_sound.specs.declared.power.Power.TheVariants.{On};
+ghost use Rattle.bz_mark.specs.declared.power.Power.TheVariants.{On};
 ghost use Rattle.bz_world.specs.WorldView.{power_in};
 ghost use Rattle.bz_sched.specs.OpenCalls.{EndsCall, EndsCalls, EndsCallInPart, EndsCallsInPart};
 ghost use Rattle.bz_sched.specs.Queued.{Queued};

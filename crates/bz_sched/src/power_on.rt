@@ -1,6 +1,6 @@
 //! Power on.
 ghost use Rattle.std.specs.Prelude.{IsTrue, ◌↔◌, ◌≡◌, ◌≢◌, ◌<◌, ◌≤◌, true, false, None, Some};
-ghost use Rattle.bz_sound.specs.declared.power.Power.TheVariants.{Off, Recovering};
+ghost use Rattle.bz_mark.specs.declared.power.Power.TheVariants.{Off, Recovering};
 ghost use Rattle.bz_world.specs.Numbers.{AreNumbersKept};
 ghost use Rattle.bz_world.specs.WorldView.{power_in, recovery_acts};
 ghost use Rattle.bz_sched.specs.Cutting.{HasNoPlace};
@@ -13,7 +13,7 @@ use crate::cut::{CutPlan, cut_off};
 use crate::fuse::{burn, lets};
 use crate::running::RunEnd;
 use crate::turn::{Stop, Turned};
-use bz_sound::Power;
+use bz_mark::Power;
 use bz_world::{Applied, Event, LimitKind, World};
 
 // Cuts the power where it is on, and tells whether a place was left in the journal for that.

@@ -3,7 +3,7 @@ ghost use Rattle.std.specs.Prelude.{◌≡◌, ◌≢◌, ◌≤◌, ℕ, None, 
 ghost use Rattle.bz_layout.specs.Addresses.{words_of};
 ghost use Rattle.bz_script.specs.RunLaws.{IsPlan};
 ghost use Rattle.bz_script.specs.declared.item.Plan.TheVariants.{Alone};
-ghost use Rattle.bz_sound.specs.declared.power.Power.TheVariants.{Off, On};
+ghost use Rattle.bz_mark.specs.declared.power.Power.TheVariants.{Off, On};
 ghost use Rattle.bz_world.specs.Numbers.{AreNumbersKept};
 ghost use Rattle.bz_world.specs.WorldView.{power_in};
 ghost use Rattle.bz_sched.specs.Cutting.{IsCutRun};

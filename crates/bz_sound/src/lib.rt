@@ -3,7 +3,4 @@
 #![tactic(auto)]
 
 pub mod memory_laws;
-mod power;
 pub mod power_laws;
-
-pub use power::Power;

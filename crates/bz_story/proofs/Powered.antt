@@ -6,15 +6,11 @@ use Rattle.bz_mark.specs.declared.marks.Mark.{Mark}
 use Rattle.bz_mark.specs.declared.marks.Mark.TheVariants.{Begin, End, Load, Store, Cas, Flush, Evict, Cut, On, Ready, Effect}
 use Rattle.bz_sound.specs.Calls.{Open, open_call, with_effect}
 use Rattle.bz_sound.specs.Memory.Spent.{is_stored_into}
-use Rattle.bz_sound.specs.Power.Laws.{LeavesPower}
-use Rattle.bz_sound.specs.Power.Times.{since_on, image_at_on}
+use Rattle.bz_mark.specs.Times.{LeavesPower}
+use Rattle.bz_mark.specs.Times.{since_on}
+use Rattle.bz_sound.specs.Power.Times.{image_at_on}
+use Rattle.bz_mark.proofs.TimeLaws.{since-more}
 use Rattle.bz_story.proofs.Storing.{stored-on}
-
-pub since-more : (past : List Mark) (mark : Mark) → LeavesPower past mark → since_on (mark ∷ past) ≡ mark ∷ since_on past
-since-more past Cut h = absurd h
-since-more past On h = absurd h
-since-more past Ready h = absurd h
-since-more past mark h = refl
 
 pub image-as-it-was : (start : List ℕ) (past : List Mark) (mark : Mark) → LeavesPower past mark → image_at_on start (mark ∷ past) ≡ image_at_on start past
 image-as-it-was start past Cut h = absurd h

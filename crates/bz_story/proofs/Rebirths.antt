@@ -27,8 +27,10 @@ use Rattle.bz_sight.specs.Renewal.{renewed_instant}
 use Rattle.bz_sight.specs.Sight.{IsSeen}
 use Rattle.bz_sound.specs.Calls.{Open, open_call, map_after}
 use Rattle.bz_sound.specs.Memory.Moments.{image_after, image_at, map_at_start}
-use Rattle.bz_sound.specs.Memory.Spent.{is_taken, is_stored_into}
-use Rattle.bz_sound.specs.Power.Times.{since_on, image_at_on}
+use Rattle.bz_mark.specs.Counts.{is_taken}
+use Rattle.bz_sound.specs.Memory.Spent.{is_stored_into}
+use Rattle.bz_mark.specs.Times.{since_on}
+use Rattle.bz_sound.specs.Power.Times.{image_at_on}
 use Rattle.bz_swap.specs.Power.{renewed}
 use Rattle.bz_swap.specs.Steps.{IsRawStep, StepsIn}
 use Rattle.bz_swap.specs.SwapMemory.{SwapMemory, memory_words}
@@ -36,7 +38,8 @@ use Rattle.bz_story.specs.Living.{IsLiving}
 use Rattle.bz_story.proofs.Powering.{image-now}
 use Rattle.bz_story.specs.Recovering.{IsRecovering, Turn, Asked, Made, words_in}
 use Rattle.bz_story.specs.RecoveryLaws.{CutsLeaveTheImage, ImagesAreOff, RecoveriesBegin, ActsRecover, Recovers, EvictionsLeaveRecoveries, StaysRecovering, RecoveriesRevive, IsRevived}
-use Rattle.bz_story.specs.Reviving.{acts_by, to_come, IsRecoveringIn, CutsAreMarked, ImagesOpenJournals, PowerOnIsMarked, TurnsMakeNoMark, mark_of, StillDecodes, ActsAreMarked, EvictionsAreMarked, renewed_story, RecoveriesGiveLife, WalksEnd}
+use Rattle.bz_mark.specs.Counts.{acts_by}
+use Rattle.bz_story.specs.Reviving.{to_come, IsRecoveringIn, CutsAreMarked, ImagesOpenJournals, PowerOnIsMarked, TurnsMakeNoMark, mark_of, StillDecodes, ActsAreMarked, EvictionsAreMarked, renewed_story, RecoveriesGiveLife, WalksEnd}
 
 -- what holds what another image holds, which holds what a third one holds
 says-as : (c : Config) (x y z : ℕ → ℕ) → SaysTheSame c x y → SaysTheSame c y z → SaysTheSame c x z

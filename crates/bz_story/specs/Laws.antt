@@ -12,8 +12,8 @@ use Rattle.bz_sight.specs.Sight.{next_instant}
 use Rattle.bz_sight.specs.Starts.{Sees}
 use Rattle.bz_sound.specs.Calls.{Open, with_effect}
 use Rattle.bz_sound.specs.Memory.Spent.{is_stored_into}
-use Rattle.bz_sound.specs.Power.Laws.{LeavesPower}
-use Rattle.bz_sound.specs.Power.Times.{since_on}
+use Rattle.bz_mark.specs.Times.{LeavesPower}
+use Rattle.bz_mark.specs.Times.{since_on}
 use Rattle.bz_word.specs.declared.entry.Entry.{Entry}
 use Rattle.bz_swap.specs.EntryLists.{IsEntryList}
 use Rattle.bz_swap.specs.SwapMemory.{SwapMemory, memory_words, entries_of}

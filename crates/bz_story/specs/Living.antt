@@ -9,7 +9,8 @@ use Rattle.bz_sight.specs.Sight.{IsSeen}
 use Rattle.bz_sound.specs.Calls.{Open, open_call}
 use Rattle.bz_sound.specs.Memory.Moments.{image_at}
 use Rattle.bz_sound.specs.Memory.Spent.{is_reached_in, is_stored_into}
-use Rattle.bz_sound.specs.Power.Times.{since_on, image_at_on}
+use Rattle.bz_mark.specs.Times.{since_on}
+use Rattle.bz_sound.specs.Power.Times.{image_at_on}
 use Rattle.bz_swap.specs.SwapMemory.{SwapMemory, memory_words}
 use Rattle.bz_task.specs.Instant.{Instant, page_at}
 use Rattle.bz_task.specs.Steps.{IsHistory}

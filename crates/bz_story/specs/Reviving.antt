@@ -9,6 +9,7 @@ use Rattle.bz_layout.specs.Config.{IsConfig}
 use Rattle.bz_layout.specs.Slots.{FreeSlots}
 use Rattle.bz_layout.specs.declared.config.Config.{Config}
 use Rattle.bz_machine.specs.declared.done.Done.{Done}
+use Rattle.bz_mark.specs.Counts.{acts_by}
 use Rattle.bz_mark.specs.Log.{Log, Limits, with_mark}
 use Rattle.bz_mark.specs.WordsAfter.{words_after_marks}
 use Rattle.bz_mark.specs.declared.marks.Mark.{Mark}
@@ -21,8 +22,10 @@ use Rattle.bz_recover.specs.declared.recover.Recover.{Recover}
 use Rattle.bz_sight.specs.Renewal.{renewed_instant}
 use Rattle.bz_sound.specs.Calls.{open_call}
 use Rattle.bz_sound.specs.Memory.Moments.{Decodes}
-use Rattle.bz_sound.specs.Memory.Spent.{is_taken, is_stored_into}
-use Rattle.bz_sound.specs.Power.Times.{since_on, image_at_on}
+use Rattle.bz_mark.specs.Counts.{is_taken}
+use Rattle.bz_sound.specs.Memory.Spent.{is_stored_into}
+use Rattle.bz_mark.specs.Times.{since_on}
+use Rattle.bz_sound.specs.Power.Times.{image_at_on}
 use Rattle.bz_swap.specs.Evictions.{IsEviction}
 use Rattle.bz_swap.specs.Held.{Holds}
 use Rattle.bz_swap.specs.Power.{IsOpened, after_cut, renewed}
@@ -33,15 +36,6 @@ use Rattle.bz_story.specs.Living.{IsLiving}
 use Rattle.bz_story.specs.Recovering.{IsOff, Turn, Asked, Started, Made, IsRecovering, IsNew, words_in}
 use Rattle.bz_story.specs.RecoveryLaws.{IsRevived, Recovers, StaysRecovering}
 use Rattle.bz_story.specs.Story.{Story}
-
--- how many of these marks are acts of a worker
-abbrev pub acts_by : ℕ → List Mark → ℕ
-acts_by w [] = 0
-acts_by w (Load v a x ∷ past) = if v == w then acts_by w past + 1 else acts_by w past
-acts_by w (Store v a x ∷ past) = if v == w then acts_by w past + 1 else acts_by w past
-acts_by w (Cas v a old new found ∷ past) = if v == w then acts_by w past + 1 else acts_by w past
-acts_by w (Flush v line ∷ past) = if v == w then acts_by w past + 1 else acts_by w past
-acts_by w (mark ∷ past) = acts_by w past
 
 -- the acts that are left to a recovery, with the one that it has asked for if that is not made yet
 abbrev pub to_come : Turn → ℕ → ℕ

@@ -11,7 +11,7 @@ use Rattle.bz_mark.specs.declared.marks.Mark.TheVariants.{Begin, End, Cut, Effec
 use Rattle.bz_sound.specs.Calls.{Open, open_call, with_effect}
 use Rattle.bz_sound.specs.Memory.Moments.{EachMark, map_at_start}
 use Rattle.bz_sound.specs.Power.Calls.{CallsOnce}
-use Rattle.bz_sound.specs.declared.power.Power.{Power}
+use Rattle.bz_mark.specs.declared.power.Power.{Power}
 use Rattle.bz_sound.proofs.Memory.Acknowledged as stands
 use Rattle.bz_sound.proofs.Memory.Ended.{inside}
 use Rattle.bz_text.specs.Lines.{open_line}

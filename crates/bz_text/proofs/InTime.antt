@@ -12,7 +12,7 @@ use Rattle.bz_sound.specs.Memory.Moments.{EachMark, map_at_start}
 use Rattle.bz_sound.specs.Power.Calls.{CallsOnce}
 use Rattle.bz_sound.specs.Power.Replies.{IsRightReply, HasRightReply, RepliesAreRight}
 use Rattle.bz_sound.specs.Replies.{Pages}
-use Rattle.bz_sound.specs.declared.power.Power.{Power}
+use Rattle.bz_mark.specs.declared.power.Power.{Power}
 use Rattle.bz_text.specs.Report.{ended_by, ended_calls, rank, put, in_order}
 use Rattle.bz_text.specs.RightLines.{calls_before}
 use Rattle.bz_text.specs.InTime.{NoneBefore, AreInTime, EndsByWorker, ReportsAreInTime}

@@ -8,7 +8,7 @@ use Rattle.bz_mark.specs.declared.marks.Mark.TheVariants.{Cut, Effect}
 use Rattle.bz_sound.specs.Calls.{Open, open_call}
 use Rattle.bz_sound.specs.Memory.Moments.{EachMark}
 use Rattle.bz_sound.specs.Power.Sound.{IsSound}
-use Rattle.bz_sound.specs.declared.power.Power.{Power}
+use Rattle.bz_mark.specs.declared.power.Power.{Power}
 use Rattle.bz_text.specs.Lines.{open_line, fate_line}
 
 -- the journal has the Effect of this call, after its Begin

@@ -9,7 +9,7 @@ use Rattle.bz_mark.specs.declared.marks.Mark.TheVariants.{End, Cut}
 use Rattle.bz_sound.specs.Calls.{Open, open_call}
 use Rattle.bz_sound.specs.Power.Replies.{IsRightReply}
 use Rattle.bz_sound.specs.Power.Sound.{IsSound}
-use Rattle.bz_sound.specs.declared.power.Power.{Power}
+use Rattle.bz_mark.specs.declared.power.Power.{Power}
 use Rattle.bz_sound.specs.Replies.{Pages}
 use Rattle.bz_text.specs.Report.{ended_calls, in_order}
 use Rattle.bz_text.specs.declared.ended.EndedCall.{EndedCall}

@@ -19,9 +19,9 @@ use Rattle.bz_sched.specs.Queued.{Queued, calls_of, is_busy_by}
 use Rattle.bz_sched.specs.Runs.{point_of, Stays, IsAtLimit, HasEndedCalls}
 use Rattle.bz_sched.specs.Together.{AreOfCalls, begun_in, Mingles, StandsAt, RunsThreads, RunsThreadsUpTo}
 use Rattle.bz_sound.specs.Calls.{Open, open_call}
-use Rattle.bz_sound.specs.Power.Times.{power_of}
+use Rattle.bz_mark.specs.Times.{power_of}
 use Rattle.bz_sound.specs.Replies.{Pages}
-use Rattle.bz_sound.specs.declared.power.Power.TheVariants as power
+use Rattle.bz_mark.specs.declared.power.Power.TheVariants as power
 use Rattle.bz_threads.proofs.Fates.{MeetsLimit, Stopped, IsLeft, of_calls, fate_leaves}
 use Rattle.bz_threads.proofs.Owns.{marks-append, power_quiet}
 use Rattle.bz_threads.proofs.Queues.{collected}

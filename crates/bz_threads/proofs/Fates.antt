@@ -20,8 +20,8 @@ use Rattle.bz_sched.specs.Queued.{calls_of, is_busy_by}
 use Rattle.bz_sched.specs.Together.{AreOfCalls, begun_in}
 use Rattle.bz_sched.specs.TurnsInPart.{IsPageNext}
 use Rattle.bz_sound.specs.Calls.{Open, open_call}
-use Rattle.bz_sound.specs.Power.Times.{power_of}
-use Rattle.bz_sound.specs.declared.power.Power.TheVariants as power
+use Rattle.bz_mark.specs.Times.{power_of}
+use Rattle.bz_mark.specs.declared.power.Power.TheVariants as power
 use Rattle.bz_threads.proofs.Making.{made_adds, same_worker}
 use Rattle.bz_threads.proofs.Owns.{ends_open, marks-append, begun_own, open_own, calls_quiet, power_quiet, cut_quiet, own_added}
 use Rattle.bz_threads.proofs.Taking.{paired-append}

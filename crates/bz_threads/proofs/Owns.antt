@@ -12,8 +12,8 @@ use Rattle.bz_index.specs.declared.shared.IndexEntry.{IndexEntry}
 use Rattle.bz_mark.specs.declared.marks.Mark.{Mark}
 use Rattle.bz_mark.specs.declared.marks.Mark.TheVariants.{Begin, End, Evict, Cut, On, Ready, Effect}
 use Rattle.bz_sound.specs.Calls.{Open, open_call, with_effect}
-use Rattle.bz_sound.specs.Power.Times.{power_of}
-use Rattle.bz_sound.specs.declared.power.Power.{Power}
+use Rattle.bz_mark.specs.Times.{power_of}
+use Rattle.bz_mark.specs.declared.power.Power.{Power}
 use Rattle.bz_sched.specs.Together.{IsOfCall, AreOfCalls, begun_in}
 use Rattle.bz_threads.specs.Made.{own_of}
 

@@ -3,7 +3,7 @@ ghost use Rattle.std.specs.Prelude.{◌≡◌, ◌<◌, ◌≤◌, ℕ};
 ghost use Rattle.bz_index.specs.Passes.{origin_in, seen_by, IsFree};
 ghost use Rattle.bz_layout.specs.declared.limits.TheConstants.{MAX_WORKERS as MOST};
 ghost use Rattle.bz_sched.specs.Runs.{HasAllWorkers};
-ghost use Rattle.bz_sound.specs.declared.power.Power.TheVariants.{On};
+ghost use Rattle.bz_mark.specs.declared.power.Power.TheVariants.{On};
 ghost use Rattle.bz_threads.specs.Ends.{HasRunThreads};
 ghost use Rattle.bz_threads.specs.Inside.Batches.{IsFirstOf};
 ghost use Rattle.bz_threads.specs.Inside.Runs.{HasRunOn, end_of as named};

@@ -21,7 +21,7 @@ use Rattle.bz_script.specs.declared.fault.ScriptRule.{ScriptRule}
 use Rattle.bz_script.specs.declared.fault.ScriptRule.TheVariants.{Number, NoMemoryLine}
 use Rattle.bz_script.specs.declared.item.Item.{Item}
 use Rattle.bz_sched.specs.Runs.{Stays}
-use Rattle.bz_sound.specs.declared.power.Power.TheVariants as power
+use Rattle.bz_mark.specs.declared.power.Power.TheVariants as power
 use Rattle.bz_sched.specs.FromWorld.WorldView.{WorldView, view_over, image_view}
 use Rattle.bz_top.specs.Bases.{Base, power_over, words_over, numbers_over, IsBase, IsBaseOf}
 use Rattle.bz_top.specs.Commands.{config_of}

@@ -5,8 +5,8 @@ use Rattle.bz_layout.specs.declared.config.Config.{Config}
 use Rattle.bz_mark.specs.declared.marks.Mark.{Mark}
 use Rattle.bz_script.specs.declared.item.Item.{Item}
 use Rattle.bz_script.specs.declared.item.Item.TheVariants.{Power}
-use Rattle.bz_sound.specs.declared.power.Power.{Power as State}
-use Rattle.bz_sound.specs.declared.power.Power.TheVariants as power
+use Rattle.bz_mark.specs.declared.power.Power.{Power as State}
+use Rattle.bz_mark.specs.declared.power.Power.TheVariants as power
 use Rattle.bz_sched.specs.Points.{Point}
 use Rattle.bz_sched.specs.Recoveries.{Powers, PowersInPart}
 use Rattle.bz_sched.specs.Runs.{point_with, Stays, HasPower}

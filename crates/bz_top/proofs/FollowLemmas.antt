@@ -10,8 +10,8 @@ use Rattle.bz_script.specs.ItemLaws.{IsItem, AreItems}
 use Rattle.bz_script.specs.Order.{at_first as first_standing, takes_no_cut, may_stand, after, AreInOrder}
 use Rattle.bz_script.specs.declared.item.Item.{Item}
 use Rattle.bz_script.specs.declared.item.Item.TheVariants.{Queue, Arm, Run, Power}
-use Rattle.bz_sound.specs.declared.power.Power.{Power as State}
-use Rattle.bz_sound.specs.declared.power.Power.TheVariants as power
+use Rattle.bz_mark.specs.declared.power.Power.{Power as State}
+use Rattle.bz_mark.specs.declared.power.Power.TheVariants as power
 use Rattle.bz_sched.specs.Points.{Point}
 use Rattle.bz_sched.specs.Queued.{Queued}
 use Rattle.bz_sched.specs.Runs.{point_of, Stays, IsCutPlan}

@@ -12,7 +12,7 @@ use Rattle.bz_sched.specs.declared.cut.CutPlan.{CutPlan}
 use Rattle.bz_sched.specs.declared.running.RunEnd.{RunEnd}
 use Rattle.bz_sched.specs.declared.running.RunEnd.TheVariants.{Finished, Cut, Limit}
 use Rattle.bz_layout.specs.Addresses.{words_of}
-use Rattle.bz_sound.specs.declared.power.Power.TheVariants as power
+use Rattle.bz_mark.specs.declared.power.Power.TheVariants as power
 use Rattle.bz_sched.specs.FromWorld.WorldView.{WorldView, power_in}
 use Rattle.bz_threads.specs.Ends.{HasRunThreads}
 use Rattle.bz_threads.specs.declared.running.ThreadsEnd.{ThreadsEnd}

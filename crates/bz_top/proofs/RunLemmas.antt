@@ -8,7 +8,7 @@ use Rattle.bz_sched.specs.Scripts.{LeadsTo, LeadsToInPart, LeadsToWant}
 use Rattle.bz_sched.specs.Enough.{count_wanting}
 use Rattle.bz_sched.specs.Sums.{calls_in, sum_of, SufficesFor, HasStockFor}
 use Rattle.bz_sound.specs.Power.Sound.{IsSound}
-use Rattle.bz_sound.specs.declared.power.Power.{Power as State}
+use Rattle.bz_mark.specs.declared.power.Power.{Power as State}
 use Rattle.bz_words.specs.declared.command.Command.{Command}
 use Rattle.bz_sched.specs.FromWorld.Numbers.{AreNumbersKept}
 use Rattle.bz_sched.specs.FromWorld.WorldView.{WorldView}

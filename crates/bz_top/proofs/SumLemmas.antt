@@ -13,8 +13,8 @@ use Rattle.bz_script.specs.declared.item.Item.TheVariants.{Queue, Arm, Run, Powe
 use Rattle.bz_script.specs.declared.item.Plan.{Plan}
 use Rattle.bz_script.specs.declared.item.Plan.TheVariants.{Alone, List as Listed, Turns, Threads}
 use Rattle.bz_sound.specs.Memory.Moments.{image_after}
-use Rattle.bz_sound.specs.declared.power.Power.{Power as State}
-use Rattle.bz_sound.specs.declared.power.Power.TheVariants as power
+use Rattle.bz_mark.specs.declared.power.Power.{Power as State}
+use Rattle.bz_mark.specs.declared.power.Power.TheVariants as power
 use Rattle.bz_sched.specs.Enough.{AreClosed, count_pages, count_wanting, free_by, free_slots, HasEnough, HasSupply, AreServed, AreSupplied, HasComeOn, ComesOn}
 use Rattle.bz_sched.specs.FromWorld.WorldView.{WorldView, count_in, power_in}
 use Rattle.bz_sched.specs.Queued.{Queued}

@@ -5,8 +5,8 @@ use Rattle.bz_image.specs.declared.image.Image.{Image}
 use Rattle.bz_judge.specs.Held.{IsImageOf}
 use Rattle.bz_layout.specs.Fresh.{fresh_words}
 use Rattle.bz_layout.specs.declared.config.Config.{Config}
-use Rattle.bz_sound.specs.declared.power.Power.{Power as State}
-use Rattle.bz_sound.specs.declared.power.Power.TheVariants as power
+use Rattle.bz_mark.specs.declared.power.Power.{Power as State}
+use Rattle.bz_mark.specs.declared.power.Power.TheVariants as power
 use Rattle.bz_words.specs.declared.command.Command.{Command}
 use Rattle.bz_words.specs.declared.command.Command.TheVariants.{Run, Dump, Load, Work}
 use Rattle.bz_top.specs.Commands.{config_of}

@@ -11,8 +11,8 @@ use Rattle.bz_io.specs.Faults.{Rose}
 use Rattle.bz_io.specs.Transfers.{IsReadWhole, GrewByFront}
 use Rattle.bz_layout.specs.Addresses.{words_of}
 use Rattle.bz_sound.specs.Power.Sound.{IsSound}
-use Rattle.bz_sound.specs.declared.power.Power.{Power as State}
-use Rattle.bz_sound.specs.declared.power.Power.TheVariants as power
+use Rattle.bz_mark.specs.declared.power.Power.{Power as State}
+use Rattle.bz_mark.specs.declared.power.Power.TheVariants as power
 use Rattle.bz_shape.specs.declared.rule.ShapeFault.{ShapeFault}
 use Rattle.bz_script.specs.Script.{Job, script_of}
 use Rattle.bz_script.specs.declared.fault.ScriptRule.{ScriptRule}

@@ -7,8 +7,8 @@ use Rattle.bz_script.specs.ItemLaws.{IsItem}
 use Rattle.bz_script.specs.Order.{takes_no_cut}
 use Rattle.bz_script.specs.declared.item.Item.{Item}
 use Rattle.bz_script.specs.declared.item.Item.TheVariants.{Queue, Arm, Run, Power}
-use Rattle.bz_sound.specs.declared.power.Power.{Power as State}
-use Rattle.bz_sound.specs.declared.power.Power.TheVariants as power
+use Rattle.bz_mark.specs.declared.power.Power.{Power as State}
+use Rattle.bz_mark.specs.declared.power.Power.TheVariants as power
 use Rattle.bz_sched.specs.FromWorld.WorldView.{WorldView, power_in}
 use Rattle.bz_sched.specs.FromWorld.LimitKind.{LimitKind}
 use Rattle.bz_sched.specs.Plans.{RunsWhole, RunsCut, RunsInPart}

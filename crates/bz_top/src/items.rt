@@ -1,7 +1,7 @@
 //! Running the items of a script.
 ghost use Rattle.std.specs.Prelude.{◌≡◌, ◌≢◌, ◌≤◌, ◌<◌, Bool, List, [], ◌∷◌, length, not, None};
 ghost use Rattle.bz_layout.specs.declared.limits.TheConstants.{MAX_WORKERS};
-ghost use Rattle.bz_sound.specs.declared.power.Power.TheVariants.{On, Recovering};
+ghost use Rattle.bz_mark.specs.declared.power.Power.TheVariants.{On, Recovering};
 ghost use Rattle.bz_sched.specs.FromWorld.WorldView.{power_in};
 ghost use Rattle.bz_sched.specs.Enough.{count_wanting};
 ghost use Rattle.bz_sched.specs.Runs.{point_of, IsCutPlan};

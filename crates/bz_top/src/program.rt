@@ -3,7 +3,7 @@ ghost use Rattle.std.specs.Prelude.{◌≡◌, ◌≢◌, ◌≤◌, ◌++◌, [
 ghost use Rattle.bz_layout.specs.declared.limits.TheConstants.{MIN_MARKS, MAX_MARKS, MAX_WORKERS as MOST_WORKERS};
 ghost use Rattle.bz_judge.specs.Held.{IsImageOf};
 ghost use Rattle.bz_sched.specs.Sums.{IsStockedAtFirst};
-ghost use Rattle.bz_sound.specs.declared.power.Power.TheVariants.{Recovering};
+ghost use Rattle.bz_mark.specs.declared.power.Power.TheVariants.{Recovering};
 ghost use Rattle.bz_top.specs.Commands.{config_of};
 ghost use Rattle.bz_sound.specs.Power.Sound.{IsSound};
 ghost use Rattle.bz_script.specs.Script.{job_of};

@@ -2,7 +2,7 @@
 ghost use Rattle.std.specs.Prelude.{◌≡◌, ◌≢◌, ◌≤◌, ◌<◌, Bool, List, [], ◌∷◌, length, None};
 ghost use Rattle.bz_judge.specs.Held.{IsImageOf};
 ghost use Rattle.bz_layout.specs.declared.limits.TheConstants.{MIN_MARKS, MAX_MARKS, MAX_WORKERS};
-ghost use Rattle.bz_sound.specs.declared.power.Power.TheVariants.{On, Recovering};
+ghost use Rattle.bz_mark.specs.declared.power.Power.TheVariants.{On, Recovering};
 ghost use Rattle.bz_sched.specs.FromWorld.WorldView.{power_in};
 ghost use Rattle.bz_sched.specs.Enough.{count_wanting, AreClosed, HasEnough, HasSupply, AreServed, AreSupplied};
 ghost use Rattle.bz_sched.specs.Runs.{point_of, IsCutPlan};

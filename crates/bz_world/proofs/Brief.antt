@@ -6,10 +6,10 @@ use Rattle.bz_layout.specs.declared.config.Config.{Config}
 use Rattle.bz_mark.specs.Log.{Log, with_mark}
 use Rattle.bz_mark.specs.declared.marks.Mark.{Mark}
 use Rattle.bz_mark.specs.declared.marks.Mark.TheVariants.{End, Evict, Ready}
-use Rattle.bz_sound.specs.Power.Times.{power_of, since_on}
-use Rattle.bz_sound.specs.declared.power.Power.{Power}
-use Rattle.bz_sound.specs.declared.power.Power.TheVariants as power
-use Rattle.bz_story.specs.Reviving.{acts_by}
+use Rattle.bz_mark.specs.Times.{power_of, since_on}
+use Rattle.bz_mark.specs.declared.power.Power.{Power}
+use Rattle.bz_mark.specs.declared.power.Power.TheVariants as power
+use Rattle.bz_mark.specs.Counts.{acts_by}
 use Rattle.bz_world.specs.Recoveries.{AreRecoveriesBrief, IsBrief}
 use Rattle.bz_world.specs.WorldView as view
 use Rattle.bz_world.specs.WorldView.{WorldView, Evicts, IsStruck, Recovers, Steps, mark_of, power_in, recovery_acts, recovery_most}

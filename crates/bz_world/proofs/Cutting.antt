@@ -7,8 +7,8 @@ use Rattle.std.proofs.lemmas.List.{length-replicate}
 use Rattle.bz_content.specs.Resolving.{resolve}
 use Rattle.bz_mark.specs.Log.{with_mark}
 use Rattle.bz_mark.specs.declared.marks.Mark.TheVariants.{Cut}
-use Rattle.bz_sound.specs.declared.power.Power.{Power}
-use Rattle.bz_sound.specs.declared.power.Power.TheVariants as power
+use Rattle.bz_mark.specs.declared.power.Power.{Power}
+use Rattle.bz_mark.specs.declared.power.Power.TheVariants as power
 use Rattle.bz_sound.specs.Memory.Moments.{map_at_start}
 use Rattle.bz_sound.specs.Power.Laws.{CutsFollow, PowerTellsWhatFollows, IsAfterCut}
 use Rattle.bz_sound.specs.Power.Sound.{IsSound}

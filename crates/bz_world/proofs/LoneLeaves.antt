@@ -18,7 +18,7 @@ use Rattle.bz_slotted.specs.Records.{live_words}
 use Rattle.bz_sound.specs.Memory.Spent.{is_reached_in, leaf_page}
 use Rattle.bz_sound.specs.Power.Calls.{CallsOnce}
 use Rattle.bz_sound.specs.Power.Laws.{PowerTellsWhatFollows}
-use Rattle.bz_sound.specs.declared.power.Power.{Power}
+use Rattle.bz_mark.specs.declared.power.Power.{Power}
 use Rattle.bz_world.specs.Leaves.{AddsALeaf, FollowsLeaves, FollowsTree, IsMomentOfCall, LeavesFollow, NoneComesBack, TakesALeaf, in_tree, leaves_after, live_at}
 use Rattle.bz_world.specs.LoneLeaves.{CountsItsLeaves, HasLeft, LonelyCallsCountLeaves, WasItsLeaf, WasMerged, WasSplit}
 use Rattle.bz_world.proofs.ToldEnds.{WasOpen, was-lonely, was-open}

@@ -10,7 +10,7 @@ use Rattle.bz_mark.specs.WordsAfter.{words_after_marks, words_after, Found}
 use Rattle.bz_mark.specs.declared.marks.Mark.{Mark}
 use Rattle.bz_pm.specs.Words.{Words}
 use Rattle.bz_sound.specs.Calls.{open_call}
-use Rattle.bz_sound.specs.declared.power.Power.{Power}
+use Rattle.bz_mark.specs.declared.power.Power.{Power}
 use Rattle.bz_sound.specs.Power.Calls.{MayAct, MayFollow}
 use Rattle.bz_call.specs.Map.{Map}
 use Rattle.bz_swap.specs.SwapMemory.{SwapMemory, memory_words}

@@ -15,9 +15,9 @@ use Rattle.bz_running.specs.Duties.{end_of, made_of, swaps_of}
 use Rattle.bz_running.specs.Kinds as kinds
 use Rattle.bz_running.specs.Kinds.{Kind, is_look, kind_of}
 use Rattle.bz_sound.specs.Calls.{Open}
-use Rattle.bz_sound.specs.Memory.Spent.{count_taken}
+use Rattle.bz_mark.specs.Counts.{count_taken}
 use Rattle.bz_sound.specs.Power.Spent.{count_used}
-use Rattle.bz_sound.specs.Power.Times.{since_on}
+use Rattle.bz_mark.specs.Times.{since_on}
 use Rattle.bz_sound.specs.Replies.{Pages}
 use Rattle.bz_story.specs.Story.{Story, and_then}
 use Rattle.bz_task.specs.Instant.{Instant}

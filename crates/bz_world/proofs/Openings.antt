@@ -20,10 +20,12 @@ use Rattle.bz_mark.specs.Log.{Log, count_begins, count_page_calls}
 use Rattle.bz_sound.specs.Calls.{open_call, begun_calls, map_after}
 use Rattle.bz_sound.specs.Memory.Moments.{map_at_start, HoldsMap}
 use Rattle.bz_sound.specs.Power.Growth.{FreshJournalsAreSound}
-use Rattle.bz_sound.specs.Memory.Spent.{is_taken, is_stored_into}
-use Rattle.bz_sound.specs.Power.Times.{power_of, since_on, image_at_on}
-use Rattle.bz_sound.specs.declared.power.Power.{Power}
-use Rattle.bz_sound.specs.declared.power.Power.TheVariants as power
+use Rattle.bz_mark.specs.Counts.{is_taken}
+use Rattle.bz_sound.specs.Memory.Spent.{is_stored_into}
+use Rattle.bz_mark.specs.Times.{power_of, since_on}
+use Rattle.bz_sound.specs.Power.Times.{image_at_on}
+use Rattle.bz_mark.specs.declared.power.Power.{Power}
+use Rattle.bz_mark.specs.declared.power.Power.TheVariants as power
 use Rattle.bz_sound.specs.Power.Sound.{IsSound}
 use Rattle.bz_story.specs.Living.{IsLiving}
 use Rattle.bz_story.specs.Opening.{FreshStoriesLive, fresh_story}

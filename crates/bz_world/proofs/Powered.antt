@@ -8,16 +8,17 @@ use Rattle.bz_layout.specs.declared.config.Config.{Config}
 use Rattle.bz_mark.specs.Log.{Log}
 use Rattle.bz_mark.specs.declared.marks.Mark.{Mark}
 use Rattle.bz_mark.specs.declared.marks.Mark.TheVariants.{Begin, End, Load, Store, Cas, Flush, Evict, Cut, On, Ready, Effect}
-use Rattle.bz_sound.specs.declared.power.Power.{Power}
-use Rattle.bz_sound.specs.declared.power.Power.TheVariants as power
+use Rattle.bz_mark.specs.declared.power.Power.{Power}
+use Rattle.bz_mark.specs.declared.power.Power.TheVariants as power
 use Rattle.bz_sound.specs.Calls.{Open}
 use Rattle.bz_sound.specs.Memory.Calls.{HasOpenCall}
 use Rattle.bz_sound.specs.Memory.Moments.{IsAfterFlush}
 use Rattle.bz_sound.specs.Power.Calls.{MayAct}
-use Rattle.bz_sound.specs.Power.Laws.{LeavesPower}
-use Rattle.bz_sound.specs.Power.Times.{power_of, since_on, image_at_on}
+use Rattle.bz_mark.specs.Times.{LeavesPower}
+use Rattle.bz_mark.specs.Times.{power_of, since_on}
+use Rattle.bz_sound.specs.Power.Times.{image_at_on}
 use Rattle.bz_recover.specs.Places.{MOST_ACTS}
-use Rattle.bz_story.specs.Reviving.{acts_by}
+use Rattle.bz_mark.specs.Counts.{acts_by}
 use Rattle.bz_story.proofs.Powered.{image-as-it-was}
 use Rattle.bz_story.specs.Laws.{HasBegun}
 use Rattle.bz_story.specs.Living.{IsLiving}

@@ -20,7 +20,7 @@ use Rattle.bz_sound.specs.Calls.{Open, open_call, with_effect, map_after, map_at
 use Rattle.bz_sound.specs.Lonely.{IsLonely}
 use Rattle.bz_sound.specs.Memory.ImageLaws.{IsChangeOf, ChangesKey, EffectFollows}
 use Rattle.bz_sound.specs.Memory.Moments.{image_after, map_at_start}
-use Rattle.bz_sound.specs.declared.power.Power.{Power}
+use Rattle.bz_mark.specs.declared.power.Power.{Power}
 use Rattle.bz_sound.specs.Power.Sound.{IsSound}
 use Rattle.bz_story.specs.Laws.{HasBegun, GoesOn, goes_on, opened_after}
 use Rattle.bz_story.specs.Living.{IsLiving}
@@ -67,9 +67,9 @@ use Rattle.bz_world.proofs.Tabled.{tabled-marked}
 use Rattle.bz_lone.specs.FromJoined.Neighbours.{MayBeMerged}
 use Rattle.bz_running.specs.Kinds as kinds
 use Rattle.bz_running.specs.Kinds.{kind_of}
-use Rattle.bz_sound.specs.Memory.Spent.{count_taken}
+use Rattle.bz_mark.specs.Counts.{count_taken}
 use Rattle.bz_sound.specs.Power.Spent.{count_used}
-use Rattle.bz_sound.specs.Power.Times.{since_on}
+use Rattle.bz_mark.specs.Times.{since_on}
 use Rattle.bz_world.specs.Inside.Merging.{HasToMerge, IsDeletingAlone}
 use Rattle.bz_world.proofs.StruckFew.{changes-record, changing-delete, struck-few}
 use Rattle.bz_world.proofs.StruckShown.{shown-taken, shown-used}

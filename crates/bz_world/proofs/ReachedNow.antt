@@ -12,7 +12,7 @@ use Rattle.bz_mark.proofs.MomentLaws.{at_moment-now}
 use Rattle.bz_shape.specs.Walk.{form, is_among}
 use Rattle.bz_sound.specs.Memory.Moments.{image_after}
 use Rattle.bz_sound.specs.Memory.Spent.{is_reached_in}
-use Rattle.bz_sound.specs.declared.power.Power.TheVariants as power
+use Rattle.bz_mark.specs.declared.power.Power.TheVariants as power
 use Rattle.bz_task.specs.Good.{IsGood}
 use Rattle.bz_world.specs.Inside.Beginning.{world_view}
 use Rattle.bz_world.specs.Inside.Kept.{IsAwake, IsKept}

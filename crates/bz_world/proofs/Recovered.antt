@@ -9,7 +9,7 @@ use Rattle.bz_recover.specs.FromSweep.Memory.{Memory}
 use Rattle.bz_recover.specs.declared.recover.Recover.{Recover}
 use Rattle.bz_story.specs.Recovering as recovery
 use Rattle.bz_story.specs.RecoveryLaws.{RecoveriesGoOn}
-use Rattle.bz_sound.specs.Power.Times.{since_on}
+use Rattle.bz_mark.specs.Times.{since_on}
 use Rattle.bz_story.specs.Reviving.{TurnsMakeNoMark, acts_by}
 use Rattle.bz_swap.specs.Power.{renewed}
 use Rattle.bz_swap.specs.SwapMemory.{worker_of}
@@ -20,7 +20,7 @@ use Rattle.bz_world.specs.Inside.Beginning.{world_view}
 use Rattle.bz_world.specs.Inside.Kept.{IsRecovering, IsStarted, IsKept}
 use Rattle.bz_world.specs.Inside.Paid.{begun_with}
 use Rattle.bz_world.specs.Inside.Powering.{HasAsked, Wakes}
-use Rattle.bz_sound.specs.declared.power.Power.TheVariants as power
+use Rattle.bz_mark.specs.declared.power.Power.TheVariants as power
 use Rattle.bz_world.specs.WorldView.{Supply, Recovers, count_reached, mark_of, recovery_most}
 use Rattle.bz_world.specs.declared.answers.Applied.TheVariants as applied
 use Rattle.bz_world.specs.declared.parts.Parts.{Parts}

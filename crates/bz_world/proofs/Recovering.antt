@@ -9,14 +9,14 @@ use Rattle.bz_mark.specs.Log.{with_mark}
 use Rattle.bz_mark.specs.WordsAfter.{words_after_marks}
 use Rattle.bz_mark.specs.declared.marks.Mark.{Mark}
 use Rattle.bz_mark.specs.declared.marks.Mark.TheVariants.{Evict}
-use Rattle.bz_sound.specs.declared.power.Power.TheVariants as power
+use Rattle.bz_mark.specs.declared.power.Power.TheVariants as power
 use Rattle.bz_sound.specs.Memory.Laws.{IsQuietAct}
 use Rattle.bz_sound.specs.Memory.Moments.{image_after, IsAfterFlush, map_at_start}
 use Rattle.bz_sound.specs.Power.Calls.{MayFollow, IsAfterRecovering}
 use Rattle.bz_sound.specs.Power.Growth.{QuietActsFollow, FlushesFollow}
 use Rattle.bz_sound.specs.Power.ImageLaws.{SameContentDecodes}
 use Rattle.bz_sound.specs.Power.Sound.{IsSound}
-use Rattle.bz_sound.specs.Power.Times.{power_of}
+use Rattle.bz_mark.specs.Times.{power_of}
 use Rattle.bz_story.specs.Recovering as recovery
 use Rattle.bz_recover.specs.Duties.{acts_left, Hears, Tells}
 use Rattle.bz_story.specs.RecoveryLaws.{Recovers, StaysRecovering, seen_of}

@@ -14,9 +14,9 @@ use Rattle.bz_mark.specs.Log.{Log}
 use Rattle.bz_mark.specs.declared.marks.Mark.{Mark}
 use Rattle.bz_mark.specs.declared.marks.Mark.TheVariants as mark
 use Rattle.bz_sound.specs.Calls.{Open, open_call, with_effect}
-use Rattle.bz_sound.specs.Power.Times.{power_of}
-use Rattle.bz_sound.specs.declared.power.Power.{Power}
-use Rattle.bz_sound.specs.declared.power.Power.TheVariants as power
+use Rattle.bz_mark.specs.Times.{power_of}
+use Rattle.bz_mark.specs.declared.power.Power.{Power}
+use Rattle.bz_mark.specs.declared.power.Power.TheVariants as power
 use Rattle.bz_world.specs.Solo.{StepsOn, MayStep, EndsAlone, HasBegunAlone, IsFullOfLittle, RunsAlone}
 use Rattle.bz_world.specs.WorldView.{WorldView, Supply, power_in, is_short, step_refusal, step_by, mark_of, before_run, begins_alone, run_marks, deadline_from, HadFew, IsStruck, IsEnding, GoesOn, KeepsSupply, RunsWhole, Steps, StepsBy, Recovers, IsApplied}
 use Rattle.bz_world.specs.declared.answers.Applied.{Applied}

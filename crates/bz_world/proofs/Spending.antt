@@ -6,8 +6,8 @@ use Rattle.bz_layout.specs.declared.config.Config.{Config}
 use Rattle.bz_mark.specs.Log.{Log}
 use Rattle.bz_sound.specs.Calls.{Open, open_call}
 use Rattle.bz_sound.specs.Memory.ImageLaws.{IsOther, AreHeldBy}
-use Rattle.bz_sound.specs.Memory.Spent.{is_taken}
-use Rattle.bz_sound.specs.Power.Times.{since_on}
+use Rattle.bz_mark.specs.Counts.{is_taken}
+use Rattle.bz_mark.specs.Times.{since_on}
 use Rattle.bz_story.specs.Story.{Story}
 use Rattle.bz_swap.specs.SwapMemory.{SwapMemory, Swapping, doing_of}
 use Rattle.bz_task.specs.declared.todo.Todo.{Todo}

@@ -13,7 +13,8 @@ use Rattle.bz_sound.specs.Memory.ImageLaws.{AreOthersHeld}
 use Rattle.bz_sound.specs.Memory.Spent.{NodesAreSpent, is_reached_in, is_stored_into}
 use Rattle.bz_sound.specs.Power.ImageLaws.{HeldSlotsAreSpent}
 use Rattle.bz_sound.specs.Power.Spent.{is_used, count_used}
-use Rattle.bz_sound.specs.Power.Times.{since_on, image_at_on}
+use Rattle.bz_mark.specs.Times.{since_on}
+use Rattle.bz_sound.specs.Power.Times.{image_at_on}
 use Rattle.bz_story.specs.Story.{Story}
 use Rattle.bz_swap.specs.SwapMemory.{SwapMemory}
 use Rattle.bz_world.specs.Inside.Acted.{IsBetween}

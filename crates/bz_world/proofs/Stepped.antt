@@ -15,8 +15,9 @@ use Rattle.bz_sound.specs.Memory.Laws.{IsQuietAct}
 use Rattle.bz_sound.specs.Memory.Moments.{image_after, IsAfterFlush}
 use Rattle.bz_sound.specs.Power.Calls.{MayAct}
 use Rattle.bz_sound.specs.Power.Sound.{IsSound}
-use Rattle.bz_sound.specs.Power.Times.{since_on}
-use Rattle.bz_sound.specs.Memory.Spent.{is_taken, is_stored_into}
+use Rattle.bz_mark.specs.Times.{since_on}
+use Rattle.bz_mark.specs.Counts.{is_taken}
+use Rattle.bz_sound.specs.Memory.Spent.{is_stored_into}
 use Rattle.bz_story.specs.Living.{IsLiving}
 use Rattle.bz_story.specs.Story.{Story}
 use Rattle.bz_swap.specs.Held.{IsHeld, Holds, HoldsIn}
@@ -31,7 +32,7 @@ use Rattle.bz_world.specs.Inside.Kept.{IsTabled, AreTaken}
 use Rattle.bz_world.specs.WorldView.{mark_of}
 use Rattle.bz_world.specs.Inside.Laws.{JournalLaws, BegunLaws}
 use Rattle.bz_world.specs.declared.parts.Parts.{Parts}
-use Rattle.bz_story.proofs.Powered.{since-more}
+use Rattle.bz_mark.proofs.TimeLaws.{since-more}
 use Rattle.bz_world.proofs.Powered.{leaves-power}
 use Rattle.bz_world.proofs.Marking.{act-marked, act-found, act-follows}
 use Rattle.bz_world.proofs.Tabled.{tabled-acted}

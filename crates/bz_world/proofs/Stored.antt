@@ -27,7 +27,7 @@ use Rattle.bz_world.specs.declared.parts.Parts.{Parts}
 use Rattle.bz_world.specs.declared.serving.OpenCall.{OpenCall}
 use Rattle.bz_world.specs.Inside.Laws.{StepLaws}
 use Rattle.bz_sound.specs.Memory.Spent.{is_stored_into}
-use Rattle.bz_sound.specs.Power.Times.{since_on}
+use Rattle.bz_mark.specs.Times.{since_on}
 use Rattle.bz_story.proofs.Storing.{fills-stored}
 use Rattle.bz_world.proofs.Alone.{hears-on}
 use Rattle.bz_world.specs.Inside.Paid.{errand_of, no_extra, stock_of, IsPaidIn}

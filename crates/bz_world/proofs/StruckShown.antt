@@ -21,9 +21,10 @@ use Rattle.bz_running.specs.Kinds.{kind_of}
 use Rattle.bz_running.specs.declared.running.AnyTask.{AnyTask}
 use Rattle.bz_sound.specs.Calls.{open_call}
 use Rattle.bz_sound.specs.Lonely.{IsLonely}
-use Rattle.bz_sound.specs.Memory.Spent.{is_stored_into, count_taken}
+use Rattle.bz_mark.specs.Counts.{count_taken}
+use Rattle.bz_sound.specs.Memory.Spent.{is_stored_into}
 use Rattle.bz_sound.specs.Power.Spent.{count_used}
-use Rattle.bz_sound.specs.Power.Times.{since_on}
+use Rattle.bz_mark.specs.Times.{since_on}
 use Rattle.bz_swap.specs.SwapMemory.{SwapMemory, Idle, Swapping, doing_of, has_effect, memory_words}
 use Rattle.bz_swap.specs.TakenStatuses.{IsTaken}
 use Rattle.bz_task.specs.Scene.{HasFilled, Scene, Waiting}

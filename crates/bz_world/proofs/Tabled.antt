@@ -10,7 +10,7 @@ use Rattle.bz_mark.specs.Log.{count_begins, count_page_calls, with_mark}
 use Rattle.bz_mark.specs.declared.marks.Mark.{Mark}
 use Rattle.bz_mark.specs.declared.marks.Mark.TheVariants.{Begin, End, Evict, Cut, Effect}
 use Rattle.bz_sound.specs.Calls.{Open, with_effect, open_call, begun_calls, map_after}
-use Rattle.bz_sound.specs.Power.Times.{power_of}
+use Rattle.bz_mark.specs.Times.{power_of}
 use Rattle.bz_swap.specs.Evictions.{IsEviction}
 use Rattle.bz_swap.specs.Steps.{IsOneAct}
 use Rattle.bz_swap.specs.SwapMemory.{SwapMemory}

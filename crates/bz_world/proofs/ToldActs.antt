@@ -11,7 +11,8 @@ use Rattle.bz_layout.specs.declared.sizes.TheConstants.{NODE_WORDS}
 use Rattle.bz_mark.specs.declared.marks.Mark.{Mark}
 use Rattle.bz_shape.specs.Walk.{is_among}
 use Rattle.bz_sound.specs.Calls.{Open}
-use Rattle.bz_sound.specs.Memory.Spent.{is_taken, is_stored_into, is_reached_in}
+use Rattle.bz_mark.specs.Counts.{is_taken}
+use Rattle.bz_sound.specs.Memory.Spent.{is_stored_into, is_reached_in}
 use Rattle.bz_sound.specs.Power.Times.{image_at_on}
 use Rattle.bz_story.specs.Story.{scene}
 use Rattle.bz_swap.specs.SwapMemory.{SwapMemory, Storing, doing_of}

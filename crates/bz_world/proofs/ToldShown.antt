@@ -8,10 +8,12 @@ use Rattle.bz_layout.specs.Slots.{FreeSlots, IsInOrder}
 use Rattle.bz_layout.specs.declared.config.Config.{Config}
 use Rattle.bz_mark.specs.declared.marks.Mark.{Mark}
 use Rattle.bz_shape.specs.Walk.{is_among}
-use Rattle.bz_sound.specs.Memory.Spent.{is_taken, is_stored_into, is_reached_in, count_taken}
+use Rattle.bz_mark.specs.Counts.{is_taken, count_taken}
+use Rattle.bz_sound.specs.Memory.Spent.{is_stored_into, is_reached_in}
 use Rattle.bz_sound.specs.Power.Spent.{is_used, count_used}
-use Rattle.bz_sound.specs.Power.Times.{since_on, image_at_on}
-use Rattle.bz_sound.specs.declared.power.Power.TheVariants as power
+use Rattle.bz_mark.specs.Times.{since_on}
+use Rattle.bz_sound.specs.Power.Times.{image_at_on}
+use Rattle.bz_mark.specs.declared.power.Power.TheVariants as power
 use Rattle.bz_swap.specs.SwapMemory.{Idle, Swapping}
 use Rattle.bz_swap.specs.TakenStatuses.{IsTaken}
 use Rattle.bz_world.specs.Inside.Beginning.{world_view}

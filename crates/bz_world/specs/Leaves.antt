@@ -13,9 +13,9 @@ use Rattle.bz_slotted.specs.Records.{live_words}
 use Rattle.bz_sound.specs.Calls.{Open, open_call}
 use Rattle.bz_sound.specs.Memory.Moments.{EachMark, image_after, image_at}
 use Rattle.bz_sound.specs.Memory.Spent.{is_reached_in, leaf_page}
-use Rattle.bz_sound.specs.Power.Times.{power_of}
-use Rattle.bz_sound.specs.declared.power.Power.{Power}
-use Rattle.bz_sound.specs.declared.power.Power.TheVariants as power
+use Rattle.bz_mark.specs.Times.{power_of}
+use Rattle.bz_mark.specs.declared.power.Power.{Power}
+use Rattle.bz_mark.specs.declared.power.Power.TheVariants as power
 
 -- how many leaves the tree of the durable words has after these marks
 abbrev pub leaves_after : Config → List ℕ → List Mark → ℕ

@@ -14,7 +14,7 @@ use Rattle.bz_sound.specs.Lonely.{IsLonely}
 use Rattle.bz_sound.specs.Memory.Moments.{image_at}
 use Rattle.bz_sound.specs.Memory.Spent.{is_reached_in}
 use Rattle.bz_sound.specs.Power.Sound.{IsSound}
-use Rattle.bz_sound.specs.declared.power.Power.{Power}
+use Rattle.bz_mark.specs.declared.power.Power.{Power}
 use Rattle.bz_world.specs.Leaves.{AreLeavesKept, in_tree, leaves_after, live_at}
 
 -- at a moment of the call the leaf of its key was the one in this slot

@@ -14,9 +14,9 @@ use Rattle.bz_mark.specs.declared.marks.Mark.TheVariants.{End}
 use Rattle.bz_sound.specs.Calls.{Open, open_call}
 use Rattle.bz_sound.specs.Lonely.{IsLonely}
 use Rattle.bz_sound.specs.Memory.Moments.{EachMark, image_at}
-use Rattle.bz_sound.specs.Memory.Spent.{count_taken}
+use Rattle.bz_mark.specs.Counts.{count_taken}
 use Rattle.bz_sound.specs.Power.Spent.{count_used}
-use Rattle.bz_sound.specs.Power.Times.{since_on}
+use Rattle.bz_mark.specs.Times.{since_on}
 use Rattle.bz_world.specs.Leaves.{leaves_after}
 
 -- fewer slots are left than a merge takes, or fewer descriptors

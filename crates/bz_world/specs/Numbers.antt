@@ -1,7 +1,7 @@
 -- What the journal tells of the numbers of a memory: of the leaves of its tree, of its descriptors and slots, and of the acts of its recoveries.
 use Rattle.bz_layout.specs.declared.config.Config.{Config}
 use Rattle.bz_mark.specs.Log.{Log}
-use Rattle.bz_sound.specs.declared.power.Power.{Power}
+use Rattle.bz_mark.specs.declared.power.Power.{Power}
 use Rattle.bz_world.specs.Leaves.{AreLeavesKept}
 use Rattle.bz_world.specs.Merges.{AreMergesMade}
 use Rattle.bz_world.specs.Recoveries.{AreRecoveriesBrief}

@@ -3,10 +3,10 @@ use Rattle.std.specs.Prelude.{◌≡◌, ◌<◌, ℕ, List, ◌∷◌}
 use Rattle.bz_layout.specs.declared.config.Config.{Config}
 use Rattle.bz_mark.specs.declared.marks.Mark.{Mark}
 use Rattle.bz_sound.specs.Memory.Moments.{EachMark}
-use Rattle.bz_sound.specs.Power.Times.{power_of, since_on}
-use Rattle.bz_sound.specs.declared.power.Power.{Power}
-use Rattle.bz_sound.specs.declared.power.Power.TheVariants as power
-use Rattle.bz_story.specs.Reviving.{acts_by}
+use Rattle.bz_mark.specs.Times.{power_of, since_on}
+use Rattle.bz_mark.specs.declared.power.Power.{Power}
+use Rattle.bz_mark.specs.declared.power.Power.TheVariants as power
+use Rattle.bz_mark.specs.Counts.{acts_by}
 use Rattle.bz_world.specs.WorldView.{recovery_most}
 
 -- how many acts worker 0 has made since the power came on last

@@ -9,10 +9,10 @@ use Rattle.bz_mark.specs.declared.marks.Mark.TheVariants.{End}
 use Rattle.bz_sound.specs.Calls.{Open, open_call}
 use Rattle.bz_sound.specs.Lonely.{IsLonely}
 use Rattle.bz_sound.specs.Memory.Moments.{EachMark}
-use Rattle.bz_sound.specs.Memory.Spent.{count_taken}
+use Rattle.bz_mark.specs.Counts.{count_taken}
 use Rattle.bz_sound.specs.Power.Spent.{count_used}
-use Rattle.bz_sound.specs.Power.Times.{since_on}
-use Rattle.bz_sound.specs.declared.power.Power.TheVariants as power
+use Rattle.bz_mark.specs.Times.{since_on}
+use Rattle.bz_mark.specs.declared.power.Power.TheVariants as power
 use Rattle.bz_world.specs.Roomy.{HadRoom}
 use Rattle.bz_world.specs.WorldView.{WorldView, Supply, power_in, tells_only, TakesAsTold}
 

@@ -24,15 +24,16 @@ use Rattle.bz_mark.specs.Log.{Log, with_mark, count_begins, count_page_calls, co
 use Rattle.bz_mark.specs.declared.marks.Mark.{Mark}
 use Rattle.bz_mark.specs.declared.marks.Mark.TheVariants.{Begin, End, Load, Store, Cas, Flush, Evict, Cut, On, Ready, Effect}
 use Rattle.bz_recover.specs.Places.{MOST_ACTS}
-use Rattle.bz_sound.specs.declared.power.Power.{Power}
-use Rattle.bz_sound.specs.declared.power.Power.TheVariants as power
+use Rattle.bz_mark.specs.declared.power.Power.{Power}
+use Rattle.bz_mark.specs.declared.power.Power.TheVariants as power
 use Rattle.bz_sound.specs.Calls.{Open, open_call, begun_calls, map_after}
 use Rattle.bz_sound.specs.Lonely.{IsLonely, acts_since}
 use Rattle.bz_sound.specs.Memory.Moments.{map_at_start, image_after, image_at}
 use Rattle.bz_sound.specs.Memory.Spent.{NeedsSlots, is_reached_in}
-use Rattle.bz_sound.specs.Power.Times.{power_of, since_on, image_at_on}
+use Rattle.bz_mark.specs.Times.{power_of, since_on}
+use Rattle.bz_sound.specs.Power.Times.{image_at_on}
 use Rattle.bz_sound.specs.Replies.{Pages}
-use Rattle.bz_story.specs.Reviving.{acts_by}
+use Rattle.bz_mark.specs.Counts.{acts_by}
 use Rattle.bz_world.specs.Merges.{MergesFor}
 use Rattle.bz_world.specs.Roomy.{HadRoom, swaps_told}
 use Rattle.bz_world.specs.declared.answers.Applied.{Applied}

@@ -12,9 +12,8 @@ use crate::room::asks_little;
 use crate::serving::OpenCall;
 use bz_call::Call;
 use bz_layout::ROOT_STATUS_AT;
-use bz_mark::Mark;
+use bz_mark::{Mark, Power};
 use bz_running::AnyTask;
-use bz_sound::Power;
 
 // How many pages a call asks for.
 fn pages_asked(call: &Call) -> u32

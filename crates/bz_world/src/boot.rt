@@ -15,8 +15,8 @@ use crate::parts::Parts;
 use bz_content::CheckError;
 use bz_judge::check;
 use bz_layout::{Config, Slots};
+use bz_mark::Power;
 use bz_memory::Memory;
-use bz_sound::Power;
 use std::alloc::Global;
 
 // How many pairs an image holds that breaks no rule.

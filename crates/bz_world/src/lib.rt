@@ -29,5 +29,5 @@ mod told;
 mod world;
 
 pub use answers::{Applied, Begun, BootError, Event, LimitKind, OpenError};
-pub use bz_sound::Power;
+pub use bz_mark::Power;
 pub use world::World;

@@ -3,9 +3,8 @@ use crate::serving::OpenCall;
 use arrayvec::ArrayVec;
 use bz_key::PageBuf;
 use bz_layout::{Config, Slots};
-use bz_mark::Journal;
+use bz_mark::{Journal, Power};
 use bz_recover::Recover;
-use bz_sound::Power;
 use bz_swap::Access;
 
 /// The memory, the journal of what happened, and what each worker is doing.

@@ -1,6 +1,6 @@
 //! Power cuts, and power on.
 ghost use Rattle.std.specs.Prelude.{◌≡◌, ◌≤◌, ◌<◌, ◌+◌, ℕ, IsTrue, ◌↔◌, None, get_or, length, map};
-ghost use Rattle.bz_sound.specs.declared.power.Power.TheVariants as power;
+ghost use Rattle.bz_mark.specs.declared.power.Power.TheVariants as power;
 ghost use Rattle.bz_swap.specs.SwapMemory.{Working};
 ghost use Rattle.bz_world.specs.Inside.Beginning.{world_view};
 ghost use Rattle.bz_world.specs.Inside.Kept.{IsOff, IsStarted, IsKept};
@@ -13,9 +13,9 @@ use crate::parts::Parts;
 use crate::recovery::start_act;
 use crate::serving::OpenCall;
 use arrayvec::ArrayVec;
-use bz_mark::Mark;
+use bz_mark::{Mark, Power};
 use bz_recover::Recover;
-use bz_sound::{Power, power_laws as sound};
+use bz_sound::power_laws as sound;
 use bz_story::recovery_laws as story;
 use bz_swap::Access;
 use bz_task::Seen;

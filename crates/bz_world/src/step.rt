@@ -21,9 +21,8 @@ use crate::parts::Parts;
 use crate::recovery::{evict_recovering, step_recovering};
 use crate::settle::settle;
 use crate::tell::tell;
-use bz_mark::Mark;
+use bz_mark::{Mark, Power};
 use bz_sight::laws as sight;
-use bz_sound::Power;
 use bz_task::Todo;
 
 // A task asks for something, or has ended.

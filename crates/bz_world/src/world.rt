@@ -6,7 +6,7 @@ ghost use Rattle.bz_layout.specs.Config.{IsConfig};
 ghost use Rattle.bz_layout.specs.Fresh.{fresh_words};
 ghost use Rattle.bz_mark.specs.WordsAfter.{words_after_marks};
 ghost use Rattle.bz_sound.specs.Calls.{open_call};
-ghost use Rattle.bz_sound.specs.declared.power.Power.TheVariants.{Recovering, On};
+ghost use Rattle.bz_mark.specs.declared.power.Power.TheVariants.{Recovering, On};
 ghost use Rattle.bz_sound.specs.Power.Calls.{MayAct};
 ghost use Rattle.bz_sound.specs.Power.Sound.{IsSound};
 ghost use Rattle.bz_sound.specs.Power.Laws.{IsUnbroken};
@@ -19,8 +19,7 @@ use crate::replies::{number_of, reply_in};
 use crate::told::{apply_event, begin_call, boot_world, open_world, supply_is_shown};
 use bz_call::{Call, Reply};
 use bz_layout::Config;
-use bz_mark::Journal;
-use bz_sound::Power;
+use bz_mark::{Journal, Power};
 use std::alloc::Global;
 use std::marker::Model;
 

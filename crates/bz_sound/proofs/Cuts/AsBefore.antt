@@ -10,7 +10,7 @@ use Rattle.bz_call.specs.declared.replies.Spent.{Spent}
 use Rattle.bz_call.specs.declared.replies.Spent.TheVariants.{Nodes, Swaps, Height}
 use Rattle.bz_mark.specs.declared.marks.Mark.{Mark}
 use Rattle.bz_mark.specs.declared.marks.Mark.TheVariants.{Begin, End, Load, Store, Cas, Flush, Evict, Cut, On, Ready, Effect}
-use Rattle.bz_sound.specs.declared.power.Power.TheVariants as power
+use Rattle.bz_mark.specs.declared.power.Power.TheVariants as power
 use Rattle.bz_sound.specs.Calls.{Open, open_call}
 use Rattle.bz_sound.specs.Replies.{Pages}
 use Rattle.bz_sound.specs.Memory.Calls as unbroken
@@ -21,10 +21,12 @@ use Rattle.bz_sound.specs.Memory.Replies as unbroken_replies
 use Rattle.bz_sound.specs.Memory.Spent as unbroken_spent
 use Rattle.bz_sound.specs.Memory.Spent.{is_reached_in, is_stored_into}
 use Rattle.bz_sound.specs.Power.Calls.{MayAct, MayFollow, CallsOnce}
-use Rattle.bz_sound.specs.Power.Laws.{LeavesPower, IsUnbroken, SoundAsBefore}
+use Rattle.bz_mark.specs.Times.{LeavesPower}
+use Rattle.bz_sound.specs.Power.Laws.{IsUnbroken, SoundAsBefore}
 use Rattle.bz_sound.specs.Power.Replies.{RepliesAreRight}
 use Rattle.bz_sound.specs.Power.Spent.{count_used, IsSpent}
-use Rattle.bz_sound.specs.Power.Times.{power_of, since_on, image_at_on}
+use Rattle.bz_mark.specs.Times.{power_of, since_on}
+use Rattle.bz_sound.specs.Power.Times.{image_at_on}
 use Rattle.bz_sound.proofs.Memory.Standing.{unbroken-stand}
 use Rattle.bz_sound.proofs.Memory.Told.{last-call}
 

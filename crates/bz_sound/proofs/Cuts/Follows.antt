@@ -5,13 +5,13 @@ use Rattle.bz_mark.specs.Moments.{at_moment, mark_at}
 use Rattle.bz_mark.proofs.MomentLaws.{at_moment-next}
 use Rattle.bz_mark.specs.declared.marks.Mark.{Mark}
 use Rattle.bz_mark.specs.declared.marks.Mark.TheVariants.{Begin, End, Load, Store, Cas, Flush, Evict, Cut, On, Ready, Effect}
-use Rattle.bz_sound.specs.declared.power.Power.{Power}
-use Rattle.bz_sound.specs.declared.power.Power.TheVariants as power
+use Rattle.bz_mark.specs.declared.power.Power.{Power}
+use Rattle.bz_mark.specs.declared.power.Power.TheVariants as power
 use Rattle.bz_sound.specs.Calls.{Open, open_call}
 use Rattle.bz_sound.specs.Memory.Moments.{map_at_start}
 use Rattle.bz_sound.specs.Power.Calls.{MayAct, IsAfterRecovering, MayFollow, CallsOnce}
 use Rattle.bz_sound.specs.Power.Laws.{IsAfterCut, PowerTellsWhatFollows, PowerMarksStand}
-use Rattle.bz_sound.specs.Power.Times.{power_of}
+use Rattle.bz_mark.specs.Times.{power_of}
 use Rattle.bz_sound.proofs.Memory.Marks.{each-at, each-before}
 
 -- a call is open only with the power on

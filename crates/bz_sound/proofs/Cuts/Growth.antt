@@ -7,7 +7,7 @@ use Rattle.bz_mark.specs.Log.{Log, with_mark, count_page_ends}
 use Rattle.bz_mark.specs.WordsAfter.{words_after_marks, Found}
 use Rattle.bz_mark.specs.declared.marks.Mark.{Mark}
 use Rattle.bz_mark.specs.declared.marks.Mark.TheVariants.{Begin, End, Load, Store, Cas, Flush, Evict, Cut, On, Ready, Effect}
-use Rattle.bz_sound.specs.declared.power.Power.{Power}
+use Rattle.bz_mark.specs.declared.power.Power.{Power}
 use Rattle.bz_sound.specs.Memory.Moments.{map_at_start, Decodes}
 use Rattle.bz_sound.specs.Power.Calls.{MayFollow}
 use Rattle.bz_sound.specs.Power.Growth.{FreshJournalsAreSound, QuietActsFollow, FlushesFollow, EffectsFollowActs, BeginsFollow, EndsFollow, PageEndsFollow, LoadsAreSettled}

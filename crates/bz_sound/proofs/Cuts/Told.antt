@@ -3,12 +3,12 @@ use Rattle.bz_call.specs.declared.replies.Reply.TheVariants.{Full}
 use Rattle.bz_mark.specs.Moments.{at_moment}
 use Rattle.bz_mark.specs.declared.marks.Mark.TheVariants.{Load, Store, Cas, Flush}
 use Rattle.bz_sound.specs.Memory.Moments.{map_at_start}
-use Rattle.bz_sound.specs.Memory.Spent.{is_taken}
+use Rattle.bz_mark.specs.Counts.{is_taken}
 use Rattle.bz_sound.specs.Power.Calls.{MayFollow}
 use Rattle.bz_sound.specs.Power.CallLaws.{OpenCallsAreLast, OpenCallsLeaveRoom, ActsAreAllowed, EffectsComeDirectly, EffectsStandOnce, EndsLieWithinTheirCalls, ToldChangesTookEffect, FullHasACause}
 use Rattle.bz_sound.specs.Power.ImageLaws.{AnswersComeFromTheImage, PagesComeFromTheImage, ChangesFollow, SameContentDecodes, EffectsAnswer, SpentAnswersFull, HeldSwapsAreSpent, HeldSlotsAreSpent}
 use Rattle.bz_sound.specs.Power.Spent.{is_used, IsSpent}
-use Rattle.bz_sound.specs.Power.Times.{since_on}
+use Rattle.bz_mark.specs.Times.{since_on}
 use Rattle.bz_sound.proofs.Cuts.Growth.{decodes-now, loads-settled}
 use Rattle.bz_sound.proofs.Memory.Acknowledged.{told-took}
 use Rattle.bz_sound.proofs.Memory.Changed.{change-decodes, content-decodes}

@@ -11,7 +11,7 @@ use Rattle.bz_call.specs.declared.calls.Call.TheVariants.{Insert, Get}
 use Rattle.bz_call.specs.declared.replies.Reply.TheVariants.{Value}
 use Rattle.bz_mark.specs.declared.marks.Mark.TheVariants.{Begin, End, Load, Store, Flush, Evict, Cut, On, Ready}
 use Rattle.bz_mark.proofs.WordLaws.{found-read, read-found}
-use Rattle.bz_sound.specs.declared.power.Power.TheVariants as power
+use Rattle.bz_mark.specs.declared.power.Power.TheVariants as power
 use Rattle.bz_sound.specs.Calls.{Open, map_after}
 use Rattle.bz_sound.specs.Memory.Example.{a_key}
 use Rattle.bz_sound.specs.Memory.ImageLaws.{ChangesKey, EffectFollows}

@@ -7,7 +7,8 @@ use Rattle.bz_layout.specs.declared.config.Config.{Config}
 use Rattle.bz_mark.specs.declared.marks.Mark.{Mark}
 use Rattle.bz_sound.specs.Calls.{open_call}
 use Rattle.bz_sound.specs.Memory.ImageLaws.{IsOther, AreHeldBy, HeldSwapsAreSpent}
-use Rattle.bz_sound.specs.Memory.Spent.{is_taken, count_others}
+use Rattle.bz_mark.specs.Counts.{is_taken}
+use Rattle.bz_sound.specs.Memory.Spent.{count_others}
 use Rattle.bz_sound.proofs.Memory.Counts.{passing-count, all-passing, Lands, IsApartInto, no-fewer}
 
 turned : (b : Bool) → not b ≡ true → b ≡ false

@@ -10,7 +10,8 @@ use Rattle.bz_sound.specs.Memory.History.{Happening, Happens, AreSteps, OneHisto
 use Rattle.bz_sound.specs.Memory.Moments.{map_at_start}
 use Rattle.bz_sound.specs.Memory.Spent.{IsSpent}
 use Rattle.bz_sound.specs.Power.History as powered
-use Rattle.bz_sound.specs.Power.Laws.{LeavesPower, IsUnbroken}
+use Rattle.bz_mark.specs.Times.{LeavesPower}
+use Rattle.bz_sound.specs.Power.Laws.{IsUnbroken}
 use Rattle.bz_sound.proofs.Cuts.AsBefore.{unbroken-once}
 use Rattle.bz_sound.proofs.Cuts.Left.{pending-now, open-now}
 use Rattle.bz_sound.proofs.Cuts.OneHistory.{one-history}

@@ -6,7 +6,7 @@ use Rattle.bz_call.specs.declared.replies.Spent.{Spent}
 use Rattle.bz_mark.specs.Log.{Log}
 use Rattle.bz_mark.specs.declared.marks.Mark.{Mark}
 use Rattle.bz_mark.specs.declared.marks.Mark.TheVariants.{Begin, End, Effect}
-use Rattle.bz_sound.specs.declared.power.Power.{Power}
+use Rattle.bz_mark.specs.declared.power.Power.{Power}
 use Rattle.bz_sound.specs.Calls.{Open, MayBegin, MayEnd, MayEffect}
 use Rattle.bz_sound.specs.Memory.Calls as unbroken
 use Rattle.bz_sound.specs.Memory.Moments.{map_at_start, IsAfterFlush, EachMark}

@@ -21,7 +21,8 @@ use Rattle.bz_mark.specs.declared.marks.Mark.TheVariants.{Effect}
 use Rattle.bz_sound.specs.Calls.{Open, open_call, map_after, map_at}
 use Rattle.bz_sound.specs.Memory.Moments.{image_after, image_at, map_at_start, Decodes, IsAfterLoad, IsAfterFlush}
 use Rattle.bz_sound.specs.Memory.Calls.{HasOpenCall, MayFollow}
-use Rattle.bz_sound.specs.Memory.Spent.{is_taken, is_used, count_used, LacksSlots, IsSpent}
+use Rattle.bz_mark.specs.Counts.{is_taken}
+use Rattle.bz_sound.specs.Memory.Spent.{is_used, count_used, LacksSlots, IsSpent}
 use Rattle.bz_sound.specs.Memory.Replies.{IsWrite, IsRightReply, IsRightReplyBy, is_within}
 use Rattle.bz_sound.specs.Memory.Sound.{IsSound}
 

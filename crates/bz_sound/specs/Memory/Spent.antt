@@ -18,6 +18,7 @@ use Rattle.bz_content.specs.Resolving.{resolve}
 use Rattle.bz_call.specs.Map.{key_of}
 use Rattle.bz_call.specs.declared.replies.Spent.{Spent}
 use Rattle.bz_call.specs.declared.replies.Spent.TheVariants.{Nodes, Swaps, Height}
+use Rattle.bz_mark.specs.Counts.{count_taken}
 use Rattle.bz_mark.specs.declared.marks.Mark.{Mark}
 use Rattle.bz_mark.specs.declared.marks.Mark.TheVariants.{Store}
 use Rattle.bz_sound.specs.Calls.{Open, open_call}
@@ -81,20 +82,6 @@ is_used c start past slot = is_reached_at_start c start slot || is_stored_into c
 
 abbrev pub count_used : Config → List ℕ → List Mark → ℕ
 count_used c start past = count_by (λ slot. is_used c start past slot) (range_with_len 0 c.nodes)
-
--- the status of a swap that has begun
-abbrev pub BEGUN : ℕ
-BEGUN = 1
-
--- a worker, not that of recovery, has begun a swap in a descriptor
-abbrev pub is_taken : ℕ → List Mark → Bool
-is_taken swap [] = false
-is_taken swap (Store w a v ∷ past) = (not (w == 0) && (a == swap_address swap + SWAP_STATUS_AT && v == BEGUN)) || is_taken swap past
-is_taken swap (mark ∷ past) = is_taken swap past
-
--- how many descriptors are taken
-abbrev pub count_taken : Config → List Mark → ℕ
-count_taken c past = count_by (λ swap. is_taken swap past) (range_with_len 0 c.swaps)
 
 -- how many workers have an open call beside this one
 abbrev pub count_others : Config → ℕ → List Mark → ℕ

@@ -8,7 +8,7 @@ use Rattle.bz_mark.specs.Log.{Log}
 use Rattle.bz_mark.specs.Moments.{at_moment, mark_at}
 use Rattle.bz_mark.specs.declared.marks.Mark.{Mark}
 use Rattle.bz_mark.specs.declared.marks.Mark.TheVariants.{End, Load, Store, Cas, Flush, Effect}
-use Rattle.bz_sound.specs.declared.power.Power.{Power}
+use Rattle.bz_mark.specs.declared.power.Power.{Power}
 use Rattle.bz_sound.specs.Calls.{Open, open_call}
 use Rattle.bz_sound.specs.Memory.CallLaws.{IsLastCall, LiesWithin, TellsAChange}
 use Rattle.bz_sound.specs.Memory.Moments.{IsAfterFlush}

@@ -4,12 +4,12 @@ use Rattle.std.specs.Prelude.{◌≡◌, ◌≢◌, ◌≤◌, ℕ, zero, suc, L
 use Rattle.bz_call.specs.Map.{Map}
 use Rattle.bz_mark.specs.declared.marks.Mark.{Mark}
 use Rattle.bz_mark.specs.declared.marks.Mark.TheVariants.{Begin, End, Load, Store, Cas, Flush, Evict, Cut, On, Ready, Effect}
-use Rattle.bz_sound.specs.declared.power.Power.{Power}
-use Rattle.bz_sound.specs.declared.power.Power.TheVariants as power
+use Rattle.bz_mark.specs.declared.power.Power.{Power}
+use Rattle.bz_mark.specs.declared.power.Power.TheVariants as power
 use Rattle.bz_sound.specs.Calls.{MayBegin, MayEnd, MayEffect}
 use Rattle.bz_sound.specs.Memory.Calls.{HasOpenCall}
 use Rattle.bz_sound.specs.Memory.Moments.{IsAfterFlush, EachMark}
-use Rattle.bz_sound.specs.Power.Times.{power_of}
+use Rattle.bz_mark.specs.Times.{power_of}
 
 -- worker 0 acts while the power is recovering, and any other worker while it has an open call
 abbrev pub MayAct : Power → List Mark → ℕ → Type 0

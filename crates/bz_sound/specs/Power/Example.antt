@@ -11,16 +11,18 @@ use Rattle.bz_call.specs.declared.replies.Reply.TheVariants.{Inserted, Value}
 use Rattle.bz_mark.specs.Log.{Log}
 use Rattle.bz_mark.specs.declared.marks.Mark.{Mark}
 use Rattle.bz_mark.specs.declared.marks.Mark.TheVariants.{Begin, End, Load, Store, Flush, Evict, Cut, On, Ready, Effect}
-use Rattle.bz_sound.specs.declared.power.Power.{Power}
-use Rattle.bz_sound.specs.declared.power.Power.TheVariants as power
+use Rattle.bz_mark.specs.declared.power.Power.{Power}
+use Rattle.bz_mark.specs.declared.power.Power.TheVariants as power
 use Rattle.bz_sound.specs.Calls.{map_after}
 use Rattle.bz_sound.specs.Memory.Example.{a_key}
 use Rattle.bz_sound.specs.Memory.History.{Happening}
 use Rattle.bz_sound.specs.Memory.Moments.{map_at_start, image_after}
-use Rattle.bz_sound.specs.Memory.Spent.{is_taken, is_stored_into}
+use Rattle.bz_mark.specs.Counts.{is_taken}
+use Rattle.bz_sound.specs.Memory.Spent.{is_stored_into}
 use Rattle.bz_sound.specs.Power.History.{Happens}
 use Rattle.bz_sound.specs.Power.Sound.{IsSound}
-use Rattle.bz_sound.specs.Power.Times.{power_of, since_on, image_at_on}
+use Rattle.bz_mark.specs.Times.{power_of, since_on}
+use Rattle.bz_sound.specs.Power.Times.{image_at_on}
 
 -- the first words of an image
 unfoldable pub words_below : (ℕ → ℕ) → ℕ → List ℕ

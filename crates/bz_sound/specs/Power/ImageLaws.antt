@@ -10,16 +10,17 @@ use Rattle.bz_call.specs.declared.replies.Spent.{Spent}
 use Rattle.bz_call.specs.declared.replies.Spent.TheVariants.{Swaps}
 use Rattle.bz_mark.specs.Log.{Log}
 use Rattle.bz_mark.specs.declared.marks.Mark.{Mark}
-use Rattle.bz_sound.specs.declared.power.Power.{Power}
+use Rattle.bz_mark.specs.declared.power.Power.{Power}
 use Rattle.bz_sound.specs.Calls.{Open, open_call, map_at}
 use Rattle.bz_sound.specs.Memory.ImageLaws.{ReadsAt, ImageAnswersBy, IsImagePage, ChangesKey, IsChangeOf, EffectFollows, AreHeldBy, AreOthersHeld}
 use Rattle.bz_sound.specs.Memory.Moments.{image_after, image_at, map_at_start, Decodes, IsAfterFlush}
 use Rattle.bz_sound.specs.Memory.Replies.{IsWrite}
-use Rattle.bz_sound.specs.Memory.Spent.{is_taken, LacksSlots}
+use Rattle.bz_mark.specs.Counts.{is_taken}
+use Rattle.bz_sound.specs.Memory.Spent.{LacksSlots}
 use Rattle.bz_sound.specs.Power.Replies.{IsRightReply}
 use Rattle.bz_sound.specs.Power.Sound.{IsSound}
 use Rattle.bz_sound.specs.Power.Spent.{is_used, count_used, IsSpent}
-use Rattle.bz_sound.specs.Power.Times.{since_on}
+use Rattle.bz_mark.specs.Times.{since_on}
 
 -- what the image has directly after a load answers a call
 abbrev pub AnswersComeFromTheImage : Type 0

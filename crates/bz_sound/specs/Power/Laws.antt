@@ -7,21 +7,14 @@ use Rattle.bz_mark.specs.Log.{Log, with_mark}
 use Rattle.bz_mark.specs.Moments.{at_moment, mark_at}
 use Rattle.bz_mark.specs.declared.marks.Mark.{Mark}
 use Rattle.bz_mark.specs.declared.marks.Mark.TheVariants.{Begin, Cut, On, Ready}
-use Rattle.bz_sound.specs.declared.power.Power.{Power}
-use Rattle.bz_sound.specs.declared.power.Power.TheVariants as power
+use Rattle.bz_mark.specs.declared.power.Power.{Power}
+use Rattle.bz_mark.specs.declared.power.Power.TheVariants as power
 use Rattle.bz_sound.specs.Calls.{Open, open_call}
 use Rattle.bz_sound.specs.Memory.Moments.{EachMark}
 use Rattle.bz_sound.specs.Memory.Sound as unbroken
 use Rattle.bz_sound.specs.Power.Calls.{IsAfterRecovering, MayFollow, CallsOnce}
 use Rattle.bz_sound.specs.Power.Sound.{IsSound}
-use Rattle.bz_sound.specs.Power.Times.{power_of}
-
--- the mark is no Cut, On or Ready
-abbrev pub LeavesPower : List Mark → Mark → Type 0
-LeavesPower past Cut = ⊥
-LeavesPower past On = ⊥
-LeavesPower past Ready = ⊥
-LeavesPower past mark = Unit {0}
+use Rattle.bz_mark.specs.Times.{LeavesPower, power_of}
 
 -- the power neither fails nor comes on
 abbrev pub IsUnbroken : List Mark → Type 0

@@ -5,7 +5,7 @@ use Rattle.bz_layout.specs.declared.config.Config.{Config}
 use Rattle.bz_mark.specs.Log.{Log, count_page_ends}
 use Rattle.bz_mark.specs.Moments.{AtEachMoment}
 use Rattle.bz_mark.specs.WordsAfter.{IsTruthful}
-use Rattle.bz_sound.specs.declared.power.Power.{Power}
+use Rattle.bz_mark.specs.declared.power.Power.{Power}
 use Rattle.bz_sound.specs.Memory.Moments.{map_at_start, Decodes}
 use Rattle.bz_sound.specs.Power.Calls.{CallsOnce}
 use Rattle.bz_sound.specs.Power.Replies.{RepliesAreRight}

@@ -7,8 +7,10 @@ use Rattle.bz_call.specs.declared.replies.Spent.{Spent}
 use Rattle.bz_call.specs.declared.replies.Spent.TheVariants.{Nodes, Swaps, Height}
 use Rattle.bz_mark.specs.declared.marks.Mark.{Mark}
 use Rattle.bz_sound.specs.Calls.{Open}
-use Rattle.bz_sound.specs.Memory.Spent.{NodesAreSpent, IsTooHigh, is_reached_in, is_stored_into, count_taken, count_others}
-use Rattle.bz_sound.specs.Power.Times.{since_on, image_at_on}
+use Rattle.bz_mark.specs.Counts.{count_taken}
+use Rattle.bz_sound.specs.Memory.Spent.{NodesAreSpent, IsTooHigh, is_reached_in, is_stored_into, count_others}
+use Rattle.bz_mark.specs.Times.{since_on}
+use Rattle.bz_sound.specs.Power.Times.{image_at_on}
 
 -- a slot is used: reached in the durable words at the last On, or stored into since
 abbrev pub is_used : Config → List ℕ → List Mark → ℕ → Bool

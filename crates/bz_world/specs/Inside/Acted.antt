@@ -15,7 +15,7 @@ use Rattle.bz_running.specs.Duties.{asks_of, needs_of, publishing_of, facts_of}
 use Rattle.bz_sight.specs.Effects.{TakesPlace}
 use Rattle.bz_sound.specs.Calls.{Open}
 use Rattle.bz_sound.specs.Memory.Moments.{IsAfterFlush, map_at_start}
-use Rattle.bz_sound.specs.declared.power.Power.TheVariants as power
+use Rattle.bz_mark.specs.declared.power.Power.TheVariants as power
 use Rattle.bz_sound.specs.Power.Calls.{MayFollow}
 use Rattle.bz_sound.specs.Power.Sound.{IsSound}
 use Rattle.bz_sound.specs.Power.Times.{image_at_on}

@@ -11,12 +11,14 @@ use Rattle.bz_mark.specs.WordsAfter.{words_after_marks}
 use Rattle.bz_mark.specs.declared.marks.Mark.{Mark}
 use Rattle.bz_sound.specs.Calls.{open_call, begun_calls, map_after}
 use Rattle.bz_sound.specs.Memory.Moments.{map_at_start}
-use Rattle.bz_sound.specs.declared.power.Power.{Power}
-use Rattle.bz_sound.specs.declared.power.Power.TheVariants as power
+use Rattle.bz_mark.specs.declared.power.Power.{Power}
+use Rattle.bz_mark.specs.declared.power.Power.TheVariants as power
 use Rattle.bz_sound.specs.Power.Sound.{IsSound}
 use Rattle.bz_shape.specs.Walk.{is_among}
-use Rattle.bz_sound.specs.Memory.Spent.{is_taken, is_reached_in, is_stored_into}
-use Rattle.bz_sound.specs.Power.Times.{power_of, since_on, image_at_on}
+use Rattle.bz_mark.specs.Counts.{is_taken}
+use Rattle.bz_sound.specs.Memory.Spent.{is_reached_in, is_stored_into}
+use Rattle.bz_mark.specs.Times.{power_of, since_on}
+use Rattle.bz_sound.specs.Power.Times.{image_at_on}
 use Rattle.bz_story.specs.Living.{IsLiving}
 use Rattle.bz_story.specs.Recovering as recovery
 use Rattle.bz_story.specs.Reviving as reviving

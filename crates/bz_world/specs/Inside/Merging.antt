@@ -16,9 +16,9 @@ use Rattle.bz_running.specs.Kinds as kinds
 use Rattle.bz_running.specs.Kinds.{Kind, kind_of}
 use Rattle.bz_sound.specs.Calls.{Open}
 use Rattle.bz_sound.specs.Lonely.{IsLonely}
-use Rattle.bz_sound.specs.Memory.Spent.{count_taken}
+use Rattle.bz_mark.specs.Counts.{count_taken}
 use Rattle.bz_sound.specs.Power.Spent.{count_used}
-use Rattle.bz_sound.specs.Power.Times.{since_on}
+use Rattle.bz_mark.specs.Times.{since_on}
 use Rattle.bz_task.specs.Scene.{Past}
 use Rattle.bz_task.specs.declared.path.Path.{Path}
 use Rattle.bz_task.specs.declared.todo.Outcome.{Outcome}

@@ -5,7 +5,7 @@ use Rattle.bz_layout.specs.Config.{IsConfig}
 use Rattle.bz_layout.specs.Slots.{FreeSlots, all_free, without}
 use Rattle.bz_layout.specs.declared.config.Config.{Config}
 use Rattle.bz_sound.specs.Memory.Moments.{map_at_start}
-use Rattle.bz_sound.specs.declared.power.Power.{Power}
+use Rattle.bz_mark.specs.declared.power.Power.{Power}
 use Rattle.bz_swap.specs.Held.{Holds}
 use Rattle.bz_swap.specs.Power.{IsOpened}
 use Rattle.bz_world.specs.Inside.Paid.{begun_with}

@@ -5,7 +5,7 @@ use Rattle.bz_machine.specs.declared.done.Done.{Done}
 use Rattle.bz_mark.specs.Log.{with_mark}
 use Rattle.bz_mark.specs.declared.marks.Mark.TheVariants.{Cut, Ready}
 use Rattle.bz_recover.specs.Duties.{asks_of}
-use Rattle.bz_sound.specs.declared.power.Power.TheVariants as power
+use Rattle.bz_mark.specs.declared.power.Power.TheVariants as power
 use Rattle.bz_sound.specs.Power.Calls.{IsAfterRecovering}
 use Rattle.bz_story.specs.Recovering.{Asked}
 use Rattle.bz_swap.specs.Power.{after_cut, renewed}

@@ -1,5 +1,5 @@
 use Rattle.std.proofs.Common.{◌≡◌, rules}
-use Rattle.bz_sound.specs.declared.power.Power.TheVariants as power
+use Rattle.bz_mark.specs.declared.power.Power.TheVariants as power
 use Rattle.bz_world.specs.WorldView.{power_in}
 use Rattle.bz_sched.proofs.FewLemmas.{few_none, few_more, few_stops, few_done}
 use Rattle.bz_sched.proofs.RecoveryLemmas.{waking_none, waking_more, waking_stops, waking_done}

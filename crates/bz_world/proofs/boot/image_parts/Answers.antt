@@ -1,5 +1,5 @@
 use Rattle.std.proofs.Common.{◌∙◌}
-use Rattle.bz_sound.specs.declared.power.Power.TheVariants as power
+use Rattle.bz_mark.specs.declared.power.Power.TheVariants as power
 use Rattle.bz_world.proofs.Booting.{kept-image}
 use Rattle.bz_world.proofs.Openings.{lab-made}
 use Rattle.bz_world.proofs.boot.image_parts.Goals as goal

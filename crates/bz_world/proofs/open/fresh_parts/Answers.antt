@@ -3,7 +3,7 @@ use Rattle.std.specs.FinMap.{len}
 use Rattle.bz_sound.specs.Memory.Moments.{map_at_start}
 use Rattle.bz_layout.specs.Slots.{FreeSlots, without}
 use Rattle.bz_layout.specs.declared.config.Config.{Config}
-use Rattle.bz_sound.specs.declared.power.Power.TheVariants as power
+use Rattle.bz_mark.specs.declared.power.Power.TheVariants as power
 use Rattle.bz_world.specs.WorldView.{view_over}
 use Rattle.bz_world.proofs.FreshSlots.{count-fresh}
 use Rattle.bz_world.proofs.Openings.{kept-fresh, lab-made, no-pairs}

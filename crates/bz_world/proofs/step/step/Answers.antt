@@ -1,6 +1,6 @@
 use Rattle.std.proofs.Common.{◌-◌, ◌≤◌, length, arith, refl, ap, ◌∙◌}
 use Rattle.bz_mark.specs.Log.{Limits}
-use Rattle.bz_sound.specs.declared.power.Power.TheVariants as power
+use Rattle.bz_mark.specs.declared.power.Power.TheVariants as power
 use Rattle.bz_world.specs.Inside.Beginning.{world_view}
 use Rattle.bz_world.specs.declared.answers.Applied.TheVariants as applied
 use Rattle.bz_world.proofs.Powered.{awake-in, started-in, kept-awake}

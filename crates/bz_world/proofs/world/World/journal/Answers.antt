@@ -1,6 +1,6 @@
 use Rattle.std.proofs.Common.{◌≡◌, ◌<◌, subst}
-use Rattle.bz_sound.specs.declared.power.Power.{Power}
-use Rattle.bz_sound.specs.declared.power.Power.TheVariants.{Recovering, On}
+use Rattle.bz_mark.specs.declared.power.Power.{Power}
+use Rattle.bz_mark.specs.declared.power.Power.TheVariants.{Recovering, On}
 use Rattle.bz_sound.specs.Memory.Sound as before
 use Rattle.bz_sound.specs.Power.Laws.{IsUnbroken}
 use Rattle.bz_sound.specs.Power.Sound.{IsSound}
