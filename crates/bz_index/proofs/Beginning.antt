@@ -3,9 +3,11 @@ use Rattle.std.proofs.Common.{◌≡◌, ℕ, ◌<◌, ◌≤◌, ◌⊎◌, inl
 use Rattle.std.specs.Prelude.{if◌then◌else◌, nat_le}
 use borrow.Author.Tests.{eqb-false}
 use Rattle.bz_bus.specs.Entries.{Extends, entries_of}
+use Rattle.bz_bus.specs.declared.TheConstants.{PASSES}
 use Rattle.bz_call.specs.declared.calls.Call.{Call}
 use Rattle.bz_index.proofs.Begins.{BeginTells, begin_tells}
 use Rattle.bz_index.proofs.Lists.{marks-told, length-told, log-told}
+use Rattle.bz_index.proofs.OpenCalls.{begins_own}
 use Rattle.bz_index.proofs.Rests.{rest_stays}
 use Rattle.bz_index.proofs.Runs.{own_more}
 use Rattle.bz_index.specs.Calls.{begin_entry}
@@ -28,7 +30,7 @@ use Rattle.bz_world.specs.declared.answers.Begun.{Begun}
 use Rattle.bz_world.specs.declared.answers.Begun.TheVariants as begun
 use Rattle.bz_world.specs.declared.answers.LimitKind.TheVariants as which
 
-module _ (origin : Origin) (w : ℕ) (call : Call) (first : List IndexEntry) where
+module _ (origin : Origin) (w : ℕ) (below : w < PASSES) (call : Call) (first : List IndexEntry) where
   own_begin : (b : Bool) (new rest : Option Open) → (w == w) ≡ b → (if b then new else rest) ≡ new
   own_begin true new rest is = refl
   own_begin false new rest is = absurd (eqb-false w w is refl)
@@ -41,7 +43,7 @@ module _ (origin : Origin) (w : ℕ) (call : Call) (first : List IndexEntry) whe
       found = entries_in log;
       is = refl;
       extends = extends;
-      own = own_more w (begin_entry w n call) (entries_in log) refl ∙ ap (λ (l : List IndexEntry). begin_entry w n call ∷ l) own;
+      own = own_more w (begin_entry w n call) (entries_in log) (begins_own w below) ∙ ap (λ (l : List IndexEntry). begin_entry w n call ∷ l) own;
     };
     none = refl;
     state = inl (record {
@@ -78,7 +80,7 @@ module _ (origin : Origin) (w : ℕ) (call : Call) (first : List IndexEntry) whe
       let is : IsWorldOf origin (entries_in lab.log) lab = record { stays = turn.before.stays; told = refl; sound = turn.before.sound } in
       let extends_it : Extends first (entries_in lab.log) = subst (Extends first) (sym told) extends in
       let own_it : entries_of owner_of w (entries_in lab.log) ≡ entries_of owner_of w first = ap (entries_of owner_of w) told ∙ own in
-      let rests : IsAtRest origin (entries_in lab.log) w = rest_stays origin w first (entries_in lab.log) extends_it own_it at_rest in
+      let rests : IsAtRest origin (entries_in lab.log) w = rest_stays origin w first (entries_in lab.log) below extends_it own_it at_rest in
       let log : log_of origin (entries_in lab.log) ≡ lab.log = log-told origin (entries_in lab.log) lab is in
       let config : lab.config ≡ origin.config = ap (λ (o : Origin). o.config) turn.before.stays in
       let rests_it : (open_call w lab.log.past ≡ None) ⊎ (is_short lab.log ≡ true) = subst (λ (l : Log). (open_call w l.past ≡ None) ⊎ (is_short l ≡ true)) log rests in

@@ -1,8 +1,10 @@
 -- What a begin answers, and what it leaves.
 use Rattle.std.proofs.Common.{◌≡◌, ℕ, ◌+◌, ◌<◌, ◌≤◌, ◌⊎◌, inl, ⊎_elim, Bool, true, false, refl, arith, ◌==◌, eqb-true, ltb-true, Option, Some, None}
 use Rattle.std.specs.Prelude.{if◌then◌else◌, is_some, nat_le, nat_lt, ◌||◌}
+use Rattle.bz_bus.specs.declared.TheConstants.{PASSES}
 use Rattle.bz_call.specs.declared.calls.Call.{Call}
 use Rattle.bz_index.proofs.Leaves.{Leaves, leaves-same, leaves-mark}
+use Rattle.bz_index.proofs.OpenCalls.{begins_own}
 use Rattle.bz_mark.specs.Log.{count_begins}
 use Rattle.bz_mark.specs.declared.marks.Mark.TheVariants.{Begin}
 use Rattle.bz_sound.specs.Calls.{Open, open_call, begun_calls}
@@ -67,6 +69,6 @@ module _ (lab : WorldView) (w : ℕ) (called : Call) where
   begin_tells some within rests = by_worker ((w == 0) || nat_lt lab.config.workers w) refl some within rests
 
   -- a begin adds its mark or nothing
-  pub leaves-begun : (answer : Begun) → Leaves w lab.log (after_begin lab w called answer).log
-  leaves-begun (begun.Begun n) = leaves-mark w (Begin w n called) lab.log refl (inl refl)
-  leaves-begun answer = leaves-same w lab.log lab.log refl
+  pub leaves-begun : w < PASSES → (answer : Begun) → Leaves w lab.log (after_begin lab w called answer).log
+  leaves-begun below (begun.Begun n) = leaves-mark w (Begin w n called) lab.log refl (inl (begins_own w below))
+  leaves-begun below answer = leaves-same w lab.log lab.log refl

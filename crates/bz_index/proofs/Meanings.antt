@@ -1,15 +1,16 @@
 -- The End of an answered call in the list that its pass has seen.
-use Rattle.std.proofs.Common.{◌≡◌, ◌≢◌, ℕ, ◌+◌, Bool, true, false, List, [], ◌∷◌, ◌++◌, length, length-append, append_assoc, reverse, refl, sym, ap, ◌∙◌, subst, arith, ◌==◌, Option, Some, None}
+use Rattle.std.proofs.Common.{◌≡◌, ◌≢◌, ◌<◌, ℕ, ◌+◌, Bool, true, false, List, [], ◌∷◌, ◌++◌, length, length-append, append_assoc, reverse, refl, sym, ap, ◌∙◌, subst, arith, ◌==◌, eqb-true, Option, Some, None}
 use Rattle.std.specs.Prelude.{if◌then◌else◌, option_map, slice_get}
 use Rattle.std.proofs.lemmas.List.{reverse-append, length-reverse}
 use Rattle.std.proofs.lemmas.Option.{slice_get-get_or}
 use Rattle.std.proofs.Math.Seq.{get_or-append_seam}
 use borrow.Author.Tests.{eqb-false}
 use Rattle.bz_bus.specs.Entries.{entries_of}
+use Rattle.bz_bus.specs.declared.TheConstants.{PASSES}
 use Rattle.bz_call.specs.Pages.{names_page}
 use Rattle.bz_call.specs.declared.calls.Call.{Call}
 use Rattle.bz_call.specs.declared.replies.Reply.{Reply}
-use Rattle.bz_index.proofs.OpenCalls.{skip_begin}
+use Rattle.bz_index.proofs.OpenCalls.{begins_other, owns_below, skip_begin}
 use Rattle.bz_index.proofs.Runs.{some_and}
 use Rattle.bz_index.specs.Calls.{begin_entry}
 use Rattle.bz_index.specs.Entries.{has_page, maker_of, owner_of, marks_in, pages_in, log_of}
@@ -45,6 +46,15 @@ stands : (w : ℕ) (entry : IndexEntry) (own now : List IndexEntry) → entries_
 stands w entry own [] is = absurd cc
 stands w entry own (x ∷ xs) is = stands_by (owner_of x == w) w entry own x xs is (stands w entry own xs)
 
+-- it is the owner's
+head_owned : (w : ℕ) (entry : IndexEntry) (own now : List IndexEntry) → entries_of owner_of w now ≡ entry ∷ own → owner_of entry ≡ w
+head_owned w entry own [] is = absurd cc
+head_owned w entry own (x ∷ xs) is = by (owner_of x == w) refl is (head_owned w entry own xs)
+  where
+    by : (b : Bool) → (owner_of x == w) ≡ b → (if b then x ∷ entries_of owner_of w xs else entries_of owner_of w xs) ≡ entry ∷ own → (entries_of owner_of w xs ≡ entry ∷ own → owner_of entry ≡ w) → owner_of entry ≡ w
+    by true mine is later = let head : x ≡ entry = cc in ap owner_of (sym head) ∙ eqb-true (owner_of x) w mine
+    by false mine is later = later is
+
 -- what holds of each mark holds of this one
 each_of : (P : List Mark → Mark → Type 0) (later : List IndexEntry) (entry : IndexEntry) (before : List IndexEntry) → EachMark P (marks_in (later ++ entry ∷ before)) → P (marks_in before) entry.mark
 each_of P [] entry before each = each.0
@@ -56,18 +66,18 @@ effect_older true moment (Some o) opened is = (let same : with_effect moment o �
 effect_older false moment rest opened is = (opened, is, refl)
 
 -- a call that is open after another's mark was open before
-older : (w : ℕ) (mark : Mark) (past : List Mark) (opened : Open) → maker_of mark ≢ w → open_call w (mark ∷ past) ≡ Some opened → (o : Open) × (open_call w past ≡ Some o) × (o.call ≡ opened.call)
-older w (Begin v k call) past opened ne is = (opened, sym (skip_begin (v == w) w v _ (open_call w past) refl ne) ∙ is, refl)
-older w (End v k reply at) past opened ne is = (opened, sym (skip_begin (v == w) w v None (open_call w past) refl ne) ∙ is, refl)
-older w (Effect v k) past opened ne is = effect_older (v == w) (length past) (open_call w past) opened is
-older w Cut past opened ne is = absurd cc
-older w mark past opened ne is = (opened, is, refl)
+older : (w : ℕ) (mark : Mark) (past : List Mark) (opened : Open) → w < PASSES → maker_of mark ≢ w → open_call w (mark ∷ past) ≡ Some opened → (o : Open) × (open_call w past ≡ Some o) × (o.call ≡ opened.call)
+older w (Begin v k call) past opened below ne is = (opened, sym (skip_begin (v == w) w v _ (open_call w past) refl (begins_other w v below ne)) ∙ is, refl)
+older w (End v k reply at) past opened below ne is = (opened, sym (skip_begin (v == w) w v None (open_call w past) refl ne) ∙ is, refl)
+older w (Effect v k) past opened below ne is = effect_older (v == w) (length past) (open_call w past) opened is
+older w Cut past opened below ne is = absurd cc
+older w mark past opened below ne is = (opened, is, refl)
 
 begins : (b : Bool) (w : ℕ) (new rest : Option Open) → (w == w) ≡ b → (if b then new else rest) ≡ new
 begins true w new rest is = refl
 begins false w new rest is = absurd (eqb-false w w is refl)
 
-module _ (w n : ℕ) (call : Call) (more : List IndexEntry) where
+module _ (w n : ℕ) (below : w < PASSES) (call : Call) (more : List IndexEntry) where
   abbrev IsCall : List IndexEntry → Open → Type 0
   IsCall entries opened = entries_of owner_of w entries ≡ begin_entry w n call ∷ more → open_call w (marks_in entries) ≡ Some opened → opened.call ≡ call
 
@@ -82,7 +92,7 @@ module _ (w n : ℕ) (call : Call) (more : List IndexEntry) where
       some_call : (o opened : Open) → Some o ≡ Some opened → opened.call ≡ o.call
       some_call o opened is = let same : opened ≡ o = cc in ap (λ (x : Open). x.call) same
   call_by false x entries opened mine own is before =
-      let (o, was, same) = older w x.mark (marks_in entries) opened (eqb-false (owner_of x) w mine) is in
+      let (o, was, same) = older w x.mark (marks_in entries) opened below (eqb-false (owner_of x) w mine) is in
       sym same ∙ before o own was
 
   -- the open call is the one that the worker's newest entry began
@@ -143,7 +153,7 @@ answers_right origin w call first now reply page sound has =
       opened = ends.opened;
       is_open = ends.is_open;
       is_number = ends.number;
-      is_call = call_of w has.number call own there.before ends.opened there.rest ends.is_open;
+      is_call = call_of w has.number (owns_below w (head_owned w (begin_entry w has.number call) own there.before there.rest)) call own there.before ends.opened there.rest ends.is_open;
       right = some_and (λ (opened : Open). IsRightReply origin.config origin.start pages (marks_in there.before) (record { worker = w; opened = opened; reply = reply; at = has.at })) _ _ ends.is_open right;
       numbered = λ named. subst (λ (l : List IndexEntry). slice_get (reverse (pages_in l)) (count_page_ends (marks_in there.before)) ≡ Some has.its_page) (sym there.is) (page_stands there.later w has.number reply has.at has.its_page there.before named);
     }

@@ -27,11 +27,11 @@ short_stays origin xs ys extends short =
     lt-ltb (origin.marks - length (marks_in ys)) 3 (omega arith)
 
 -- a worker of which nothing is added stays at rest
-pub rest_stays : (origin : Origin) (w : ℕ) (xs ys : List IndexEntry) → Extends xs ys → entries_of owner_of w ys ≡ entries_of owner_of w xs → IsAtRest origin xs w → IsAtRest origin ys w
-rest_stays origin w xs ys (added, is) own rests = ⊎_elim
+pub rest_stays : (origin : Origin) (w : ℕ) (xs ys : List IndexEntry) → w < PASSES → Extends xs ys → entries_of owner_of w ys ≡ entries_of owner_of w xs → IsAtRest origin xs w → IsAtRest origin ys w
+rest_stays origin w xs ys below (added, is) own rests = ⊎_elim
     (λ none.
     let same : entries_of owner_of w (added ++ xs) ≡ entries_of owner_of w xs = ap (entries_of owner_of w) (sym is) ∙ own in
-    inl (ap (λ (es : List IndexEntry). open_call w (marks_in es)) is ∙ none_stays w added xs (none_added owner_of w added xs same) none))
+    inl (ap (λ (es : List IndexEntry). open_call w (marks_in es)) is ∙ none_stays w added xs below (none_added owner_of w added xs same) none))
     (λ short. inr (short_stays origin xs ys (added, is) short))
     rests
 
@@ -47,7 +47,7 @@ first_opened origin seen lab free is none all = record {
 pub first_turned : (origin : Origin) (free : List Bool) (seen found left : List IndexEntry) → origin.config.workers < PASSES → MayFind owner_of 0 free seen found → MayLeave owner_of 0 found left
     → IsFirst origin seen free → IsFirst origin left free
 first_turned origin free seen found left below may leaves first = record {
-  rests = λ w some within f. rest_stays origin w seen left
+  rests = λ w some within f. rest_stays origin w seen left (omega arith)
       (extends_trans seen found left may.extends (leaves_extends owner_of 0 found left leaves))
       (leaves_others owner_of 0 w found left leaves (λ e. omega arith) (omega arith) ∙ may.others refl w (omega arith) f)
       (first.rests w some within f);
@@ -76,8 +76,8 @@ pub first_joined : (origin : Origin) (old new : List Bool) (mine theirs now : Li
     → ((w : ℕ) → IsFreeIn new w ↔ (IsFreeIn old w ⊎ (w ≡ worker))) → IsAtRest origin theirs worker → IsFirst origin mine old → IsFirst origin now new
 first_joined origin old new mine theirs now worker below join free rests first = record {
   rests = λ w some within f. ⊎_elim
-      (λ was. rest_stays origin w mine now join.extends_mine (join.others w (omega arith) was) (first.rests w some within was))
-      (λ is. subst (IsAtRest origin now) (sym is) (rest_stays origin worker theirs now join.extends_theirs join.joined rests))
+      (λ was. rest_stays origin w mine now (omega arith) join.extends_mine (join.others w (omega arith) was) (first.rests w some within was))
+      (λ is. subst (IsAtRest origin now) (sym is) (rest_stays origin worker theirs now (omega arith) join.extends_theirs join.joined rests))
       ((free w).0 f);
   beyond = λ w more. (free w).1 (inl (first.beyond w more));
 }

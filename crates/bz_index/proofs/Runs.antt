@@ -28,9 +28,9 @@ use Rattle.bz_world.specs.WorldView.{IsEnding}
 
 module _ (w : ℕ) (call : Call) (first : List IndexEntry) where
   -- others add their entries
-  run_longer : (added seen : List IndexEntry) → entries_of owner_of w added ≡ [] → entries_of owner_of w (added ++ seen) ≡ entries_of owner_of w seen
+  run_longer : (added seen : List IndexEntry) → w < PASSES → entries_of owner_of w added ≡ [] → entries_of owner_of w (added ++ seen) ≡ entries_of owner_of w seen
       → IsRunning w call first seen → IsRunning w call first (added ++ seen)
-  run_longer added seen none own run =
+  run_longer added seen below none own run =
       let before = run.begun in
       record {
         since = added ++ run.since;
@@ -42,21 +42,21 @@ module _ (w : ℕ) (call : Call) (first : List IndexEntry) where
           own = own ∙ before.own;
         };
         none = both_none added run.since none run.none;
-        state = open_stays w before.number (length before.found) added seen run.since none run.state;
+        state = open_stays w before.number (length before.found) added seen run.since below none run.state;
       }
     where
       both_none : (xs ys : List IndexEntry) → entries_of owner_of w xs ≡ [] → entries_of owner_of w ys ≡ [] → entries_of owner_of w (xs ++ ys) ≡ []
       both_none xs ys a b = filter-append (λ (e : IndexEntry). owner_of e == w) xs ys ∙ (ap (λ (l : List IndexEntry). l ++ entries_of owner_of w ys) a ∙ b)
 
-  pub run_more : (seen now : List IndexEntry) → Extends seen now → entries_of owner_of w now ≡ entries_of owner_of w seen → IsRunning w call first seen → IsRunning w call first now
-  run_more seen now (added, is) own run =
+  pub run_more : (seen now : List IndexEntry) → w < PASSES → Extends seen now → entries_of owner_of w now ≡ entries_of owner_of w seen → IsRunning w call first seen → IsRunning w call first now
+  run_more seen now below (added, is) own run =
       let same : entries_of owner_of w (added ++ seen) ≡ entries_of owner_of w seen = ap (entries_of owner_of w) (sym is) ∙ own in
-      subst (IsRunning w call first) (sym is) (run_longer added seen (none_added owner_of w added seen same) same run)
+      subst (IsRunning w call first) (sym is) (run_longer added seen below (none_added owner_of w added seen same) same run)
 
   -- an act, and the effect that it may bring, are nobody's
   pub run_acted : (v : ℕ) (log new : Log) → w < PASSES → MayLeave owner_of PASSES (entries_in log) (entries_in new) → IsRunning w call first (entries_in log) → IsRunning w call first (entries_in new)
   run_acted v log new below leaves run =
-      run_more (entries_in log) (entries_in new) (leaves_extends owner_of PASSES _ _ leaves) (leaves_others owner_of PASSES w _ _ leaves (λ e. omega arith) below) run
+      run_more (entries_in log) (entries_in new) below (leaves_extends owner_of PASSES _ _ leaves) (leaves_others owner_of PASSES w _ _ leaves (λ e. omega arith) below) run
 
 -- what holds of the value of an option
 pub some_and : {A : Type 0} (P : A → Type 0) (o : Option A) (x : A) → o ≡ Some x → IsSomeAnd o P → P x

@@ -3,6 +3,7 @@ use Rattle.std.proofs.Common.{◌≡◌, ℕ, ◌<◌, ◌≤◌, Bool, List, re
 use Rattle.bz_bus.proofs.Entries.{leaves_extends, extends_trans}
 use Rattle.bz_bus.specs.Entries.{Extends, MayFind, MayLeave}
 use Rattle.bz_bus.specs.Passes as bus
+use Rattle.bz_bus.specs.declared.TheConstants.{PASSES}
 use Rattle.bz_call.specs.declared.calls.Call.{Call}
 use Rattle.bz_index.proofs.Begins.{leaves-begun}
 use Rattle.bz_index.proofs.Lists.{list_sound}
@@ -36,10 +37,10 @@ placed_after index old now lab was pass same is = record {
 pub extends_after : (n : ℕ) (free : List Bool) (seen found left : List IndexEntry) → MayFind owner_of n free seen found → MayLeave owner_of n found left → Extends seen left
 extends_after n free seen found left may leaves = extends_trans seen found left may.extends (leaves_extends owner_of n found left leaves)
 
-pub begun_leaves : (origin : Origin) (found left : List IndexEntry) (w : ℕ) (call : Call) (answer : Begun) → HasBegun origin found w call answer left → MayLeave owner_of w found left
-begun_leaves origin found left w call answer made =
+pub begun_leaves : (origin : Origin) (found left : List IndexEntry) (w : ℕ) (call : Call) (answer : Begun) → w < PASSES → HasBegun origin found w call answer left → MayLeave owner_of w found left
+begun_leaves origin found left w call answer below made =
     subst (λ (l : List IndexEntry). MayLeave owner_of w l left) made.before.told
-    (subst (λ (l : List IndexEntry). MayLeave owner_of w (entries_in made.lab.log) l) made.after.told (leaves-begun made.lab w call answer))
+    (subst (λ (l : List IndexEntry). MayLeave owner_of w (entries_in made.lab.log) l) made.after.told (leaves-begun made.lab w call below answer))
 
 pub stepped_leaves : (origin : Origin) (found left : List IndexEntry) (w : ℕ) (page : List (List ℕ × List ℕ)) (answer : Option Answer) → 0 < w → w ≤ origin.config.workers → HasStepped origin found w left page answer
     → MayLeave owner_of w found left

@@ -1,5 +1,5 @@
 -- A world's journal as a fixed part and a list of entries, the newest first, and whose the entries are.
-use Rattle.std.specs.Prelude.{ℕ, Bool, false, if◌then◌else◌, List, [], ◌∷◌, drop, get_or, reverse}
+use Rattle.std.specs.Prelude.{ℕ, Bool, false, if◌then◌else◌, nat_lt, List, [], ◌∷◌, drop, get_or, reverse}
 use Rattle.bz_bus.specs.declared.TheConstants.{PASSES}
 use Rattle.bz_call.specs.Pages.{names_page}
 use Rattle.bz_index.specs.declared.shared.Origin.{Origin}
@@ -15,10 +15,14 @@ abbrev pub has_page : Mark → Bool
 has_page (End w n reply at) = names_page reply
 has_page mark = false
 
+-- the pass whose the Begins of a worker are: its own. A worker whose number no pass can have would have the first pass begin its calls, which begins none
+abbrev pub beginner_of : ℕ → ℕ
+beginner_of w = if nat_lt w PASSES then w else 0
+
 -- the pass that makes such marks: the worker's its Begins and Ends, the first pass evictions and what becomes of the
 -- power; acts and effects are nobody's, since an act of one worker may bring the effect of another's call
 abbrev pub maker_of : Mark → ℕ
-maker_of (Begin w n call) = w
+maker_of (Begin w n call) = beginner_of w
 maker_of (End w n reply at) = w
 maker_of (Evict a) = 0
 maker_of Cut = 0

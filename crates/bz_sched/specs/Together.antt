@@ -31,12 +31,13 @@ begun_in w [] = []
 begun_in w (Begin v n call ∷ marks) = begun_in w marks ++ (if v == w then (v, call) ∷ [] else [])
 begun_in w (mark ∷ marks) = begun_in w marks
 
--- marks of calls are added, and each worker's calls begin in the order in which they waited
+-- marks of calls are added, and each worker's calls begin in the order in which they waited; nobody but the workers 1 to 64 begins any
 pub record Mingles (old new : Point) : Type 0 where
   pub added : List Mark
   pub is : new.past ≡ added ++ old.past
   pub of_calls : AreOfCalls added
   pub begun : (w : ℕ) → 1 ≤ w → w ≤ MAX_WORKERS → begun_in w added ++ calls_of w new.queue ≡ calls_of w old.queue
+  pub others : (w : ℕ) → (w ≡ 0) ⊎ (MAX_WORKERS < w) → begun_in w added ≡ []
 
 -- they do so until no worker has an open or a queued call
 pub record MinglesWhole (old new : Point) : Type 0 where

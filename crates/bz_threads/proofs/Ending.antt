@@ -1,5 +1,5 @@
 -- How a run on threads ends, once its index is closed.
-use Rattle.std.proofs.Common.{◌≡◌, ◌≢◌, ◌<◌, ◌≤◌, inl, inr, ⊎_elim, ℕ, ◌+◌, ◌-◌, ◌==◌, Bool, true, false, List, [], ◌∷◌, ◌++◌, length, drop, refl, sym, ap, subst, ◌∙◌, arith, eqb-true, Option, Some, None}
+use Rattle.std.proofs.Common.{◌≡◌, ◌≢◌, ◌<◌, ◌≤◌, ◌⊎◌, inl, inr, ⊎_elim, ℕ, ◌+◌, ◌-◌, ◌==◌, Bool, true, false, List, [], ◌∷◌, ◌++◌, length, drop, refl, sym, ap, subst, ◌∙◌, arith, eqb-true, Option, Some, None}
 use borrow.Author.Tests.{eqb-false}
 use Rattle.std.specs.Prelude.{if◌then◌else◌, is_some}
 use Rattle.std.proofs.lemmas.Bool.{cases_lt}
@@ -22,7 +22,7 @@ use Rattle.bz_sound.specs.Calls.{Open, open_call}
 use Rattle.bz_mark.specs.Times.{power_of}
 use Rattle.bz_sound.specs.Replies.{Pages}
 use Rattle.bz_mark.specs.declared.power.Power.TheVariants as power
-use Rattle.bz_threads.proofs.Fates.{MeetsLimit, Stopped, IsLeft, of_calls, fate_leaves}
+use Rattle.bz_threads.proofs.Fates.{MeetsLimit, Stopped, IsLeft, of_calls, begun_none, fate_leaves}
 use Rattle.bz_threads.proofs.Owns.{marks-append, power_quiet}
 use Rattle.bz_threads.proofs.Queues.{collected}
 use Rattle.bz_threads.specs.Ends.{HasRunThreads}
@@ -86,10 +86,13 @@ module _ (old mid new : WorldView) (queued behind left : Queued) (index : Index)
         (subst (λ (o : Origin). power_of o.at_start mid.log.past ≡ power.On) (sym origin) ends.1)
 
     marks_of : AreOfCalls (marks_in added)
-    marks_of = of_calls (origin_in index) 1 behind.calls (seen_by first) (seen_by now) added (omega arith) j.grown.1 j.quiet on_first (closed_first 1)
+    marks_of = of_calls (origin_in index) 1 behind.calls (seen_by first) (seen_by now) added (omega arith) (omega arith) j.grown.1 j.quiet on_first (closed_first 1)
 
-    left_of : (w : ℕ) → w ≤ MAX_WORKERS → (back : IsBack index behind.calls (seen_by first) now lowest w) → IsLeft (origin_in index) w behind.calls (marks_in added) whole back.met
-    left_of w most back = fate_leaves (origin_in index) w behind.calls (seen_by first) (seen_by now) added (omega arith) j.grown.1 j.quiet on_first (closed_first w) back.met back.fate
+    none_else : (w : ℕ) → (w ≡ 0) ⊎ (MAX_WORKERS < w) → begun_in w (marks_in added) ≡ []
+    none_else w none = begun_none (origin_in index) 1 behind.calls (seen_by first) (seen_by now) added (omega arith) (omega arith) j.grown.1 j.quiet on_first (closed_first 1) w (⊎_elim (λ zeroth. inl zeroth) (λ beyond. inr (omega (arith, beyond))) none)
+
+    left_of : (w : ℕ) → 0 < w → w ≤ MAX_WORKERS → (back : IsBack index behind.calls (seen_by first) now lowest w) → IsLeft (origin_in index) w behind.calls (marks_in added) whole back.met
+    left_of w some most back = fate_leaves (origin_in index) w behind.calls (seen_by first) (seen_by now) added some (omega arith) j.grown.1 j.quiet on_first (closed_first w) back.met back.fate
 
     back_of : (w : ℕ) → 0 < w → w ≤ MAX_WORKERS → IsBack index behind.calls (seen_by first) now lowest w
     back_of w some most = ⊎_elim (λ none. absurd none) (λ back. back) (j.each w some most)
@@ -105,6 +108,7 @@ module _ (old mid new : WorldView) (queued behind left : Queued) (index : Index)
       is = whole_is ∙ ap (λ (marks : List Mark). marks_in added ++ marks) past_first;
       of_calls = marks_of;
       begun = begun;
+      others = none_else;
     }
 
     -- no call of a worker is open whose calls were all made, nor of one that is none
@@ -123,12 +127,12 @@ module _ (old mid new : WorldView) (queued behind left : Queued) (index : Index)
       met_none w back = subst (λ (low : Option (ℕ × LimitKind)). IsAbove low w back.met) all back.above
 
       none_at_end : (w : ℕ) → open_call w new.log.past ≡ None
-      none_at_end w = open_none w (λ some most. let back = back_of w some most in ((left_of w most back).idle (met_none w back)).0) few
+      none_at_end w = open_none w (λ some most. let back = back_of w some most in ((left_of w some most back).idle (met_none w back)).0) few
 
       all_begun : (w : ℕ) → 1 ≤ w → w ≤ MAX_WORKERS → begun_in w (marks_in added) ++ calls_of w left.calls ≡ calls_of w behind.calls
       all_begun w some most =
           let back = back_of w (omega arith) most in
-          let l = left_of w most back in
+          let l = left_of w (omega arith) most back in
           ap (λ (xs : List (ℕ × Call)). begun_in w (marks_in added) ++ calls_of w xs) empty ∙ ap (λ (xs : List (ℕ × Call)). begun_in w (marks_in added) ++ xs) (sym (l.idle (met_none w back)).1) ∙ l.begun
 
       runs_whole : RunsThreads (point_of old queued) (point_of new left)
@@ -156,13 +160,13 @@ module _ (old mid new : WorldView) (queued behind left : Queued) (index : Index)
 
       its_part : (rest : List Call) × IsPart v (paired v rest)
       its_part =
-          let l = fate_leaves (origin_in index) v behind.calls (seen_by first) (seen_by now) added (let most = is_lowest.1 in omega arith) j.grown.1 j.quiet on_first (closed_first v) (Some (answer.Limit met)) is_lowest.3 in
+          let l = fate_leaves (origin_in index) v behind.calls (seen_by first) (seen_by now) added is_lowest.0 (let most = is_lowest.1 in omega arith) j.grown.1 j.quiet on_first (closed_first v) (Some (answer.Limit met)) is_lowest.3 in
           (l.rest, (l.begun, (λ below. absurd (omega arith)), (λ same. l.stopped met refl)))
 
       other_part : (w : ℕ) → 0 < w → w ≤ MAX_WORKERS → w ≢ v → (rest : List Call) × IsPart w (paired w rest)
       other_part w some most other =
           let back = back_of w some most in
-          let l = left_of w most back in (
+          let l = left_of w some most back in (
             l.rest,
             (
               l.begun,

@@ -1,5 +1,5 @@
 -- What became of a worker's calls tells which of them began, whether one is open, and which limit it met.
-use Rattle.std.proofs.Common.{◌≡◌, ◌<◌, ◌≤◌, ⊎_elim, ℕ, ◌+◌, ◌-◌, Bool, true, false, List, [], ◌∷◌, ◌++◌, length, length-append, refl, sym, ap, subst, ◌∙◌, arith, append_assoc, append-nil, Option, Some, None}
+use Rattle.std.proofs.Common.{◌≡◌, ◌<◌, ◌≤◌, ◌⊎◌, ⊎_elim, ℕ, ◌+◌, ◌-◌, Bool, true, false, List, [], ◌∷◌, ◌++◌, length, length-append, refl, sym, ap, subst, ◌∙◌, arith, append_assoc, append-nil, Option, Some, None}
 use Rattle.std.specs.Prelude.{if◌then◌else◌, is_some, ◌&&◌, nat_le}
 use Rattle.std.proofs.lemmas.Bool.Decides.{nat_tests}
 use Rattle.bz_bus.proofs.Entries.{extends_trans, entries_between, none_added}
@@ -23,7 +23,7 @@ use Rattle.bz_sound.specs.Calls.{Open, open_call}
 use Rattle.bz_mark.specs.Times.{power_of}
 use Rattle.bz_mark.specs.declared.power.Power.TheVariants as power
 use Rattle.bz_threads.proofs.Making.{made_adds, same_worker}
-use Rattle.bz_threads.proofs.Owns.{ends_open, marks-append, begun_own, open_own, calls_quiet, power_quiet, cut_quiet, own_added}
+use Rattle.bz_threads.proofs.Owns.{ends_open, marks-append, begun_own, open_own, calls_quiet, none_begun, power_quiet, cut_quiet, own_added}
 use Rattle.bz_threads.proofs.Taking.{paired-append}
 use Rattle.bz_threads.specs.Inside.Batches.{paired, Fate, MetNone}
 use Rattle.bz_threads.specs.Made.{own_of, AreMade, MakesAll}
@@ -95,7 +95,7 @@ lacks_both true true is = (refl, refl)
 lacks_both true false is = absurd (cc is)
 lacks_both false c is = absurd (cc is)
 
-module _ (origin : Origin) (w : ℕ) (waiting : List (ℕ × Call)) (first now added : List IndexEntry) (below : w < PASSES) (is : now ≡ added ++ first)
+module _ (origin : Origin) (w : ℕ) (waiting : List (ℕ × Call)) (first now added : List IndexEntry) (some : 0 < w) (below : w < PASSES) (is : now ≡ added ++ first)
     (quiet : entries_of owner_of 0 now ≡ entries_of owner_of 0 first) (on : power_of origin.at_start (marks_in first) ≡ power.On) (closed : open_call w (marks_in first) ≡ None) where
   abbrev pub past : List Mark
   past = marks_in added ++ marks_in first
@@ -103,12 +103,16 @@ module _ (origin : Origin) (w : ℕ) (waiting : List (ℕ × Call)) (first now a
   pub of_calls : AreOfCalls (marks_in added)
   of_calls = calls_quiet added (none_added owner_of 0 added first (ap (entries_of owner_of 0) (sym is) ∙ quiet))
 
+  -- a worker that has no pass has begun none
+  pub begun_none : (v : ℕ) → (v ≡ 0) ⊎ (PASSES ≤ v) → begun_in v (marks_in added) ≡ []
+  begun_none v none = none_begun v added none (none_added owner_of 0 added first (ap (entries_of owner_of 0) (sym is) ∙ quiet))
+
   -- so much of its own was added by calls that were made
   begun_by : (own : List IndexEntry) → own_of w now ≡ own ++ own_of w first → begun_in w (marks_in added) ≡ begun_in w (marks_in own)
-  begun_by own e = begun_own w added ∙ ap (λ (xs : List IndexEntry). begun_in w (marks_in xs)) (own_added w added first now own is e)
+  begun_by own e = begun_own w added below ∙ ap (λ (xs : List IndexEntry). begun_in w (marks_in xs)) (own_added w added first now own is e)
 
   open_by : (own : List IndexEntry) → own_of w now ≡ own ++ own_of w first → is_some (open_call w past) ≡ ends_open own
-  open_by own e = open_own w added (marks_in first) below of_calls closed ∙ ap ends_open (own_added w added first now own is e)
+  open_by own e = open_own w added (marks_in first) some below of_calls closed ∙ ap ends_open (own_added w added first now own is e)
 
   -- between lists no entry of the first pass was added
   quiet_between : (mid : List IndexEntry) → Extends first mid → Extends mid now → entries_of owner_of 0 mid ≡ entries_of owner_of 0 first

@@ -91,6 +91,65 @@ fn calls_of_threads_overlap(rt: HostRuntime) -> Result<(), Fail> {
     Ok(())
 }
 
+// Of each of two workers how many acts of its present call the gate was told of, and of how many ends of its calls; and whether
+// it was told out of turn: of another worker, of a number of acts that is not the next one, or of an act after the end.
+#[derive(Drop)]
+struct Turns {
+    acts: [AtomicU32; 3],
+    ends: [AtomicU32; 3],
+    wrong: AtomicU32,
+}
+
+impl Turns {
+    fn new() -> Turns {
+        Turns {
+            acts: Default::default(),
+            ends: Default::default(),
+            wrong: AtomicU32::new(0),
+        }
+    }
+
+    fn is_next(&self, worker: u8, steps: u32) -> bool {
+        let place = usize::from(worker);
+        let (Some(acts), Some(ends)) = (self.acts.get(place), self.ends.get(place)) else {
+            return false;
+        };
+        if steps == 0 {
+            return ends.fetch_add(1, Ordering::SeqCst) == 0;
+        }
+        let before = acts.swap(steps, Ordering::SeqCst);
+        ends.load(Ordering::SeqCst) == 0 && (steps == 1 || steps == before.saturating_add(1))
+    }
+
+    fn ended(&self, worker: usize) -> u32 {
+        match self.ends.get(worker) {
+            Some(ends) => ends.load(Ordering::SeqCst),
+            None => 0,
+        }
+    }
+}
+
+impl Gate for Turns {
+    fn between<R: Wait>(&self, _rt: &R, worker: u8, steps: u32) {
+        if !self.is_next(worker, steps) {
+            self.wrong.store(1, Ordering::SeqCst);
+        }
+    }
+}
+
+#[test]
+fn the_gate_is_told_of_each_worker_with_calls(rt: HostRuntime) -> Result<(), Fail> {
+    let gate = Turns::new();
+    let script = "memory 16 64\nw 1 insert a 1\nw 1 get a\nw 2 get b\nrun threads\n";
+    let text = report(&rt, rt.alloc(), script, 0, &gate)?;
+    same(&rt, text.lines().count(), 3);
+    same(&rt, gate.wrong.load(Ordering::SeqCst), 0);
+    same(&rt, gate.ended(0), 0);
+    same(&rt, gate.ended(1), 1);
+    same(&rt, gate.ended(2), 1);
+    Ok(())
+}
+
 #[test]
 fn sixty_four_workers_make_a_hundred_calls_each(rt: HostRuntime) -> Result<(), Fail> {
     let mut script = String::new(rt.alloc());

@@ -1,4 +1,4 @@
-use Rattle.std.proofs.Common.{ℕ, subst}
+use Rattle.std.proofs.Common.{ℕ, subst, arith}
 use Rattle.bz_bus.specs.Entries.{MayLeave}
 use Rattle.bz_index.proofs.Beginning.{begin_leaves}
 use Rattle.bz_index.proofs.Turned.{placed_after, extends_after, begun_leaves}
@@ -16,7 +16,7 @@ turn-requires-clause-asks g c = λ found may. tt
 
 pub turn-requires-clause-leaves : goal.turn-requires-clause-leaves
 turn-requires-clause-leaves g c = λ found left after may does.
-    subst (λ (n : ℕ). MayLeave owner_of n found left) c.worker.ensures (begun_leaves (origin_in c.args.self.now) found left c.worker.result c.args.call after.answer does)
+    subst (λ (n : ℕ). MayLeave owner_of n found left) c.worker.ensures (begun_leaves (origin_in c.args.self.now) found left c.worker.result c.args.call after.answer (omega (arith, c.worker.ensures, c.requires.0.placed.worker, c.requires.0.placed.below)) does)
 
 pub returns-clause-placed : goal.returns-clause-placed
 returns-clause-placed g c =
@@ -29,7 +29,7 @@ returns-clause-extends g c =
     let now : IndexPass = record { pass = c.turn.new.pass } in
     let (found, may, made) = c.turn.ensures.turned in
     extends_after _ _ _ found (seen_by now) may
-    (subst (λ (n : ℕ). MayLeave owner_of n found (seen_by now)) c.worker.ensures (begun_leaves (origin_in c.args.self.now) found (seen_by now) c.worker.result c.args.call c.turn.new.action.answer made))
+    (subst (λ (n : ℕ). MayLeave owner_of n found (seen_by now)) c.worker.ensures (begun_leaves (origin_in c.args.self.now) found (seen_by now) c.worker.result c.args.call c.turn.new.action.answer (omega (arith, c.worker.ensures, c.requires.0.placed.worker, c.requires.0.placed.below)) made))
 
 pub returns-clause-begun : goal.returns-clause-begun
 returns-clause-begun g c =
@@ -37,5 +37,5 @@ returns-clause-begun g c =
     let origin = origin_in c.args.self.now in
     let (found, may, made) = c.turn.ensures.turned in
     let was = c.requires.0 in
-    begin_leaves origin (worker_of c.args.pass.now) c.args.call (seen_by c.args.pass.now) found (seen_by now) c.turn.new.action.answer c.requires.1 was.placed.worker
+    begin_leaves origin (worker_of c.args.pass.now) (omega (arith, was.placed.worker, was.placed.below)) c.args.call (seen_by c.args.pass.now) found (seen_by now) c.turn.new.action.answer c.requires.1 was.placed.worker
     (subst (λ (w : ℕ). HasBegun origin found w c.args.call c.turn.new.action.answer (seen_by now)) c.worker.ensures made) may.extends may.own (was.rests c.requires.1)
