@@ -1,5 +1,5 @@
 -- What a turn that begins a call leaves.
-use Rattle.std.proofs.Common.{◌≡◌, ℕ, ◌<◌, ◌≤◌, ◌⊎◌, inl, Bool, true, false, List, [], ◌∷◌, length, refl, sym, ap, ◌∙◌, subst, ◌==◌, Option, None}
+use Rattle.std.proofs.Common.{◌≡◌, ℕ, ◌<◌, ◌≤◌, ◌⊎◌, inl, Bool, true, false, List, [], ◌∷◌, length, arith, refl, sym, ap, ◌∙◌, subst, ◌==◌, Option, None}
 use Rattle.std.specs.Prelude.{if◌then◌else◌, nat_le}
 use borrow.Author.Tests.{eqb-false}
 use Rattle.bz_bus.specs.Entries.{Extends, entries_of}
@@ -25,7 +25,8 @@ use Rattle.bz_sound.specs.Calls.{Open, open_call}
 use Rattle.bz_mark.specs.Times.{power_of}
 use Rattle.bz_mark.specs.declared.power.Power.{Power}
 use Rattle.bz_mark.specs.declared.power.Power.TheVariants as power
-use Rattle.bz_world.specs.WorldView.{WorldView, is_short, lacks_page, after_begin}
+use Rattle.bz_world.specs.Recoveries.{acts_recovering}
+use Rattle.bz_world.specs.WorldView.{WorldView, power_in, recovery_most, is_short, lacks_page, after_begin}
 use Rattle.bz_world.specs.declared.answers.Begun.{Begun}
 use Rattle.bz_world.specs.declared.answers.Begun.TheVariants as begun
 use Rattle.bz_world.specs.declared.answers.LimitKind.TheVariants as which
@@ -62,12 +63,15 @@ module _ (origin : Origin) (w : ℕ) (below : w < PASSES) (call : Call) (first :
     power_is p tells =
         ap (λ (log : Log). power_of origin.at_start log.past) same ∙ (ap (λ (o : Origin). power_of o.at_start lab.log.past) (sym is.stays) ∙ tells)
 
+    few_acts : power_in lab ≡ power.Recovering → acts_recovering (marks_in (entries_in lab.log)) < recovery_most origin.config
+    few_acts tells = omega (arith, is.brief tells, ap (λ (log : Log). acts_recovering log.past) same, ap (λ (o : Origin). recovery_most o.config) is.stays)
+
     leaves : (answer : Begun) → BeginTells lab w call answer → BeginLeaves origin w call first (entries_in (after_begin lab w call answer).log) answer
     leaves (begun.Begun n) tells = begun_runs lab.log n extends own
     leaves begun.NoWorker tells = tells
     leaves begun.Busy tells = tells
     leaves begun.Off tells = (inl (own, power_is power.Off tells), rests)
-    leaves begun.Recovering tells = ((own, power_is power.Recovering tells), rests)
+    leaves begun.Recovering tells = ((own, power_is power.Recovering tells, few_acts tells), rests)
     leaves (begun.Limit which.Marks) tells = ((ap is_short same ∙ tells, inl own), rests)
     leaves (begun.Limit which.Calls) tells = ((own, ap (λ (log : Log). nat_le log.limits.calls (count_begins log.past)) same ∙ tells), rests)
     leaves (begun.Limit which.Pages) tells = ((own, ap (λ (log : Log). lacks_page log call) same ∙ tells), rests)
@@ -77,7 +81,7 @@ module _ (origin : Origin) (w : ℕ) (below : w < PASSES) (call : Call) (first :
   begin_leaves found left answer some within turn extends own at_rest =
       let lab : WorldView = turn.lab in
       let told = turn.before.told in
-      let is : IsWorldOf origin (entries_in lab.log) lab = record { stays = turn.before.stays; told = refl; sound = turn.before.sound } in
+      let is : IsWorldOf origin (entries_in lab.log) lab = record { stays = turn.before.stays; told = refl; sound = turn.before.sound; brief = turn.before.brief } in
       let extends_it : Extends first (entries_in lab.log) = subst (Extends first) (sym told) extends in
       let own_it : entries_of owner_of w (entries_in lab.log) ≡ entries_of owner_of w first = ap (entries_of owner_of w) told ∙ own in
       let rests : IsAtRest origin (entries_in lab.log) w = rest_stays origin w first (entries_in lab.log) below extends_it own_it at_rest in

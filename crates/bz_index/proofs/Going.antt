@@ -100,7 +100,7 @@ module _ (origin : Origin) (w : ℕ) (call : Call) (first : List IndexEntry) whe
       let made = step.made in
       let before = made.before in
       let after = made.after in
-      let is : IsWorldOf origin (entries_in made.old.log) made.old = record { stays = before.stays; told = refl; sound = before.sound } in
+      let is : IsWorldOf origin (entries_in made.old.log) made.old = record { stays = before.stays; told = refl; sound = before.sound; brief = before.brief } in
       let config : made.old.config ≡ origin.config = ap (λ (o : Origin). o.config) before.stays in
       reads left page step.applied answer
       (subst (λ (l : List IndexEntry). StepTells origin w call first l step.applied) after.told

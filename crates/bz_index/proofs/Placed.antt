@@ -33,7 +33,7 @@ pub opened : (index : Index) (p : IndexPass) (lab : WorldView) → bus.IsPassOf 
     → worker_of p ≡ 0 → seen_by p ≡ entries_in lab.log → IsWorldOf (origin_of lab) (entries_in lab.log) lab → ((w : ℕ) → open_call w lab.log.past ≡ None) → ((w : ℕ) → 0 < w → IsFree p w) → IsPassOf index p
 opened index p lab pass room origin below zeroth seen world none free =
     let workers : (origin_in index).config.workers ≡ lab.config.workers = ap (λ (o : Origin). o.config.workers) origin in
-    let is : IsWorldOf (origin_in index) (seen_by p) lab = record { stays = sym origin; told = sym seen; sound = world.sound } in
+    let is : IsWorldOf (origin_in index) (seen_by p) lab = record { stays = sym origin; told = sym seen; sound = world.sound; brief = world.brief } in
     first_pass index p pass (omega arith) (omega arith) zeroth
     (list_sound (origin_in index) (seen_by p) lab is)
     (first_opened (origin_in index) (seen_by p) lab (free_in p) is none free)

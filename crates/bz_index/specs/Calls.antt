@@ -14,7 +14,8 @@ use Rattle.bz_mark.specs.declared.marks.Mark.{Mark}
 use Rattle.bz_mark.specs.declared.marks.Mark.TheVariants.{Begin, End, Cut}
 use Rattle.bz_mark.specs.Times.{power_of}
 use Rattle.bz_mark.specs.declared.power.Power.TheVariants as power
-use Rattle.bz_world.specs.WorldView.{is_short, lacks_page}
+use Rattle.bz_world.specs.Recoveries.{acts_recovering}
+use Rattle.bz_world.specs.WorldView.{is_short, lacks_page, recovery_most}
 use Rattle.bz_world.specs.declared.answers.LimitKind.TheVariants as which
 
 -- the power was cut
@@ -63,10 +64,15 @@ abbrev pub IsOutOfMarks : Origin → ℕ → Call → List IndexEntry → List I
 IsOutOfMarks origin w call first now =
     (is_short (log_of origin now) ≡ true) × (HasNotBegun w first now ⊎ HasOnlyBegun w call first now)
 
+-- the recovery was under way when the call would have begun, and worker 0 had made fewer acts than one makes
+abbrev pub IsRecovering : Origin → ℕ → List IndexEntry → List IndexEntry → Type 0
+IsRecovering origin w first now =
+    HasNotBegun w first now × (power_of origin.at_start (marks_in now) ≡ power.Recovering) × (acts_recovering (marks_in now) < recovery_most origin.config)
+
 abbrev pub IsAnswer : Origin → ℕ → Call → List IndexEntry → List IndexEntry → List (List ℕ × List ℕ) → Answer → Type 0
 IsAnswer origin w call first now page (answer.Reply reply) = HasReply w call first now reply page
 IsAnswer origin w call first now page answer.Off = IsOff origin w call first now
-IsAnswer origin w call first now page answer.Recovering = HasNotBegun w first now × (power_of origin.at_start (marks_in now) ≡ power.Recovering)
+IsAnswer origin w call first now page answer.Recovering = IsRecovering origin w first now
 IsAnswer origin w call first now page (answer.Limit which.Marks) = IsOutOfMarks origin w call first now
 IsAnswer origin w call first now page (answer.Limit which.Calls) = HasNotBegun w first now × (nat_le origin.calls (count_begins (marks_in now)) ≡ true)
 IsAnswer origin w call first now page (answer.Limit which.Pages) = HasNotBegun w first now × (lacks_page (log_of origin now) call ≡ true)

@@ -13,7 +13,7 @@ returns-clause-does c =
       before = c.shows_sound.ensures;
       answered = c.begin-self.ensures.answer;
       after = subst (λ (lab : WorldView). IsWorldOf (origin_of c.args.shared.now.world) (entries_in new.log) lab) c.begin-self.ensures.after
-          (record { stays = ap origin_of c.begin-self.ensures.after ∙ begun_origin _ _ _ _; told = refl; sound = c.shows_sound-2.ensures.sound });
+          (record { stays = ap origin_of c.begin-self.ensures.after ∙ begun_origin _ _ _ _; told = refl; sound = c.shows_sound-2.ensures.sound; brief = c.shows_sound-2.ensures.brief });
     }
 
 pub returns-clause-fixed : goal.returns-clause-fixed

@@ -8,7 +8,7 @@ returns-clause-does c = record {
   new = c.apply-self.new.self;
   before = c.shows_sound.ensures;
   applied = c.apply-self.ensures;
-  after = record { stays = made_origin _ _ _ _ c.apply-self.ensures; told = refl; sound = c.shows_sound-2.ensures.sound };
+  after = record { stays = made_origin _ _ _ _ c.apply-self.ensures; told = refl; sound = c.shows_sound-2.ensures.sound; brief = c.shows_sound-2.ensures.brief };
 }
 
 pub returns-clause-fixed : goal.returns-clause-fixed

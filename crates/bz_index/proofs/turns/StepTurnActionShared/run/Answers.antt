@@ -29,7 +29,7 @@ returns-clause-does c =
           new = new;
           before = c.shows_sound.ensures;
           applied = c.apply-applied.ensures;
-          after = record { stays = made_origin old (event.Step c.args.self.now.worker) c.apply-applied.result new c.apply-applied.ensures; told = refl; sound = c.shows_sound-2.ensures.sound };
+          after = record { stays = made_origin old (event.Step c.args.self.now.worker) c.apply-applied.result new c.apply-applied.ensures; told = refl; sound = c.shows_sound-2.ensures.sound; brief = c.shows_sound-2.ensures.brief };
         };
         read = subst (λ (l : Log). IsRead c.apply-applied.result (entries_in l) c.answer_of-self.new.page c.answer_of-self.result) c.journal.ensures.journal c.answer_of-self.ensures;
       },
