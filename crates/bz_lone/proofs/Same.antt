@@ -2,7 +2,6 @@
 use Rattle.std.proofs.Common.{◌≡◌, ℕ, ◌+◌, ◌-◌, if◌then◌else◌, ◌&&◌, Bool, true, List, arith, ap, ◌∙◌}
 use Rattle.std.specs.Prelude.{not, nat_lt}
 use Rattle.bz_joined.specs.FromAlone.Alone.{IsAlone}
-use Rattle.bz_joined.specs.FromAlone.Counts.{Adds}
 use Rattle.bz_content.specs.Content.{image_of}
 use Rattle.bz_costs.specs.Resources.{Resource}
 use Rattle.bz_costs.specs.Most.{most_of_copy}
@@ -17,7 +16,7 @@ use Rattle.bz_task.specs.Scene.{Past, Scene, IsScene, here}
 use Rattle.bz_call.specs.Map.{key_of}
 use Rattle.bz_lone.specs.Errands.{Errand, words_asked}
 use Rattle.bz_lone.specs.Prices.{Prices, clean_prices, prices_in}
-use Rattle.bz_lone.specs.Steps.{IsNext}
+use Rattle.bz_lone.specs.Steps.{Adds, IsNext}
 
 -- the leaf and the stage of a key now, in the one and in the other
 pub record SameLeaf (p q : Past) (key : List ℕ) : Type 0 where

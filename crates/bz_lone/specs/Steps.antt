@@ -1,7 +1,6 @@
 -- What a worker's steps, what its task is told and what it starts, make of the number: it is paid for by what they take.
 use Rattle.std.specs.Prelude.{◌≡◌, ◌≢◌, ℕ, ◌+◌, ◌<◌, ◌≤◌, if◌then◌else◌, Bool, true, false, List, length, Some}
 use Rattle.bz_joined.specs.FromAlone.Alone.{IsAlone}
-use Rattle.bz_joined.specs.FromAlone.Counts.{Adds}
 use Rattle.bz_costs.specs.Resources.{Resource, Marks}
 use Rattle.bz_costs.specs.Lone.{one_mark, promised, lone_most}
 use Rattle.bz_costs.specs.Most.{IsWithinItsActs}
@@ -21,7 +20,7 @@ use Rattle.bz_swap.specs.Alone.{left_to}
 use Rattle.bz_swap.specs.SwapMemory.{SwapMemory, Idle, doing_of}
 use Rattle.bz_task.specs.Instant.{Instant}
 use Rattle.bz_task.specs.Requests.{Hears, effects_in}
-use Rattle.bz_task.specs.Scene.{Past, Scene, Waiting, IsScene, here}
+use Rattle.bz_task.specs.Scene.{Past, Continues, Scene, Waiting, IsScene, here}
 use Rattle.bz_task.specs.Swaps.{SwapsTo}
 use Rattle.bz_task.specs.declared.todo.Outcome.TheVariants.{Restart}
 use Rattle.bz_task.specs.declared.todo.Seen.{Seen}
@@ -62,6 +61,12 @@ IdleMemoriesAllowNothing = (m : SwapMemory) (w : ℕ) → ((v : ℕ) → doing_o
 pub record HasStepped (m n : SwapMemory) (w used next : ℕ) : Type 0 where
   pub less : next ≤ used
   pub rivals : rivals n w ≤ rivals m w
+
+-- one moment later so many swaps more took effect
+pub record Adds (more : ℕ) (p q : Past) : Type 0 where
+  pub continues : Continues p q
+  pub begun : p.since ≤ p.now
+  pub effects : (q.at q.now).effects ≡ (p.at p.now).effects + more
 
 -- one mark more, at which so many swaps took effect
 pub record IsNext (more : ℕ) (p q : Past) : Type 0 where
