@@ -33,9 +33,9 @@ impl Model for Cells {
 
     ghost Value = { Store };
 
-    ghost view = { λ c. record { cached = c.pm.cached; durable = c.pm.durable; swaps = c.swaps; next_tags = c.next_tags.items; missed = c.missed.items; taken = c.taken } };
+    ghost view = { λ c. record { cached = c.pm.words.cached; durable = c.pm.words.durable; swaps = c.swaps; next_tags = c.next_tags.items; missed = c.missed.items; taken = c.taken } };
 
-    ghost invariant = { λ c. HasRoom (record { cached = c.pm.cached; durable = c.pm.durable; swaps = c.swaps; next_tags = c.next_tags.items; missed = c.missed.items; taken = c.taken }) };
+    ghost invariant = { λ c. HasRoom (record { cached = c.pm.words.cached; durable = c.pm.words.durable; swaps = c.swaps; next_tags = c.next_tags.items; missed = c.missed.items; taken = c.taken }) };
 }
 
 impl Cells {
@@ -49,7 +49,7 @@ impl Cells {
         ensures words { IfOk result (λ cells. cells ≡ record { cached = start.now; durable = start.now; swaps = swaps; next_tags = replicate (workers + 1) 0; missed = replicate swaps false; taken = 0 }) }
         ensures room { IfOk result HasRoom }
     {
-        let pm = Pm::open(alloc, start)?;
+        let pm = Pm::open(alloc, start, u32::from(workers))?;
         let next_tags = vec![in alloc; 0u64; workers as usize + 1]?;
         let missed = vec![in alloc; false; swaps as usize]?;
         Ok(Cells {

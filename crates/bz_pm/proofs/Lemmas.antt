@@ -23,11 +23,11 @@ length-set_if true xs a v = length-set xs a v
 length-set_if false xs a v = refl
 
 -- either of two values below a bound is below it
-either_below : (t : Bool) (v w n : ℕ) → v < n → w < n → (if t then v else w) < n
+pub either_below : (t : Bool) (v w n : ℕ) → v < n → w < n → (if t then v else w) < n
 either_below true v w n small less = small
 either_below false v w n small less = less
 
-IsMemory-same_lengths : (m n : Words) → IsMemory m → length n.cached ≡ length m.cached → length n.durable ≡ length m.durable → IsMemory n
+pub IsMemory-same_lengths : (m n : Words) → IsMemory m → length n.cached ≡ length m.cached → length n.durable ≡ length m.durable → IsMemory n
 IsMemory-same_lengths m n i cached durable = record {
   same = omega (arith, i.same);
   lines = rw durable i.lines;

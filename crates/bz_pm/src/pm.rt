@@ -1,49 +1,68 @@
 //! The simulated memory and its acts.
 
-ghost use Rattle.std.specs.Prelude.{◌≡◌, ◌*◌, ◌%◌, ◌<◌, ◌^◌, length, slice_index, IfOk};
-ghost use Rattle.bz_pm.specs.Words.{IsMemory, HoldsWords};
-ghost use Rattle.bz_pm.specs.Acts.{stored, compared, flushed, evicted, after_cut};
+ghost use Rattle.std.specs.Prelude.{◌≡◌, ◌↔◌, ◌*◌, ◌%◌, ◌<◌, ◌^◌, IsTrue, length, slice_index, IfOk};
+ghost use Rattle.bz_pm.specs.Words.{HoldsWords};
+ghost use Rattle.bz_pm.specs.State.{IsState, asks_of};
+ghost use Rattle.bz_pm.specs.After.{opened, after_store, after_cas, after_ask, after_fence, after_flush, after_eviction, after_power_cut};
 
-use crate::line::copy_line;
+use crate::asks::{Ask, Asks, LINES_ASKED, forget, no_asks};
+use crate::line::{copy_line, fill_line, words_of};
+use crate::settle::settle;
 use bz_memory::Memory;
 use std::alloc::Global;
 use std::marker::Model;
 
 /// A memory of words, each below 2^64, that has a cached and a durable value for every word. Addresses
-/// count words, a line is eight words, and address a lies in line a / 8.
+/// count words, a line is eight words, and address a lies in line a / 8. Acts are those of workers from 0 on, and
+/// are counted from the opening or the last power cut; a load changes nothing and is not counted.
 #[derive(Drop)]
 pub struct Pm {
     cached: Vec<u64>,
     durable: Vec<u64>,
+    acts: u64,
+
+    // for each word how many acts had been made when its durable value was the cached one
+    since: Vec<u64>,
+
+    // for each worker what it asked for since its last fence
+    asks: Vec<Asks>,
 }
 
 impl Model for Pm {
-    ghost use Rattle.bz_pm.specs.Words.{Words, IsMemory};
+    ghost use Rattle.bz_pm.specs.State.{State, IsState};
 
-    ghost Value = { Words };
+    ghost Value = { State };
 
-    ghost view = { λ pm. record { cached = pm.cached.items; durable = pm.durable.items } };
+    ghost view = { λ pm. record { words = record { cached = pm.cached.items; durable = pm.durable.items }; acts = pm.acts; since = pm.since.items; asks = pm.asks.items } };
 
-    ghost invariant = { λ pm. IsMemory (record { cached = pm.cached.items; durable = pm.durable.items }) };
+    ghost invariant = { λ pm. IsState (record { words = record { cached = pm.cached.items; durable = pm.durable.items }; acts = pm.acts; since = pm.since.items; asks = pm.asks.items }) };
 }
 
 impl Pm {
-    /// A memory whose cached and durable words are `start`. The error is want of memory.
-    pub fn open(alloc: Global, start: &[u64]) -> Result<Pm, Memory>
+    /// A memory whose cached and durable words are `start`, for workers from 0 to `workers`. The error is want of memory.
+    pub fn open(alloc: Global, start: &[u64], workers: u32) -> Result<Pm, Memory>
         requires lines { length start.now % 8 ≡ 0 }
         requires size { length start.now < 2 ^ 32 }
-        ensures { IfOk result (λ pm. pm ≡ record { cached = start.now; durable = start.now }) }
+        ensures { IfOk result (λ pm. pm ≡ opened start.now workers) }
     {
         let cached = Vec::from_slice(alloc, start)?;
         let durable = Vec::from_slice(alloc, start)?;
-        Ok(Pm { cached, durable })
+        let since = vec![in alloc; 0u64; start.len()]?;
+        let asks = no_asks(alloc, workers)?;
+        Ok(Pm {
+            cached,
+            durable,
+            acts: 0,
+            since,
+            asks,
+        })
     }
 
     /// The number of words.
     pub fn words(&self) -> u32
-        ensures words { result ≡ length self.now.durable }
-        ensures memory { IsMemory self.now }
-        ensures fit { HoldsWords self.now }
+        ensures words { result ≡ length self.now.words.durable }
+        ensures state { IsState self.now }
+        ensures fit { HoldsWords self.now.words }
     {
         let cached = self.cached.as_slice();
         let durable = self.durable.as_slice();
@@ -53,60 +72,103 @@ impl Pm {
 
     /// The cached word at an address.
     pub fn load(&self, a: u32) -> u64
-        requires { a < length self.now.cached }
-        ensures { result ≡ slice_index self.now.cached a }
+        requires { a < length self.now.words.cached }
+        ensures { result ≡ slice_index self.now.words.cached a }
     {
         self.cached[a as usize]
     }
 
     /// Stores a word in the caches.
     pub fn store(&mut self, a: u32, v: u64)
-        requires { a < length self.old.cached }
-        ensures { self.new ≡ stored self.old a v }
+        requires { a < length self.old.words.cached }
+        ensures { self.new ≡ after_store self.old a v }
     {
         self.cached[a as usize] = v;
+        self.acts = self.acts.saturating_add(1);
     }
 
     /// Compares the cached word with `old` and stores `new` where it is that; the value found is answered.
     pub fn cas(&mut self, a: u32, old: u64, new: u64) -> u64
-        requires { a < length self.old.cached }
-        ensures found { result ≡ slice_index self.old.cached a }
-        ensures after { self.new ≡ compared self.old a old new }
+        requires { a < length self.old.words.cached }
+        ensures found { result ≡ slice_index self.old.words.cached a }
+        ensures after { self.new ≡ after_cas self.old a old new }
     {
         let found = self.cached[a as usize];
+        self.acts = self.acts.saturating_add(1);
         if found == old {
             self.cached[a as usize] = new;
         }
         found
     }
 
+    /// Whether a worker from 0 to the last one may ask for one more line before its next fence.
+    pub fn may_ask(&self, w: u8) -> bool
+        ensures { IsTrue result ↔ ((w < length self.now.asks) × (length (asks_of self.now w) < 64)) }
+    {
+        (w as usize) < self.asks.len() && self.asks[w as usize].as_slice().len() < LINES_ASKED
+    }
+
+    /// Asks, for a worker, that the eight cached words of a line as they are now be durable after its next fence.
+    pub fn ask(&mut self, w: u8, line: u32)
+        requires worker { w < length self.old.asks }
+        requires room { length (asks_of self.old w) < 64 }
+        requires line { line * 8 < length self.old.words.cached }
+        ensures { self.new ≡ after_ask self.old w line }
+    {
+        let words = words_of(&self.cached, line as usize);
+        let moment = self.acts;
+        self.asks[w as usize].put(Ask {
+            line,
+            moment,
+            words,
+        });
+        self.acts = moment.saturating_add(1);
+    }
+
+    /// Makes what a worker asked for durable, each word unless a later value of it is, and forgets what it asked for.
+    pub fn fence(&mut self, w: u8)
+        requires { w < length self.old.asks }
+        ensures { self.new ≡ after_fence self.old w }
+    {
+        let asks = self.asks[w as usize].as_slice();
+        settle(asks, &mut self.durable, &mut self.since);
+        self.asks[w as usize].clear();
+        self.acts = self.acts.saturating_add(1);
+    }
+
     /// Makes the eight cached words of a line durable, as one step.
     pub fn flush(&mut self, line: u32)
-        requires { line * 8 < length self.old.cached }
-        ensures { self.new ≡ flushed self.old line }
+        requires { line * 8 < length self.old.words.cached }
+        ensures { self.new ≡ after_flush self.old line }
     {
         copy_line(&self.cached, &mut self.durable, line as usize);
+        fill_line(&mut self.since, line as usize, self.acts);
+        self.acts = self.acts.saturating_add(1);
     }
 
-    /// Makes the cached word at an address durable.
+    /// Makes the cached word at an address durable. This is no act of a worker.
     pub fn evict(&mut self, a: u32)
-        requires { a < length self.old.cached }
-        ensures { self.new ≡ evicted self.old a }
+        requires { a < length self.old.words.cached }
+        ensures { self.new ≡ after_eviction self.old a }
     {
         self.durable[a as usize] = self.cached[a as usize];
+        self.since[a as usize] = self.acts;
     }
 
-    /// Cuts the power: every cached word is lost, and the durable one stands in its place.
+    /// Cuts the power: every cached word is lost, and the durable one stands in its place; what was asked for is forgotten.
     pub fn cut(&mut self)
-        ensures { self.new ≡ after_cut self.old }
+        ensures { self.new ≡ after_power_cut self.old }
     {
         self.cached.copy_from_slice(&self.durable);
+        self.since.fill(0);
+        forget(&mut self.asks);
+        self.acts = 0;
     }
 
     /// The durable word at an address.
     pub fn durable(&self, a: u32) -> u64
-        requires { a < length self.now.cached }
-        ensures { result ≡ slice_index self.now.durable a }
+        requires { a < length self.now.words.cached }
+        ensures { result ≡ slice_index self.now.words.durable a }
     {
         self.durable[a as usize]
     }

@@ -140,14 +140,14 @@ fn makes_each(rt: &impl Abort, pm: &mut Pm) {
 
 #[test]
 fn each_act_changes_these_words(rt: HostRuntime) {
-    let mut pm = Pm::open(rt.alloc(), &START).expect(&rt, "a memory");
+    let mut pm = Pm::open(rt.alloc(), &START, 1).expect(&rt, "a memory");
     same(&rt, pm.words(), 16);
     makes_each(&rt, &mut pm);
 }
 
 #[test]
 fn a_memory_may_have_no_word(rt: HostRuntime) -> Result<(), Fail> {
-    let mut pm = Pm::open(rt.alloc(), &[])?;
+    let mut pm = Pm::open(rt.alloc(), &[], 1)?;
     pm.cut();
     same(&rt, pm.words(), 0);
     Ok(())

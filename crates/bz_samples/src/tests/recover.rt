@@ -205,7 +205,7 @@ fn is_recovered(rt: &impl Abort, pm: &Pm) {
 #[test]
 fn every_kind_of_word_is_resolved(rt: HostRuntime) -> Result<(), Fail> {
     let mut slots = Slots::open(rt.alloc(), 1)?;
-    let mut pm = Pm::open(rt.alloc(), &image())?;
+    let mut pm = Pm::open(rt.alloc(), &image(), 1)?;
     let made = recover(&rt, &mut pm, &mut slots, 1000, false);
     assert!(rt; made.ended);
     is_recovered(&rt, &pm);
@@ -218,7 +218,7 @@ fn every_kind_of_word_is_resolved(rt: HostRuntime) -> Result<(), Fail> {
 #[test]
 fn a_recovered_memory_is_only_read(rt: HostRuntime) -> Result<(), Fail> {
     let mut slots = Slots::open(rt.alloc(), 1)?;
-    let mut pm = Pm::open(rt.alloc(), &image())?;
+    let mut pm = Pm::open(rt.alloc(), &image(), 1)?;
     assert!(rt; recover(&rt, &mut pm, &mut slots, 1000, false).ended);
     let made = recover(&rt, &mut pm, &mut slots, 1000, false);
     assert!(rt; made.ended);
@@ -247,7 +247,7 @@ fn is_cut(rt: &impl Abort, pm: &mut Pm, slots: &mut Slots, first: u32, half: u32
 
 // The memory before the recovery.
 fn unresolved(rt: &impl Abort, alloc: Global) -> Pm {
-    Pm::open(alloc, &image()).expect(rt, "a memory")
+    Pm::open(alloc, &image(), 1).expect(rt, "a memory")
 }
 
 // A cut after each number of acts, and again after each number of acts of the next recovery.
