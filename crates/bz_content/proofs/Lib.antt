@@ -15,3 +15,4 @@ pub mod Unnamed
 pub mod Values
 pub mod WellFormed
 pub mod Worked
+pub mod Proved

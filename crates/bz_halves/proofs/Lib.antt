@@ -7,3 +7,4 @@ pub mod PartedParents
 pub mod PartedChildren
 pub mod ReadParents
 mod Making
+pub mod Proved

@@ -8,3 +8,4 @@ mod JoinedChildren
 mod OneLeaf
 mod Inserting
 mod MadeParents
+pub mod Proved

@@ -7,3 +7,4 @@ mod Packings
 mod Readings
 mod Spellings
 mod WordReads
+pub mod Proved

@@ -2,11 +2,11 @@
 use Rattle.bz_layout.specs.Addresses.{AddressesFit, DescriptorsApart, SlotsApart, AddressesArePlaced, DescriptorsStandApart, RegionsAreWholeLines}
 use Rattle.bz_layout.specs.Fresh.{FreshWordsSay}
 use Rattle.bz_layout.specs.Slots.{TakenSlotsAreGone, HeldSlotIsGone, AllSlotsAreFree}
-use Rattle.bz_layout.specs.Rooms.{DescriptorPartsFollow, NodePartsFollow, SharedWordsSuffice, RecordsAreBounded, PairsFitPage, SettledLeafTakesRecord, MergedLeafTakesRecord, SplitLeafIsNotMerged, DeleteLeavesEnough, LeafSplitsInHalves, InnerSplitsInHalves, InnerTakesSeparator, FullInnerIsAboveLimit, NewRootIsSmall, SupplySuffices}
+use Rattle.bz_layout.specs.Rooms.{DescriptorPartsFollow, NodePartsFollow, SharedWordsSuffice, RecordsAreBounded, PairsFitPage, SettledLeafTakesRecord, MergedLeafTakesRecord, SplitLeafIsNotMerged, DeleteLeavesEnough, LeafSplitsInHalves, InnerSplitsInHalves, InnerTakesSeparator, FullInnerIsAboveLimit, NewRootIsSmall, SupplySuffices, RecordsLieOverFewLines}
 use Rattle.bz_layout.proofs.Addresses.{addresses_fit-holds, descriptors_apart-holds, slots_apart-holds, addresses_are_placed-holds, descriptors_stand_apart-holds, regions_are_whole_lines-holds}
 use Rattle.bz_layout.proofs.FreshWords.{fresh_words_say-holds}
 use Rattle.bz_layout.proofs.SlotLaws.{taken_slots_are_gone-holds, held_slot_is_gone-holds, all_slots_are_free-holds}
-use Rattle.bz_layout.proofs.Rooms.{descriptor_parts_follow-holds, node_parts_follow-holds, shared_words_suffice-holds, records_are_bounded-holds, pairs_fit_page-holds, settled_leaf_takes_record-holds, merged_leaf_takes_record-holds, split_leaf_is_not_merged-holds, delete_leaves_enough-holds, leaf_splits_in_halves-holds, inner_splits_in_halves-holds, inner_takes_separator-holds, full_inner_is_above_limit-holds, new_root_is_small-holds, supply_suffices-holds}
+use Rattle.bz_layout.proofs.Rooms.{descriptor_parts_follow-holds, node_parts_follow-holds, shared_words_suffice-holds, records_are_bounded-holds, pairs_fit_page-holds, settled_leaf_takes_record-holds, merged_leaf_takes_record-holds, split_leaf_is_not_merged-holds, delete_leaves_enough-holds, leaf_splits_in_halves-holds, inner_splits_in_halves-holds, inner_takes_separator-holds, full_inner_is_above_limit-holds, new_root_is_small-holds, supply_suffices-holds, records_lie_over_few_lines-holds}
 
 pub addresses_fit : AddressesFit
 addresses_fit = addresses_fit-holds
@@ -82,3 +82,6 @@ new_root_is_small = new_root_is_small-holds
 
 pub supply_suffices : SupplySuffices
 supply_suffices = supply_suffices-holds
+
+pub records_lie_over_few_lines : RecordsLieOverFewLines
+records_lie_over_few_lines = records_lie_over_few_lines-holds

@@ -1,16 +1,11 @@
 //! Laws of the map of the memory. Each function does nothing: its contract is the law.
 
-ghost use Rattle.bz_layout.specs.Addresses.{AddressesFit, DescriptorsApart, SlotsApart, AddressesArePlaced, DescriptorsStandApart, RegionsAreWholeLines};
+ghost use Rattle.bz_layout.specs.Addresses.{AddressesFit, SlotsApart, AddressesArePlaced, DescriptorsStandApart};
 ghost use Rattle.bz_layout.specs.Fresh.{FreshWordsSay};
 
 /// Every word of a descriptor and of a slot lies in the memory, whose addresses fit 32 bits.
 pub fn addresses_fit()
     ensures { AddressesFit }
-{}
-
-/// Two descriptors have no word in common.
-pub fn descriptors_apart()
-    ensures { DescriptorsApart }
 {}
 
 /// Two slots have no word in common.
@@ -26,11 +21,6 @@ pub fn addresses_are_placed()
 /// No word of a slot is a word of a descriptor.
 pub fn descriptors_stand_apart()
     ensures { DescriptorsStandApart }
-{}
-
-/// A descriptor is two whole lines and a slot sixteen.
-pub fn regions_are_whole_lines()
-    ensures { RegionsAreWholeLines }
 {}
 
 /// Fresh memory word by word.

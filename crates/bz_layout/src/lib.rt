@@ -14,8 +14,7 @@ mod swaps;
 mod thresholds;
 
 pub use address_laws::{
-    addresses_are_placed, addresses_fit, descriptors_apart, descriptors_stand_apart,
-    fresh_words_say, regions_are_whole_lines, slots_apart,
+    addresses_are_placed, addresses_fit, descriptors_stand_apart, fresh_words_say, slots_apart,
 };
 pub use config::Config;
 pub use error::ConfigError;
@@ -36,7 +35,7 @@ pub use sizes::{
     NODES_AT, ROOT_AT, ROOT_STATUS_AT, SHARED_WORDS, STATUS_AT, SUPERBLOCK_USED, SUPERBLOCK_WORDS,
     SWAP_COUNT_AT, SWAP_STATUS_AT, SWAP_WORDS, SWAPS_AT,
 };
-pub use slot_laws::{all_slots_are_free, held_slot_is_gone, taken_slots_are_gone};
+pub use slot_laws::taken_slots_are_gone;
 pub use slots::Slots;
 pub use superblock::fresh;
 pub use swaps::{

@@ -7,3 +7,4 @@ pub mod Merges
 pub mod Sames
 pub mod Slots
 pub mod Splits
+pub mod Proved

@@ -12,3 +12,4 @@ pub mod LawProofs
 pub mod ExampleProofs
 mod PageLemmas
 pub mod TimeLaws
+pub mod Proved

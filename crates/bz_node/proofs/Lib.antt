@@ -12,3 +12,4 @@ pub mod MadeInners
 pub mod Unique
 pub mod MadeNodes
 pub mod MadePlaces
+pub mod Proved

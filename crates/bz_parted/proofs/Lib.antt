@@ -5,3 +5,4 @@ mod Roots
 mod ReadNodes
 mod Rows
 pub mod FromHalves
+pub mod Proved

@@ -2,42 +2,27 @@
 
 ghost use Rattle.bz_parted.specs.Laws.{ChildrenPartInHalves, HalvesTakeOneMore, HalvesAreInner, RootsStandAtLevels, ReadNodesHaveChildren};
 
-use bz_slotted::laws as slotted;
-
 /// The children of an inner node that is split part in two halves, each of which takes one more separator.
 pub fn children_part_in_halves()
     ensures { ChildrenPartInHalves }
-{
-    bz_layout::inner_splits_in_halves();
-}
+{}
 
 /// A half has room for one child more, below any separator.
 pub fn halves_take_one_more()
     ensures { HalvesTakeOneMore }
-{
-    bz_layout::inner_takes_separator();
-}
+{}
 
 /// The halves are inner nodes, and have between them the children of the node that is split.
 pub fn halves_are_inner()
     ensures { HalvesAreInner }
-{
-    bz_layout::inner_splits_in_halves();
-    slotted::made_inners_are_whole();
-}
+{}
 
 /// A new root over two nodes breaks no rule, and takes one more separator.
 pub fn roots_stand_at_levels()
     ensures { RootsStandAtLevels }
-{
-    slotted::made_inners_are_whole();
-}
+{}
 
 /// The children that are read of an inner node that breaks no rule make a node, and take the words that its status says.
 pub fn read_nodes_have_children()
     ensures { ReadNodesHaveChildren }
-{
-    slotted::inner_rules_are_facts();
-    slotted::inner_keys_rise();
-    slotted::whole_inners_are_readable();
-}
+{}

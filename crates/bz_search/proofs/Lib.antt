@@ -1,3 +1,4 @@
 pub mod Digits
 pub mod Halving
 pub mod Powers
+pub mod Proved

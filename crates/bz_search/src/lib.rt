@@ -1,7 +1,6 @@
 //! A search by halving among the sorted records of a node, of which some may not be visible: where it looks, and what it costs.
 #![tactic(auto)]
 
-pub mod laws;
 mod probe;
 
 pub use probe::{Probe, halved};

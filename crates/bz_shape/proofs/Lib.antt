@@ -32,3 +32,4 @@ pub mod Visits
 pub mod WalkBack
 pub mod WalkForms
 pub mod Widened
+pub mod Proved

@@ -1,6 +1,6 @@
 //! Laws of trees and of the swaps on them. Each function does nothing: its contract is the law.
 
-ghost use Rattle.bz_shape.specs.TreeLaws.{FormsFitTrees, TreesHaveForms, SlotsComeOnce, LeavesTileTheKeys, ContentIsTheUnion, MapIsTheContent, WalksByStack};
+ghost use Rattle.bz_shape.specs.TreeLaws.{FormsFitTrees, TreesHaveForms, SlotsComeOnce, LeavesTileTheKeys, MapIsTheContent};
 ghost use Rattle.bz_shape.specs.SwapLaws.{UnreachedSlotsDoNotMatter, QuietSlotsKeepTheTree, LeafSwapsKeepTheTree, ConsolidationsKeepTheContent, SplitsKeepTheContent, RootSplitsKeepTheContent, MergesKeepTheContent};
 
 /// An image that a form fits has no fault, and the form that its walk shows agrees with that one.
@@ -23,19 +23,9 @@ pub fn leaves_tile_the_keys()
     ensures { LeavesTileTheKeys }
 {}
 
-/// The content is the union of what the reached leaves say.
-pub fn content_is_the_union()
-    ensures { ContentIsTheUnion }
-{}
-
 /// The content as a map answers each key as the descent does.
 pub fn map_is_the_content()
     ensures { MapIsTheContent }
-{}
-
-/// A walk can be made step by step, with a stack of visits.
-pub fn walks_by_stack()
-    ensures { WalksByStack }
 {}
 
 /// Changes of slots that are not reached change neither the tree nor the content.

@@ -33,3 +33,4 @@ pub mod Firsts
 pub mod Neighbours
 pub mod NodeKinds
 pub mod HighFences
+pub mod Proved

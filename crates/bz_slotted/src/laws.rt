@@ -2,7 +2,7 @@
 
 ghost use Rattle.bz_slotted.specs.InnerChanges.{PointerSwapChangesChild, StandingIsQuiet};
 ghost use Rattle.bz_slotted.specs.LeafLaws.{RewriteChangesOneKey, ReservationIsQuiet, GrowthIsQuiet, FreezeIsQuiet, StoresAreQuiet};
-ghost use Rattle.bz_slotted.specs.ReadingLaws.{WholeLeavesAreReadable, WholeInnersAreReadable, HighFencesAreRead, MadeLeavesAreWhole, MadeInnersAreWhole};
+ghost use Rattle.bz_slotted.specs.ReadingLaws.{WholeLeavesAreReadable, WholeInnersAreReadable, HighFencesAreRead, MadeLeavesAreWhole};
 ghost use Rattle.bz_slotted.specs.Laws.{LeafRulesAreFacts, InnerRulesAreFacts, InnerKeysRise, FoundKeysAreInRange, LiveWordsFit};
 
 /// A leaf breaks no rule exactly where each rule holds as a fact of its records.
@@ -84,13 +84,4 @@ pub fn high_fences_are_read()
 /// A leaf made whole breaks no rule, and says of each key what its records say.
 pub fn made_leaves_are_whole()
     ensures { MadeLeavesAreWhole }
-{
-    bz_node::laws::leaves_are_read();
-}
-
-/// An inner node made whole breaks no rule, and has its children and their bounds.
-pub fn made_inners_are_whole()
-    ensures { MadeInnersAreWhole }
-{
-    bz_node::laws::inner_nodes_are_read();
-}
+{}

@@ -10,3 +10,4 @@ pub mod Leaves
 pub mod Made
 pub mod Paths
 pub mod Runs
+pub mod Proved

@@ -1,5 +1,5 @@
-use Rattle.bz_halves.proofs.Parting.{are-leaves}
+use Rattle.bz_halves.proofs.Proved as proved
 use Rattle.bz_halves.proofs.laws.halves_are_leaves.Goals as goal
 
 pub returns : goal.returns
-returns c = are-leaves c.leaf_splits_in_halves.ensures c.made_leaves_are_whole.ensures
+returns c = proved.halves_are_leaves

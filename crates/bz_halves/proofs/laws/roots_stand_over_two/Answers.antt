@@ -1,5 +1,5 @@
-use Rattle.bz_halves.proofs.Roots.{roots-stand}
+use Rattle.bz_halves.proofs.Proved as proved
 use Rattle.bz_halves.proofs.laws.roots_stand_over_two.Goals as goal
 
 pub returns : goal.returns
-returns c = roots-stand c.made_inners_are_whole.ensures
+returns c = proved.roots_stand_over_two

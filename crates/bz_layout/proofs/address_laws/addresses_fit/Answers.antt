@@ -1,5 +1,5 @@
-use Rattle.bz_layout.proofs.Addresses.{addresses_fit-holds}
+use Rattle.bz_layout.proofs.Laws as proved
 use Rattle.bz_layout.proofs.address_laws.addresses_fit.Goals as goal
 
 pub returns : goal.returns
-returns c = addresses_fit-holds
+returns c = proved.addresses_fit

@@ -1,5 +1,5 @@
-use Rattle.bz_layout.proofs.Addresses.{descriptors_stand_apart-holds}
+use Rattle.bz_layout.proofs.Laws as proved
 use Rattle.bz_layout.proofs.address_laws.descriptors_stand_apart.Goals as goal
 
 pub returns : goal.returns
-returns c = descriptors_stand_apart-holds
+returns c = proved.descriptors_stand_apart

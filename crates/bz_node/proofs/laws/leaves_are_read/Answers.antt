@@ -1,5 +1,5 @@
-use Rattle.bz_node.proofs.MadeLeaves.{leaf_read}
+use Rattle.bz_node.proofs.Proved as proved
 use Rattle.bz_node.proofs.laws.leaves_are_read.Goals as goal
 
 pub returns : goal.returns
-returns c = leaf_read
+returns c = proved.leaves_are_read

@@ -1,5 +1,5 @@
-use Rattle.bz_parted.proofs.Parting.{part-in-halves}
+use Rattle.bz_parted.proofs.Proved as proved
 use Rattle.bz_parted.proofs.laws.children_part_in_halves.Goals as goal
 
 pub returns : goal.returns
-returns c = part-in-halves c.inner_splits_in_halves.ensures
+returns c = proved.children_part_in_halves

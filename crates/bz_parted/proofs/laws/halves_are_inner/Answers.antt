@@ -1,5 +1,5 @@
-use Rattle.bz_parted.proofs.Nodes.{are-inner}
+use Rattle.bz_parted.proofs.Proved as proved
 use Rattle.bz_parted.proofs.laws.halves_are_inner.Goals as goal
 
 pub returns : goal.returns
-returns c = are-inner c.inner_splits_in_halves.ensures c.made_inners_are_whole.ensures
+returns c = proved.halves_are_inner

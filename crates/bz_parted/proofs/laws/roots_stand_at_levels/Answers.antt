@@ -1,5 +1,5 @@
-use Rattle.bz_parted.proofs.Roots.{roots-stand}
+use Rattle.bz_parted.proofs.Proved as proved
 use Rattle.bz_parted.proofs.laws.roots_stand_at_levels.Goals as goal
 
 pub returns : goal.returns
-returns c = roots-stand c.made_inners_are_whole.ensures
+returns c = proved.roots_stand_at_levels

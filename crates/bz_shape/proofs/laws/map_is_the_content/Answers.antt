@@ -1,5 +1,5 @@
-use Rattle.bz_shape.proofs.TreeForms.{map-is-content}
+use Rattle.bz_shape.proofs.Proved as proved
 use Rattle.bz_shape.proofs.laws.map_is_the_content.Goals as goal
 
 pub returns : goal.returns
-returns c = map-is-content
+returns c = proved.map_is_the_content

@@ -1,5 +1,5 @@
-use Rattle.bz_shape.proofs.TreeForms.{trees-have-forms}
+use Rattle.bz_shape.proofs.Proved as proved
 use Rattle.bz_shape.proofs.laws.trees_have_forms.Goals as goal
 
 pub returns : goal.returns
-returns c = trees-have-forms
+returns c = proved.trees_have_forms

@@ -1,5 +1,5 @@
-use Rattle.bz_slotted.proofs.LeafSwaps.{growth-quiet}
+use Rattle.bz_slotted.proofs.Proved as proved
 use Rattle.bz_slotted.proofs.laws.growth_is_quiet.Goals as goal
 
 pub returns : goal.returns
-returns c = growth-quiet
+returns c = proved.growth_is_quiet

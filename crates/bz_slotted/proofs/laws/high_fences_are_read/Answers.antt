@@ -1,5 +1,5 @@
-use Rattle.bz_slotted.proofs.HighFences.{high-fences}
+use Rattle.bz_slotted.proofs.Proved as proved
 use Rattle.bz_slotted.proofs.laws.high_fences_are_read.Goals as goal
 
 pub returns : goal.returns
-returns c = high-fences
+returns c = proved.high_fences_are_read

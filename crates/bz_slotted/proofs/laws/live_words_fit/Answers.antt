@@ -1,5 +1,5 @@
-use Rattle.bz_slotted.proofs.Honest.{live-fits}
+use Rattle.bz_slotted.proofs.Proved as proved
 use Rattle.bz_slotted.proofs.laws.live_words_fit.Goals as goal
 
 pub returns : goal.returns
-returns c = live-fits
+returns c = proved.live_words_fit

@@ -1,5 +1,5 @@
-use Rattle.bz_slotted.proofs.MadeLeaves.{leaves-made}
+use Rattle.bz_slotted.proofs.Proved as proved
 use Rattle.bz_slotted.proofs.laws.made_leaves_are_whole.Goals as goal
 
 pub returns : goal.returns
-returns c = leaves-made c.leaves_are_read.ensures
+returns c = proved.made_leaves_are_whole

@@ -1,5 +1,5 @@
-use Rattle.bz_slotted.proofs.InnerSwaps.{pointer-swap-changes}
+use Rattle.bz_slotted.proofs.Proved as proved
 use Rattle.bz_slotted.proofs.laws.pointer_swap_changes_child.Goals as goal
 
 pub returns : goal.returns
-returns c = pointer-swap-changes
+returns c = proved.pointer_swap_changes_child

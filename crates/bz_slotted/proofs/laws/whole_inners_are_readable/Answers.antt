@@ -1,5 +1,5 @@
-use Rattle.bz_slotted.proofs.ReadableInners.{inners-readable}
+use Rattle.bz_slotted.proofs.Proved as proved
 use Rattle.bz_slotted.proofs.laws.whole_inners_are_readable.Goals as goal
 
 pub returns : goal.returns
-returns c = inners-readable
+returns c = proved.whole_inners_are_readable

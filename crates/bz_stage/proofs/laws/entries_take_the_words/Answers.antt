@@ -1,5 +1,5 @@
-use Rattle.bz_stage.proofs.Made.{entries-taken}
+use Rattle.bz_stage.proofs.Proved as proved
 use Rattle.bz_stage.proofs.laws.entries_take_the_words.Goals as goal
 
 pub returns : goal.returns
-returns c = entries-taken c.read_nodes_have_children.ensures
+returns c = proved.entries_take_the_words

@@ -1,5 +1,5 @@
-use Rattle.bz_stage.proofs.Made.{made-inners}
+use Rattle.bz_stage.proofs.Proved as proved
 use Rattle.bz_stage.proofs.laws.made_inners_take_their_entries.Goals as goal
 
 pub returns : goal.returns
-returns c = made-inners c.inner_nodes_are_read.ensures
+returns c = proved.made_inners_take_their_entries

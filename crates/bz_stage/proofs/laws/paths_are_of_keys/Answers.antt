@@ -1,5 +1,5 @@
-use Rattle.bz_stage.proofs.Paths.{paths-are-of-keys}
+use Rattle.bz_stage.proofs.Proved as proved
 use Rattle.bz_stage.proofs.laws.paths_are_of_keys.Goals as goal
 
 pub returns : goal.returns
-returns c = paths-are-of-keys
+returns c = proved.paths_are_of_keys

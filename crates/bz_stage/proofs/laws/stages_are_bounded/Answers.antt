@@ -1,5 +1,5 @@
-use Rattle.bz_stage.proofs.Bounds.{stages-bounded}
+use Rattle.bz_stage.proofs.Proved as proved
 use Rattle.bz_stage.proofs.laws.stages_are_bounded.Goals as goal
 
 pub returns : goal.returns
-returns c = stages-bounded c.leaf_rules_are_facts.ensures c.inner_rules_are_facts.ensures
+returns c = proved.stages_are_bounded

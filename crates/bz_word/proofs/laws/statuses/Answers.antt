@@ -1,5 +1,5 @@
-use Rattle.bz_word.proofs.Lemmas as law
+use Rattle.bz_word.proofs.Proved as proved
 use Rattle.bz_word.proofs.laws.statuses.Goals as goal
 
 pub returns : goal.returns
-returns c = law.statuses
+returns c = proved.statuses

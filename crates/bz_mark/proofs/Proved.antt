@@ -1,0 +1,47 @@
+-- What this crate proves, as lemmas that other crates cite by these names.
+use Rattle.bz_mark.proofs.ExampleProofs.{leaves_five_or_six as leaves_five_or_six-holds, table_is_right as table_is_right-holds}
+use Rattle.bz_mark.proofs.LawProofs.{evictions_leave_what_may_be_held as evictions_leave_what_may_be_held-holds, held_after_one_mark as held_after_one_mark-holds, swaps_as_found as swaps_as_found-holds, truthful_at_each_moment as truthful_at_each_moment-holds, truthful_with_evictions as truthful_with_evictions-holds, words_stay as words_stay-holds}
+use Rattle.bz_mark.proofs.WordLaws.{length-words_of, words_of-next}
+use Rattle.bz_mark.specs.Evictions.{EvictionsLeaveWhatMayBeHeld}
+use Rattle.bz_mark.specs.Example.{LeavesFiveOrSix, TableIsRight}
+use Rattle.bz_mark.specs.Laws.{HeldAfterOneMark, LengthsStay, SwapsAsFound, TruthfulAtEachMoment, TruthfulWithEvictions, WordsFollow, WordsStay}
+
+-- there are always as many words as in the start image
+pub lengths_stay : LengthsStay
+lengths_stay = length-words_of
+
+-- the words at the next moment are what the mark in between makes of the words at this one
+pub words_follow : WordsFollow
+words_follow = words_of-next
+
+-- the words at a moment stay what they are when marks are added
+pub words_stay : WordsStay
+words_stay = words_stay-holds
+
+-- a compare-and-swap that tells what stood there is the act of a memory
+pub swaps_as_found : SwapsAsFound
+swaps_as_found = swaps_as_found-holds
+
+-- in a truthful journal, and in no other, each mark found the cached value of its moment
+pub truthful_at_each_moment : TruthfulAtEachMoment
+truthful_at_each_moment = truthful_at_each_moment-holds
+
+-- what a word may hold after one mark more
+pub held_after_one_mark : HeldAfterOneMark
+held_after_one_mark = held_after_one_mark-holds
+
+-- evictions added to a truthful journal leave it truthful
+pub truthful_with_evictions : TruthfulWithEvictions
+truthful_with_evictions = truthful_with_evictions-holds
+
+-- an image is the durable memory at the end of a journal with some evictions added after its last cut, exactly where each word of it is one that the word may hold. So a theorem over all lists of events, evictions included, covers every image that a power cut can leave
+pub evictions_leave_what_may_be_held : EvictionsLeaveWhatMayBeHeld
+evictions_leave_what_may_be_held = evictions_leave_what_may_be_held-holds
+
+-- the words after each mark of a journal that was worked out by hand
+pub table_is_right : TableIsRight
+table_is_right = table_is_right-holds
+
+-- a power cut after a store, a flush and another store leaves one of the two stored values, and nothing else
+pub leaves_five_or_six : LeavesFiveOrSix
+leaves_five_or_six = leaves_five_or_six-holds

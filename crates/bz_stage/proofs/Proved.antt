@@ -1,0 +1,83 @@
+-- What this crate proves, as lemmas that other crates cite by these names.
+use Rattle.bz_content.proofs.Proved.{consolidations_keep_the_content, quiet_swaps_keep_the_content, root_splits_keep_the_content, splits_keep_the_content}
+use Rattle.bz_layout.proofs.Laws.{settled_leaf_takes_record}
+use Rattle.bz_node.proofs.Proved.{inner_nodes_are_read, leaves_are_read}
+use Rattle.bz_parted.proofs.Proved.{read_nodes_have_children}
+use Rattle.bz_slotted.proofs.Proved.{inner_rules_are_facts, leaf_rules_are_facts}
+use Rattle.bz_stage.proofs.Bounds.{full-counted, stages-bounded}
+use Rattle.bz_stage.proofs.Copies.{copies}
+use Rattle.bz_stage.proofs.Examples.{stages-are-told}
+use Rattle.bz_stage.proofs.Freezes.{freezes}
+use Rattle.bz_stage.proofs.InnerSplits.{inner-splits, root-splits, splits-leave-a-level}
+use Rattle.bz_stage.proofs.LeafSplits.{leaf-splits, root-leaf-splits}
+use Rattle.bz_stage.proofs.Leaves.{lacking-leaves-say, stages-say}
+use Rattle.bz_stage.proofs.Made.{entries-taken, made-inners, made-leaves}
+use Rattle.bz_stage.proofs.Paths.{paths-are-of-keys}
+use Rattle.bz_stage.specs.Examples.{StagesAreTold}
+use Rattle.bz_stage.specs.Laws.{CopiesGiveRoom, FreezesLowerTheStage, FullNodesAreCounted, InnerSplitsLowerTheStage, LackingLeavesSay, LeafSplitsGiveRoom, PathsAreOfKeys, RootLeafSplitsGiveRoom, RootSplitsLowerTheStage, SplitsLeaveALevel, StagesAreBounded, StagesSay}
+use Rattle.bz_stage.specs.Made.{EntriesTakeTheWords, MadeInnersTakeTheirEntries, MadeLeavesAreRoomy}
+
+-- the stages of small images and of single leaves
+pub stages_are_told : StagesAreTold
+stages_are_told = stages-are-told
+
+-- what the stage of a leaf says of it
+pub stages_say : StagesSay
+stages_say = stages-say
+
+-- so a key whose leaf has no room is two rounds away from it at least, or where the leaf is frozen one
+pub lacking_leaves_say : LackingLeavesSay
+lacking_leaves_say = lacking-leaves-say
+
+-- the node of a level on the way to a key is the one reached node of that level in whose range the key is
+pub paths_are_of_keys : PathsAreOfKeys
+paths_are_of_keys = paths-are-of-keys
+
+-- the nodes directly above a leaf that lack room for one more separator
+pub full_nodes_are_counted : FullNodesAreCounted
+full_nodes_are_counted = full-counted
+
+-- a stage is at most two more than there are levels of inner nodes, of which there are fewer than levels of a tree
+pub stages_are_bounded : StagesAreBounded
+stages_are_bounded = stages-bounded leaf_rules_are_facts inner_rules_are_facts
+
+-- a freeze of a leaf that lacks the words lowers the stage by one
+pub freezes_lower_the_stage : FreezesLowerTheStage
+freezes_lower_the_stage = freezes quiet_swaps_keep_the_content
+
+-- a copy has room for any record
+pub copies_give_room : CopiesGiveRoom
+copies_give_room = copies (record { leaf = leaf_rules_are_facts; inner = inner_rules_are_facts }) settled_leaf_takes_record consolidations_keep_the_content
+
+-- the halves of a leaf that is split have room for any record
+pub leaf_splits_give_room : LeafSplitsGiveRoom
+leaf_splits_give_room = leaf-splits (record { leaf = leaf_rules_are_facts; inner = inner_rules_are_facts }) settled_leaf_takes_record splits_keep_the_content
+
+-- so have those of a root that is a leaf
+pub root_leaf_splits_give_room : RootLeafSplitsGiveRoom
+root_leaf_splits_give_room = root-leaf-splits (record { leaf = leaf_rules_are_facts; inner = inner_rules_are_facts }) settled_leaf_takes_record root_splits_keep_the_content
+
+-- a split of one of the full nodes directly above the leaf lowers the stage
+pub inner_splits_lower_the_stage : InnerSplitsLowerTheStage
+inner_splits_lower_the_stage = inner-splits (record { leaf = leaf_rules_are_facts; inner = inner_rules_are_facts }) splits_keep_the_content
+
+-- so does that of the root, where all nodes above the leaf are full
+pub root_splits_lower_the_stage : RootSplitsLowerTheStage
+root_splits_lower_the_stage = root-splits (record { leaf = leaf_rules_are_facts; inner = inner_rules_are_facts }) root_splits_keep_the_content
+
+-- after both the stage is at most the level of the node that was split, above which there is one level more
+pub splits_leave_a_level : SplitsLeaveALevel
+splits_leave_a_level =
+    splits-leave-a-level (record { leaf = leaf_rules_are_facts; inner = inner_rules_are_facts }) splits_keep_the_content root_splits_keep_the_content
+
+-- a leaf that is made of few enough records is one that has room
+pub made_leaves_are_roomy : MadeLeavesAreRoomy
+made_leaves_are_roomy = made-leaves settled_leaf_takes_record leaves_are_read
+
+-- an inner node that is made of children has taken the words of their entries
+pub made_inners_take_their_entries : MadeInnersTakeTheirEntries
+made_inners_take_their_entries = made-inners inner_nodes_are_read
+
+-- so has each inner node that breaks no rule
+pub entries_take_the_words : EntriesTakeTheWords
+entries_take_the_words = entries-taken read_nodes_have_children
