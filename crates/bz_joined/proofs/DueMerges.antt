@@ -18,6 +18,7 @@ use Rattle.bz_content.specs.Image.{Image, node, root}
 use Rattle.bz_content.specs.Laws.{WellFormedImagesHaveNoFault}
 use Rattle.bz_content.specs.Resolving.{resolve}
 use Rattle.bz_content.specs.View.{view_of}
+use Rattle.bz_stage.specs.FromLeaves.Neighbours.{parent_in, place_in, MayBeMerged}
 use Rattle.bz_task.specs.Good.{IsGood}
 use Rattle.bz_task.specs.Instant.{durable, form_at}
 use Rattle.bz_task.specs.Outcomes.{IsLink, IsPath}
@@ -29,7 +30,6 @@ use Rattle.bz_rounds.specs.FromAlone.Quiet.{IsQuietSince, IsIn, LonelyTimesAreQu
 use Rattle.bz_rounds.specs.FromAlone.Trees.{PathsLeadToLeaves}
 use Rattle.bz_rounds.specs.Due.{LoneLeavesAreDue, MayBeMadeAnew}
 use Rattle.bz_joined.specs.DueMerges.{LoneViewsTellTheLiveWords, LoneRootLeavesHaveNoNeighbour, LoneMergesAreDue}
-use Rattle.bz_joined.specs.Neighbours.{parent_in, place_in, MayBeMerged}
 use Rattle.bz_joined.proofs.Alike.{live-is}
 use Rattle.bz_joined.proofs.Families.{up-is, index-is}
 use Rattle.bz_joined.proofs.Quiet.{Laws as Standing, live-same}

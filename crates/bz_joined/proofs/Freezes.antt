@@ -17,12 +17,13 @@ use Rattle.bz_content.specs.Image.{Image, node}
 use Rattle.bz_content.specs.Laws.{QuietSwapsKeepTheContent}
 use Rattle.bz_content.specs.Swaps.{form_in}
 use Rattle.bz_content.specs.View.{view_of}
+use Rattle.bz_stage.specs.FromLeaves.Neighbours.{leaf_page}
 use Rattle.bz_stage.proofs.Paths.{below-top, leaf-on-path, path-found, path-unique}
 use Rattle.bz_stage.proofs.Runs.{run-same}
 use Rattle.bz_stage.specs.Laws.{StagesSay}
 use Rattle.bz_stage.specs.Paths.{on_path, run_from, StandsOver}
 use Rattle.bz_stage.specs.Rooms.{is_full}
-use Rattle.bz_stage.specs.Stages.{leaf_page, page_on_path, root_level, full_above, stage_of, stage}
+use Rattle.bz_stage.specs.Stages.{page_on_path, root_level, full_above, stage_of, stage}
 use Rattle.bz_stage.specs.Swaps.{FreezesLeaf}
 use Rattle.bz_joined.specs.Laws.{FreezesBesideKeepTheStage, FreezesBesideKeepTheLeaf, FrozenLeavesAreTheKeys, SmallFreezesLeaveACopy}
 

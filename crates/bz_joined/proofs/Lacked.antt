@@ -1,42 +1,37 @@
 -- Where no neighbour of the key's leaf had room for it, none has while nobody's swap takes effect: what was read of the two and of the node
 -- above them is so now.
-use Rattle.std.proofs.Common.{◌≡◌, ◌≢◌, ℕ, ◌+◌, ◌<◌, true, List, arith, sym, ap, subst, ◌∙◌, inl, inr, Option}
+use Rattle.std.proofs.Common.{◌≡◌, ◌≢◌, ℕ, ◌+◌, ◌<◌, true, List, arith, ap, subst, ◌∙◌, inl, inr, Option}
 use Rattle.bz_layout.specs.declared.config.Config.{Config}
 use Rattle.bz_merge.specs.Facts.{NoneFitted}
 use Rattle.bz_merge.specs.Plans.{LackedAt}
 use Rattle.bz_merge.specs.Siblings.{SeenLeaf, WasSeen}
-use Rattle.bz_renew.proofs.FrozenLeaves.{read-alike}
 use Rattle.bz_shape.specs.Form.{Fits, Form}
 use Rattle.bz_shape.specs.View.{View}
-use Rattle.bz_slotted.specs.Laws.{LeafRulesAreFacts}
 use Rattle.bz_slotted.specs.Page.{page}
 use Rattle.bz_slotted.specs.Readers.{child_of, count_of, live_of}
 use Rattle.bz_slotted.specs.ReadingLaws.{node_of}
 use Rattle.bz_slotted.specs.Records.{live_words}
 use Rattle.bz_content.specs.Content.{image_of, leaf_in, view_in}
-use Rattle.bz_content.specs.Image.{node}
+use Rattle.bz_stage.specs.FromLeaves.Neighbours.{parent_in, place_in, own_live, beside_live, MayBeMerged}
 use Rattle.bz_task.specs.Good.{IsGood}
-use Rattle.bz_task.specs.Instant.{words, durable, form_at, is_inside}
-use Rattle.bz_task.specs.Laws.{IsLeafInTree, LeavesAreInTrees, SameRecordsShowTheSame, SaysAlike, SeenLeavesAreWhole}
+use Rattle.bz_task.specs.Instant.{durable, form_at, is_inside}
 use Rattle.bz_task.specs.Scene.{Scene, IsScene, here}
 use Rattle.bz_task.specs.declared.path.Link.{Link}
 use Rattle.bz_rounds.specs.FromAlone.Alone.{IsAlone}
 use Rattle.bz_rounds.specs.FromAlone.MadeFor.{WasLeafOf}
 use Rattle.bz_rounds.specs.FromAlone.Quiet.{IsQuietSince, IsIn, LonelyTimesAreQuiet}
 use Rattle.bz_rounds.specs.FromAlone.Trees.{SameTree}
-use Rattle.bz_joined.specs.Neighbours.{parent_in, place_in, own_live, beside_live, MayBeMerged, WasReadBelow, LoneNeighboursLackRoom}
-use Rattle.bz_joined.proofs.Alike.{live-alike, live-is}
+use Rattle.bz_joined.specs.Neighbours.{WasReadBelow, LoneNeighboursLackRoom}
+use Rattle.bz_joined.proofs.Alike.{live-is}
 use Rattle.bz_joined.proofs.Families.{count-is, child-is, high-inside, up-is, index-is}
+use Rattle.bz_joined.proofs.SeenLeaves.{Laws as Seen, below, live-then}
 use Rattle.bz_joined.proofs.Quiet.{Laws as Standing, fits-at, inner-read, same-tree, live-same, inner-same}
 
 -- the laws on which it rests
 pub record Laws : Type 0 where
   pub standing : Standing
   pub lonely : LonelyTimesAreQuiet
-  pub rules : LeafRulesAreFacts
-  pub leaves : LeavesAreInTrees
-  pub shown : SameRecordsShowTheSame
-  pub whole : SeenLeavesAreWhole
+  pub seen : Seen
 
 module _ (b : Laws) (s : Scene) (good : IsScene s) (alone : IsAlone 0 s.past) where
   abbrev c : Config
@@ -53,28 +48,8 @@ module _ (b : Laws) (s : Scene) (good : IsScene s) (alone : IsAlone 0 s.past) wh
     then-it : IsIn s.past.since s.past at
     then-it = record { from = w.stood.since; to = w.stood.now }
 
-    good-then : IsGood s.past.config (s.past.at at)
-    good-then = good.history.good at w.stood.since w.stood.now
-
-    below : l.slot ≢ s.past.config.nodes
-    below e = absurd (omega (arith, e, w.stood.slot))
-
-    leaf : IsLeafInTree s.past.config (s.past.at at) l.slot
-    leaf = b.leaves c (s.past.at at) l.slot good-then w.stood.slot w.stood.inside w.stood.leaf
-
-    alike : SaysAlike s.past.config.nodes (durable s.past.config (s.past.at at) l.slot) (words s.past.config (s.past.at at) l.slot) ((form_at s.past.config (s.past.at at)).low l.slot) ((form_at s.past.config (s.past.at at)).high l.slot)
-    alike = read-alike b.shown b.whole c (s.past.at at) l.slot good-then leaf
-
-    live-then : live_of (durable s.past.config (s.past.at at) l.slot) ≡ live_of (node_of l.image)
-    live-then =
-        live-alike (node c (s.past.at at).image l.slot) (durable c (s.past.at at) l.slot) (node_of l.image) (node_of l.image)
-        ((form_at c (s.past.at at)).low l.slot) ((form_at c (s.past.at at)).high l.slot) low high
-        ((b.rules c.nodes (node c (s.past.at at).image l.slot) (durable c (s.past.at at) l.slot) ((form_at c (s.past.at at)).low l.slot) ((form_at c (s.past.at at)).high l.slot)).0 leaf.whole)
-        ((b.rules c.nodes (node_of l.image) (node_of l.image) low high).0 w.whole)
-        (λ key. sym (alike.found key) ∙ w.says key)
-
     live-now : live_words (page (durable s.past.config (here s) l.slot)) ≡ live_of (node_of l.image)
-    live-now = live-same b.standing s s.past.since at s.past.now good q then-it now l.slot below w.stood.inside ∙ (live-is (durable c (s.past.at at) l.slot) ∙ live-then)
+    live-now = live-same b.standing s s.past.since at s.past.now good q then-it now l.slot (below b.seen s good l at low high w) w.stood.inside ∙ (live-is (durable c (s.past.at at) l.slot) ∙ live-then b.seen s good l at low high w)
 
   -- the node above, of which these words were read
   module _ (key : List ℕ) (upper lower : Link) (read-leaf : List ℕ) (was : WasLeafOf key lower.slot s.past) (r : WasReadBelow upper lower read-leaf s.past) (f : NoneFitted upper lower read-leaf s.past) where

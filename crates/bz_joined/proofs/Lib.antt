@@ -4,10 +4,12 @@ mod Families
 mod Freezes
 mod Knowing
 mod Lacked
+mod LackingSlots
 mod Lone
 mod Merges
 mod Quiet
 mod Roomy
+mod SeenLeaves
 mod Single
 mod SmallLeaves
 mod Standing

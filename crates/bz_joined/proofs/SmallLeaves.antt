@@ -9,10 +9,10 @@ use Rattle.bz_shape.specs.Walk.{IsTree, form}
 use Rattle.bz_shape.proofs.TreeForms.{fits}
 use Rattle.bz_content.specs.Content.{leaf_in, view_in}
 use Rattle.bz_content.specs.Laws.{WellFormedImagesHaveNoFault}
+use Rattle.bz_stage.specs.FromLeaves.Neighbours.{parent_in, MayBeMerged}
 use Rattle.bz_task.specs.Scene.{here}
 use Rattle.bz_rounds.specs.FromAlone.Duties.{change_of}
 use Rattle.bz_rounds.specs.FromTally.Deletes.{DeletesTakeOneRecord, DeletesTellFew, LosesOneRecord}
-use Rattle.bz_joined.specs.Neighbours.{parent_in, MayBeMerged}
 use Rattle.bz_joined.specs.SmallLeaves.{DeletesTellOfMerges, MergeableLeavesStandBelow, LoneRootLeavesAreTheTree, LoneDeletesTellOfMerges}
 use Rattle.bz_joined.proofs.DueMerges.{Laws as Standing, height-one}
 

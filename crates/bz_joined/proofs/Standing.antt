@@ -8,11 +8,12 @@ use Rattle.bz_slotted.specs.Page.{page}
 use Rattle.bz_slotted.specs.Readers.{child_of, count_of}
 use Rattle.bz_slotted.specs.Records.{live_words}
 use Rattle.bz_content.specs.Content.{image_of, leaf_in, view_in}
+use Rattle.bz_stage.specs.FromLeaves.Neighbours.{parent_in, place_in, own_live, beside_live, MayBeMerged}
 use Rattle.bz_task.specs.Instant.{Instant, durable, form_at, is_inside}
 use Rattle.bz_task.specs.Scene.{Scene, IsScene}
 use Rattle.bz_rounds.specs.FromAlone.Quiet.{IsQuietSince, IsIn}
 use Rattle.bz_rounds.specs.FromAlone.Trees.{SameTree}
-use Rattle.bz_joined.specs.Neighbours.{parent_in, place_in, own_live, beside_live, MayBeMerged, NeighboursStand}
+use Rattle.bz_joined.specs.Neighbours.{NeighboursStand}
 use Rattle.bz_joined.proofs.Families.{count-is, child-is, up-is, index-is}
 use Rattle.bz_joined.proofs.Quiet.{Laws as Staying, fits-at, tree-at, good-first, good-second, same-tree, live-same, inner-same}
 

@@ -17,6 +17,7 @@ use Rattle.bz_merge.specs.FromSplit.BelowSplits.{below_swap}
 use Rattle.bz_word.specs.Statuses.{status}
 use Rattle.bz_word.specs.declared.entry.Entry.{Entry}
 use Rattle.bz_content.specs.Content.{image_of, leaf_in, view_in}
+use Rattle.bz_stage.specs.FromLeaves.Neighbours.{leaf_page}
 use Rattle.bz_task.specs.Good.{IsGood}
 use Rattle.bz_task.specs.Instant.{Instant, durable, form_at, is_inside}
 use Rattle.bz_task.specs.Laws.{SamePlace}
@@ -24,7 +25,7 @@ use Rattle.bz_task.specs.Scene.{Scene, Waiting, IsScene, here}
 use Rattle.bz_task.specs.Shown.{SameShownNode}
 use Rattle.bz_task.specs.Swaps.{Stand, SwapsTo}
 use Rattle.bz_task.specs.declared.todo.Todo.TheVariants.{Swap as Swaps_for}
-use Rattle.bz_stage.specs.Stages.{leaf_page, full_above}
+use Rattle.bz_stage.specs.Stages.{full_above}
 use Rattle.bz_stage.specs.Swaps.{IsRoomy}
 use Rattle.bz_rounds.specs.FromAlone.MadeFor.{WasLeafOf}
 use Rattle.bz_rounds.proofs.Lacking.{some}

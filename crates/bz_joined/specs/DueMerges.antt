@@ -4,13 +4,13 @@ use Rattle.bz_layout.specs.declared.thresholds.TheConstants.{MERGE_BELOW}
 use Rattle.bz_merge.specs.Thawed.{IsThawedAbove, IsLedTo}
 use Rattle.bz_slotted.specs.Readers.{live_of}
 use Rattle.bz_slotted.specs.ReadingLaws.{node_of}
+use Rattle.bz_stage.specs.FromLeaves.Neighbours.{own_live, MayBeMerged}
 use Rattle.bz_task.specs.Outcomes.{IsPath, IsView}
 use Rattle.bz_task.specs.Scene.{Scene, IsScene, here}
 use Rattle.bz_task.specs.declared.path.Link.{Link}
 use Rattle.bz_task.specs.declared.path.Path.{Path}
 use Rattle.bz_task.specs.declared.view.LeafView.{LeafView}
 use Rattle.bz_rounds.specs.FromAlone.Alone.{IsAlone}
-use Rattle.bz_joined.specs.Neighbours.{own_live, MayBeMerged}
 
 -- where nobody's swap took effect since the look-up began, the leaf has as many live words now as when it was viewed
 abbrev pub LoneViewsTellTheLiveWords : Type 0

@@ -9,7 +9,8 @@ use Rattle.bz_slotted.specs.Records.{live_words}
 use Rattle.bz_content.specs.Image.{Image}
 use Rattle.bz_content.specs.Restructures.{Merges}
 use Rattle.bz_content.specs.View.{view_of}
-use Rattle.bz_stage.specs.Stages.{leaf_page, stage}
+use Rattle.bz_stage.specs.FromLeaves.Neighbours.{leaf_page}
+use Rattle.bz_stage.specs.Stages.{stage}
 use Rattle.bz_stage.specs.Swaps.{FreezesLeaf, IsRoomyLeaf}
 
 -- the freeze of another leaf than the key's leaves the stage

@@ -11,9 +11,10 @@ use Rattle.bz_slotted.specs.Records.{live_words}
 use Rattle.bz_word.specs.Statuses.{status}
 use Rattle.bz_word.specs.declared.entry.Entry.{Entry}
 use Rattle.bz_content.specs.Content.{image_of}
+use Rattle.bz_stage.specs.FromLeaves.Neighbours.{leaf_page}
 use Rattle.bz_task.specs.Instant.{Instant}
 use Rattle.bz_task.specs.Scene.{Scene, here}
-use Rattle.bz_stage.specs.Stages.{leaf_page, stage_in}
+use Rattle.bz_stage.specs.Stages.{stage_in}
 use Rattle.bz_rounds.specs.FromAlone.MadeFor.{WasLeafOf}
 use Rattle.bz_rounds.specs.Falls.{GivesRoom}
 use Rattle.bz_rounds.specs.Lone.{IsLoneSwap}

@@ -1,58 +1,28 @@
--- A leaf that could be merged with a neighbour; and what a merge that ends for want of one tells of that.
-use Rattle.std.specs.Prelude.{◌≡◌, ◌⊎◌, ℕ, ◌+◌, ◌<◌, ◌≤◌, List, Option, Some, None}
+-- What a merge of the key's leaf that ends for want of a neighbour, or of slots, tells of its neighbours.
+use Rattle.std.specs.Prelude.{◌≡◌, ℕ, ◌+◌, ◌<◌, ◌≤◌, true, List, Option, Some, None}
+use Rattle.bz_call.specs.declared.replies.Spent.TheVariants.{Nodes}
 use Rattle.bz_layout.specs.Slots.{FreeSlots}
-use Rattle.bz_layout.specs.declared.config.Config.{Config}
-use Rattle.bz_layout.specs.declared.thresholds.TheConstants.{MERGE_BELOW, SPLIT_ABOVE}
 use Rattle.bz_merge.specs.Duties.{facts_of}
 use Rattle.bz_merge.specs.Facts.{NoneFitted}
 use Rattle.bz_merge.specs.Siblings.{WasSeen}
 use Rattle.bz_merge.specs.declared.merge.Merge.{Merge}
 use Rattle.bz_merge.specs.declared.phase.Phase.TheVariants.{NoNeighbour}
-use Rattle.bz_shape.specs.Walk.{form}
-use Rattle.bz_slotted.specs.Page.{page}
-use Rattle.bz_slotted.specs.Records.{live_words}
-use Rattle.bz_content.specs.Content.{image_of, leaf_in, view_in}
-use Rattle.bz_content.specs.Image.{node}
-use Rattle.bz_content.specs.Resolving.{resolve}
+use Rattle.bz_content.specs.Content.{image_of}
+use Rattle.bz_stage.specs.FromLeaves.Neighbours.{leaf_page, MayBeMerged}
 use Rattle.bz_task.specs.Requests.{effects_in}
 use Rattle.bz_task.specs.Scene.{Past, Scene, Waiting, Continues, IsScene, here}
 use Rattle.bz_task.specs.declared.path.Link.{Link}
 use Rattle.bz_task.specs.declared.todo.Outcome.{Outcome}
-use Rattle.bz_task.specs.declared.todo.Outcome.TheVariants.{NeedsRoom}
+use Rattle.bz_task.specs.declared.todo.Outcome.TheVariants.{Full, NeedsRoom}
 use Rattle.bz_task.specs.declared.todo.Seen.{Seen}
 use Rattle.bz_task.specs.declared.todo.Todo.{Todo}
-use Rattle.bz_stage.specs.Stages.{leaf_page}
 use Rattle.bz_rounds.specs.FromAlone.Alone.{IsAlone}
 use Rattle.bz_rounds.specs.FromAlone.AnyTask.{AnyTask}
 use Rattle.bz_rounds.specs.FromAlone.Duties as any
 use Rattle.bz_rounds.specs.FromAlone.Hearing.{HasHeard}
 use Rattle.bz_rounds.specs.FromAlone.Kinds as kinds
-use Rattle.bz_rounds.specs.FromAlone.MadeFor.{WasLeafOf, IsSmallMerge}
+use Rattle.bz_rounds.specs.FromAlone.MadeFor.{WasLeafOf, IsMergeFor, IsSmallMerge}
 use Rattle.bz_rounds.specs.FromAlone.Quiet.{IsQuietSince, IsIn}
-
--- the slot of the node above the key's leaf, and which of that node's children the leaf is
-abbrev pub parent_in : Config → (ℕ → ℕ) → List ℕ → ℕ
-parent_in c raw key = (form (view_in c raw)).up (leaf_in c raw key)
-
-abbrev pub place_in : Config → (ℕ → ℕ) → List ℕ → ℕ
-place_in c raw key = (form (view_in c raw)).index (leaf_in c raw key)
-
--- the live words of the leaf, and those of child j of the node above it, which is a leaf too
-abbrev pub own_live : Config → (ℕ → ℕ) → List ℕ → ℕ
-own_live c raw key = live_words (leaf_page c (image_of raw) key)
-
-abbrev pub beside_live : Config → (ℕ → ℕ) → List ℕ → ℕ → ℕ
-beside_live c raw key j = live_words (page (node c (resolve raw) ((view_in c raw).child (parent_in c raw key) j)))
-
--- in this image the key's leaf has fewer live words than a leaf needs to stand alone; and directly before or after it, below the same
--- node, stands one with which it has together no more than a leaf may keep. A leaf that is the root has no neighbour: above it stands the
--- superblock, which has one child
-pub record MayBeMerged (c : Config) (raw : ℕ → ℕ) (key : List ℕ) : Type 0 where
-  pub small : own_live c raw key < MERGE_BELOW
-  pub place : ℕ
-  pub within : place < (view_in c raw).count (parent_in c raw key)
-  pub next : (place ≡ place_in c raw key + 1) ⊎ (place + 1 ≡ place_in c raw key)
-  pub room : own_live c raw key + beside_live c raw key place ≤ SPLIT_ABOVE
 
 -- at each two moments of a quiet time, whichever is the later one: what may be merged at the one may be merged at the other
 abbrev pub NeighboursStand : Type 0
@@ -113,3 +83,16 @@ LoneMergesDoNotLackRoom =
     (old new : AnyTask) (seen : Seen) (moment : ℕ) (free left : FreeSlots) (todo : Todo) (key : List ℕ) (i : ℕ) (s : Scene) → HasHeard old seen moment free todo new left → kinds.kind_of old ≡ kinds.Merge →
     IsScene s → any.facts_of new Waiting s → IsAlone (any.made_of old + effects_in seen) s.past → KnowsItsLeaf old key s.past → IsIn s.past.since s.past i → MayBeMerged s.past.config (s.past.at i).image key →
     any.end_of new ≡ Some NeedsRoom → ⊥
+
+-- at a moment since the look-up began the key's leaf was frozen, and could be merged with a neighbour
+pub record WasMergeable (key : List ℕ) (p : Past) : Type 0 where
+  pub moment : ℕ
+  pub since : p.since ≤ moment
+  pub now : moment ≤ p.now
+  pub frozen : (leaf_page p.config (image_of (p.at moment).image) key).frozen ≡ true
+  pub may : MayBeMerged p.config (p.at moment).image key
+
+-- a merge of the key's leaf, which was frozen when it was viewed, ends for want of slots only where that was so
+abbrev pub MergesLackSlotsRightly : Type 0
+MergesLackSlotsRightly =
+    (t : AnyTask) (key : List ℕ) (s : Scene) → IsScene s → IsMergeFor t key s.past → any.means_of t (Full Nodes) s → WasMergeable key s.past

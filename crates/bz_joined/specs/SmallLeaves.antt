@@ -4,6 +4,7 @@ use Rattle.bz_layout.specs.declared.config.Config.{Config}
 use Rattle.bz_shape.specs.Walk.{IsTree}
 use Rattle.bz_word.specs.declared.entry.Entry.{Entry}
 use Rattle.bz_content.specs.Content.{view_in}
+use Rattle.bz_stage.specs.FromLeaves.Neighbours.{MayBeMerged}
 use Rattle.bz_task.specs.Good.{IsGood}
 use Rattle.bz_task.specs.Instant.{Instant}
 use Rattle.bz_task.specs.Outcomes.{IsPath}
@@ -16,7 +17,6 @@ use Rattle.bz_rounds.specs.FromAlone.Duties.{config_of, asks_of, facts_of, chang
 use Rattle.bz_rounds.specs.FromAlone.Kinds as kinds
 use Rattle.bz_rounds.specs.FromAlone.Kinds.{kind_of}
 use Rattle.bz_rounds.specs.FromTally.Swaps.{IsOwnSwap}
-use Rattle.bz_joined.specs.Neighbours.{MayBeMerged}
 
 -- where the key's leaf may be merged directly after the swap of a delete, the delete tells that it leaves little
 abbrev pub DeletesTellOfMerges : Type 0

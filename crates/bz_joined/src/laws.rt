@@ -3,7 +3,7 @@
 ghost use Rattle.bz_joined.specs.Laws.{FreezesBesideKeepTheStage, FreezesBesideKeepTheLeaf, FrozenLeavesAreTheKeys, SmallFreezesLeaveACopy, MergesGiveRoom};
 ghost use Rattle.bz_joined.specs.Lone.{LoneFreezesBesideKeepTheStage, LoneFreezesBesideKeepTheLeaf, LoneOwnFreezesLeaveACopy, MergeSwapsGiveRoom, LoneFreezesFreezeTheLeaf};
 ghost use Rattle.bz_joined.specs.DueMerges.{LoneViewsTellTheLiveWords, LoneRootLeavesHaveNoNeighbour, LoneMergesAreDue};
-ghost use Rattle.bz_joined.specs.Neighbours.{NeighboursStand, LoneNeighboursLackRoom, LoneMergesTryTheirNeighbours, MergesKnowTheirLeaf, KnownLeavesStay, LoneTasksTryTheirNeighbours, LoneMergesDoNotLackRoom};
+ghost use Rattle.bz_joined.specs.Neighbours.{NeighboursStand, LoneNeighboursLackRoom, LoneMergesTryTheirNeighbours, MergesKnowTheirLeaf, KnownLeavesStay, LoneTasksTryTheirNeighbours, LoneMergesDoNotLackRoom, MergesLackSlotsRightly};
 ghost use Rattle.bz_joined.specs.SmallLeaves.{DeletesTellOfMerges, MergeableLeavesStandBelow, LoneRootLeavesAreTheTree, LoneDeletesTellOfMerges};
 
 use bz_content::laws as content;
@@ -214,6 +214,20 @@ pub fn lone_merges_do_not_lack_room()
     neighbours_stand();
     known_leaves_stay();
     alone::lonely_times_are_quiet();
+}
+
+/// A merge of a frozen leaf that ends for want of slots had found a neighbour with room.
+pub fn merges_lack_slots_rightly()
+    ensures { MergesLackSlotsRightly }
+{
+    content::well_formed_images_have_no_fault();
+    shape::leaves_tile_the_keys();
+    slotted::leaf_rules_are_facts();
+    task::ranges_stay();
+    task::frozen_nodes_stay();
+    task::leaves_are_in_trees();
+    task::same_records_show_the_same();
+    task::seen_leaves_are_whole();
 }
 
 /// A leaf that was viewed has the live words of the view.

@@ -2,6 +2,7 @@
 use Rattle.std.proofs.Common.{◌≡◌, ℕ, ◌+◌, ◌*◌, ◌≤◌, subst, sym, ap}
 use Rattle.bz_call.specs.Map.{key_of}
 use Rattle.bz_content.specs.Content.{image_of}
+use Rattle.bz_joined.specs.FromStage.Neighbours.{leaf_page}
 use Rattle.bz_costs.specs.Resources.{Resource}
 use Rattle.bz_costs.specs.Lone.{one_mark}
 use Rattle.bz_costs.specs.Weights.{weigh}
@@ -12,7 +13,7 @@ use Rattle.bz_rivals.specs.Rivals.{rivals}
 use Rattle.bz_costs.specs.FromRunning.Kinds as kinds
 use Rattle.bz_costs.specs.FromRunning.Kinds.{kind_of}
 use Rattle.bz_costs.specs.FromRunning.AnyTask.{AnyTask}
-use Rattle.bz_joined.specs.FromStage.Stages.{leaf_page, stage_in}
+use Rattle.bz_joined.specs.FromStage.Stages.{stage_in}
 use Rattle.bz_swap.specs.SwapMemory.{SwapMemory}
 use Rattle.bz_task.specs.Scene.{Past}
 use Rattle.bz_lone.specs.Errands.{Errand, words_asked, after}

@@ -6,6 +6,7 @@ use Rattle.bz_joined.specs.FromAlone.Alone.{IsAlone}
 use Rattle.bz_joined.specs.FromAlone.Tasks.{LonersGoOn}
 use Rattle.bz_call.specs.Map.{key_of}
 use Rattle.bz_content.specs.Content.{image_of}
+use Rattle.bz_joined.specs.FromStage.Neighbours.{leaf_page}
 use Rattle.bz_costs.specs.Lone.{one_mark}
 use Rattle.bz_costs.specs.Resources.{Resource, Marks, Descriptors, Slots}
 use Rattle.bz_costs.specs.Weights.{weigh}
@@ -23,7 +24,6 @@ use Rattle.bz_costs.specs.FromRunning.MadeFor.{IsMadeFor, IsMergeFor}
 use Rattle.bz_costs.specs.FromRunning.AnyTask.{AnyTask}
 use Rattle.bz_slotted.specs.Page.{Page}
 use Rattle.bz_joined.specs.FromStage.Rooms.{is_crowded}
-use Rattle.bz_joined.specs.FromStage.Stages.{leaf_page}
 use Rattle.bz_swap.specs.SwapMemory.{SwapMemory}
 use Rattle.bz_task.specs.Instant.{Instant}
 use Rattle.bz_task.specs.Requests.{swaps_in}

@@ -3,6 +3,7 @@ use Rattle.std.proofs.Common.{◌≡◌, ℕ, ◌<◌, ◌≤◌, true, false, L
 use Rattle.bz_costs.specs.FromRunning.Ascent.{Ascent}
 use Rattle.bz_call.specs.Map.{key_of}
 use Rattle.bz_content.specs.Content.{image_of}
+use Rattle.bz_joined.specs.FromStage.Neighbours.{leaf_page}
 use Rattle.bz_costs.specs.Resources.{Resource}
 use Rattle.bz_costs.specs.Stretches.{cost_from, top_stage}
 use Rattle.bz_joined.specs.Lone.{LoneFreezesFreezeTheLeaf}
@@ -15,7 +16,7 @@ use Rattle.bz_costs.specs.FromRunning.Kinds.{Kind, kind_of, is_look, level_of}
 use Rattle.bz_costs.specs.FromRunning.MadeFor.{HasFoot, IsMadeFor}
 use Rattle.bz_costs.specs.FromRunning.AnyTask.{AnyTask}
 use Rattle.bz_costs.specs.FromRunning.AnyTask.TheVariants.{Freezing, SplittingInner, SplittingInnerRoot}
-use Rattle.bz_joined.specs.FromStage.Stages.{leaf_page, full_above, stage_in}
+use Rattle.bz_joined.specs.FromStage.Stages.{full_above, stage_in}
 use Rattle.bz_task.specs.Instant.{Instant}
 use Rattle.bz_task.specs.Scene.{Past, Scene}
 use Rattle.bz_word.specs.declared.entry.Entry.{Entry}

@@ -3,6 +3,7 @@
 use Rattle.std.proofs.Common.{◌≡◌, ◌⊎◌, ℕ, ◌+◌, ◌≤◌, true, false, List, Some, arith, refl, sym, ap, subst, ◌∙◌, inl, inr}
 use Rattle.bz_joined.specs.FromAlone.Alone.{IsAlone}
 use Rattle.bz_content.specs.Content.{image_of}
+use Rattle.bz_joined.specs.FromStage.Neighbours.{leaf_page}
 use Rattle.bz_joined.specs.Lone.{LoneFreezesBesideKeepTheLeaf, MergeSwapsGiveRoom}
 use Rattle.bz_layout.specs.declared.config.Config.{Config}
 use Rattle.bz_layout.specs.declared.thresholds.TheConstants.{LEAF_RECORD_WORDS}
@@ -17,7 +18,7 @@ use Rattle.bz_costs.specs.FromRunning.Kinds.{Merge, kind_of}
 use Rattle.bz_costs.specs.FromRunning.MadeFor.{IsMergeFor}
 use Rattle.bz_costs.specs.FromRunning.AnyTask.{AnyTask}
 use Rattle.bz_costs.specs.FromRunning.AnyTask.TheVariants.{Merging}
-use Rattle.bz_joined.specs.FromStage.Stages.{leaf_page, stage_in}
+use Rattle.bz_joined.specs.FromStage.Stages.{stage_in}
 use Rattle.bz_task.specs.Instant.{Instant}
 use Rattle.bz_task.specs.Scene.{Scene, Waiting, IsScene, here}
 use Rattle.bz_task.specs.Swaps.{Stand, SwapsTo}

@@ -4,6 +4,7 @@ use Rattle.std.specs.Prelude.{not, nat_lt, nat_le}
 use Rattle.std.proofs.lemmas.Bool.Decides.{nat_tests}
 use Rattle.bz_call.specs.Map.{key_of}
 use Rattle.bz_content.specs.Content.{image_of}
+use Rattle.bz_joined.specs.FromStage.Neighbours.{leaf_page}
 use Rattle.bz_costs.specs.Resources.{Resource}
 use Rattle.bz_costs.specs.Costs.{HigherStagesCostMore, StretchesAreTheMost}
 use Rattle.bz_costs.specs.Most.{most_of_find, most_of_leaf, most_of_freeze, most_of_copy}
@@ -13,7 +14,7 @@ use Rattle.bz_layout.specs.declared.sizes.TheConstants.{SHARED_WORDS}
 use Rattle.bz_costs.specs.FromRunning.Kinds as kinds
 use Rattle.bz_slotted.specs.Page.{Page}
 use Rattle.bz_joined.specs.FromStage.Rooms.{words_taken, is_crowded}
-use Rattle.bz_joined.specs.FromStage.Stages.{leaf_page, frozen_stage, stage_of, stage_in}
+use Rattle.bz_joined.specs.FromStage.Stages.{frozen_stage, stage_of, stage_in}
 use Rattle.bz_lone.proofs.Coming.{either, two-ways, comes-within}
 use Rattle.bz_lone.specs.Errands.{Errand, words_asked}
 use Rattle.bz_lone.specs.Prices.{Prices, viewed_price, clean_prices, prices_in, way_price, round_price}

@@ -3,12 +3,13 @@ use Rattle.std.proofs.Common.{◌≡◌, ℕ, ◌+◌, ◌<◌, ◌≤◌, false
 use Rattle.bz_joined.specs.FromAlone.Alone.{IsAlone}
 use Rattle.bz_call.specs.Map.{key_of}
 use Rattle.bz_content.specs.Content.{image_of}
+use Rattle.bz_joined.specs.FromStage.Neighbours.{leaf_page}
 use Rattle.bz_costs.specs.Resources.{Resource}
 use Rattle.bz_costs.specs.Most.{most_of_leaf}
 use Rattle.bz_costs.specs.Stretches.{cost_once_viewed, cost_from, cost_viewed_at, lone_stretch}
 use Rattle.bz_costs.specs.FromRunning.Kinds as kinds
 use Rattle.bz_slotted.specs.Page.{Page}
-use Rattle.bz_joined.specs.FromStage.Stages.{leaf_page, full_above}
+use Rattle.bz_joined.specs.FromStage.Stages.{full_above}
 use Rattle.bz_swap.specs.SwapMemory.{SwapMemory}
 use Rattle.bz_task.specs.Scene.{Past}
 use Rattle.bz_lone.proofs.Coming.{comes-to-write}

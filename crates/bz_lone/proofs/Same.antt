@@ -3,6 +3,7 @@ use Rattle.std.proofs.Common.{◌≡◌, ℕ, ◌+◌, ◌-◌, if◌then◌else
 use Rattle.std.specs.Prelude.{not, nat_lt}
 use Rattle.bz_joined.specs.FromAlone.Alone.{IsAlone}
 use Rattle.bz_content.specs.Content.{image_of}
+use Rattle.bz_joined.specs.FromStage.Neighbours.{leaf_page}
 use Rattle.bz_costs.specs.Resources.{Resource}
 use Rattle.bz_costs.specs.Most.{most_of_copy}
 use Rattle.bz_costs.specs.Splits.{cost_after_below, cost_after_inner}
@@ -10,7 +11,7 @@ use Rattle.bz_costs.specs.Stretches.{cost_of_view, cost_from, cost_at, cost_view
 use Rattle.bz_joined.specs.FromRounds.Stands.{SameStage, StagesStand}
 use Rattle.bz_slotted.specs.Page.{Page}
 use Rattle.bz_joined.specs.FromStage.Rooms.{is_crowded}
-use Rattle.bz_joined.specs.FromStage.Stages.{leaf_page, stage_in}
+use Rattle.bz_joined.specs.FromStage.Stages.{stage_in}
 use Rattle.bz_task.specs.Instant.{Instant}
 use Rattle.bz_task.specs.Scene.{Past, Scene, IsScene, here}
 use Rattle.bz_call.specs.Map.{key_of}

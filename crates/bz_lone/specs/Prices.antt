@@ -3,6 +3,7 @@
 use Rattle.std.specs.Prelude.{ℕ, ◌+◌, ◌-◌, ◌*◌, ◌&&◌, max, not, nat_lt, if◌then◌else◌, Bool, true}
 use Rattle.bz_call.specs.Map.{key_of}
 use Rattle.bz_content.specs.Content.{image_of}
+use Rattle.bz_joined.specs.FromStage.Neighbours.{leaf_page}
 use Rattle.bz_costs.specs.Resources.{Resource}
 use Rattle.bz_costs.specs.Failing.{cost_of_lost_inner}
 use Rattle.bz_costs.specs.Most.{most_of_seek, most_of_find, most_of_leaf, most_of_copy, most_of_merge, most_of_below}
@@ -14,7 +15,7 @@ use Rattle.bz_costs.specs.FromRunning.Kinds as kinds
 use Rattle.bz_costs.specs.FromRunning.Kinds.{Kind, level_of}
 use Rattle.bz_slotted.specs.Page.{Page}
 use Rattle.bz_joined.specs.FromStage.Rooms.{is_crowded}
-use Rattle.bz_joined.specs.FromStage.Stages.{leaf_page, stage_in}
+use Rattle.bz_joined.specs.FromStage.Stages.{stage_in}
 use Rattle.bz_lone.specs.Errands.{Errand, words_asked, is_read}
 
 -- what comes: once a leaf without room was read whole; once a leaf was read whole, whatever room it has; after a freeze; after a copy, or the split

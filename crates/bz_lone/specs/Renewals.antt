@@ -5,6 +5,7 @@ use Rattle.bz_costs.specs.FromRunning.Ascents.{IsOneUp}
 use Rattle.bz_costs.specs.FromRunning.Ascent.{Ascent}
 use Rattle.bz_call.specs.Map.{key_of}
 use Rattle.bz_content.specs.Content.{image_of}
+use Rattle.bz_joined.specs.FromStage.Neighbours.{leaf_page}
 use Rattle.bz_costs.specs.Resources.{Resource}
 use Rattle.bz_costs.specs.Most.{most_of, most_of_freeze, most_of_copy, most_of_merge, most_of_root, most_of_below}
 use Rattle.bz_layout.specs.declared.thresholds.TheConstants.{MAX_LEVELS}
@@ -14,7 +15,6 @@ use Rattle.bz_costs.specs.FromRunning.Kinds.{kind_of, level_of}
 use Rattle.bz_costs.specs.FromRunning.AnyTask.{AnyTask}
 use Rattle.bz_slotted.specs.Page.{Page}
 use Rattle.bz_joined.specs.FromStage.Rooms.{is_crowded}
-use Rattle.bz_joined.specs.FromStage.Stages.{leaf_page}
 use Rattle.bz_swap.specs.SwapMemory.{SwapMemory}
 use Rattle.bz_task.specs.Scene.{Past}
 use Rattle.bz_task.specs.declared.todo.Outcome.TheVariants.{NeedsRoom}

@@ -16,8 +16,8 @@ pub use bz_joined::laws::{
     lone_merges_do_not_lack_room, lone_restarts_are_refusals, lone_root_leaves_are_the_tree,
     lone_tasks_try_their_neighbours, lone_views_tell_the_leaf, lone_views_tell_the_live_words,
     lone_views_tell_the_stage, loners_go_on, look_ups_are_brief, mergeable_leaves_stand_below,
-    merges_count_at_last, merges_know_their_leaf, neighbours_stand, own_swaps_are_counted,
-    paths_read_few, stages_stand, trees_stand, ways_are_brief,
+    merges_count_at_last, merges_know_their_leaf, merges_lack_slots_rightly, neighbours_stand,
+    own_swaps_are_counted, paths_read_few, stages_stand, trees_stand, ways_are_brief,
 };
 use bz_rivals::laws as rivals;
 use bz_swap::laws as swap;

@@ -19,8 +19,9 @@ use Rattle.bz_split.specs.BelowSplits.{AreLinksDown}
 use Rattle.bz_node.specs.Reading.{children_in}
 use Rattle.bz_join.specs.Parents.{joined_parent}
 use Rattle.bz_merge.specs.Merges.{StoodFrozen}
-use Rattle.bz_merge.specs.Plans.{Merging, viewed_leaf, IsViewed, IsReadingParent, LackedAt, IsTried, IsPaired, IsReadingBeside, IsChecked, IsPlanned}
-use Rattle.bz_merge.specs.Siblings.{WasWord, WasReadOrFree, WereRead, WasParentNode, StoodBetween, SeenLeaf, WasSeen}
+use Rattle.bz_merge.specs.Plans.{Merging, viewed_leaf, beside_leaf, own_place, other_place, IsViewed, IsReadingParent, LackedAt, IsTried, IsPaired, IsReadingBeside, IsChecked, IsPlanned}
+use Rattle.bz_merge.specs.Facts.{SomeFitted}
+use Rattle.bz_merge.specs.Siblings.{WasWord, WasReadOrFree, WereRead, WasParentNode, StoodBetween, HungFrom, SeenLeaf, WasSeen, HungBeside}
 
 -- a child pointer stays one, of the same child
 child-stays : (o n : Page) (place : ℕ) → o ≡ n → IsPointerPlace o place → IsPointerPlace n place
@@ -86,6 +87,40 @@ module _ (p q : Past) (c : Continues p q) where
     whole = (λ t. node_fault (c.config t).nodes (node_of l.image) (node_of l.image) 0 low high) ∙ w.whole;
     says = λ key. (λ t. found_of (words (c.config t) (c.at m w.stood.now t) l.slot) key) ∙ w.says key;
     size = w.size;
+  }
+
+  hung-stays : (k u i m : ℕ) → m ≤ p.now → HungFrom k u i m p → HungFrom k u i m q
+  hung-stays k u i m l w = record { up = (λ t. (form_at (c.config t) (c.at m l t)).up k) ∙ w.up; index = (λ t. (form_at (c.config t) (c.at m l t)).index k) ∙ w.index }
+
+  pub beside-hung-stays : (own i : ℕ) (other : SeenLeaf) (j : ℕ) → HungBeside own i other j p → HungBeside own i other j q
+  beside-hung-stays own i other j w = record {
+    moment = w.moment;
+    parent = w.parent;
+    low = w.low;
+    high = w.high;
+    stood = stood-between-stays own w.moment w.low w.high w.stood;
+    hung = hung-stays own w.parent i w.moment w.stood.now w.hung;
+    other_low = w.other_low;
+    other_high = w.other_high;
+    other_seen = seen-stays other w.moment w.other_low w.other_high w.other_seen;
+    other_hung = hung-stays other.slot w.parent j w.moment w.stood.now w.other_hung;
+  }
+
+  pub some-stays : (lower : Link) (st : ℕ) (leaf : List ℕ) → SomeFitted lower st leaf p → SomeFitted lower st leaf q
+  unfolding beside-hung-stays
+  some-stays lower st leaf w = record {
+    at = w.at;
+    low = w.low;
+    high = w.high;
+    viewed = seen-stays _ w.at w.low w.high w.viewed;
+    few = subst (λ n. n < MERGE_BELOW) (sym (λ t. live_of (durable (c.config t) (c.at w.at w.viewed.stood.now t) lower.slot))) w.few;
+    other = w.other;
+    own_place = w.own_place;
+    place = w.place;
+    next = w.next;
+    beside = beside-hung-stays lower.slot w.own_place w.other w.place w.beside;
+    later = w.later;
+    room = w.room;
   }
 
   pub viewed-stays : (upper lower : Link) (own : SeenLeaf) → IsViewed upper lower own p → IsViewed upper lower own q
@@ -175,12 +210,15 @@ module _ (p q : Past) (c : Continues p q) where
     reading = beside-stays r.beside_slot r.beside NODE_WORDS v.reading;
     moment = v.moment;
     order = v.order;
+    viewed = v.viewed;
     own = stood-between-stays r.lower.slot v.moment _ _ v.own;
     other = stood-between-stays r.beside_slot v.moment _ _ v.other;
+    own_hung = hung-stays r.lower.slot r.upper.slot (own_place r.right r.place) v.moment v.own.now v.own_hung;
+    other_hung = hung-stays r.beside_slot r.upper.slot (other_place r.right r.place) v.moment v.own.now v.other_hung;
   }
 
   pub planned-stays : (r : Merging) → IsPlanned r p → IsPlanned r q
-  unfolding paired-stays viewed-stays parent-stays
+  unfolding paired-stays viewed-stays parent-stays beside-hung-stays
   planned-stays r v = record {
     paired = paired-stays r v.paired;
     low = v.low;
@@ -193,6 +231,8 @@ module _ (p q : Past) (c : Continues p q) where
     second_at = v.second_at;
     first = seen-stays _ v.first_at v.low _ v.first;
     second = seen-stays _ v.second_at _ v.high v.second;
+    beside = beside-hung-stays r.lower.slot (own_place r.right r.place) (beside_leaf r) (other_place r.right r.place) v.beside;
+    later = v.later;
     room = v.room;
   }
 

@@ -1,11 +1,14 @@
 -- What another look at the guard of the link to the parent leads to, and teaches.
-use Rattle.std.proofs.Common.{◌≡◌, ◌≢◌, ℕ, zero, suc, ◌+◌, ◌<◌, false, List, length, arith, sym, ap, subst, ◌∙◌, inl, inr, Some}
+use Rattle.std.proofs.Common.{◌≡◌, ◌≢◌, ◌⊎◌, ℕ, zero, suc, ◌+◌, ◌<◌, ◌≤◌, Bool, true, false, List, length, arith, refl, sym, ap, subst, ◌∙◌, inl, inr, Some}
 use Rattle.std.specs.Prelude.{All}
 use Rattle.bz_layout.specs.Addresses.{node_address, SlotsApart}
 use Rattle.bz_layout.specs.Slots.{FreeSlots}
 use Rattle.bz_layout.specs.declared.config.Config.{Config}
 use Rattle.bz_layout.specs.declared.sizes.TheConstants.{NODE_WORDS, STATUS_AT}
+use Rattle.bz_layout.specs.declared.thresholds.TheConstants.{SPLIT_ABOVE}
 use Rattle.bz_node.specs.Reading.{children_in}
+use Rattle.bz_slotted.specs.Readers.{live_of}
+use Rattle.bz_slotted.specs.ReadingLaws.{node_of}
 use Rattle.bz_word.specs.Statuses.{status}
 use Rattle.bz_join.specs.Parents.{joined, IsJoinedParent, ChildrenJoin}
 use Rattle.bz_task.specs.Instant.{form_at}
@@ -24,14 +27,40 @@ use Rattle.bz_renew.proofs.Guards.{answered-as-read}
 use Rattle.bz_renew.proofs.NodeWrites.{nodes-taken, none-begun}
 use Rattle.bz_renew.proofs.Plainness.{IsPlain, inner-plain}
 use Rattle.bz_merge.specs.Decisions.{MayMerge, HasBegun, HasLooked}
-use Rattle.bz_merge.specs.Facts.{AreFrozen, IsMerging, merge_asks, merge_end, merge_facts, merge_differs}
+use Rattle.bz_merge.specs.Facts.{AreFrozen, IsMerging, SomeFitted, merge_asks, merge_end, merge_facts, merge_differs}
 use Rattle.bz_merge.specs.OwnFreezes.{FrozeAfter, ViewedWasFrozen, BothWereFrozen}
-use Rattle.bz_merge.specs.Plans.{Merging, merge_nodes, viewed_leaf, beside_leaf, IsPaired, IsPlanned}
+use Rattle.bz_merge.specs.Plans.{Merging, merge_nodes, viewed_leaf, beside_leaf, first_of, second_of, own_place, other_place, IsPaired, IsPlanned}
 use Rattle.bz_merge.specs.Siblings.{SeenLeaf}
 use Rattle.bz_merge.specs.declared.phase.Phase.{Phase}
 use Rattle.bz_merge.specs.declared.phase.Phase.TheVariants.{Fresh, Word, Again, Beside, Parent, Still, Freeze, FreezeBeside, Guard, Store, Flush, Swap, Done, Restart, NoNeighbour, NoSlot, NoSwap}
 use Rattle.bz_merge.proofs.Reading.{answered}
 use Rattle.bz_merge.proofs.Readying.{may-merge}
+
+-- the two hang side by side
+side-by-side : (right : Bool) (place : ℕ) → (other_place right place ≡ own_place right place + 1) ⊎ (other_place right place + 1 ≡ own_place right place)
+side-by-side true place = inl refl
+side-by-side false place = inr refl
+
+both-live : (right : Bool) (own other : SeenLeaf) → live_of (node_of (first_of right own other).image) + live_of (node_of (second_of right own other).image) ≤ SPLIT_ABOVE → live_of (node_of own.image) + live_of (node_of other.image) ≤ SPLIT_ABOVE
+both-live true own other l = l
+both-live false own other l = omega (arith, l)
+
+-- so what is planned tells that a neighbour fitted
+some-fitted : (r : Merging) (p : Past) → IsPlanned r p → SomeFitted r.lower r.status r.leaf p
+some-fitted r p f = record {
+  at = f.paired.viewed.at;
+  low = f.paired.viewed.low;
+  high = f.paired.viewed.high;
+  viewed = f.paired.viewed.seen;
+  few = f.paired.viewed.few;
+  other = beside_leaf r;
+  own_place = own_place r.right r.place;
+  place = other_place r.right r.place;
+  next = side-by-side r.right r.place;
+  beside = f.beside;
+  later = f.later;
+  room = both-live r.right (viewed_leaf r) (beside_leaf r) f.room;
+}
 
 -- the upper link and its guard are no status of the node to which the link leads
 record IsClear (s : Scene) (upper : Link) : Type 0 where
@@ -76,6 +105,8 @@ same-plan r slot image p f = record {
   second_at = f.second_at;
   first = f.first;
   second = f.second;
+  beside = f.beside;
+  later = f.later;
   room = f.room;
 }
 
@@ -149,7 +180,7 @@ begun-knows apart law nothing r (Store j) s old new good h nodes unreached fille
       subst (λ z. HasFilledBegun (merge_nodes r) z (gained s old new)) (sym h.0) (none-begun apart (merge_nodes r) s old new h.1.0 nodes unreached filled),
       (omega (arith, h.0), subst (λ z. IsMerging r z 0 (gained s old new)) (sym h.0) first),
     )
-begun-knows apart law nothing r NoSlot s old new good h nodes unreached filled v a clear = subst (λ z. HasFilled (gained s old z)) (sym h.1) (nothing s old filled)
+begun-knows apart law nothing r NoSlot s old new good h nodes unreached filled v a clear = (subst (λ z. HasFilled (gained s old z)) (sym h.1) (nothing s old filled), some-fitted r s.past v.planned)
 begun-knows apart law nothing r Fresh s old new good h nodes unreached filled v a clear = absurd (h)
 begun-knows apart law nothing r (Word i) s old new good h nodes unreached filled v a clear = absurd (h)
 begun-knows apart law nothing r Again s old new good h nodes unreached filled v a clear = absurd (h)

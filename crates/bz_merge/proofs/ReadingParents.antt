@@ -176,13 +176,15 @@ parents-read b s upper lower read good links leaf now were = (parent b s upper l
 
 pub children-stand : Standing → ChildrenStand
 children-stand b s upper lower read c j good links leaf now parent l e =
-    let st : Stands (view_in s.past.config (here s).image) (form_at s.past.config (here s)) upper.slot j c = stands-at b s upper lower good links leaf now j c (omega (arith, l, ap count_of parent.were)) (ap (λ n. child_of n j) parent.were ∙ e) in
-    record {
-      since = good.begun;
-      now = omega arith;
-      slot = slot-of b s upper lower good links leaf now c j st;
-      inside = st.inside;
-      leaf = flat b s upper lower good links leaf now c j st;
-      low_is = low-is b s upper lower good links leaf now c j st ∙ (λ t. low_in (children_of (parent.were t)) (parent.low_is t) j);
-      high_is = high-is b s upper lower good links leaf now c j st ∙ (λ t. high_in (children_of (parent.were t)) (parent.high_is t) j);
-    }
+    let st : Stands (view_in s.past.config (here s).image) (form_at s.past.config (here s)) upper.slot j c = stands-at b s upper lower good links leaf now j c (omega (arith, l, ap count_of parent.were)) (ap (λ n. child_of n j) parent.were ∙ e) in (
+      record {
+        since = good.begun;
+        now = omega arith;
+        slot = slot-of b s upper lower good links leaf now c j st;
+        inside = st.inside;
+        leaf = flat b s upper lower good links leaf now c j st;
+        low_is = low-is b s upper lower good links leaf now c j st ∙ (λ t. low_in (children_of (parent.were t)) (parent.low_is t) j);
+        high_is = high-is b s upper lower good links leaf now c j st ∙ (λ t. high_in (children_of (parent.were t)) (parent.high_is t) j);
+      },
+      record { up = st.up; index = st.index },
+    )

@@ -181,6 +181,19 @@ module _ (b : Laws) (c : Config) (r : Merging) (stage : Stage) (seen : Seen) (s 
         second_at = if r.right then k.moment else k.paired.viewed.at;
         first = subst (λ z. WasSeen (first_of r.right (viewed_leaf r) (beside_leaf r)) (if r.right then k.paired.viewed.at else k.moment) (low_in (children_of (node_of r.read)) k.paired.parent.low r.place) z s.past) (high-left (node_of r.read) k.paired.parent.low k.paired.parent.high r.place k.paired.pair.counted) w.0;
         second = subst (λ z. WasSeen (second_of r.right (viewed_leaf r) (beside_leaf r)) (if r.right then k.moment else k.paired.viewed.at) z (high_in (children_of (node_of r.read)) k.paired.parent.high (r.place + 1)) s.past) (low-right (node_of r.read) k.paired.parent.low k.paired.parent.high r.place k.paired.pair.counted) w.1;
+        beside = record {
+          moment = k.moment;
+          parent = r.upper.slot;
+          low = _;
+          high = _;
+          stood = k.own;
+          hung = k.own_hung;
+          other_low = _;
+          other_high = _;
+          other_seen = other;
+          other_hung = k.other_hung;
+        };
+        later = k.viewed;
         room = room-in-order r.right (viewed_leaf r) (beside_leaf r) room;
       }
 

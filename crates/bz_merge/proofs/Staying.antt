@@ -16,7 +16,7 @@ use Rattle.bz_merge.specs.Facts.{MERGE_WORDS, MERGE_LINES, AreFrozen, IsMerging,
 use Rattle.bz_merge.specs.Plans.{Merging, merge_nodes}
 use Rattle.bz_merge.specs.declared.phase.Phase.{Phase}
 use Rattle.bz_merge.specs.declared.phase.Phase.TheVariants.{Fresh, Word, Again, Beside, Parent, Still, Freeze, FreezeBeside, Guard, Store, Flush, Swap, Done, Restart, NoNeighbour, NoSlot, NoSwap}
-use Rattle.bz_merge.proofs.Lasting.{reading-stays, parent-stays, lacked-stays, tried-stays, seen-stays, paired-stays, beside-stays, checked-stays, planned-stays, frozen-stays, frozen-moment, joined-stays}
+use Rattle.bz_merge.proofs.Lasting.{some-stays, reading-stays, parent-stays, lacked-stays, tried-stays, seen-stays, paired-stays, beside-stays, checked-stays, planned-stays, frozen-stays, frozen-moment, joined-stays}
 use Rattle.bz_merge.proofs.OwnFreezes.{froze-viewed-stays, viewed-frozen-stays, both-frozen-stay}
 
 module _ (p q : Past) (c : Continues p q) where
@@ -112,7 +112,7 @@ module _ (r : Merging) (s after : Scene) (l : IsLawful s after) where
   stable Done Waiting f = (filled f.0, merged-stays s.past after.past l.continues r.upper r.lower r.leaf f.1)
   stable NoNeighbour Waiting f = (filled f.0, none-stays s.past after.past l.continues r.upper r.lower r.leaf f.1)
   stable Restart Waiting f = filled f
-  stable NoSlot Waiting f = filled f
+  stable NoSlot Waiting f = (filled f.0, some-stays s.past after.past l.continues r.lower r.status r.leaf f.1)
   stable NoSwap Waiting f = filled f
   stable Fresh Took f = absurd (f)
   stable (Word i) Took f = absurd (f)
@@ -160,5 +160,5 @@ module _ (nothing : NothingIsGained) (r : Merging) (s : Scene) (free : FreeSlots
   no-slot Done f = (nothing s free f.0, f.1)
   no-slot NoNeighbour f = (nothing s free f.0, f.1)
   no-slot Restart f = nothing s free f
-  no-slot NoSlot f = nothing s free f
+  no-slot NoSlot f = (nothing s free f.0, f.1)
   no-slot NoSwap f = nothing s free f

@@ -12,7 +12,7 @@ use Rattle.bz_task.specs.declared.todo.Seen.TheVariants.{Read as Was}
 use Rattle.bz_merge.specs.Decisions.{IsParentOfLeaf, HasNoRight, HasTold}
 use Rattle.bz_merge.specs.Facts.{merge_asks, merge_facts}
 use Rattle.bz_merge.specs.Plans.{Merging, viewed_leaf, own_place, other_place, IsPair, IsViewed, IsReadingParent, IsTried, IsPaired, IsReadingBeside}
-use Rattle.bz_merge.specs.Siblings.{WereRead, WasParentNode, IsChildAt, ParentsReadWere, ChildrenStand, StoodAsChild}
+use Rattle.bz_merge.specs.Siblings.{WereRead, WasParentNode, IsChildAt, ParentsReadWere, ChildrenStand, HungFrom, StoodAsChild}
 use Rattle.bz_merge.specs.declared.phase.Phase.{Phase}
 use Rattle.bz_merge.specs.declared.phase.Phase.TheVariants.{Fresh, Word, Again, Beside, Parent, Still, Freeze, FreezeBeside, Guard, Store, Flush, Swap, Done, Restart, NoNeighbour, NoSlot, NoSwap}
 use Rattle.bz_merge.specs.declared.sibling.Sibling.{Sibling}
@@ -127,7 +127,7 @@ moved-parent k g h read p e n = record {
 }
 
 child-stood : ChildrenStand → (r : Merging) (s : Scene) → IsScene s → (v : IsViewed r.upper r.lower (viewed_leaf r) s.past) → (here s).value r.lower.guard ≡ r.lower.status → (k j : ℕ) → j < count_of (node_of r.read) → child_of (node_of r.read) j ≡ k
-    → (g : ℕ) → g ≡ v.links.guard.guarded → (n : WasParentNode r.upper.slot g r.read s.past) → StoodAsChild r.upper.slot g r.read s.past n k j s.past.now
+    → (g : ℕ) → g ≡ v.links.guard.guarded → (n : WasParentNode r.upper.slot g r.read s.past) → StoodAsChild r.upper.slot g r.read s.past n k j s.past.now × HungFrom k r.upper.slot j s.past.now s.past
 unfolding moved-parent
 child-stood law r s good v now k j l e g same n = law s r.upper r.lower r.read k j good v.links (leaf-once r s.past v) now (moved-parent r.upper.slot g v.links.guard.guarded r.read s.past same n) l e
 
@@ -137,15 +137,20 @@ checked-learns law c r q stage seen s same good h f t = elim h [
   | inl g ↦ subst (λ z. merge_facts r z Waiting s) (sym g.1) (
       let w = parent-waits r stage s f in
       let now : (here s).value r.lower.guard ≡ r.lower.status = (answered r.lower.guard r.lower.status stage seen s g.0 t).1.value in
-      let p : IsPaired r s.past = w.1.0 in (
+      let p : IsPaired r s.past = w.1.0 in
+      let own = child-stood law r s good p.viewed now r.lower.slot (own_place r.right r.place) (own-within r.right r.place (count_of (node_of r.read)) p.pair.counted) p.pair.own.there p.viewed.guarded (sym p.viewed.is_guarded) p.parent in
+      let other = child-stood law r s good p.viewed now r.beside_slot (other_place r.right r.place) (other-within r.right r.place (count_of (node_of r.read)) p.pair.counted) p.pair.other p.viewed.guarded (sym p.viewed.is_guarded) p.parent in (
         w.0,
         record {
           paired = p;
           reading = w.1.1;
           moment = s.past.now;
           order = w.1.1.now;
-          own = child-stood law r s good p.viewed now r.lower.slot (own_place r.right r.place) (own-within r.right r.place (count_of (node_of r.read)) p.pair.counted) p.pair.own.there p.viewed.guarded (sym p.viewed.is_guarded) p.parent;
-          other = child-stood law r s good p.viewed now r.beside_slot (other_place r.right r.place) (other-within r.right r.place (count_of (node_of r.read)) p.pair.counted) p.pair.other p.viewed.guarded (sym p.viewed.is_guarded) p.parent;
+          viewed = p.viewed.seen.stood.now;
+          own = own.0;
+          other = other.0;
+          own_hung = own.1;
+          other_hung = other.1;
         },
       ))
   | inr g ↦ subst (λ z. merge_facts r z Waiting s) (sym g.1) (parent-waits r stage s f).0

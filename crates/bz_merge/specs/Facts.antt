@@ -1,15 +1,16 @@
 -- What a merge knows, and what it asks for.
-use Rattle.std.specs.Prelude.{◌≡◌, ◌≢◌, ℕ, ◌+◌, ◌-◌, ◌*◌, ◌^◌, ◌<◌, ◌≤◌, nat_lt, if◌then◌else◌, Bool, false, List, [], ◌∷◌, Option, Some, None, slice_index}
+use Rattle.std.specs.Prelude.{◌≡◌, ◌≢◌, ◌⊎◌, ℕ, ◌+◌, ◌-◌, ◌*◌, ◌^◌, ◌<◌, ◌≤◌, nat_lt, if◌then◌else◌, Bool, false, List, [], ◌∷◌, Option, Some, None, slice_index}
 use Rattle.bz_call.specs.declared.replies.Spent.TheVariants.{Nodes as NoNodes, Swaps as NoSwaps}
 use Rattle.bz_layout.specs.Addresses.{node_address}
 use Rattle.bz_layout.specs.declared.config.Config.{Config}
 use Rattle.bz_layout.specs.declared.sizes.TheConstants.{NODE_WORDS, STATUS_AT, NODE_LINES}
-use Rattle.bz_layout.specs.declared.thresholds.TheConstants.{SPLIT_ABOVE, MERGE_SLOTS}
+use Rattle.bz_layout.specs.declared.thresholds.TheConstants.{SPLIT_ABOVE, MERGE_BELOW, MERGE_SLOTS}
 use Rattle.bz_node.specs.Reading.{children_in}
 use Rattle.bz_slotted.specs.Readers.{count_of, live_of}
 use Rattle.bz_slotted.specs.ReadingLaws.{node_of}
 use Rattle.bz_swap.specs.SwapMemory.{is_target}
 use Rattle.bz_word.specs.Statuses.{status}
+use Rattle.bz_task.specs.Instant.{durable}
 use Rattle.bz_task.specs.Scene.{Past, Scene, Stage, Waiting, Took, HasFilled}
 use Rattle.bz_task.specs.Swaps.{Change}
 use Rattle.bz_task.specs.declared.path.Link.{Link}
@@ -30,7 +31,7 @@ use Rattle.bz_split.specs.Facts.{StoodFresh}
 use Rattle.bz_merge.specs.Merges.{StoodFrozen}
 use Rattle.bz_merge.specs.OwnFreezes.{FrozeViewed, ViewedWasFrozen, BothWereFrozen}
 use Rattle.bz_merge.specs.Plans.{Merging, merge_nodes, viewed_leaf, beside_leaf, first_of, second_of, IsPair, LackedAt, IsTried, IsReadingParent, IsPaired, IsReadingBeside, IsChecked, IsPlanned}
-use Rattle.bz_merge.specs.Siblings.{WasParentNode, IsChildAt, SeenLeaf, WasSeen}
+use Rattle.bz_merge.specs.Siblings.{WasParentNode, IsChildAt, SeenLeaf, WasSeen, HungBeside}
 use Rattle.bz_merge.specs.declared.phase.Phase.{Phase}
 use Rattle.bz_merge.specs.declared.phase.Phase.TheVariants.{Fresh, Word, Again, Beside, Parent, Still, Freeze, FreezeBeside, Guard, Store, Flush, Swap, Done, Restart, NoNeighbour, NoSlot, NoSwap}
 
@@ -194,6 +195,22 @@ pub record NoneFitted (upper lower : Link) (leaf : List ℕ) (p : Past) : Type 0
   pub right : place + 1 < count_of (node_of read) → LackedAt read leaf (place + 1) p
   pub left : (j : ℕ) → j + 1 ≡ place → LackedAt read leaf j p
 
+-- at a moment not before its view the leaf, which had too few live words to stand alone, hung beside one with which it had room, as
+-- both were read
+pub record SomeFitted (lower : Link) (status : ℕ) (leaf : List ℕ) (p : Past) : Type 0 where
+  pub at : ℕ
+  pub low : Option (List ℕ)
+  pub high : Option (List ℕ)
+  pub viewed : WasSeen (record { slot = lower.slot; status = status; image = leaf }) at low high p
+  pub few : live_of (durable p.config (p.at at) lower.slot) < MERGE_BELOW
+  pub other : SeenLeaf
+  pub own_place : ℕ
+  pub place : ℕ
+  pub next : (place ≡ own_place + 1) ⊎ (place + 1 ≡ own_place)
+  pub beside : HungBeside lower.slot own_place other place p
+  pub later : at ≤ beside.moment
+  pub room : live_of (node_of leaf) + live_of (node_of other.image) ≤ SPLIT_ABOVE
+
 abbrev pub merge_facts : Merging → Phase → Stage → Scene → Type 0
 merge_facts r Fresh Waiting s = IsReadingParent r 1 s.past
 merge_facts r (Word i) Waiting s = HasFilled s × ((0 < i) × ((i < NODE_WORDS) × IsReadingParent r i s.past))
@@ -215,19 +232,19 @@ merge_facts r Swap Took s = HasFilled s × WasMerged r.upper r.lower r.leaf s.pa
 merge_facts r Done Waiting s = HasFilled s × WasMerged r.upper r.lower r.leaf s.past
 merge_facts r NoNeighbour Waiting s = HasFilled s × NoneFitted r.upper r.lower r.leaf s.past
 merge_facts r Restart Waiting s = HasFilled s
-merge_facts r NoSlot Waiting s = HasFilled s
+merge_facts r NoSlot Waiting s = HasFilled s × SomeFitted r.lower r.status r.leaf s.past
 merge_facts r NoSwap Waiting s = HasFilled s
 merge_facts r phase stage s = ⊥
 
--- what its end means: the upper link led to a fresh parent with the merged leaf; or no neighbour had room; else nothing is known
--- beyond why it ended
-abbrev pub merge_means : Link → Link → List ℕ → Outcome → Scene → Type 0
-merge_means upper lower leaf IsDone s = WasMerged upper lower leaf s.past
-merge_means upper lower leaf NoneFits s = NoneFitted upper lower leaf s.past
-merge_means upper lower leaf Restarts s = Unit {0}
-merge_means upper lower leaf (IsFull NoNodes) s = Unit {0}
-merge_means upper lower leaf (IsFull NoSwaps) s = Unit {0}
-merge_means upper lower leaf outcome s = ⊥
+-- what its end means: the upper link led to a fresh parent with the merged leaf; or no neighbour had room; or one had, where the slots
+-- are not left; else nothing is known beyond why it ended
+abbrev pub merge_means : Link → Link → ℕ → List ℕ → Outcome → Scene → Type 0
+merge_means upper lower st leaf IsDone s = WasMerged upper lower leaf s.past
+merge_means upper lower st leaf NoneFits s = NoneFitted upper lower leaf s.past
+merge_means upper lower st leaf Restarts s = Unit {0}
+merge_means upper lower st leaf (IsFull NoNodes) s = SomeFitted lower st leaf s.past
+merge_means upper lower st leaf (IsFull NoSwaps) s = Unit {0}
+merge_means upper lower st leaf outcome s = ⊥
 
 -- a merge ends so and in no other way
 abbrev pub IsEndOfMerge : Outcome → Type 0

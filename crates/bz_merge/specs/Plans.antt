@@ -12,7 +12,7 @@ use Rattle.bz_task.specs.declared.path.Link.{Link}
 use Rattle.bz_renew.specs.Nodes.{Nodes}
 use Rattle.bz_split.specs.BelowSplits.{AreLinksDown}
 use Rattle.bz_merge.specs.Merges.{low_in, high_in}
-use Rattle.bz_merge.specs.Siblings.{WereRead, WasParentNode, IsChildAt, StoodBetween, SeenLeaf, WasSeen}
+use Rattle.bz_merge.specs.Siblings.{WereRead, WasParentNode, IsChildAt, StoodBetween, HungFrom, SeenLeaf, WasSeen, HungBeside}
 
 -- the link to the parent and the link to the viewed leaf; the status and the words that were viewed; the words that were read of the
 -- parent; the neighbour: whether it is the right one, the place of the left one of the two, its slot, and the words that were read of
@@ -109,20 +109,23 @@ pub record IsReadingBeside (slot : ℕ) (beside : List ℕ) (place : ℕ) (p : P
   pub were : WereRead slot at (slice_index beside STATUS_AT) place beside p
   pub blank : (i : ℕ) → place ≤ i → slice_index beside i ≡ 0
 
--- after that the parent's status was found again: both stood below it at moment `moment`
+-- after that, and after the view, the parent's status was found again: both stood below it at moment `moment`
 pub record IsChecked (r : Merging) (p : Past) : Type 0 where
   pub paired : IsPaired r p
   pub reading : IsReadingBeside r.beside_slot r.beside NODE_WORDS p
   pub moment : ℕ
   pub order : reading.at ≤ moment
+  pub viewed : paired.viewed.at ≤ moment
   pub own : StoodBetween r.lower.slot moment (low_in (children_of (node_of r.read)) paired.parent.low (own_place r.right r.place)) (high_in (children_of (node_of r.read)) paired.parent.high (own_place r.right r.place)) p
   pub other : StoodBetween r.beside_slot moment (low_in (children_of (node_of r.read)) paired.parent.low (other_place r.right r.place)) (high_in (children_of (node_of r.read)) paired.parent.high (other_place r.right r.place)) p
+  pub own_hung : HungFrom r.lower.slot r.upper.slot (own_place r.right r.place) moment p
+  pub other_hung : HungFrom r.beside_slot r.upper.slot (other_place r.right r.place) moment p
 
 -- the key that parts the two
 abbrev pub sep_of : List ℕ → ℕ → List ℕ
 sep_of read place = key_of (node_of read) (place + 1)
 
--- both leaves were seen as they stood below the parent, and have room in one
+-- both leaves were seen as they stood below the parent, side by side at a moment since the view, and have room in one
 pub record IsPlanned (r : Merging) (p : Past) : Type 0 where
   pub paired : IsPaired r p
   pub low : Option (List ℕ)
@@ -135,4 +138,6 @@ pub record IsPlanned (r : Merging) (p : Past) : Type 0 where
   pub second_at : ℕ
   pub first : WasSeen (first_of r.right (viewed_leaf r) (beside_leaf r)) first_at low (Some (sep_of r.read r.place)) p
   pub second : WasSeen (second_of r.right (viewed_leaf r) (beside_leaf r)) second_at (Some (sep_of r.read r.place)) high p
+  pub beside : HungBeside r.lower.slot (own_place r.right r.place) (beside_leaf r) (other_place r.right r.place) p
+  pub later : paired.viewed.at ≤ beside.moment
   pub room : live_of (node_of (first_of r.right (viewed_leaf r) (beside_leaf r)).image) + live_of (node_of (second_of r.right (viewed_leaf r) (beside_leaf r)).image) ≤ SPLIT_ABOVE

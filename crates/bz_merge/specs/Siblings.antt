@@ -74,11 +74,16 @@ pub record StoodBetween (c m : ℕ) (low high : Option (List ℕ)) (p : Past) : 
 abbrev pub StoodAsChild : (k g : ℕ) (read : List ℕ) (p : Past) → WasParentNode k g read p → ℕ → ℕ → ℕ → Type 0
 StoodAsChild k g read p parent c j m = StoodBetween c m (low_in (children_of (node_of read)) parent.low j) (high_in (children_of (node_of read)) parent.high j) p
 
--- while the parent's status is as it was read, its children stand in the tree as leaves
+-- then it hung from slot k, as its child j
+pub record HungFrom (c k j m : ℕ) (p : Past) : Type 0 where
+  pub up : (form_at p.config (p.at m)).up c ≡ k
+  pub index : (form_at p.config (p.at m)).index c ≡ j
+
+-- while the parent's status is as it was read, its children stand in the tree as leaves, each at its place below the parent
 abbrev pub ChildrenStand : Type 0
 ChildrenStand =
     (s : Scene) (upper lower : Link) (read : List ℕ) (c j : ℕ) → IsScene s → (links : AreLinksDown upper lower s.past) → WasLeafOnce lower.slot s.past → (here s).value lower.guard ≡ lower.status →
-    (parent : WasParentNode upper.slot links.guard.guarded read s.past) → j < count_of (node_of read) → child_of (node_of read) j ≡ c → StoodAsChild upper.slot links.guard.guarded read s.past parent c j s.past.now
+    (parent : WasParentNode upper.slot links.guard.guarded read s.past) → j < count_of (node_of read) → child_of (node_of read) j ≡ c → StoodAsChild upper.slot links.guard.guarded read s.past parent c j s.past.now × HungFrom c upper.slot j s.past.now s.past
 
 -- a leaf as it was read
 pub record SeenLeaf : Type 0 where
@@ -102,3 +107,16 @@ abbrev pub LeavesReadWere : Type 0
 LeavesReadWere =
     (s : Scene) (l : SeenLeaf) (n m : ℕ) (low high : Option (List ℕ)) → IsScene s → s.past.since ≤ n → n ≤ m → (s.past.at n).reached l.slot ≡ true → words s.past.config (s.past.at n) l.slot STATUS_AT ≡ l.status →
     l.status < 2 ^ 61 → WereRead l.slot n l.status NODE_WORDS l.image s.past → StoodBetween l.slot m low high s.past → words s.past.config (here s) l.slot STATUS_AT ≡ l.status → WasSeen l m low high s.past
+
+-- at a moment two leaves hung side by side from one node, as its children i and j; and the second one said then what was read of it
+pub record HungBeside (own i : ℕ) (other : SeenLeaf) (j : ℕ) (p : Past) : Type 0 where
+  pub moment : ℕ
+  pub parent : ℕ
+  pub low : Option (List ℕ)
+  pub high : Option (List ℕ)
+  pub stood : StoodBetween own moment low high p
+  pub hung : HungFrom own parent i moment p
+  pub other_low : Option (List ℕ)
+  pub other_high : Option (List ℕ)
+  pub other_seen : WasSeen other moment other_low other_high p
+  pub other_hung : HungFrom other.slot parent j moment p

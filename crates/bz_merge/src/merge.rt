@@ -568,7 +568,7 @@ impl Task for Merge {
 
     ghost facts = { facts_of };
 
-    ghost means = { λ t. merge_means t.upper t.lower t.leaf.0 };
+    ghost means = { λ t. merge_means t.upper t.lower t.status t.leaf.0 };
 
     ghost differs = { differs_of };
 

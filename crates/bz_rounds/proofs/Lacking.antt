@@ -4,10 +4,11 @@ use Rattle.bz_layout.specs.declared.sizes.TheConstants.{STATUS_AT}
 use Rattle.bz_slotted.specs.Page.{Page, page}
 use Rattle.bz_word.specs.Statuses.{status}
 use Rattle.bz_content.specs.Content.{image_of}
+use Rattle.bz_stage.specs.FromLeaves.Neighbours.{leaf_page}
 use Rattle.bz_task.specs.Instant.{durable, page_at}
 use Rattle.bz_task.specs.Scene.{Scene, IsScene, here}
 use Rattle.bz_stage.proofs.Leaves.{stage-frozen}
-use Rattle.bz_stage.specs.Stages.{leaf_page, full_above, frozen_stage, stage_of, stage_in}
+use Rattle.bz_stage.specs.Stages.{full_above, frozen_stage, stage_of, stage_in}
 use Rattle.bz_alone.specs.Alone.{IsAlone}
 use Rattle.bz_alone.specs.FromRunning.MadeFor.{WasLeafOf}
 use Rattle.bz_rounds.proofs.Lone.{Basis, good-now, leaf-now, holds-now, below-top}

@@ -22,6 +22,7 @@ use Rattle.bz_content.specs.Content.{image_of, leaf_in, view_in}
 use Rattle.bz_content.specs.Image.{root}
 use Rattle.bz_content.specs.Laws.{WellFormedImagesHaveNoFault}
 use Rattle.bz_content.specs.Resolving.{resolve}
+use Rattle.bz_stage.specs.FromLeaves.Neighbours.{leaf_page}
 use Rattle.bz_task.specs.Good.{IsGood}
 use Rattle.bz_task.specs.Instant.{Instant, words, durable, form_at, is_inside}
 use Rattle.bz_task.specs.Laws.{SamePlace}
@@ -32,7 +33,7 @@ use Rattle.bz_stage.proofs.Paths.{path-found, path-unique, below-top}
 use Rattle.bz_stage.proofs.Runs.{run-same}
 use Rattle.bz_stage.specs.Paths.{on_path, run_from, StandsOver}
 use Rattle.bz_stage.specs.Rooms.{is_crowded, is_full, words_taken}
-use Rattle.bz_stage.specs.Stages.{leaf_page, page_on_path, root_level, full_above}
+use Rattle.bz_stage.specs.Stages.{page_on_path, root_level, full_above}
 use Rattle.bz_alone.specs.Quiet.{IsQuietSince, IsIn, ReadValuesStand}
 use Rattle.bz_alone.specs.Trees.{SameTree, TreesStand}
 use Rattle.bz_rounds.specs.Stands.{SameStage, StagesStand}

@@ -10,6 +10,7 @@ use Rattle.bz_word.specs.Headers.{header}
 use Rattle.bz_word.specs.Statuses.{status}
 use Rattle.bz_content.specs.Content.{image_of}
 use Rattle.bz_content.specs.Image.{Image}
+use Rattle.bz_stage.specs.FromLeaves.Neighbours.{leaf_page}
 use Rattle.bz_task.specs.Good.{IsGood}
 use Rattle.bz_task.specs.Instant.{words, page_at, form_at}
 use Rattle.bz_task.specs.Outcomes.{IsPath, IsLink, EndsAtLeaf, IsUnderNode}
@@ -21,7 +22,7 @@ use Rattle.bz_renew.specs.Standing.{StillLeads, GuardedLinksStand}
 use Rattle.bz_stage.proofs.Leaves.{less, stage-split}
 use Rattle.bz_stage.proofs.Runs.{run-reaches}
 use Rattle.bz_stage.specs.Rooms.{words_taken, is_full}
-use Rattle.bz_stage.specs.Stages.{leaf_page, page_on_path, root_level, full_above, stage}
+use Rattle.bz_stage.specs.Stages.{page_on_path, root_level, full_above, stage}
 use Rattle.bz_stage.specs.Swaps.{IsCrowdedBelow}
 use Rattle.bz_alone.specs.Quiet.{IsQuietSince}
 use Rattle.bz_rounds.specs.Crowded.{IsRisen, AscentsAreCrowded}

@@ -14,6 +14,7 @@ use Rattle.bz_slotted.specs.Records.{live_words}
 use Rattle.bz_slotted.specs.Rules.{node_fault}
 use Rattle.bz_content.specs.Content.{image_of, view_in}
 use Rattle.bz_content.specs.Image.{node}
+use Rattle.bz_stage.specs.FromLeaves.Neighbours.{leaf_page}
 use Rattle.bz_task.specs.Good.{IsGood}
 use Rattle.bz_task.specs.Instant.{durable, form_at}
 use Rattle.bz_task.specs.Outcomes.{IsLink}
@@ -23,7 +24,7 @@ use Rattle.bz_stage.specs.Laws.{PathsAreOfKeys}
 use Rattle.bz_stage.specs.Made.{EntriesTakeTheWords}
 use Rattle.bz_stage.specs.Paths.{StandsOver, on_path}
 use Rattle.bz_stage.specs.Rooms.{words_taken}
-use Rattle.bz_stage.specs.Stages.{leaf_page, page_on_path}
+use Rattle.bz_stage.specs.Stages.{page_on_path}
 use Rattle.bz_alone.specs.Quiet.{IsQuietSince, LonelyTimesAreQuiet}
 use Rattle.bz_alone.specs.FromRunning.MadeFor.{WasCrowded}
 use Rattle.bz_rounds.specs.Crowded.{AscentsAreCrowded}

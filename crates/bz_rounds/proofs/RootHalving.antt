@@ -20,6 +20,7 @@ use Rattle.bz_content.specs.Laws.{PlainWordsStandForThemselves}
 use Rattle.bz_content.specs.Resolving.{resolve}
 use Rattle.bz_content.specs.Restructures.{children_of}
 use Rattle.bz_content.specs.View.{view_of}
+use Rattle.bz_stage.specs.FromLeaves.Neighbours.{leaf_page}
 use Rattle.bz_task.specs.Instant.{Instant, durable}
 use Rattle.bz_task.specs.Scene.{Scene, Waiting, IsScene, here}
 use Rattle.bz_task.specs.Swaps.{Stand, SwapsTo}
@@ -35,7 +36,7 @@ use Rattle.bz_tally.specs.FromSplit.Phase.{Phase}
 use Rattle.bz_tally.specs.FromSplit.Phase.TheVariants.{Swap}
 use Rattle.bz_stage.proofs.Leaves.{roomy-ready}
 use Rattle.bz_stage.specs.Made.{MadeLeavesAreRoomy}
-use Rattle.bz_stage.specs.Stages.{leaf_page, full_above}
+use Rattle.bz_stage.specs.Stages.{full_above}
 use Rattle.bz_stage.specs.Swaps.{IsRoomy, IsRoomyLeaf}
 use Rattle.bz_alone.specs.Laws.{RootSplitsGoOn}
 use Rattle.bz_rounds.specs.Laws.{LoneRootLeafSplitsGiveRoom}

@@ -12,6 +12,7 @@ use Rattle.bz_slotted.specs.Whole.{Whole}
 use Rattle.bz_word.specs.Statuses.{status}
 use Rattle.bz_content.specs.Content.{image_of, leaf_in, view_in}
 use Rattle.bz_content.specs.Image.{node}
+use Rattle.bz_stage.specs.FromLeaves.Neighbours.{leaf_page}
 use Rattle.bz_task.specs.Good.{IsGood}
 use Rattle.bz_task.specs.Instant.{Instant, words, durable, form_at}
 use Rattle.bz_task.specs.Outcomes.{IsView, IsKeyView}
@@ -20,7 +21,7 @@ use Rattle.bz_task.specs.declared.view.KeyView.{KeyView}
 use Rattle.bz_task.specs.declared.view.LeafView.{LeafView}
 use Rattle.bz_stage.proofs.Leaves.{stage-lacking, stage-ready}
 use Rattle.bz_stage.specs.Rooms.{words_taken}
-use Rattle.bz_stage.specs.Stages.{leaf_page, full_above, frozen_stage, stage_of, stage_in}
+use Rattle.bz_stage.specs.Stages.{full_above, frozen_stage, stage_of, stage_in}
 use Rattle.bz_alone.specs.Alone.{IsAlone}
 use Rattle.bz_alone.specs.FromRunning.MadeFor.{WasLeafOf}
 use Rattle.bz_alone.specs.Quiet.{IsQuietSince, LonelyTimesAreQuiet}

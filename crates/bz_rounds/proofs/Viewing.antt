@@ -14,12 +14,12 @@ use Rattle.bz_slotted.specs.Records.{live_to, live_words}
 use Rattle.bz_slotted.specs.Whole.{Whole}
 use Rattle.bz_word.specs.Statuses.{status}
 use Rattle.bz_content.specs.Content.{image_of, leaf_in, view_in}
+use Rattle.bz_stage.specs.FromLeaves.Neighbours.{leaf_page}
 use Rattle.bz_task.specs.Good.{IsGood}
 use Rattle.bz_task.specs.Instant.{words, durable, form_at}
 use Rattle.bz_task.specs.Outcomes.{IsView}
 use Rattle.bz_task.specs.Scene.{Scene, IsScene, here}
 use Rattle.bz_task.specs.declared.view.LeafView.{LeafView}
-use Rattle.bz_stage.specs.Stages.{leaf_page}
 use Rattle.bz_alone.specs.Quiet.{IsQuietSince}
 use Rattle.bz_rounds.specs.Stands.{LoneViewsTellTheLeaf}
 use Rattle.bz_tally.proofs.Lives.{live-same}

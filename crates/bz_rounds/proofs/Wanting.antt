@@ -2,10 +2,10 @@
 use Rattle.std.proofs.Common.{ℕ, ◌+◌, ◌<◌, List, refl, sym, subst}
 use Rattle.bz_layout.specs.declared.sizes.TheConstants.{STATUS_AT, SHARED_WORDS}
 use Rattle.bz_content.specs.Content.{image_of}
+use Rattle.bz_stage.specs.FromLeaves.Neighbours.{leaf_page}
 use Rattle.bz_task.specs.Instant.{words}
 use Rattle.bz_task.specs.Scene.{Scene, IsScene, here}
 use Rattle.bz_stage.specs.Rooms.{words_taken}
-use Rattle.bz_stage.specs.Stages.{leaf_page}
 use Rattle.bz_alone.specs.Alone.{IsAlone}
 use Rattle.bz_alone.specs.FromRunning.MadeFor.{LackedWords}
 use Rattle.bz_rounds.proofs.Seeing.{Laws, taken-now}

@@ -7,13 +7,14 @@ use Rattle.bz_slotted.specs.ReadingLaws.{node_of}
 use Rattle.bz_slotted.specs.Records.{live_words}
 use Rattle.bz_word.specs.Statuses.{status}
 use Rattle.bz_content.specs.Content.{image_of, view_in}
+use Rattle.bz_stage.specs.FromLeaves.Neighbours.{leaf_page}
 use Rattle.bz_task.specs.Instant.{Instant}
 use Rattle.bz_task.specs.Outcomes.{IsView, IsKeyView}
 use Rattle.bz_task.specs.Scene.{Scene, IsScene, here}
 use Rattle.bz_task.specs.declared.view.KeyView.{KeyView}
 use Rattle.bz_task.specs.declared.view.LeafView.{LeafView}
 use Rattle.bz_stage.specs.Rooms.{is_crowded}
-use Rattle.bz_stage.specs.Stages.{leaf_page, stage_in}
+use Rattle.bz_stage.specs.Stages.{stage_in}
 use Rattle.bz_alone.specs.Alone.{IsAlone}
 use Rattle.bz_alone.specs.Quiet.{IsQuietSince, IsIn}
 

@@ -118,12 +118,12 @@ by-crown upper Restart s m = tt
 by-crown upper (Full spent) s m = tt
 by-crown upper o s m = absurd m
 
-by-merge : (upper lower : Link) (leaf : List ℕ) (o : Outcome) (s : Scene) → merge_means upper lower leaf o s → EndsOrNeedsRoom o
-by-merge upper lower leaf Done s m = tt
-by-merge upper lower leaf Restart s m = tt
-by-merge upper lower leaf NeedsRoom s m = tt
-by-merge upper lower leaf (Full spent) s m = tt
-by-merge upper lower leaf o s m = absurd m
+by-merge : (upper lower : Link) (st : ℕ) (leaf : List ℕ) (o : Outcome) (s : Scene) → merge_means upper lower st leaf o s → EndsOrNeedsRoom o
+by-merge upper lower st leaf Done s m = tt
+by-merge upper lower st leaf Restart s m = tt
+by-merge upper lower st leaf NeedsRoom s m = tt
+by-merge upper lower st leaf (Full spent) s m = tt
+by-merge upper lower st leaf o s m = absurd m
 
 pub ends-so : (t : AnyTask) (o : Outcome) (s : Scene) → means_of t o s → IsEndOf (kind_of t) o
 unfolding kind_of means_of
@@ -139,4 +139,4 @@ ends-so (Splitting t) o s m = by-split t.link t.halves.left.0 t.halves.right.0 t
 ends-so (SplittingBelow t a) o s m = by-below t.upper t.lower t.halves.left.0 t.halves.right.0 t.halves.separator o s m
 ends-so (SplittingInner t a) o s m = by-fork t.upper t.middle o s m
 ends-so (SplittingInnerRoot t a) o s m = by-crown t.upper o s m
-ends-so (Merging t) o s m = by-merge t.upper t.lower t.leaf.0 o s m
+ends-so (Merging t) o s m = by-merge t.upper t.lower t.status t.leaf.0 o s m

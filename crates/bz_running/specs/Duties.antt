@@ -277,7 +277,7 @@ means_of (Splitting t) = split_means t.link t.halves.left.0 t.halves.right.0 t.h
 means_of (SplittingBelow t a) = means_below t
 means_of (SplittingInner t a) = means_fork t
 means_of (SplittingInnerRoot t a) = means_crown t
-means_of (Merging t) = merge_means t.upper t.lower t.leaf.0
+means_of (Merging t) = merge_means t.upper t.lower t.status t.leaf.0
 
 unfoldable pub differs_of : AnyTask → Seen → Type 0
 differs_of (Seeking t) = seek.differs_of t

@@ -17,13 +17,14 @@ use Rattle.bz_content.proofs.Reached.{level-at}
 use Rattle.bz_content.specs.Image.{Image, node}
 use Rattle.bz_content.specs.Swaps.{form_in}
 use Rattle.bz_content.specs.View.{view_of}
+use Rattle.bz_leaves.specs.Neighbours.{leaf_page}
 use Rattle.bz_stage.proofs.Exchanges.{path-changes, path-stays}
 use Rattle.bz_stage.proofs.Leaves.{less, not-less, roomy-ready, stage-split}
 use Rattle.bz_stage.proofs.Paths.{below-top, leaf-on-path, path-found}
 use Rattle.bz_stage.proofs.Runs.{run-at-most, run-reaches, run-stops}
 use Rattle.bz_stage.specs.Paths.{on_path, StandsOver}
 use Rattle.bz_stage.specs.Rooms.{words_taken, is_full}
-use Rattle.bz_stage.specs.Stages.{leaf_page, page_on_path, root_level, full_above, stage_of, stage}
+use Rattle.bz_stage.specs.Stages.{page_on_path, root_level, full_above, stage_of, stage}
 use Rattle.bz_stage.specs.Swaps.{IsRoomyLeaf, IsRoomyInner, IsCrowdedBelow}
 
 -- the laws of nodes that these proofs stand on

@@ -11,11 +11,12 @@ use Rattle.bz_content.proofs.Reached.{root-stands, root-below}
 use Rattle.bz_content.specs.Image.{node, root}
 use Rattle.bz_content.specs.Swaps.{form_in}
 use Rattle.bz_content.specs.View.{view_of}
+use Rattle.bz_leaves.specs.Neighbours.{leaf_page}
 use Rattle.bz_stage.proofs.Leaves.{less, not-less, stage-at-most}
 use Rattle.bz_stage.proofs.Runs.{run-at-most, run-is}
 use Rattle.bz_stage.specs.Laws.{FullNodesAreCounted, StagesAreBounded}
 use Rattle.bz_stage.specs.Rooms.{words_taken, is_full}
-use Rattle.bz_stage.specs.Stages.{leaf_page, page_on_path, root_level, full_above}
+use Rattle.bz_stage.specs.Stages.{page_on_path, root_level, full_above}
 
 pub full-counted : FullNodesAreCounted
 full-counted c x key full le all next =

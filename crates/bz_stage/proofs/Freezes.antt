@@ -18,13 +18,14 @@ use Rattle.bz_content.specs.Image.{Image, node}
 use Rattle.bz_content.specs.Laws.{QuietSwapsKeepTheContent}
 use Rattle.bz_content.specs.Swaps.{form_in}
 use Rattle.bz_content.specs.View.{view_of}
+use Rattle.bz_leaves.specs.Neighbours.{leaf_page}
 use Rattle.bz_stage.proofs.Leaves.{stage-frozen, stage-lacking}
 use Rattle.bz_stage.proofs.Paths.{below-top, path-found, path-unique}
 use Rattle.bz_stage.proofs.Runs.{run-same}
 use Rattle.bz_stage.specs.Laws.{FreezesLowerTheStage}
 use Rattle.bz_stage.specs.Paths.{on_path, run_from, StandsOver}
 use Rattle.bz_stage.specs.Rooms.{words_taken, is_full}
-use Rattle.bz_stage.specs.Stages.{leaf_page, page_on_path, root_level, full_above, frozen_stage, stage}
+use Rattle.bz_stage.specs.Stages.{page_on_path, root_level, full_above, frozen_stage, stage}
 use Rattle.bz_stage.specs.Swaps.{FreezesLeaf}
 
 -- the stage of a frozen leaf of so many live words below so many full nodes

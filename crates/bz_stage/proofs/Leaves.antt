@@ -8,9 +8,10 @@ use Rattle.bz_layout.specs.declared.sizes.TheConstants.{SHARED_WORDS}
 use Rattle.bz_layout.specs.declared.thresholds.TheConstants.{LEAF_RECORD_WORDS, SPLIT_ABOVE}
 use Rattle.bz_slotted.specs.Page.{Page}
 use Rattle.bz_slotted.specs.Records.{live_words}
+use Rattle.bz_leaves.specs.Neighbours.{leaf_page}
 use Rattle.bz_stage.specs.Laws.{StagesSay, LackingLeavesSay}
 use Rattle.bz_stage.specs.Rooms.{words_taken, has_room, is_crowded}
-use Rattle.bz_stage.specs.Stages.{leaf_page, full_above, frozen_stage, stage_of}
+use Rattle.bz_stage.specs.Stages.{full_above, frozen_stage, stage_of}
 use Rattle.bz_stage.specs.Swaps.{IsRoomy}
 
 pub less : (a b : ℕ) → a < b → nat_lt a b ≡ true

@@ -12,9 +12,10 @@ use Rattle.bz_content.specs.Image.{Image}
 use Rattle.bz_content.specs.Restructures.{Splits, SplitsRoot}
 use Rattle.bz_content.specs.Swaps.{Consolidates}
 use Rattle.bz_content.specs.View.{view_of}
+use Rattle.bz_leaves.specs.Neighbours.{leaf_page}
 use Rattle.bz_stage.specs.Paths.{on_path, StandsOver}
 use Rattle.bz_stage.specs.Rooms.{words_taken, is_crowded}
-use Rattle.bz_stage.specs.Stages.{leaf_page, page_on_path, root_level, full_above, frozen_stage, stage_of, stage}
+use Rattle.bz_stage.specs.Stages.{page_on_path, root_level, full_above, frozen_stage, stage_of, stage}
 use Rattle.bz_stage.specs.Swaps.{FreezesLeaf, IsRoomyLeaf, IsRoomyInner, IsCrowdedBelow}
 
 -- the stage of a leaf below so many full nodes, case by case

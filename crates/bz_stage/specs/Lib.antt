@@ -5,3 +5,4 @@ pub mod Paths
 pub mod Rooms
 pub mod Stages
 pub mod Swaps
+pub mod FromLeaves

@@ -2,19 +2,16 @@
 -- most until there is room for them. A round ends the call, or freezes the leaf, or makes one node anew.
 use Rattle.std.specs.Prelude.{ℕ, ◌+◌, if◌then◌else◌, List}
 use Rattle.bz_layout.specs.declared.config.Config.{Config}
-use Rattle.bz_shape.specs.Descent.{leaf_of}
 use Rattle.bz_slotted.specs.Page.{Page, page}
 use Rattle.bz_slotted.specs.Readers.{level_of}
 use Rattle.bz_content.specs.Content.{image_of}
 use Rattle.bz_content.specs.Image.{Image, node, root}
+use Rattle.bz_leaves.specs.Neighbours.{leaf_page}
 use Rattle.bz_content.specs.View.{view_of}
 use Rattle.bz_stage.specs.Paths.{on_path, run_from}
 use Rattle.bz_stage.specs.Rooms.{has_room, is_crowded, is_full}
 
--- the key's leaf, and the node of a level on the way to it
-abbrev pub leaf_page : Config → Image → List ℕ → Page
-leaf_page c x key = page (node c x.words (leaf_of (view_of c x) key))
-
+-- the node of a level on the way to the key's leaf
 abbrev pub page_on_path : Config → Image → List ℕ → ℕ → Page
 page_on_path c x key level = page (node c x.words (on_path (view_of c x) key level))
 

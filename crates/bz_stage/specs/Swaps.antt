@@ -7,8 +7,9 @@ use Rattle.bz_slotted.specs.Page.{Page, page}
 use Rattle.bz_slotted.specs.Records.{live_words}
 use Rattle.bz_content.specs.Image.{Image, node}
 use Rattle.bz_content.specs.Swaps.{OnLeaf}
+use Rattle.bz_leaves.specs.Neighbours.{leaf_page}
 use Rattle.bz_stage.specs.Rooms.{words_taken}
-use Rattle.bz_stage.specs.Stages.{leaf_page, page_on_path}
+use Rattle.bz_stage.specs.Stages.{page_on_path}
 
 -- the leaf k, which was not frozen, is; of its words the status alone changed
 pub record FreezesLeaf (c : Config) (x y : Image) (k : ℕ) : Type 0 where

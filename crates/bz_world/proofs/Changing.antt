@@ -7,11 +7,12 @@ use Rattle.bz_call.specs.declared.calls.Call.{Call}
 use Rattle.bz_call.specs.declared.calls.Call.TheVariants as call
 use Rattle.bz_call.specs.declared.replies.Reply.{Reply}
 use Rattle.bz_call.specs.declared.replies.Reply.TheVariants as reply
-use Rattle.bz_content.specs.Content.{content_in, leaf_in, view_in}
+use Rattle.bz_content.specs.Content.{image_of, content_in, leaf_in, view_in}
+use Rattle.bz_stage.specs.FromLeaves.Neighbours.{leaf_page}
 use Rattle.bz_lone.specs.Errands.{is_read}
 use Rattle.bz_lone.specs.FromAlone.Counts.{HasOthers}
 use Rattle.bz_layout.specs.declared.sizes.TheConstants.{STATUS_AT}
-use Rattle.bz_layout.specs.declared.thresholds.TheConstants.{CONSOLIDATION_SLOTS, MERGE_BELOW, MERGE_SLOTS, SPLIT_ABOVE, SPLIT_SLOTS}
+use Rattle.bz_layout.specs.declared.thresholds.TheConstants.{CONSOLIDATION_SLOTS, SPLIT_ABOVE, SPLIT_SLOTS}
 use Rattle.bz_mark.specs.Moments.{at_moment}
 use Rattle.bz_page.specs.Laws.{IsSaidBy}
 use Rattle.bz_record.specs.Laws.{IsViewed}
@@ -32,7 +33,7 @@ use Rattle.bz_sound.specs.Calls.{map_at, map_after}
 use Rattle.bz_sound.specs.Lonely.{IsLonely, LonelyCallsAreAlone}
 use Rattle.bz_sound.specs.Memory.ImageLaws.{IsChangeOf}
 use Rattle.bz_sound.specs.Memory.Moments.{image_at, Decodes, map_at_start}
-use Rattle.bz_sound.specs.Memory.Spent.{leaf_page, slots_for}
+use Rattle.bz_sound.specs.Memory.Spent.{TakesSlots}
 use Rattle.bz_sound.specs.Power.Growth.{LoadsAreSettled}
 use Rattle.bz_story.specs.Laws.{ScenesAreSeen}
 use Rattle.bz_task.specs.Good.{IsGood}
@@ -63,7 +64,6 @@ use Rattle.bz_world.proofs.Due.{map-still}
 use Rattle.bz_world.proofs.Exact.{none-ended}
 use Rattle.bz_world.proofs.Exactly.{only-looked}
 use Rattle.bz_world.proofs.Ready.{stage-none}
-use Rattle.bz_world.proofs.SlotsFor.{least-slots, merge-slots, split-slots}
 use Rattle.bz_world.proofs.Endings.{is_change, changes}
 use Rattle.bz_world.proofs.Spared.{lacks-stage}
 use Rattle.bz_world.proofs.TakingOn.{known-scene}
@@ -123,28 +123,28 @@ module _ (scenes : ScenesAreSeen) (b : AnswerLaws) (p : Parts) (w : ℕ) (view :
       let g : IsGood p.config (m.on.between.story.at view.at) = m.on.between.living.history.good view.at since m.viewed.now in
       g.shown view.slot STATUS_AT (g.inside view.slot viewed.leaf.leaf.inside (λ e. absurd (omega (arith, e, viewed.leaf.leaf.slot)))) (inl (omega arith)) ∙ viewed.leaf.leaf.was
 
-  leaf-is : leaf_page p.config (image_at p.journal.start view.at p.journal.past) key ≡ page (durable p.config (m.on.between.story.at view.at) view.slot)
-  leaf-is = ap (λ i. leaf_page p.config i key) (sym (m.on.between.living.images view.at since m.viewed.now))
+  leaf-is : leaf_page p.config (image_of (image_at p.journal.start view.at p.journal.past)) key ≡ page (durable p.config (m.on.between.story.at view.at) view.slot)
+  leaf-is = ap (λ i. leaf_page p.config (image_of i) key) (sym (m.on.between.living.images view.at since m.viewed.now))
       ∙ ap (λ k. page (durable p.config (m.on.between.story.at view.at) k)) of-key.leaf
 
   said : IsSaidBy key view (known p w m.on).past
   said = b.said key view (known p w m.on).past of-key (m.on.between.living.history.good view.at since m.viewed.now)
 
-  live-is : live_words (leaf_page p.config (image_at p.journal.start view.at p.journal.past) key) ≡ live_of (node_of view.image.0)
+  live-is : live_words (leaf_page p.config (image_of (image_at p.journal.start view.at p.journal.past)) key) ≡ live_of (node_of view.image.0)
   unfolding live_of
   live-is = ap live_words leaf-is ∙ sym said.live
 
   -- a frozen leaf has to be made anew, by a copy, a merge or a split
-  needs-anew : (slots : ℕ) → slots ≤ slots_for (live_of (node_of view.image.0)) → (status view.status).frozen ≡ true → NeedsAtLeast p.config p.journal.start p.journal.past m.on.between.opened slots
-  needs-anew slots enough frozen = record {
-    slots = slots_for (live_of (node_of view.image.0));
-    enough = enough;
+  needs-anew : (slots : ℕ) → TakesSlots p.config (image_at p.journal.start view.at p.journal.past) key slots → (status view.status).frozen ≡ true → NeedsAtLeast p.config p.journal.start p.journal.past m.on.between.opened slots
+  needs-anew slots takes frozen = record {
+    slots = slots;
+    enough = omega arith;
     needs = record {
       moment = view.at;
       after_begin = omega (arith, m.viewed.since, m.on.between.call_open.look.after_begin);
       before_end = m.viewed.now;
-      frozen = subst (λ k. (leaf_page p.config (image_at p.journal.start view.at p.journal.past) k).frozen ≡ true) key-back (ap (λ (z : Page). z.frozen) leaf-is ∙ (ap (λ st. (status st).frozen) status-is ∙ frozen));
-      needed = subst (λ k. slots_for (live_words (leaf_page p.config (image_at p.journal.start view.at p.journal.past) k)) ≡ slots_for (live_of (node_of view.image.0))) key-back (ap slots_for live-is);
+      frozen = subst (λ k. (leaf_page p.config (image_of (image_at p.journal.start view.at p.journal.past)) k).frozen ≡ true) key-back (ap (λ (z : Page). z.frozen) leaf-is ∙ (ap (λ st. (status st).frozen) status-is ∙ frozen));
+      needed = subst (λ k. TakesSlots p.config (image_at p.journal.start view.at p.journal.past) k slots) key-back takes;
     };
   }
     where
@@ -166,21 +166,18 @@ module _ (scenes : ScenesAreSeen) (b : AnswerLaws) (p : Parts) (w : ℕ) (view :
       now = of-key.now;
       leaf = of-key.leaf;
       frozen = ap (λ k. (page (durable p.config (m.on.between.story.at view.at) k)).frozen) of-key.leaf ∙ (ap (λ st. (status st).frozen) status-is ∙ frozen);
-      few = let same : live_words (leaf_page p.config (m.on.between.story.at view.at).image key) ≡ live_of (node_of view.image.0) = ap (λ k. live_words (page (durable p.config (m.on.between.story.at view.at) k))) of-key.leaf ∙ sym said.live in omega (arith, same, few);
+      few = let same : live_words (leaf_page p.config (image_of (m.on.between.story.at view.at).image) key) ≡ live_of (node_of view.image.0) = ap (λ k. live_words (page (durable p.config (m.on.between.story.at view.at) k))) of-key.leaf ∙ sym said.live in omega (arith, same, few);
     };
     known = at-view;
     only = λ other is. let same : other.at ≡ view.at = omega (arith, is.since, is.now) in sym is.leaf ∙ (ap (λ (n : ℕ). leaf_in p.config (m.on.between.story.at n).image key) same ∙ of-key.leaf);
     made = made at-view (record { since = omega arith; now = omega arith; loads = of-key.loads; leaf = of-key.leaf; slot = of-key.slot; status = of-key.status; plain = of-key.plain; words = of-key.words; whole = of-key.whole }) few;
   }
 
-  pub needs-copy : (status view.status).frozen ≡ true → NeedsAtLeast p.config p.journal.start p.journal.past m.on.between.opened CONSOLIDATION_SLOTS
-  needs-copy frozen = needs-anew CONSOLIDATION_SLOTS (least-slots (live_of (node_of view.image.0))) frozen
-
-  pub needs-merge : (status view.status).frozen ≡ true → live_of (node_of view.image.0) < MERGE_BELOW → NeedsAtLeast p.config p.journal.start p.journal.past m.on.between.opened MERGE_SLOTS
-  needs-merge frozen few = needs-anew MERGE_SLOTS (merge-slots (live_of (node_of view.image.0)) few) frozen
+  pub needs-copy : (status view.status).frozen ≡ true → live_of (node_of view.image.0) ≤ SPLIT_ABOVE → NeedsAtLeast p.config p.journal.start p.journal.past m.on.between.opened CONSOLIDATION_SLOTS
+  needs-copy frozen few = needs-anew CONSOLIDATION_SLOTS (inr (inr (omega (arith, live-is, few), refl))) frozen
 
   pub needs-split : (status view.status).frozen ≡ true → SPLIT_ABOVE < live_of (node_of view.image.0) → NeedsAtLeast p.config p.journal.start p.journal.past m.on.between.opened SPLIT_SLOTS
-  needs-split frozen many = needs-anew SPLIT_SLOTS (split-slots (live_of (node_of view.image.0)) many) frozen
+  needs-split frozen many = needs-anew SPLIT_SLOTS (inl (omega (arith, live-is, many), refl)) frozen
 
 -- a call that makes a change is none that reads
 change-writes : (called : Call) (had new : Option (List ℕ)) → IsChangeOf called had new → is_read called ≡ false

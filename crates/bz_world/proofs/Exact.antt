@@ -7,6 +7,7 @@ use Rattle.bz_call.specs.declared.calls.Call.{Call}
 use Rattle.bz_call.specs.declared.calls.Call.TheVariants as call
 use Rattle.bz_call.specs.declared.replies.Spent.TheVariants.{Swaps}
 use Rattle.bz_content.specs.Content.{image_of}
+use Rattle.bz_stage.specs.FromLeaves.Neighbours.{leaf_page}
 use Rattle.bz_layout.specs.declared.config.Config.{Config}
 use Rattle.bz_layout.specs.declared.thresholds.TheConstants.{LEAF_RECORD_WORDS}
 use Rattle.bz_lone.specs.Errands.{is_read, words_asked}
@@ -24,7 +25,6 @@ use Rattle.bz_sound.specs.Calls.{Open}
 use Rattle.bz_sound.specs.Lonely.{IsLonely}
 use Rattle.bz_sound.specs.Memory.Moments.{image_after}
 use Rattle.bz_stage.specs.Rooms.{has_room}
-use Rattle.bz_stage.specs.Stages.{leaf_page}
 use Rattle.bz_story.specs.Story.{Story, scene, and_then}
 use Rattle.bz_swap.specs.SwapMemory.{Doing, Idle, Reading, Swapping, Loading, Storing, Flushing}
 use Rattle.bz_task.specs.Instant.{Instant}

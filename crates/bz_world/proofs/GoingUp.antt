@@ -159,6 +159,12 @@ module _ (lone : AloneLaws) (p : Parts) (w : ℕ) (task : AnyTask) (m : MustGoUp
     ];
   }
 
+  pub no-merge-before : kind_of m.ends.on.serving.task ≢ kinds.Merge
+  no-merge-before merge = elim rising.from [
+    | inl leaf ↦ absurd (let both : kinds.Merge ≡ kinds.SplitLeaf rising.at = sym merge ∙ leaf.0 in cc both)
+    | inr node ↦ absurd (let both : kinds.Merge ≡ kinds.SplitNode rising.at = sym merge ∙ node in cc both)
+  ]
+
   -- which is no look-up
   pub no-look : is_look (kind_of m.ends.on.serving.task) ≡ true → ⊥
   no-look look = elim rising.from [
@@ -233,7 +239,7 @@ module _ (lone : AloneLaws) (p : Parts) (w : ℕ) (task : AnyTask) (m : MustGoUp
   up-taken laws =
       lookup-taken p w m.ends.on (inl m.ends.quiet) task None None (key_of m.ends.on.serving.call) (m.up.config ∙ m.ends.tasked.config) laws m.up.silent (m.up.ends (key_of m.ends.on.serving.call) m.ends.on.serving.path None m.ends.tasked.lookup) (λ none other. m.up.ends (key_of m.ends.on.serving.call) m.ends.on.serving.path other m.ends.tasked.lookup) refl m.up.asks
       (m.up.facts (known p w m.ends.on) (sym m.ends.tasked.config) (known-scene lone.scenes p w m.ends.on) m.ends.facts m.ends.end)
-      (λ quiet some. subst (NeedsAtLeast p.config p.journal.start p.journal.past m.ends.on.between.opened) (m.up.wanted ∙ sym m.up.wants) (m.ends.on.between.call_open.wanted quiet (omega (arith, m.up.wanted))))
+      (λ quiet some other. subst (NeedsAtLeast p.config p.journal.start p.journal.past m.ends.on.between.opened) (m.up.wanted ∙ sym m.up.wants) (m.ends.on.between.call_open.wanted quiet (omega (arith, m.up.wanted)) no-merge-before))
       (λ key get lonely. absurd (crowded-other p w m.ends key get lonely)) up-meant (up-paid laws)
       (λ quiet lonely. elim (m.ends.on.between.due quiet lonely) [
         | inl due ↦ inl due

@@ -1,5 +1,5 @@
 -- A split of an inner root that ended because the tree has as many levels as there may be: why the call ends so.
-use Rattle.std.proofs.Common.{◌≡◌, ℕ, ◌<◌, nat_lt, true, List, arith, refl, sym, ap, subst, ◌∙◌, Option, Some, None}
+use Rattle.std.proofs.Common.{◌≡◌, ℕ, ◌<◌, ◌≤◌, nat_lt, true, List, arith, inl, inr, refl, sym, ap, subst, ◌∙◌, Option, Some, None}
 use Rattle.std.specs.Prelude.{slice_index}
 use Rattle.std.proofs.lemmas.Bool.Decides.{nat_tests}
 use Rattle.bz_running.specs.FromAscent.Full.{WasFull, WasLevelFull, AreAllFull}
@@ -9,21 +9,21 @@ use Rattle.bz_call.specs.declared.replies.Spent.TheVariants.{Height}
 use Rattle.bz_content.specs.Content.{view_in}
 use Rattle.bz_content.specs.Image.{node}
 use Rattle.bz_content.specs.Resolving.{resolve}
+use Rattle.bz_layout.specs.declared.config.Config.{Config}
 use Rattle.bz_layout.specs.declared.thresholds.TheConstants.{MAX_LEVELS, SPLIT_SLOTS}
 use Rattle.bz_running.specs.Duties.{wants_of, ascent_of}
+use Rattle.bz_running.specs.Kinds.{ascent_in, kinds-tell-the-ascent}
 use Rattle.bz_running.specs.Laws.{HaveFilledUp}
 use Rattle.bz_shape.specs.Order.{is_within}
 use Rattle.bz_shape.specs.Walk.{form}
 use Rattle.bz_sound.specs.Memory.Moments.{image_at}
-use Rattle.bz_slotted.specs.Records.{live_words}
-use Rattle.bz_sound.specs.Memory.Spent.{IsFullAt, IsTooHigh, NeedsSlots, is_reached_in, leaf_page}
+use Rattle.bz_sound.specs.Memory.Spent.{IsFullAt, IsTooHigh, NeedsSlots, TakesSlots, is_reached_in}
 use Rattle.bz_story.specs.Laws.{ScenesAreSeen}
 use Rattle.bz_task.specs.Scene.{Past}
 use Rattle.bz_task.specs.declared.todo.Outcome.TheVariants.{Full}
 use Rattle.bz_world.specs.Inside.Going.{MustGoOn, HasEnded, known}
 use Rattle.bz_world.specs.Inside.Serving.{NeedsAtLeast}
 use Rattle.bz_world.specs.declared.parts.Parts.{Parts}
-use Rattle.bz_world.proofs.SlotsFor.{most-slots}
 use Rattle.bz_world.proofs.TakingOn.{known-scene}
 
 both : (a b : ℕ) → a < b → nat_lt a b ≡ true
@@ -65,6 +65,17 @@ module _ (p : Parts) (w : ℕ) (on : MustGoOn p w) where
   filled None same f level some few = absurd f
   filled (Some a) same f level some few = all-full a.key (same a refl) f level some few
 
+-- only a split takes so many
+most-slots : (c : Config) (image : ℕ → ℕ) (key : List ℕ) (slots : ℕ) → TakesSlots c image key slots → SPLIT_SLOTS ≤ slots → slots ≡ SPLIT_SLOTS
+most-slots c image key slots (inl many) enough = many.1
+most-slots c image key slots (inr (inl merge)) enough = absurd (omega (arith, merge.1, enough))
+most-slots c image key slots (inr (inr copy)) enough = absurd (omega (arith, copy.1, enough))
+
+-- where it did not come up, nothing was found full
+no-ascent : (way : Option Ascent) (past : Past) → way ≡ None → HaveFilledUp way past → ⊥
+no-ascent None past none f = f
+no-ascent (Some a) past none f = absurd (cc none)
+
 pub too-high : ScenesAreSeen → (p : Parts) (w : ℕ) (e : HasEnded p w (Full Height)) → IsTooHigh p.config p.journal.start p.journal.past e.on.between.opened
 too-high scenes p w e = record {
   crowded = subst (NeedsSlots p.config p.journal.start p.journal.past e.on.between.opened) all needed.needs;
@@ -75,8 +86,8 @@ too-high scenes p w e = record {
     high = e.tasked.laws.height (known p w e.on) (known-scene scenes p w e.on) e.facts e.end
 
     needed : NeedsAtLeast p.config p.journal.start p.journal.past e.on.between.opened (wants_of e.on.serving.task)
-    needed = e.on.between.call_open.wanted (e.on.between.call_open.effect ∙ e.quiet) (omega (arith, high.0))
+    needed = e.on.between.call_open.wanted (e.on.between.call_open.effect ∙ e.quiet) (omega (arith, high.0)) (λ merge. no-ascent (ascent_of e.on.serving.task) (known p w e.on).past (kinds-tell-the-ascent e.on.serving.task ∙ ap ascent_in merge) high.1)
 
     -- nothing takes more slots than a split
     all : needed.slots ≡ SPLIT_SLOTS
-    all = omega (arith, high.0, needed.enough, needed.needs.needed, most-slots (live_words (leaf_page p.config (image_at p.journal.start needed.needs.moment p.journal.past) (key_of e.on.between.opened.call))))
+    all = most-slots p.config (image_at p.journal.start needed.needs.moment p.journal.past) (key_of e.on.between.opened.call) needed.slots needed.needs.needed (omega (arith, high.0, needed.enough))

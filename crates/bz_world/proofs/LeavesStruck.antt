@@ -5,7 +5,8 @@ use Rattle.std.proofs.lemmas.Bool.Decides.{nat_tests}
 use Rattle.std.proofs.lemmas.Bool.{true≢false}
 use Rattle.bz_call.specs.Map.{key_of}
 use Rattle.bz_call.specs.declared.calls.Call.{Call}
-use Rattle.bz_content.specs.Content.{leaf_in, view_in}
+use Rattle.bz_content.specs.Content.{image_of, leaf_in, view_in}
+use Rattle.bz_stage.specs.FromLeaves.Neighbours.{leaf_page}
 use Rattle.bz_layout.specs.declared.config.Config.{Config}
 use Rattle.bz_layout.specs.declared.thresholds.TheConstants.{MERGE_BELOW, SPLIT_ABOVE, SPLIT_SLOTS}
 use Rattle.bz_lone.specs.FromTally.Counts.{leaves_now, leaves_then, BringsNoneBack, IsLeafNow, KeepsTheLeaves}
@@ -27,7 +28,7 @@ use Rattle.bz_slotted.specs.Readers.{live_of}
 use Rattle.bz_slotted.specs.ReadingLaws.{node_of}
 use Rattle.bz_slotted.specs.Records.{live_words}
 use Rattle.bz_sound.specs.Memory.Moments.{image_at}
-use Rattle.bz_sound.specs.Memory.Spent.{leaf_page, is_reached_in}
+use Rattle.bz_sound.specs.Memory.Spent.{is_reached_in}
 use Rattle.bz_swap.specs.SwapMemory.{entries_of}
 use Rattle.bz_task.specs.Instant.{Instant, durable, is_inside}
 use Rattle.bz_task.specs.Outcomes.{IsView}
@@ -162,12 +163,12 @@ module _ (b : StrikeLaws) (p : Parts) (s : ℕ) (h : IsStriking p s) where
     said : IsSaidBy (key_of (x b p s h).call) seen.view (before b p s h).past
     said = b.said (key_of (x b p s h).call) seen.view (before b p s h).past seen.is ((kept b p s h).living.history.good seen.view.at since seen.is.now)
 
-    leaf-is : leaf_page c (image_at log.start seen.view.at log.past) (key_of (x b p s h).call) ≡ page (durable c ((kept b p s h).story.at seen.view.at) seen.view.slot)
-    leaf-is = ap (λ i. leaf_page c i (key_of (x b p s h).call)) (sym ((kept b p s h).living.images seen.view.at since seen.is.now)) ∙ ap (λ k. page (durable c ((kept b p s h).story.at seen.view.at) k)) seen.is.leaf
+    leaf-is : leaf_page c (image_of (image_at log.start seen.view.at log.past)) (key_of (x b p s h).call) ≡ page (durable c ((kept b p s h).story.at seen.view.at) seen.view.slot)
+    leaf-is = ap (λ i. leaf_page c (image_of i) (key_of (x b p s h).call)) (sym ((kept b p s h).living.images seen.view.at since seen.is.now)) ∙ ap (λ k. page (durable c ((kept b p s h).story.at seen.view.at) k)) seen.is.leaf
 
     live-is : live_at c log.start log.past (its b p s h).opened seen.view.at ≡ live_of (node_of seen.view.image.0)
     unfolding live_of
-    live-is = ap (λ (key : List ℕ). live_words (leaf_page c (image_at log.start seen.view.at log.past) key)) (ap key_of (its b p s h).call_open.call) ∙ (ap live_words leaf-is ∙ sym said.live)
+    live-is = ap (λ (key : List ℕ). live_words (leaf_page c (image_of (image_at log.start seen.view.at log.past)) key)) (ap key_of (its b p s h).call_open.call) ∙ (ap live_words leaf-is ∙ sym said.live)
 
     abbrev moment-of : IsMomentOfCall log.past
     moment-of = record { worker = w b p s h; opened = (its b p s h).opened; is_open = (its b p s h).call_open.is_open; moment = seen.view.at; after_begin = omega (arith, seen.is.since, (its b p s h).call_open.look.after_begin); by_now = seen.is.now }
@@ -255,8 +256,8 @@ module _ (b : StrikeLaws) (p : Parts) (s : ℕ) (h : IsStriking p s) where
     may-be-copied = record {
       call = record { worker = w b p s h; opened = (its b p s h).opened; is_open = (its b p s h).call_open.is_open; moment = m.was.moment; after_begin = omega (arith, m.was.since, (its b p s h).call_open.look.after_begin); by_now = m.was.now };
       leaf = (λ e. leaf_in c (image-settled e) (key_of ((its b p s h).call_open.call e))) ∙ m.was.leaf;
-      frozen = (λ e. (leaf_page c (image-settled e) (key_of ((its b p s h).call_open.call e))).frozen) ∙ m.was.frozen;
-      few = let same : live_at c log.start log.past (its b p s h).opened m.was.moment ≡ live_words (leaf_page c ((kept b p s h).story.at m.was.moment).image (key_of (x b p s h).call)) = λ e. live_words (leaf_page c (image-settled e) (key_of ((its b p s h).call_open.call e))) in omega (arith, same, m.was.few);
+      frozen = (λ e. (leaf_page c (image_of (image-settled e)) (key_of ((its b p s h).call_open.call e))).frozen) ∙ m.was.frozen;
+      few = let same : live_at c log.start log.past (its b p s h).opened m.was.moment ≡ live_words (leaf_page c (image_of ((kept b p s h).story.at m.was.moment).image) (key_of (x b p s h).call)) = λ e. live_words (leaf_page c (image_of (image-settled e)) (key_of ((its b p s h).call_open.call e))) in omega (arith, same, m.was.few);
     }
 
   -- a leaf of the tree now, which is not in it then

@@ -57,7 +57,6 @@ mod Endings
 mod TakingOn
 mod Spending
 mod Answering
-mod SlotsFor
 mod Solo
 mod Changing
 mod ChangesTold
@@ -75,6 +74,7 @@ mod Supplies
 mod SpendingSlots
 mod MakingAnew
 mod HighTrees
+mod Wanting
 mod GoingUp
 mod Flags
 mod Cutting

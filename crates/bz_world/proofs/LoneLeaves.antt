@@ -4,7 +4,8 @@ use Rattle.std.proofs.lemmas.Bool.{cases_eq, true≢false}
 use Rattle.std.proofs.lemmas.Bool.Decides.{nat_tests}
 use Rattle.bz_call.specs.Map.{Map, key_of}
 use Rattle.bz_call.specs.declared.calls.Call.{Call}
-use Rattle.bz_content.specs.Content.{leaf_in}
+use Rattle.bz_content.specs.Content.{image_of, leaf_in}
+use Rattle.bz_stage.specs.FromLeaves.Neighbours.{leaf_page}
 use Rattle.bz_layout.specs.declared.config.Config.{Config}
 use Rattle.bz_mark.specs.Moments.{at_moment}
 use Rattle.bz_mark.proofs.MomentLaws.{at_moment-earlier, at_moment-before}
@@ -15,7 +16,7 @@ use Rattle.bz_sound.specs.Calls.{Open, open_call}
 use Rattle.bz_sound.specs.Lonely.{IsLonely, LonelyCallsAreAlone}
 use Rattle.bz_sound.specs.Memory.Moments.{EachMark, image_after, image_at, map_at_start}
 use Rattle.bz_slotted.specs.Records.{live_words}
-use Rattle.bz_sound.specs.Memory.Spent.{is_reached_in, leaf_page}
+use Rattle.bz_sound.specs.Memory.Spent.{is_reached_in}
 use Rattle.bz_sound.specs.Power.Calls.{CallsOnce}
 use Rattle.bz_sound.specs.Power.Laws.{PowerTellsWhatFollows}
 use Rattle.bz_mark.specs.declared.power.Power.{Power}
@@ -54,7 +55,7 @@ module _ (c : Config) (start : List ℕ) (past : List Mark) (mark : Mark) (w : �
   call-is = sym o.call
 
   live-earlier : (m : ℕ) → m ≤ length past → live_at c start (mark ∷ past) opened m ≡ live_at c start past o.was m
-  live-earlier m few = λ e. live_words (leaf_page c (image-earlier m few e) (key_of (call-is e)))
+  live-earlier m few = λ e. live_words (leaf_page c (image_of (image-earlier m few e)) (key_of (call-is e)))
 
   -- what was so is so
   abbrev itself : (slot : ℕ) → WasItsLeaf c start past o.was slot → WasItsLeaf c start (mark ∷ past) opened slot

@@ -28,7 +28,7 @@ use Rattle.bz_world.specs.Inside.Going.{MustGoOn, MustTakeOn, MustRestructure, M
 use Rattle.bz_world.specs.Inside.Laws.{AloneLaws, RoundLaws}
 use Rattle.bz_world.specs.Inside.Meant.{IsMeant, IsOfSettled}
 use Rattle.bz_world.specs.Inside.Paid.{bound_in, errand_of, no_extra, used_in, IsPaidFor, HasToSpare, HasARound, stock_of}
-use Rattle.bz_world.specs.Inside.Serving.{IsWanted, NeedsAtLeast}
+use Rattle.bz_world.specs.Inside.Serving.{NeedsAtLeast}
 use Rattle.bz_world.specs.declared.parts.Parts.{Parts}
 use Rattle.bz_world.specs.declared.serving.OpenCall.{OpenCall}
 use Rattle.bz_world.proofs.Answering.{on-pages}
@@ -136,7 +136,7 @@ abbrev pub anew-taken : AloneLaws → (p : Parts) (w : ℕ) (path : Path) (view 
 anew-taken lone p w path view m task k f other copied plain lookup slots wants needs facts made spares =
     lookup-taken p w m.answer.on (inl m.answer.quiet) task None None (key_of m.answer.on.serving.call) f.config f.laws f.silent (lookup None) (λ none. lookup) refl f.asks
     (facts (known p w m.answer.on) refl (known-scene lone.scenes p w m.answer.on) m.way m.answer.viewed)
-    (λ quiet some. subst (NeedsAtLeast p.config p.journal.start p.journal.past m.answer.on.between.opened) (sym wants) needs) (λ key get lonely. absurd (m.answer.other key get lonely)) (renewal-meant p w m.answer.on m.answer.quiet (lacks-write m.answer.on.serving.call view.status m.lacks) task f.within (λ merge. other (sym f.kind ∙ merge)) (λ copy. copied (sym f.kind ∙ copy)) (inr (inr made)))
+    (λ quiet some other. subst (NeedsAtLeast p.config p.journal.start p.journal.past m.answer.on.between.opened) (sym wants) needs) (λ key get lonely. absurd (m.answer.other key get lonely)) (renewal-meant p w m.answer.on m.answer.quiet (lacks-write m.answer.on.serving.call view.status m.lacks) task f.within (λ merge. other (sym f.kind ∙ merge)) (λ copy. copied (sym f.kind ∙ copy)) (inr (inr made)))
     (renewal-paid lone.rounds p w m.answer.on m.answer.quiet (lacks-write m.answer.on.serving.call view.status m.lacks) task k f other copied (inr (inr made)) spares)
     (λ quiet lonely. inl (read-due p w view m.answer (lacks-write m.answer.on.serving.call view.status m.lacks) lonely))
     (λ lonely room. absurd (again-kind p w m.answer.on m.answer.quiet kinds.ReadWhole m.answer.kind refl refl lonely room))
@@ -191,7 +191,7 @@ abbrev pub merge-taken : AloneLaws → (p : Parts) (w : ℕ) (path : Path) (view
 merge-taken lone p w path view m task f lookup wants swaps facts for small =
     lookup-taken p w m.on m.may task None None (key_of m.on.serving.call) f.config f.laws f.silent (lookup (key_of m.on.serving.call) None) (λ none. lookup (key_of m.on.serving.call)) refl f.asks
     (facts (key_of m.on.serving.call) (known p w m.on) refl (known-scene lone.scenes p w m.on) m.way m.viewed)
-    (subst (IsWanted p.config p.journal m.on.between.opened) (sym wants) m.wanted) (λ key get lonely. absurd (m.other key get lonely)) (merge-meant p w path view m task f for small)
+    (λ quiet some other. absurd (other f.kind)) (λ key get lonely. absurd (m.other key get lonely)) (merge-meant p w path view m task f for small)
     (task-paid lone.rounds p w m.on task None m.on.serving.had kinds.Merge f.kind f.laws f.asks f.made (merge-meant p w path view m task f for small) (λ quiet merge. is-small lone p w m.on view m.viewed (m.frozen quiet) (omega (arith, m.small))) m.spares)
     (λ quiet lonely. inl (m.due quiet lonely))
     (λ lonely room. absurd (m.again lonely room))

@@ -24,9 +24,9 @@ use Rattle.bz_task.specs.declared.view.LeafView.{LeafView}
 use Rattle.bz_word.specs.Statuses.{status}
 use Rattle.bz_lone.specs.Errands.{words_asked}
 use Rattle.bz_lone.specs.Meant.{IsMeantFor}
-use Rattle.bz_content.specs.Content.{leaf_in}
+use Rattle.bz_content.specs.Content.{image_of, leaf_in}
+use Rattle.bz_stage.specs.FromLeaves.Neighbours.{leaf_page}
 use Rattle.bz_slotted.specs.Records.{live_words}
-use Rattle.bz_sound.specs.Memory.Spent.{leaf_page}
 use Rattle.bz_world.specs.Inside.Meant.{IsMeant, IsOfSettled}
 use Rattle.bz_world.specs.Inside.Telling.{HasTold}
 use Rattle.bz_world.specs.declared.serving.OpenCall.{OpenCall}
@@ -50,7 +50,7 @@ meant-told called p old new seen moment free todo left h (inr (inl merges)) = in
 meant-told called p old new seen moment free todo left h (inr (inr made)) = inr (inr (h.made_for (key_of called) (words_asked called) p made))
 
 -- a merge takes two slots
-merges-want : (t : AnyTask) (key : List ℕ) (p : Past) → IsMergeFor t key p → wants_of t ≡ MERGE_SLOTS
+pub merges-want : (t : AnyTask) (key : List ℕ) (p : Past) → IsMergeFor t key p → wants_of t ≡ MERGE_SLOTS
 unfolding wants_of IsMergeFor
 merges-want (Seeking t) key p m = absurd m
 merges-want (Finding t) key p m = absurd m
@@ -91,8 +91,8 @@ settled-on t key p q on s = record {
     since = omega (arith, on.since, s.was.since);
     now = omega (arith, on.now, s.was.now);
     leaf = (λ e. leaf_in (on.config e) (on.at s.was.moment s.was.now e).image key) ∙ s.was.leaf;
-    frozen = (λ e. (leaf_page (on.config e) (on.at s.was.moment s.was.now e).image key).frozen) ∙ s.was.frozen;
-    few = let same : live_words (leaf_page q.config (q.at s.was.moment).image key) ≡ live_words (leaf_page p.config (p.at s.was.moment).image key) = λ e. live_words (leaf_page (on.config e) (on.at s.was.moment s.was.now e).image key) in omega (arith, same, s.was.few);
+    frozen = (λ e. (leaf_page (on.config e) (image_of (on.at s.was.moment s.was.now e).image) key).frozen) ∙ s.was.frozen;
+    few = let same : live_words (leaf_page q.config (image_of (q.at s.was.moment).image) key) ≡ live_words (leaf_page p.config (image_of (p.at s.was.moment).image) key) = λ e. live_words (leaf_page (on.config e) (image_of (on.at s.was.moment s.was.now e).image) key) in omega (arith, same, s.was.few);
   };
   known = s.known;
   only = s.only;

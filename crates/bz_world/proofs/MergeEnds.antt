@@ -12,7 +12,6 @@ use Rattle.bz_layout.specs.declared.config.Config.{Config}
 use Rattle.bz_mark.specs.declared.marks.Mark.{Mark}
 use Rattle.bz_sound.specs.Calls.{Open}
 use Rattle.bz_world.specs.Inside.Serving.{effect_reply}
-use Rattle.bz_lone.specs.FromJoined.Neighbours.{MayBeMerged}
 use Rattle.bz_lone.specs.FromTally.Leaves.{leaves_in}
 use Rattle.bz_mark.specs.Moments.{at_moment}
 use Rattle.bz_mark.proofs.MomentLaws.{at_moment-now}
@@ -41,6 +40,7 @@ use Rattle.bz_world.proofs.MergeStarts.{since-then, may-now}
 use Rattle.std.specs.Prelude.{slice_get}
 use Rattle.bz_lone.specs.FromJoined.DueMerges.{IsDueToMerge}
 use Rattle.bz_world.specs.Inside.Laws.{RoundLaws}
+use Rattle.bz_stage.specs.FromLeaves.Neighbours.{MayBeMerged}
 
 -- what looks on ends with what it looked for, or is to begin again
 abbrev pub EndsLookingOn : Outcome → Type 0

@@ -3,7 +3,7 @@ use Rattle.std.proofs.Common.{◌≡◌, ◌≢◌, ℕ, suc, true, length, arit
 use Rattle.std.proofs.lemmas.Bool.{true≢false}
 use Rattle.bz_call.specs.Map.{key_of}
 use Rattle.bz_lone.specs.FromAlone.Counts.{HasOthers}
-use Rattle.bz_lone.specs.FromJoined.Neighbours.{MayBeMerged, NeighboursStand}
+use Rattle.bz_lone.specs.FromJoined.Neighbours.{NeighboursStand}
 use Rattle.bz_running.specs.Kinds as kinds
 use Rattle.bz_running.specs.Kinds.{kind_of}
 use Rattle.bz_story.specs.Laws.{ScenesAreSeen}
@@ -14,6 +14,7 @@ use Rattle.bz_world.specs.Inside.Going.{MustGoOn, StandsForLooking, StandsForRea
 use Rattle.bz_world.specs.Inside.Merging.{looks_on, HasToMerge, IsMerging, IsStanding, IsTellingFew, StoodSince}
 use Rattle.bz_world.specs.Inside.Paid.{stock_of}
 use Rattle.bz_world.specs.declared.parts.Parts.{Parts}
+use Rattle.bz_stage.specs.FromLeaves.Neighbours.{MayBeMerged}
 
 -- what is known of the memory since a moment of this life
 pub since-then : ScenesAreSeen → (p : Parts) (w : ℕ) (on : MustGoOn p w) (m : ℕ) → on.between.opened.begun ≤ m → m ≤ length p.journal.past → IsScene (scene p.config p.journal.past on.between.story w m on.between.opened)

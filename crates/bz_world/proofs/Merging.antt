@@ -4,9 +4,10 @@ use Rattle.std.proofs.lemmas.Bool.{cases_lt, true≢false}
 use Rattle.bz_call.specs.Map.{key_of}
 use Rattle.bz_call.specs.declared.replies.Spent.TheVariants.{Nodes, Swaps}
 use Rattle.bz_content.specs.Content.{view_in}
+use Rattle.bz_stage.specs.FromLeaves.Neighbours.{MayBeMerged}
 use Rattle.bz_layout.specs.declared.config.Config.{Config}
 use Rattle.bz_lone.specs.FromAlone.Counts.{HasOthers}
-use Rattle.bz_lone.specs.FromJoined.Neighbours.{KnownLeavesStay, MayBeMerged}
+use Rattle.bz_lone.specs.FromJoined.Neighbours.{KnownLeavesStay}
 use Rattle.bz_lone.specs.FromTally.Leaves.{leaves_in}
 use Rattle.bz_mark.specs.Log.{Log, with_mark}
 use Rattle.bz_mark.specs.declared.marks.Mark.{Mark}

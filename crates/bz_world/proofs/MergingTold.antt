@@ -6,7 +6,7 @@ use Rattle.bz_layout.specs.Slots.{FreeSlots}
 use Rattle.bz_layout.specs.declared.config.Config.{Config}
 use Rattle.bz_layout.specs.declared.thresholds.TheConstants.{SPLIT_SLOTS}
 use Rattle.bz_lone.specs.FromAlone.Counts.{HasOthers}
-use Rattle.bz_lone.specs.FromJoined.Neighbours.{KnowsItsLeaf, KnownLeavesStay, MayBeMerged}
+use Rattle.bz_lone.specs.FromJoined.Neighbours.{KnowsItsLeaf, KnownLeavesStay}
 use Rattle.bz_mark.specs.Log.{Log}
 use Rattle.bz_running.specs.Duties.{asks_of, end_of, made_of, swaps_of, needs_of, wants_of, means_of}
 use Rattle.bz_running.specs.Ends.{IsEndOf, EndsOrNeedsRoom}
@@ -31,6 +31,7 @@ use Rattle.bz_world.specs.declared.serving.OpenCall.{OpenCall}
 use Rattle.bz_world.proofs.Exact.{none-ended}
 use Rattle.bz_world.proofs.Merging.{on-look}
 use Rattle.bz_world.proofs.ExactTold.{deaf, none-left, told-swaps}
+use Rattle.bz_stage.specs.FromLeaves.Neighbours.{MayBeMerged}
 
 -- an effect is told so
 told-true : (what : Seen) → effects_in what ≡ 1 → what ≡ seen.Swapped true

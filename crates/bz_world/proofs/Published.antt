@@ -7,6 +7,7 @@ use Rattle.bz_call.specs.Map.{Map, Applied, key_of, apply, apply_at}
 use Rattle.bz_call.specs.declared.calls.Call.{Call}
 use Rattle.bz_call.specs.declared.calls.Call.TheVariants as call
 use Rattle.bz_content.specs.Content.{content_in}
+use Rattle.bz_stage.specs.FromLeaves.Neighbours.{MayBeMerged}
 use Rattle.bz_layout.specs.declared.config.Config.{Config}
 use Rattle.bz_mark.specs.Log.{Log, with_mark}
 use Rattle.bz_mark.proofs.MomentLaws.{at_moment-before, at_moment-now}
@@ -64,7 +65,6 @@ use Rattle.bz_world.proofs.Striking.{flush-calls, old, kept, w, x, its, owner, b
 use Rattle.bz_world.proofs.LonelyActs.{none-struck}
 use Rattle.bz_world.proofs.StruckQuietly.{image-was, image-is, fault-is, stage-is, its-swap, its-asks, still-does}
 use Rattle.bz_world.proofs.Tabled.{tabled-marked}
-use Rattle.bz_lone.specs.FromJoined.Neighbours.{MayBeMerged}
 use Rattle.bz_running.specs.Kinds as kinds
 use Rattle.bz_running.specs.Kinds.{kind_of}
 use Rattle.bz_mark.specs.Counts.{count_taken}

@@ -6,7 +6,7 @@ use Rattle.bz_acts.specs.declared.acted.Act.{Act}
 use Rattle.bz_machine.specs.declared.done.Done.{Done}
 use Rattle.bz_machine.specs.declared.done.Done.TheVariants.{Busy, Read, Swapped, Stored, Flushed}
 use Rattle.bz_mark.specs.Log.{with_mark}
-use Rattle.bz_running.specs.Duties.{wants_of, facts_of}
+use Rattle.bz_running.specs.Duties.{facts_of}
 use Rattle.bz_sight.specs.Passing.{Passes, Passed}
 use Rattle.bz_sight.specs.Sight.{next_instant}
 use Rattle.bz_sight.specs.Starts.{Sees}
@@ -266,7 +266,7 @@ module _ (b : StepLaws) (old new : Parts) (w : ℕ) (x : OpenCall) (made : Act) 
       effect = s.call_open.effect;
       look = looks-on old.journal.past (mark_of w made) s.opened s.call_open.look;
       told = told-stays b.stay old.config old.journal (mark_of w made) w s.opened x.had s.call_open.is_open s.call_open.told;
-      wanted = wanted-stays old.config old.journal (mark_of w made) s.opened (wants_of x.task) s.call_open.wanted;
+      wanted = wanted-stays old.config old.journal (mark_of w made) s.opened x.task s.call_open.wanted;
     };
     idle = a.step.one.doing ∙ idle-by (doing_of old.access w) done ne;
     due = own-rightly x s;

@@ -6,7 +6,6 @@ use Rattle.std.proofs.lemmas.Bool.Decides.{nat_tests}
 use Rattle.bz_layout.specs.declared.config.Config.{Config}
 use Rattle.bz_layout.specs.declared.thresholds.TheConstants.{SPLIT_SLOTS}
 use Rattle.bz_mark.specs.Log.{Log}
-use Rattle.bz_running.specs.Duties.{wants_of}
 use Rattle.bz_shape.specs.Walk.{is_among}
 use Rattle.bz_sound.specs.Calls.{Open, open_call}
 use Rattle.bz_sound.specs.Memory.ImageLaws.{AreOthersHeld}
@@ -21,7 +20,7 @@ use Rattle.bz_world.specs.Inside.Acted.{IsBetween}
 use Rattle.bz_world.specs.Inside.Going.{IsOutOfSlots}
 use Rattle.bz_world.specs.Inside.Paid.{Stock, stock_of}
 use Rattle.bz_world.specs.WorldView.{LacksSlots}
-use Rattle.bz_world.specs.Inside.Serving.{IsSlot, NeedsAtLeast}
+use Rattle.bz_world.specs.Inside.Serving.{IsSlot}
 use Rattle.bz_world.specs.declared.parts.Parts.{Parts}
 use Rattle.bz_world.specs.declared.serving.OpenCall.{OpenCall}
 use Rattle.bz_world.proofs.Spending.{is-other}
@@ -171,13 +170,9 @@ module _ (p : Parts) (w : ℕ) (l : IsOutOfSlots p w) where
     one_each = one-each;
   }
 
--- it takes its slots because the leaf of its key had to be made anew
-needed-slots : (p : Parts) (w : ℕ) (l : IsOutOfSlots p w) → NeedsAtLeast p.config p.journal.start p.journal.past l.on.between.opened (wants_of l.on.serving.task)
-needed-slots p w l = l.on.between.call_open.wanted (l.on.between.call_open.effect ∙ l.quiet) (omega (arith, l.fewer))
-
 -- so fewer are left than that takes
 pub slots-run-out : (p : Parts) (w : ℕ) → IsOutOfSlots p w → LacksSlots p.config p.journal w (length p.slots.free)
-slots-run-out p w l = let needed = needed-slots p w l in record {
+slots-run-out p w l = let needed = l.needed in record {
   opened = l.on.between.opened;
   is_open = l.on.between.call_open.is_open;
   slots = needed.slots;
@@ -187,7 +182,7 @@ slots-run-out p w l = let needed = needed-slots p w l in record {
 
 -- and they are not left but for what other workers hold
 pub slots-are-spent : HeldSlotsAreSpent → (p : Parts) (w : ℕ) (l : IsOutOfSlots p w) → NodesAreSpent p.config p.journal.start p.journal.past (count_used p.config p.journal.start p.journal.past) w l.on.between.opened
-slots-are-spent law p w l = let needed = needed-slots p w l in record {
+slots-are-spent law p w l = let needed = l.needed in record {
   slots = needed.slots;
   needs = needed.needs;
   lacks = law p.config p.journal.start p.journal.past w needed.slots p.slots.free (holder p w l) (place p w l) (omega (arith, l.fewer, needed.enough)) (are-slots-held p w l);

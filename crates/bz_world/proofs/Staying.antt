@@ -3,6 +3,7 @@ use Rattle.std.proofs.Common.{◌≡◌, ◌⊎◌, ℕ, zero, ◌≤◌, if◌t
 use Rattle.std.specs.Prelude.{get_or}
 use Rattle.std.proofs.lemmas.Bool.{true≢false}
 use Rattle.bz_call.specs.Map.{key_of}
+use Rattle.bz_content.specs.Content.{image_of}
 use Rattle.bz_layout.specs.declared.config.Config.{Config}
 use Rattle.bz_layout.specs.declared.thresholds.TheConstants.{SPLIT_SLOTS}
 use Rattle.bz_mark.specs.Log.{Log, with_mark}
@@ -11,12 +12,12 @@ use Rattle.bz_mark.specs.declared.marks.Mark.{Mark}
 use Rattle.bz_rivals.specs.Wins.{GoesWell}
 use Rattle.bz_running.specs.Duties.{needs_of, wants_of, facts_of}
 use Rattle.bz_running.specs.declared.running.AnyTask.{AnyTask}
-use Rattle.bz_slotted.specs.Records.{live_words}
+use Rattle.bz_stage.specs.FromLeaves.Neighbours.{leaf_page}
 use Rattle.bz_sound.specs.Calls.{Open, open_call}
 use Rattle.bz_sound.specs.Lonely.{IsLonely}
 use Rattle.bz_sound.specs.Memory.Moments.{map_at_start, image_after}
 use Rattle.bz_sound.specs.Memory.OpenCallLaws.{EffectsStayOpen}
-use Rattle.bz_sound.specs.Memory.Spent.{NeedsSlots, leaf_page, slots_for}
+use Rattle.bz_sound.specs.Memory.Spent.{NeedsSlots, TakesSlots}
 use Rattle.bz_story.specs.Laws.{HasBegun, ScenesAreSeen}
 use Rattle.bz_story.specs.Living.{IsLiving}
 use Rattle.bz_story.specs.Story.{Story, scene}
@@ -110,9 +111,9 @@ pub told-stays : EffectsStayOpen → (c : Config) (log : Log) (mark : Mark) (w :
 told-stays stay c log mark w opened had is told at e = (stay (map_at_start c log.start) log.past mark w at opened is e).same_reply (effect_reply opened.call had) (told at e)
 
 -- and so does why its task takes slots
-pub wanted-stays : (c : Config) (log : Log) (mark : Mark) (opened : Open) (wants : ℕ) → IsWanted c log opened wants → IsWanted c (with_mark log mark) opened wants
-wanted-stays c log mark opened wants why quiet some =
-    let w : NeedsAtLeast c log.start log.past opened wants = why quiet some in
+pub wanted-stays : (c : Config) (log : Log) (mark : Mark) (opened : Open) (task : AnyTask) → IsWanted c log opened task → IsWanted c (with_mark log mark) opened task
+wanted-stays c log mark opened task why quiet some other =
+    let w : NeedsAtLeast c log.start log.past opened (wants_of task) = why quiet some other in
     let n : NeedsSlots c log.start log.past opened w.slots = w.needs in
     record {
       slots = w.slots;
@@ -121,8 +122,8 @@ wanted-stays c log mark opened wants why quiet some =
         moment = n.moment;
         after_begin = n.after_begin;
         before_end = omega (arith, n.before_end);
-        frozen = subst (λ (marks : List Mark). (leaf_page c (image_after log.start marks) (key_of opened.call)).frozen ≡ true) (sym (at_moment-earlier n.moment mark log.past n.before_end)) n.frozen;
-        needed = subst (λ (marks : List Mark). slots_for (live_words (leaf_page c (image_after log.start marks) (key_of opened.call))) ≡ w.slots) (sym (at_moment-earlier n.moment mark log.past n.before_end)) n.needed;
+        frozen = subst (λ (marks : List Mark). (leaf_page c (image_of (image_after log.start marks)) (key_of opened.call)).frozen ≡ true) (sym (at_moment-earlier n.moment mark log.past n.before_end)) n.frozen;
+        needed = subst (λ (marks : List Mark). TakesSlots c (image_after log.start marks) (key_of opened.call) w.slots) (sym (at_moment-earlier n.moment mark log.past n.before_end)) n.needed;
       };
     }
 
@@ -156,7 +157,7 @@ serving-stays seen stay c m n log mark story after owners stock more v x living 
     effect = s.call_open.effect;
     look = looks-on log.past mark s.opened s.call_open.look;
     told = told-stays stay c log mark v s.opened x.had s.call_open.is_open s.call_open.told;
-    wanted = wanted-stays c log mark s.opened (wants_of x.task) s.call_open.wanted;
+    wanted = wanted-stays c log mark s.opened x.task s.call_open.wanted;
   };
   tasked = s.tasked;
   asked = s.asked;

@@ -4,9 +4,9 @@ use Rattle.std.proofs.lemmas.Bool.{cases_lt, true≢false}
 use Rattle.std.proofs.lemmas.Bool.Decides.{nat_tests}
 use Rattle.bz_call.specs.Map.{key_of}
 use Rattle.bz_content.specs.Content.{view_in}
+use Rattle.bz_stage.specs.FromLeaves.Neighbours.{MayBeMerged}
 use Rattle.bz_layout.specs.declared.config.Config.{Config}
 use Rattle.bz_lone.specs.FromAlone.Counts.{HasOthers}
-use Rattle.bz_lone.specs.FromJoined.Neighbours.{MayBeMerged}
 use Rattle.bz_lone.specs.FromRounds.Stands.{SameStage}
 use Rattle.bz_lone.specs.FromTally.Deletes.{LosesOneRecord}
 use Rattle.bz_running.specs.Duties.{change_of, leaves_few_of, makes_no_change, no-change-is-published, publishing_of}

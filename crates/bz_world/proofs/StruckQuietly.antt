@@ -5,7 +5,7 @@ use Rattle.std.proofs.lemmas.Bool.{cases_eq, true≢false}
 use Rattle.bz_content.specs.Content.{image_fault, content_in}
 use Rattle.bz_mark.specs.Log.{with_mark}
 use Rattle.bz_lone.specs.FromAlone.Counts.{HasOthers}
-use Rattle.bz_running.specs.Duties.{asks_of, swaps_of, wants_of, facts_of, publishing_of, change_of}
+use Rattle.bz_running.specs.Duties.{asks_of, swaps_of, facts_of, publishing_of, change_of}
 use Rattle.bz_running.specs.Kinds.{kind_of}
 use Rattle.bz_sight.specs.Effects.{effect_instant}
 use Rattle.bz_sound.specs.Memory.Moments.{image_after}
@@ -122,7 +122,7 @@ module _ (b : StrikeLaws) (p : Parts) (s : ℕ) (h : IsStriking p s) where
         effect = (its b p s h).call_open.effect;
         look = looks-on (old b p s h).journal.past h.mark (its b p s h).opened (its b p s h).call_open.look;
         told = told-stays b.stay (old b p s h).config (old b p s h).journal h.mark (w b p s h) (its b p s h).opened (x b p s h).had (its b p s h).call_open.is_open (its b p s h).call_open.told;
-        wanted = wanted-stays (old b p s h).config (old b p s h).journal h.mark (its b p s h).opened (wants_of (x b p s h).task) (its b p s h).call_open.wanted;
+        wanted = wanted-stays (old b p s h).config (old b p s h).journal h.mark (its b p s h).opened (x b p s h).task (its b p s h).call_open.wanted;
       };
       tasked = (its b p s h).tasked;
       asked = todo.Swap (entries_of (old b p s h).access s);

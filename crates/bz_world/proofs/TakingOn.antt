@@ -37,7 +37,7 @@ use Rattle.bz_task.specs.declared.todo.Todo.{Todo}
 use Rattle.bz_task.specs.declared.todo.Todo.TheVariants.{Read, Finish}
 use Rattle.bz_world.specs.Roomy.{HadRoom}
 use Rattle.bz_world.specs.Inside.Acted.{IsBetween, MustTell}
-use Rattle.bz_world.specs.Inside.Going.{MustGoOn, LooksUpAgain, MustLookUp, MustLookUpAs, MustTakeOn, MustRead, MustReadWhole, HasRoomForEnd, taken_for, HadEffect, HasReadAfter, LacksSwap, known, call_in, end_in, path_in, WentOn, MayGoOnIn, StandsForLooking, StoodFor}
+use Rattle.bz_world.specs.Inside.Going.{MustGoOn, LooksUpAgain, MustLookUp, MustLookUpAs, MustTakeOn, MustRead, MustReadWhole, HasRoomForEnd, taken_for, HasReadAfter, LacksSwap, known, call_in, end_in, path_in, WentOn, MayGoOnIn, StandsForLooking, StoodFor}
 use Rattle.bz_world.specs.Inside.Beginning.{supply_of}
 use Rattle.bz_world.specs.Inside.Due.{TakesRightly, only_looks}
 use Rattle.bz_world.specs.Inside.Exact.{CountsExactly, HasStood, IsExact, reach_idle, seeks}
@@ -81,9 +81,9 @@ use Rattle.bz_world.proofs.Supplies.{not-longer}
 use Rattle.bz_world.proofs.Tabled.{tabled-beside}
 use Rattle.bz_task.specs.declared.todo.Seen.{Seen}
 use Rattle.bz_world.specs.Inside.Merging.{looks_on, IsDuly, IsLookingOn, IsStanding, IsTellingFew, MergesDuly}
-use Rattle.bz_lone.specs.FromJoined.Neighbours.{MayBeMerged}
 use Rattle.bz_world.proofs.Merging.{duly-alone, duly-froze}
 use Rattle.bz_world.proofs.MergeEnds.{ended-merged, looks-on-ends}
+use Rattle.bz_stage.specs.FromLeaves.Neighbours.{MayBeMerged}
 
 -- each slot that was taken has been stored into
 pub has-filled : (p : Parts) (w : ℕ) (on : MustGoOn p w) → HasFilled (known p w on)
@@ -276,7 +276,7 @@ duly-looks p w on again stands over task kind lonely = record {
 }
 
 -- a task that takes no slot needs no reason
-pub none-wanted : (p : Parts) (w : ℕ) (on : MustGoOn p w) (task : AnyTask) → wants_of task ≡ 0 → IsWanted p.config p.journal on.between.opened (wants_of task)
+pub none-wanted : (p : Parts) (w : ℕ) (on : MustGoOn p w) (task : AnyTask) → wants_of task ≡ 0 → IsWanted p.config p.journal on.between.opened task
 none-wanted p w on task none quiet some = absurd (omega (arith, none, some))
 
 -- a way that was found is one
@@ -302,7 +302,7 @@ no-key key task looks view s means = let some : 0 < 0 = ((looks (Some bogus)).le
 
 -- a task that makes no change, for the call's key
 abbrev pub lookup-taken : (p : Parts) (w : ℕ) (on : MustGoOn p w) → MayGoOn on.serving → (task : AnyTask) (way : Option Path) (asked : Option Todo) (key : List ℕ) → config_of task ≡ p.config → AreLaws task → makes_no_change task ≡ true → IsLookup key way task → (way ≡ None → (other : Option Path) → IsLookup key other task) → key ≡ key_of on.serving.call
-    → asks_of task ≡ asked → facts_of task Waiting (known p w on) → IsWanted p.config p.journal on.between.opened (wants_of task)
+    → asks_of task ≡ asked → facts_of task Waiting (known p w on) → IsWanted p.config p.journal on.between.opened task
     → WhereLonely p.journal.past w on.serving.call (IsLonelyGet p.access p.journal.past on.between.story w (record on.serving { task = task; path = way }) on.between.opened) → IsMeant (record on.serving { task = task; path = way }) (known p w on).past → IsPaidFor p w (record on.serving { task = task; path = way }) 0 (taken_for asked) (known p w on).past
     → TakesRightly p.config p.access.taken p.journal (stock_of p) w (record on.serving { task = task; path = way }) → CountsExactly p.config p.journal w on.between.opened (known p w on).past (reach_idle p.access) (stock_of p) (tells_of (record on.serving { task = task; path = way })) (record on.serving { task = task; path = way })
     → MergesDuly p.config p.journal w on.between.opened (known p w on).past (reach_idle p.access) (stock_of p) (record on.serving { task = task; path = way })
@@ -326,10 +326,6 @@ lookup-taken p w on may task way asked key config laws looks lookup wayless same
 pub duly-other : (p : Parts) (w : ℕ) (on : MustGoOn p w) (task : AnyTask) (way : Option Path) → on.serving.effect ≡ None → (seeks (kind_of task) ≡ true → ⊥) → (kind_of task ≡ kinds.Delete → ⊥)
     → MergesDuly p.config p.journal w on.between.opened (known p w on).past (reach_idle p.access) (stock_of p) (record on.serving { task = task; path = way })
 duly-other p w on task way quiet seek delete lonely = record { looking = λ none looks. absurd (seek looks); deleting = λ none kind going. absurd (delete kind); merging = λ at is deletes. absurd (cc (quiet, is)) }
-
--- and one that begins once the change was made needs none either
-pub none-wanted-after : (p : Parts) (w at : ℕ) (had : HadEffect p w at) (wants : ℕ) → IsWanted p.config p.journal had.on.between.opened wants
-none-wanted-after p w at had wants quiet some = let told : had.on.between.opened.effect ≡ Some at = had.on.between.call_open.effect ∙ had.effect in absurd (cc (told, quiet))
 
 -- the way by which its leaf was read since is one of its key
 pub read-way : (p : Parts) (w at : ℕ) (view : LeafView) (r : HasReadAfter p w at view) (slot : Option OpenCall) → slot ≡ get_or p.workers.items w slot → (way : Option Path) → way ≡ path_in slot → (path : Path) → way ≡ Some path → IsPath (key_of r.had.on.serving.call) path (known p w r.had.on).past

@@ -265,7 +265,7 @@ module _ (scenes : ScenesAreSeen) (slots : SlotsAreTaken) (laws : LonelyLaws) (l
         worker = told.between.worker;
         within = told.between.within;
         opened = told.between.opened;
-        call_open = let o = told.between.call_open in record { is_open = o.is_open; call = o.call ∙ ap (λ (z : OpenCall). z.call) (sym h.rest); effect = o.effect ∙ ap (λ (z : OpenCall). z.effect) (sym h.rest); look = o.look; told = subst (λ (z : OpenCall). IsToldBy p.config p.journal told.between.opened z.had) (sym h.rest) o.told; wanted = λ quiet some. subst (NeedsAtLeast p.config p.journal.start p.journal.past told.between.opened) (sym h.heard.wants) (o.wanted quiet (omega (arith, some, h.heard.wants))) };
+        call_open = let o = told.between.call_open in record { is_open = o.is_open; call = o.call ∙ ap (λ (z : OpenCall). z.call) (sym h.rest); effect = o.effect ∙ ap (λ (z : OpenCall). z.effect) (sym h.rest); look = o.look; told = subst (λ (z : OpenCall). IsToldBy p.config p.journal told.between.opened z.had) (sym h.rest) o.told; wanted = λ quiet some other. subst (NeedsAtLeast p.config p.journal.start p.journal.past told.between.opened) (sym h.heard.wants) (o.wanted quiet (omega (arith, some, h.heard.wants)) (λ merge. other (h.heard.kind ∙ merge))) };
         idle = told.between.idle;
         due = still-right;
         steps = told.between.steps;

@@ -3,7 +3,8 @@
 -- live words than it may keep; and no node comes back that it has left. So each leaf is split or copied at most once. The newest mark stands first.
 use Rattle.std.specs.Prelude.{◌≡◌, ◌⊎◌, ℕ, ◌+◌, ◌<◌, ◌≤◌, ◌&&◌, nat_lt, Bool, true, false, List, ◌∷◌, length, Some}
 use Rattle.bz_call.specs.Map.{key_of}
-use Rattle.bz_content.specs.Content.{leaf_in, view_in}
+use Rattle.bz_content.specs.Content.{image_of, leaf_in, view_in}
+use Rattle.bz_stage.specs.FromLeaves.Neighbours.{leaf_page}
 use Rattle.bz_layout.specs.declared.config.Config.{Config}
 use Rattle.bz_layout.specs.declared.thresholds.TheConstants.{MERGE_BELOW, SPLIT_ABOVE}
 use Rattle.bz_lone.specs.FromTally.Leaves.{is_leaf, leaves_in}
@@ -12,7 +13,7 @@ use Rattle.bz_mark.specs.declared.marks.Mark.{Mark}
 use Rattle.bz_slotted.specs.Records.{live_words}
 use Rattle.bz_sound.specs.Calls.{Open, open_call}
 use Rattle.bz_sound.specs.Memory.Moments.{EachMark, image_after, image_at}
-use Rattle.bz_sound.specs.Memory.Spent.{is_reached_in, leaf_page}
+use Rattle.bz_sound.specs.Memory.Spent.{is_reached_in}
 use Rattle.bz_mark.specs.Times.{power_of}
 use Rattle.bz_mark.specs.declared.power.Power.{Power}
 use Rattle.bz_mark.specs.declared.power.Power.TheVariants as power
@@ -23,7 +24,7 @@ leaves_after c start past = leaves_in c (image_after start past)
 
 -- how many live words the leaf of a call's key has at a moment
 abbrev pub live_at : Config → List ℕ → List Mark → Open → ℕ → ℕ
-live_at c start past opened moment = live_words (leaf_page c (image_at start moment past) (key_of opened.call))
+live_at c start past opened moment = live_words (leaf_page c (image_of (image_at start moment past)) (key_of opened.call))
 
 -- an open call of a worker, and a moment of it
 pub record IsMomentOfCall (past : List Mark) : Type 0 where
@@ -66,7 +67,7 @@ pub record TakesALeaf (c : Config) (start : List ℕ) (past : List Mark) (mark :
 pub record MayBeCopied (c : Config) (start : List ℕ) (past : List Mark) (slot : ℕ) : Type 0 where
   pub call : IsMomentOfCall past
   pub leaf : leaf_in c (image_at start call.moment past) (key_of call.opened.call) ≡ slot
-  pub frozen : (leaf_page c (image_at start call.moment past) (key_of call.opened.call)).frozen ≡ true
+  pub frozen : (leaf_page c (image_of (image_at start call.moment past)) (key_of call.opened.call)).frozen ≡ true
   pub few : live_at c start past call.opened call.moment ≤ SPLIT_ABOVE
 
 -- there are as many, and the tree leaves a leaf only where that may be copied: at most one

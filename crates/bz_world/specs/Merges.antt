@@ -7,7 +7,6 @@ use Rattle.bz_call.specs.declared.replies.Reply.TheVariants.{Deleted}
 use Rattle.bz_layout.specs.declared.config.Config.{Config}
 use Rattle.bz_layout.specs.declared.swaps.TheConstants.{MERGE_SWAPS}
 use Rattle.bz_layout.specs.declared.thresholds.TheConstants.{MERGE_SLOTS}
-use Rattle.bz_lone.specs.FromJoined.Neighbours.{MayBeMerged}
 use Rattle.bz_mark.specs.Moments.{at_moment}
 use Rattle.bz_mark.specs.declared.marks.Mark.{Mark}
 use Rattle.bz_mark.specs.declared.marks.Mark.TheVariants.{End}
@@ -18,6 +17,7 @@ use Rattle.bz_mark.specs.Counts.{count_taken}
 use Rattle.bz_sound.specs.Power.Spent.{count_used}
 use Rattle.bz_mark.specs.Times.{since_on}
 use Rattle.bz_world.specs.Leaves.{leaves_after}
+use Rattle.bz_stage.specs.FromLeaves.Neighbours.{MayBeMerged}
 
 -- fewer slots are left than a merge takes, or fewer descriptors
 abbrev pub LacksForMerge : Config → List ℕ → List Mark → Type 0

@@ -6,16 +6,15 @@ use Rattle.bz_call.specs.declared.calls.Call.TheVariants as call
 use Rattle.bz_call.specs.declared.replies.Reply.{Reply}
 use Rattle.bz_call.specs.declared.replies.Reply.TheVariants.{Inserted, Exists, Deleted, Updated, Missing, Value, Page, Full}
 use Rattle.bz_content.specs.Content.{image_of, view_in}
+use Rattle.bz_stage.specs.FromLeaves.Neighbours.{leaf_page, own_live}
 use Rattle.bz_layout.specs.declared.config.Config.{Config}
 use Rattle.bz_layout.specs.declared.swaps.TheConstants.{DELETE_SWAPS, INSERT_SWAPS, UPDATE_SWAPS}
 use Rattle.bz_layout.specs.declared.thresholds.TheConstants.{LEAF_RECORD_WORDS, MERGE_BELOW}
 use Rattle.bz_lone.specs.Errands.{is_read, words_asked}
-use Rattle.bz_lone.specs.FromJoined.Neighbours.{own_live}
 use Rattle.bz_mark.specs.declared.marks.Mark.{Mark}
 use Rattle.bz_sound.specs.Calls.{Open}
 use Rattle.bz_sound.specs.Memory.Moments.{image_at}
 use Rattle.bz_stage.specs.Rooms.{has_room}
-use Rattle.bz_stage.specs.Stages.{leaf_page}
 
 -- the leaf of the key has enough live words to stand alone, and so many more; or it is the root, which has no neighbour
 abbrev pub StandsAlone : Config → (ℕ → ℕ) → List ℕ → ℕ → Type 0

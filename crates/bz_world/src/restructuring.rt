@@ -103,7 +103,6 @@ fn merge_or_copy(parts: &mut Parts, w: u8, path: Path, view: &LeafView) -> Appli
     ensures { WentOn parts.old w result parts.new }
 {
     start_laws();
-    answer_laws();
     if is_alone(&parts.workers[w as usize]) {
         return consolidate(parts, w, path, view);
     }

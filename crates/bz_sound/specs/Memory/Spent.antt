@@ -1,20 +1,19 @@
 -- What must have run out where a call answers Full. The newest mark stands first.
-use Rattle.std.specs.Prelude.{◌≤◌, ◌<◌, ◌+◌, ◌*◌, ◌==◌, ◌&&◌, ◌||◌, ◌≡◌, if◌then◌else◌, not, nat_lt, nat_le, ℕ, Bool, true, false, List, [], ◌∷◌, length, map, slice_index, is_some, count_by}
+use Rattle.std.specs.Prelude.{◌≤◌, ◌<◌, ◌+◌, ◌*◌, ◌==◌, ◌&&◌, ◌||◌, ◌≡◌, ◌⊎◌, not, nat_lt, nat_le, ℕ, Bool, true, false, List, [], ◌∷◌, length, map, slice_index, is_some, count_by}
 use Rattle.std.specs.List.{range_with_len}
 use Rattle.bz_layout.specs.Addresses.{swap_address, node_address, slot_of}
 use Rattle.bz_layout.specs.declared.config.Config.{Config}
 use Rattle.bz_layout.specs.declared.sizes.TheConstants.{SWAP_STATUS_AT, NODE_WORDS}
-use Rattle.bz_layout.specs.declared.thresholds.TheConstants.{CONSOLIDATION_SLOTS, INNER_LIMIT, MAX_LEVELS, MERGE_BELOW, MERGE_SLOTS, SPLIT_ABOVE, SPLIT_SLOTS}
+use Rattle.bz_layout.specs.declared.thresholds.TheConstants.{CONSOLIDATION_SLOTS, INNER_LIMIT, MAX_LEVELS, MERGE_SLOTS, SPLIT_ABOVE, SPLIT_SLOTS}
 use Rattle.bz_node.specs.Layout.{needed}
 use Rattle.bz_node.specs.Reading.{children_in}
 use Rattle.bz_node.specs.Records.{child_entry}
 use Rattle.bz_shape.specs.Order.{is_within}
 use Rattle.bz_shape.specs.Walk.{form}
-use Rattle.bz_slotted.specs.Page.{Page, page}
-use Rattle.bz_slotted.specs.Records.{live_words}
-use Rattle.bz_content.specs.Content.{leaf_in, view_in}
+use Rattle.bz_content.specs.Content.{image_of, view_in}
 use Rattle.bz_content.specs.Image.{node}
 use Rattle.bz_content.specs.Resolving.{resolve}
+use Rattle.bz_leaves.specs.Neighbours.{leaf_page, own_live, MayBeMerged}
 use Rattle.bz_call.specs.Map.{key_of}
 use Rattle.bz_call.specs.declared.replies.Spent.{Spent}
 use Rattle.bz_call.specs.declared.replies.Spent.TheVariants.{Nodes, Swaps, Height}
@@ -24,22 +23,20 @@ use Rattle.bz_mark.specs.declared.marks.Mark.TheVariants.{Store}
 use Rattle.bz_sound.specs.Calls.{Open, open_call}
 use Rattle.bz_sound.specs.Memory.Moments.{image_at}
 
--- the leaf of a key in an image
-abbrev pub leaf_page : Config → (ℕ → ℕ) → List ℕ → Page
-leaf_page c image key = page (node c (resolve image) (leaf_in c image key))
-
--- how many slots it takes to make a frozen leaf of so many live words anew: those of a split where they are more than a copy is
--- made of, those of a merge where they are too few to stand alone, else that of a copy
-abbrev pub slots_for : ℕ → ℕ
-slots_for live = if nat_lt SPLIT_ABOVE live then SPLIT_SLOTS else (if nat_lt live MERGE_BELOW then MERGE_SLOTS else CONSOLIDATION_SLOTS)
+-- so many slots it takes to make the key's leaf anew, as it is in an image: those of a split where it has more live words than a copy
+-- is made of; those of a merge where a neighbour has room for it; and that of a copy where it has no more live words than that
+abbrev pub TakesSlots : Config → (ℕ → ℕ) → List ℕ → ℕ → Type 0
+TakesSlots c image key slots =
+    ((SPLIT_ABOVE < own_live c image key) × (slots ≡ SPLIT_SLOTS))
+    ⊎ ((MayBeMerged c image key × (slots ≡ MERGE_SLOTS)) ⊎ ((own_live c image key ≤ SPLIT_ABOVE) × (slots ≡ CONSOLIDATION_SLOTS)))
 
 -- at a moment of the call the leaf of its key was frozen, and to make it anew took so many slots
 pub record NeedsSlots (c : Config) (start : List ℕ) (past : List Mark) (opened : Open) (slots : ℕ) : Type 0 where
   pub moment : ℕ
   pub after_begin : opened.begun < moment
   pub before_end : moment ≤ length past
-  pub frozen : (leaf_page c (image_at start moment past) (key_of opened.call)).frozen ≡ true
-  pub needed : slots_for (live_words (leaf_page c (image_at start moment past) (key_of opened.call))) ≡ slots
+  pub frozen : (leaf_page c (image_of (image_at start moment past)) (key_of opened.call)).frozen ≡ true
+  pub needed : TakesSlots c (image_at start moment past) (key_of opened.call) slots
 
 -- a slot of a node is reached in an image
 abbrev pub is_reached_in : Config → (ℕ → ℕ) → ℕ → Bool

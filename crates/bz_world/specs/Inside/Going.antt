@@ -19,11 +19,10 @@ use Rattle.bz_lone.specs.Errands.{Errand, is_read, is_freeze, IsLookOf}
 use Rattle.bz_lone.specs.Prices.{coming}
 use Rattle.bz_lone.specs.Rounds.{stage_now}
 use Rattle.bz_lone.specs.Sum.{IsThawed}
-use Rattle.bz_layout.specs.declared.thresholds.TheConstants.{MERGE_SLOTS, SPLIT_ABOVE, SPLIT_SLOTS, MERGE_BELOW}
+use Rattle.bz_layout.specs.declared.thresholds.TheConstants.{SPLIT_ABOVE, SPLIT_SLOTS, MERGE_BELOW}
 use Rattle.bz_lone.specs.FromAlone.Alone.{IsAlone}
 use Rattle.bz_lone.specs.FromAlone.Counts.{HasOthers}
 use Rattle.bz_lone.specs.FromAlone.Reads.{get_reads}
-use Rattle.bz_lone.specs.FromJoined.Neighbours.{MayBeMerged}
 use Rattle.bz_running.specs.Duties.{config_of, asks_of, end_of, made_of, ascent_of, change_swaps, needs_of, wants_of, facts_of, means_of, makes_no_change}
 use Rattle.bz_running.specs.FromAscent.Ascents.{IsOneUp}
 use Rattle.bz_running.specs.FromAscent.Ascent.{Ascent}
@@ -33,6 +32,7 @@ use Rattle.bz_running.specs.Kinds.{Kind, kind_of}
 use Rattle.bz_running.specs.declared.running.AnyTask.{AnyTask}
 use Rattle.bz_slotted.specs.Readers.{live_of}
 use Rattle.bz_slotted.specs.ReadingLaws.{node_of}
+use Rattle.bz_stage.specs.FromLeaves.Neighbours.{MayBeMerged}
 use Rattle.bz_sound.specs.Lonely.{IsLonely, acts_since}
 use Rattle.bz_sound.specs.Memory.Moments.{image_at}
 use Rattle.bz_sound.specs.Power.Replies.{IsRightReply}
@@ -61,7 +61,7 @@ use Rattle.bz_world.specs.Inside.Paid.{begun_with, bound_in, errand_of, is_merge
 use Rattle.bz_world.specs.Inside.Room.{LacksRoomFor}
 use Rattle.bz_world.specs.Inside.Lonely.{WhereLonely, IsNotLonely, IsLonelyGet, HasLooked}
 use Rattle.bz_world.specs.WorldView.{deadline, GoesOn, Spends, HadFew, HasRunOut, EndsFullOfLittle, EndsFullRightly, EndsAsTold, EndsMerged, EndsUnspent, GetsBriefly, KeepsSupply, RunsWhole, TakesAsTold, is_delete}
-use Rattle.bz_world.specs.Inside.Serving.{IsTasked, IsWanted, MayGoOn, tells_of}
+use Rattle.bz_world.specs.Inside.Serving.{IsTasked, IsWanted, NeedsAtLeast, MayGoOn, tells_of}
 use Rattle.bz_world.specs.Roomy.{HadRoom}
 use Rattle.bz_world.specs.declared.answers.Applied.{Applied}
 use Rattle.bz_world.specs.declared.parts.Parts.{Parts}
@@ -290,7 +290,7 @@ pub record MustTakeOn (p : Parts) (w : ℕ) (task : AnyTask) (way : Option Path)
   pub tasked : IsTasked p.config on.serving.call way had task
   pub asks : asks_of task ≡ asked
   pub facts : facts_of task Waiting (known p w on)
-  pub wanted : IsWanted p.config p.journal on.between.opened (wants_of task)
+  pub wanted : IsWanted p.config p.journal on.between.opened task
   pub lonely : WhereLonely p.journal.past w on.serving.call (IsLonelyGet p.access p.journal.past on.between.story w (record on.serving { task = task; path = way; had = had }) on.between.opened)
   pub meant : IsMeant (record on.serving { task = task; path = way; had = had }) (known p w on).past
   pub paid : IsPaidFor p w (record on.serving { task = task; path = way; had = had }) 0 (taken_for asked) (known p w on).past
@@ -456,7 +456,6 @@ pub record MustMerge (p : Parts) (w : ℕ) (path : Path) (view : LeafView) : Typ
   pub small : live_of (node_of view.image.0) < MERGE_BELOW
   pub leads : LeadsTo path view.slot
   pub thawed : IsThawedAbove path
-  pub wanted : IsWanted p.config p.journal on.between.opened MERGE_SLOTS
   pub other : IsNotLonely p.journal.past w on.serving.call
   pub frozen : on.serving.effect ≡ None → (status view.status).frozen ≡ true
   pub write : on.serving.effect ≡ None → is_read on.serving.call ≡ false
@@ -550,11 +549,12 @@ pub record LacksSwap (p : Parts) (w : ℕ) : Type 0 where
   pub told : on.serving.effect ≡ None → IsLonely w p.journal.past → HadRoom p.config p.journal.start p.journal.past on.between.opened → TakesAsTold (begun_with p) (supply_of p) (Full Swaps)
   pub merged : (at : ℕ) → on.serving.effect ≡ Some at → HasMergedIn p w at on
 
--- fewer slots are left than its task takes, and the call had no effect
+-- fewer slots are left than its task takes, because the leaf of its key had to be made anew; and the call had no effect
 pub record IsOutOfSlots (p : Parts) (w : ℕ) : Type 0 where
   pub on : MustGoOn p w
   pub quiet : on.serving.effect ≡ None
   pub fewer : length p.slots.free < wants_of on.serving.task
+  pub needed : NeedsAtLeast p.config p.journal.start p.journal.past on.between.opened (wants_of on.serving.task)
   pub little : RunsWhole p.config w p.journal.past → HadFew p.config (begun_with p) Nodes
 
 -- something is spent and has run out, and the call had no effect

@@ -1,7 +1,8 @@
 -- What the task of a call is meant for.
 use Rattle.std.specs.Prelude.{◌≡◌, ℕ, ◌≤◌, true, false, List, Some, None}
 use Rattle.bz_call.specs.Map.{key_of}
-use Rattle.bz_content.specs.Content.{leaf_in}
+use Rattle.bz_content.specs.Content.{image_of, leaf_in}
+use Rattle.bz_stage.specs.FromLeaves.Neighbours.{leaf_page}
 use Rattle.bz_layout.specs.declared.thresholds.TheConstants.{SPLIT_ABOVE}
 use Rattle.bz_lone.specs.FromCosts.Most.{IsWithinItsActs}
 use Rattle.bz_lone.specs.Errands.{IsLookOf}
@@ -11,7 +12,6 @@ use Rattle.bz_running.specs.Kinds.{is_renewal, kind_of}
 use Rattle.bz_running.specs.MadeFor.{IsMadeFor, IsSmallMerge}
 use Rattle.bz_running.specs.declared.running.AnyTask.{AnyTask}
 use Rattle.bz_slotted.specs.Records.{live_words}
-use Rattle.bz_sound.specs.Memory.Spent.{leaf_page}
 use Rattle.bz_task.specs.Outcomes.{IsView}
 use Rattle.bz_task.specs.Scene.{Past}
 use Rattle.bz_task.specs.declared.view.LeafView.{LeafView}
@@ -24,8 +24,8 @@ pub record WasSettled (key : List ℕ) (slot : ℕ) (p : Past) : Type 0 where
   pub since : p.since ≤ moment
   pub now : moment ≤ p.now
   pub leaf : leaf_in p.config (p.at moment).image key ≡ slot
-  pub frozen : (leaf_page p.config (p.at moment).image key).frozen ≡ true
-  pub few : live_words (leaf_page p.config (p.at moment).image key) ≤ SPLIT_ABOVE
+  pub frozen : (leaf_page p.config (image_of (p.at moment).image) key).frozen ≡ true
+  pub few : live_words (leaf_page p.config (image_of (p.at moment).image) key) ≤ SPLIT_ABOVE
 
 -- the task was made of that leaf: for what was known then, when whatever was viewed of the key was in that slot
 pub record IsOfSettled (t : AnyTask) (key : List ℕ) (p : Past) : Type 0 where

@@ -1,5 +1,5 @@
 -- What is known of each worker.
-use Rattle.std.specs.Prelude.{◌≡◌, ◌⊎◌, ℕ, ◌+◌, ◌-◌, ◌*◌, ◌<◌, ◌≤◌, if◌then◌else◌, Bool, true, false, List, length, slice_index, Option, Some, None}
+use Rattle.std.specs.Prelude.{◌≡◌, ◌≢◌, ◌⊎◌, ℕ, ◌+◌, ◌-◌, ◌*◌, ◌<◌, ◌≤◌, if◌then◌else◌, Bool, true, false, List, length, slice_index, Option, Some, None}
 use Rattle.bz_call.specs.Map.{key_of, apply}
 use Rattle.bz_call.specs.declared.calls.Call.{Call}
 use Rattle.bz_call.specs.declared.calls.Call.TheVariants as call
@@ -12,6 +12,8 @@ use Rattle.bz_mark.specs.Log.{Log}
 use Rattle.bz_mark.specs.declared.marks.Mark.{Mark}
 use Rattle.bz_running.specs.Duties.{config_of, asks_of, needs_of, wants_of, change_of, publishing_of, facts_of, makes_no_change}
 use Rattle.bz_running.specs.Hearing.{IsLookup}
+use Rattle.bz_running.specs.Kinds as kinds
+use Rattle.bz_running.specs.Kinds.{kind_of}
 use Rattle.bz_running.specs.Laws.{AreLaws}
 use Rattle.bz_running.specs.declared.running.AnyTask.{AnyTask}
 use Rattle.bz_sound.specs.Calls.{Open, open_call, map_at}
@@ -110,10 +112,10 @@ pub record NeedsAtLeast (c : Config) (start : List ℕ) (past : List Mark) (open
   pub enough : wants ≤ slots
   pub needs : NeedsSlots c start past opened slots
 
--- its task takes so many slots from its begin to its end, if it takes any, because the leaf of its key had to be made anew; once its
--- change is made, a delete may take them for a merge without that
-abbrev pub IsWanted : Config → Log → Open → ℕ → Type 0
-IsWanted c log opened wants = opened.effect ≡ None → 0 < wants → NeedsAtLeast c log.start log.past opened wants
+-- its task takes so many slots from its begin to its end, if it takes any, because the leaf of its key had to be made anew. Why a merge takes
+-- its own is known once it has found a neighbour with room; and once its change is made, a delete may merge without that
+abbrev pub IsWanted : Config → Log → Open → AnyTask → Type 0
+IsWanted c log opened task = opened.effect ≡ None → 0 < wants_of task → kind_of task ≢ kinds.Merge → NeedsAtLeast c log.start log.past opened (wants_of task)
 
 -- the present look-up of a call, which began at this moment, after the call did
 pub record LookUp (past : List Mark) (opened : Open) : Type 0 where
@@ -128,7 +130,7 @@ pub record IsOpened (c : Config) (log : Log) (w : ℕ) (opened : Open) (x : Open
   pub effect : opened.effect ≡ x.effect
   pub look : LookUp log.past opened
   pub told : IsToldBy c log opened x.had
-  pub wanted : IsWanted c log opened (wants_of x.task)
+  pub wanted : IsWanted c log opened x.task
 
 -- slots that a worker took and may not have stored into: with those that its task is still to take they are at most as many
 -- as a split takes

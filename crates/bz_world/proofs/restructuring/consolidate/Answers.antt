@@ -22,7 +22,7 @@ begin_task-requires-clause-begins c = task-begins (record c.args.parts.now { pag
     (λ merge. cc merge)
     (λ copy. copies-settled c.start_laws.ensures.scenes c.answer_laws.ensures c.args.parts.now c.args.w c.args.view.now c.requires.copy.anew.answer (key_of c.requires.copy.anew.answer.on.serving.call) refl c.consolidate-task.result c.requires.copy.frozen c.requires.copy.few (c.consolidate-task.ensures.made_for (key_of c.requires.copy.anew.answer.on.serving.call) 0))
     (λ seek. cc seek, λ delete. cc delete) (c.consolidate-task.ensures.ends (key_of c.requires.copy.anew.answer.on.serving.call)) CONSOLIDATION_SLOTS c.consolidate-task.ensures.wants
-    (needs-copy c.start_laws.ensures.scenes c.answer_laws.ensures c.args.parts.now c.args.w c.args.view.now c.requires.copy.anew.answer (key_of c.requires.copy.anew.answer.on.serving.call) refl c.requires.copy.frozen)
+    (needs-copy c.start_laws.ensures.scenes c.answer_laws.ensures c.args.parts.now c.args.w c.args.view.now c.requires.copy.anew.answer (key_of c.requires.copy.anew.answer.on.serving.call) refl c.requires.copy.frozen c.requires.copy.few)
     (c.consolidate-task.ensures.facts (key_of c.requires.copy.anew.answer.on.serving.call)) (c.consolidate-task.ensures.made_for (key_of c.requires.copy.anew.answer.on.serving.call) (words_asked c.requires.copy.anew.answer.on.serving.call) (known c.args.parts.now c.args.w c.requires.copy.anew.answer.on).past c.requires.copy.anew.answer.viewed c.requires.copy.few)
     (copy-spares c.start_laws.ensures.lone c.args.parts.now c.args.w c.args.path c.args.view.now c.requires.copy))
     c.set_task.new.slot (c.set_task.ensures ∙ ap (λ (z : Option OpenCall). with_task z c.consolidate-task.result None) (slot-is (record c.args.parts.now { page = c.consolidate-task.new.page }) c.args.w (anew-pages c.args.parts.now c.args.w c.args.path c.args.view.now c.consolidate-task.new.page c.requires.copy.anew).answer.on c.index_mut.result.now c.index_mut.ensures.value))

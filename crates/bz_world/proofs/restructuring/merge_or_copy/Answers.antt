@@ -1,8 +1,6 @@
 use Rattle.std.proofs.Common.{refl, sym, ap, ◌∙◌, inl}
-use Rattle.bz_call.specs.Map.{key_of}
 use Rattle.bz_world.specs.Inside.Going.{alone_in}
 use Rattle.bz_running.specs.Kinds as kinds
-use Rattle.bz_world.proofs.Changing.{needs-merge}
 use Rattle.bz_world.proofs.Exactly.{again-kind}
 use Rattle.bz_world.proofs.MakingAnew.{merge-spares, read-due}
 use Rattle.bz_world.proofs.Spared.{lacks-write}
@@ -19,7 +17,6 @@ merge-requires-clause-merge c = let due = c.is_due.ensures.due.0 c.if-is_due.tru
   small = due.1.1.0;
   leads = c.requires.copy.leads;
   thawed = due.1.0;
-  wanted = λ quiet some. needs-merge c.start_laws.ensures.scenes c.answer_laws.ensures c.args.parts.now c.args.w c.args.view.now c.requires.copy.anew.answer (key_of c.requires.copy.anew.answer.on.serving.call) refl c.requires.copy.frozen due.1.1.0;
   other = c.requires.copy.anew.answer.other;
   frozen = λ quiet. c.requires.copy.frozen;
   write = λ quiet. lacks-write c.requires.copy.anew.answer.on.serving.call c.args.view.now.status c.requires.copy.anew.lacks;

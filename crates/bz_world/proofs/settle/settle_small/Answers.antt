@@ -5,7 +5,7 @@ use Rattle.bz_world.specs.WorldView.{is_delete}
 use Rattle.bz_world.proofs.MergeEnds.{ended-read, no-way}
 use Rattle.bz_world.proofs.Spared.{after-merge}
 use Rattle.bz_world.proofs.Enough.{small-no-room}
-use Rattle.bz_world.proofs.TakingOn.{read-way, none-wanted-after, slot-is}
+use Rattle.bz_world.proofs.TakingOn.{read-way, slot-is}
 use Rattle.bz_world.proofs.settle.settle_small.Goals as goal
 use Rattle.bz_world.specs.Inside.Merging.{looks_on}
 use Rattle.bz_world.proofs.MergeStarts.{stands-reading}
@@ -45,7 +45,6 @@ merge-requires-clause-merge c = let due = c.is_due.ensures.due.0 c.if-is_due.tru
   small = due.1.1.0;
   leads = c.is_due.ensures.leads c.if-is_due.true;
   thawed = due.1.0;
-  wanted = none-wanted-after c.args.parts.now c.args.w c.args.at c.requires.read.had _;
   other = λ key get lonely. absurd (true≢false (sym c.requires.read.deletes ∙ ap is_delete get));
   frozen = λ quiet. absurd (cc (c.requires.read.had.effect, quiet));
   write = λ quiet. absurd (cc (c.requires.read.had.effect, quiet));
