@@ -21,7 +21,8 @@ use Rattle.bz_sched.specs.Points.{Point, actor, IsUpToOneEffect, IsUpToOneEnd, I
 use Rattle.bz_sched.specs.Queued.{calls_of, without_first, is_busy_by}
 use Rattle.bz_sched.specs.Recoveries.{off_by, turned_off, Powers, Recovers, RecoversTimes, RecoversWhole}
 use Rattle.bz_sched.specs.Scripts.{LeadsTo}
-use Rattle.bz_sched.specs.Sums.{is_alone, are_plain}
+use Rattle.bz_sched.specs.Sums.{is_alone, are_idle, are_plain}
+use Rattle.bz_sched.specs.declared.cut.CutPlan.{CutPlan}
 use Rattle.bz_sched.specs.Turns.{TakesTurns, EndsFrom}
 use Rattle.bz_sched.proofs.IdleRuns.{alone-ends-idle, idle_is}
 use Rattle.bz_sched.proofs.QueueLaws.{calls_of-append, calls_of-without, calls_of-taken}
@@ -203,12 +204,28 @@ more-waits w v call queue = ap length (calls_of-append w queue ((v, call) ∷ []
     by true = longer (calls_of w queue) (v, call)
     by false = same (calls_of w queue)
 
+-- items that neither run nor turn the power on add nothing, whatever is armed
+pub idle_adds : (at_start : State) (start : List ℕ) (words : ℕ) (armed : Option CutPlan) (old : Point) (items : List Item) (new : List Mark) → are_idle items ≡ true → LeadsTo at_start start words armed old items new → new ≡ old.past
+idle_adds at_start start words armed old [] new idle is = is
+idle_adds at_start start words armed old (Queue v call ∷ items) new idle leads = idle_adds at_start start words armed (record { past = old.past; queue = old.queue ++ (v, call) ∷ [] }) items new idle leads
+idle_adds at_start start words armed old (Arm flush seed ∷ items) new idle leads = idle_adds at_start start words (Some (record { flush = flush; seed = seed })) old items new idle leads
+idle_adds at_start start words armed old (Run plan ∷ items) new idle leads = absurd (true≢false (sym idle))
+idle_adds at_start start words armed old (Power ∷ items) new idle leads = absurd (true≢false (sym idle))
+
+none_above : (w waiting : ℕ) (items : List Item) → are_idle items ≡ true → calls_above w waiting items ≡ 0
+none_above w waiting [] idle = refl
+none_above w waiting (Queue v call ∷ items) idle = none_above w (if v == w then waiting + 1 else waiting) items idle
+none_above w waiting (Arm flush seed ∷ items) idle = none_above w waiting items idle
+none_above w waiting (Run plan ∷ items) idle = absurd (true≢false (sym idle))
+none_above w waiting (Power ∷ items) idle = absurd (true≢false (sym idle))
+
 pub calls-above-end : CallsAboveEnd
 calls-above-end at_start start words w old [] new low high plain closed is = omega (arith, ap (ended_calls w) is)
 calls-above-end at_start start words w old (Queue v call ∷ items) new low high plain closed leads =
     calls-above-end at_start start words w (record { past = old.past; queue = old.queue ++ (v, call) ∷ [] }) items new low high plain closed leads
     ∙ ap (λ (waiting : ℕ). ended_calls w old.past + calls_above w waiting items) (more-waits w v call old.queue)
-calls-above-end at_start start words w old (Arm flush seed ∷ items) new low high plain closed leads = absurd (true≢false (sym plain))
+calls-above-end at_start start words w old (Arm flush seed ∷ items) new low high plain closed leads =
+    omega (arith, ap (ended_calls w) (idle_adds at_start start words _ old items new plain leads), none_above w (length (calls_of w old.queue)) items plain)
 calls-above-end at_start start words w old (Run plan ∷ items) new low high plain closed (mid, runs, leads) =
     let both = both-plain (is_alone plan) (are_plain items) plain in
     elim runs [

@@ -22,7 +22,7 @@ use Rattle.bz_sched.specs.Recoveries.{off_by, turned_on, Powers, RecoversTimes, 
 use Rattle.bz_sched.specs.Scripts.{LeadsTo}
 use Rattle.bz_sched.specs.Sums.{is_alone, are_plain}
 use Rattle.bz_sched.specs.Turns.{TakesTurns, EndsOne, EndsFrom}
-use Rattle.bz_sched.proofs.AboveLemmas.{alone_is, closed_on}
+use Rattle.bz_sched.proofs.AboveLemmas.{alone_is, closed_on, idle_adds}
 use Rattle.bz_sched.proofs.IdleRuns.{idle_is, open_stays_none}
 use Rattle.bz_sched.proofs.TurnAdds.{turn_adds}
 
@@ -106,7 +106,7 @@ go-apart : (at_start : State) (start : List ℕ) (words : ℕ) (old : Point) (it
 go-apart at_start start words old [] new plain no_power closed apart is = subst IsApart (sym is) apart
 go-apart at_start start words old (Queue v call ∷ items) new plain no_power closed apart leads =
     go-apart at_start start words (record { past = old.past; queue = old.queue ++ (v, call) ∷ [] }) items new plain no_power closed apart leads
-go-apart at_start start words old (Arm flush seed ∷ items) new plain no_power closed apart leads = absurd (true≢false (sym plain))
+go-apart at_start start words old (Arm flush seed ∷ items) new plain no_power closed apart leads = subst IsApart (sym (idle_adds at_start start words _ old items new plain leads)) apart
 go-apart at_start start words old (Run plan ∷ items) new plain no_power closed apart (mid, runs, leads) =
     let alone = both (is_alone plan) (are_plain items) plain in
     elim runs [

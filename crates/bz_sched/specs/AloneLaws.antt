@@ -1,5 +1,5 @@
--- What a script leaves whose runs go one worker after the other, and in which no cut is armed: each call that stands above a run has ended, and where the
--- power comes on at most at first no call has begun while another was open. The newest mark stands first.
+-- What a script leaves whose runs go one worker after the other, and in which no cut is armed for a run or a power on: each call that stands above a run has
+-- ended, and where the power comes on at most at first no call has begun while another was open. The newest mark stands first.
 use Rattle.std.specs.Prelude.{◌≡◌, ◌≤◌, ℕ, ◌+◌, ◌==◌, if◌then◌else◌, ◌&&◌, Bool, true, false, List, [], ◌∷◌, length, None}
 use Rattle.bz_layout.specs.declared.limits.TheConstants.{MAX_WORKERS}
 use Rattle.bz_mark.specs.declared.marks.Mark.{Mark}

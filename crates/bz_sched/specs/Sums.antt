@@ -1,5 +1,5 @@
--- What a whole script needs, whose runs go one worker after the other, and in which no cut is armed: by the sums of its items.
-use Rattle.std.specs.Prelude.{◌≡◌, ℕ, ◌+◌, ◌*◌, ◌≤◌, if◌then◌else◌, ◌&&◌, Bool, true, false, List, [], ◌∷◌, length, slice_index, Option, None}
+-- What a whole script needs, whose runs go one worker after the other, and in which no cut is armed for a run or a power on: by the sums of its items.
+use Rattle.std.specs.Prelude.{◌≡◌, ℕ, ◌+◌, ◌*◌, ◌≤◌, if◌then◌else◌, ◌&&◌, Bool, true, false, List, [], ◌∷◌, length, slice_index, Option, Some, None}
 use Rattle.bz_call.specs.Pages.{is_page}
 use Rattle.bz_call.specs.declared.calls.Call.{Call}
 use Rattle.bz_layout.specs.declared.config.Config.{Config}
@@ -19,16 +19,24 @@ abbrev pub is_alone : Plan → Bool
 is_alone Alone = true
 is_alone other = false
 
--- the item queues a call, runs by that plan, or turns the power on
-abbrev pub is_plain : Item → Bool
-is_plain (Queue w call) = true
-is_plain (Arm flush seed) = false
-is_plain (Run plan) = is_alone plan
-is_plain Power = true
+-- an item that neither runs nor turns the power on: it leaves a cut that is armed
+abbrev pub is_idle : Item → Bool
+is_idle (Queue w call) = true
+is_idle (Arm flush seed) = true
+is_idle (Run plan) = false
+is_idle Power = false
 
+abbrev pub are_idle : List Item → Bool
+are_idle [] = true
+are_idle (item ∷ items) = is_idle item && are_idle items
+
+-- each item queues a call, runs by that plan, or turns the power on; or it arms a cut that is never made, for no run and no power on follows
 abbrev pub are_plain : List Item → Bool
 are_plain [] = true
-are_plain (item ∷ items) = is_plain item && are_plain items
+are_plain (Queue w call ∷ items) = are_plain items
+are_plain (Arm flush seed ∷ items) = are_idle items
+are_plain (Run plan ∷ items) = is_alone plan && are_plain items
+are_plain (Power ∷ items) = are_plain items
 
 -- how many calls an item queues, how many of them ask for a page, and how many marks they take at most, or a power on: the acts of a
 -- recovery, and a few more
@@ -82,9 +90,14 @@ abbrev pub WantsNothingIf : Bool → WorldView → Type 0
 WantsNothingIf false world = Unit {0}
 WantsNothingIf true world = count_wanting world.log.past ≡ 0
 
+-- no cut is armed, or none of these items makes it
+abbrev pub IsUnarmed : Option CutPlan → List Item → Type 0
+IsUnarmed None items = Unit {0}
+IsUnarmed (Some cut) items = are_idle items ≡ true
+
 -- so has that of a world in which no call is open, while these calls wait
 pub record Affords (supplied : Bool) (world : WorldView) (waiting : List (ℕ × Call)) (armed : Option CutPlan) (items : List Item) : Type 0 where
-  pub unarmed : armed ≡ None
+  pub unarmed : IsUnarmed armed items
   pub closed : AreClosed world.log.past
   pub plain : are_plain items ≡ true
   pub marks : length world.log.past + (MARKS_PER_CALL * length waiting + sum_of (marks_in world.config) items) ≤ world.log.limits.marks

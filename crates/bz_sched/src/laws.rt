@@ -20,7 +20,7 @@ pub fn turns_end_idle()
     ensures { TurnsEndIdle }
 {}
 
-/// Where each run goes one worker after the other, and no cut is armed, each call that stands above a run has ended.
+/// Where each run goes one worker after the other, and no cut is armed for a run or a power on, each call that stands above a run has ended.
 pub fn calls_above_end()
     ensures { CallsAboveEnd }
 {}

@@ -19,7 +19,7 @@ use Rattle.bz_sched.specs.Enough.{AreClosed, count_pages, count_wanting, free_by
 use Rattle.bz_sched.specs.FromWorld.WorldView.{WorldView, count_in, power_in}
 use Rattle.bz_sched.specs.Queued.{Queued}
 use Rattle.bz_sched.specs.Runs.{Stays, HasPower}
-use Rattle.bz_sched.specs.Sums.{is_alone, is_plain, are_plain, calls_in, pages_in, marks_in, sum_of, SufficesFor, HasStockFor, IsStockedAtFirst, Supplies, SuppliesIf, Affords, WantsNothingIf}
+use Rattle.bz_sched.specs.Sums.{is_alone, are_idle, are_plain, calls_in, pages_in, marks_in, sum_of, SufficesFor, HasStockFor, IsStockedAtFirst, Supplies, SuppliesIf, IsUnarmed, Affords, WantsNothingIf}
 use Rattle.bz_sched.specs.declared.cut.CutPlan.{CutPlan}
 use Rattle.bz_sched.specs.declared.running.RunEnd.{RunEnd}
 use Rattle.bz_sched.specs.declared.running.RunEnd.TheVariants.{Finished, Cut}
@@ -68,9 +68,29 @@ pages-more (y ∷ calls) w call = page-on (is_page y.1) (count_pages (calls ++ (
 supplies-for : (supplied : Bool) (world : WorldView) (n m : ℕ) → n ≡ m → SuppliesIf supplied world n → SuppliesIf supplied world m
 supplies-for supplied world n m same s = subst (SuppliesIf supplied world) same s
 
+-- a cut that is never made waits on, and a run or a power on that stands here finds none
+unarmed-on : (armed : Option CutPlan) (w : ℕ) (call : Call) (rest : List Item) → IsUnarmed armed (Queue w call ∷ rest) → IsUnarmed armed rest
+unarmed-on None w call rest u = tt
+unarmed-on (Some cut) w call rest u = u
+
+unarmed-run : (armed : Option CutPlan) (plan : Plan) (rest : List Item) → IsUnarmed armed (Run plan ∷ rest) → armed ≡ None
+unarmed-run None plan rest u = refl
+unarmed-run (Some cut) plan rest u = absurd (true≢false (sym u))
+
+unarmed-power : (armed : Option CutPlan) (rest : List Item) → IsUnarmed armed (Power ∷ rest) → armed ≡ None
+unarmed-power None rest u = refl
+unarmed-power (Some cut) rest u = absurd (true≢false (sym u))
+
+idle-plain : (items : List Item) → are_idle items ≡ true → are_plain items ≡ true
+idle-plain [] idle = refl
+idle-plain (Queue w call ∷ items) idle = idle-plain items idle
+idle-plain (Arm flush seed ∷ items) idle = idle
+idle-plain (Run plan ∷ items) idle = absurd (true≢false (sym idle))
+idle-plain (Power ∷ items) idle = absurd (true≢false (sym idle))
+
 pub affords_queued : (supplied : Bool) (world : WorldView) (queue left : Queued) (armed : Option CutPlan) (w : ℕ) (call : Call) (rest : List Item) → left.calls ≡ queue.calls ++ (w, call) ∷ [] → Affords supplied world queue.calls armed (Queue w call ∷ rest) → Affords supplied world left.calls armed rest
 affords_queued supplied world queue left armed w call rest is a = subst (λ (calls : List (ℕ × Call)). Affords supplied world calls armed rest) (sym is) (record {
-  unarmed = a.unarmed;
+  unarmed = unarmed-on armed w call rest a.unarmed;
   closed = a.closed;
   plain = a.plain;
   marks = omega (arith, a.marks, one-more queue.calls (w, call));
@@ -79,9 +99,18 @@ affords_queued supplied world queue left armed w call rest is a = subst (λ (cal
   supplies = supplies-for supplied world _ _ (omega (arith, one-more queue.calls (w, call))) a.supplies;
 })
 
--- none is armed
-pub never_armed : (supplied : Bool) (world : WorldView) (waiting : List (ℕ × Call)) (armed : Option CutPlan) (flush seed : ℕ) (rest : List Item) → Affords supplied world waiting armed (Arm flush seed ∷ rest) → ⊥
-never_armed supplied world waiting armed flush seed rest a = true≢false (sym a.plain)
+-- a cut is armed that is never made
+pub affords_armed : (supplied : Bool) (world : WorldView) (waiting : List (ℕ × Call)) (armed : Option CutPlan) (flush seed : ℕ) (rest : List Item) → Affords supplied world waiting armed (Arm flush seed ∷ rest)
+    → Affords supplied world waiting (Some (record { flush = flush; seed = seed })) rest
+affords_armed supplied world waiting armed flush seed rest a = record {
+  unarmed = a.plain;
+  closed = a.closed;
+  plain = idle-plain rest a.plain;
+  marks = omega (arith, a.marks);
+  calls = omega (arith, a.calls);
+  pages = omega (arith, a.pages);
+  supplies = supplies-for supplied world _ _ (omega arith) a.supplies;
+}
 
 -- a run has enough, and leaves it
 pub runs_alone : (supplied : Bool) (world : WorldView) (waiting : List (ℕ × Call)) (armed : Option CutPlan) (plan : Plan) (rest : List Item) → Affords supplied world waiting armed (Run plan ∷ rest) → plan ≡ Alone
@@ -114,7 +143,7 @@ record HasServed (old new : WorldView) (queue left : Queued) : Type 0 where
 
 affords-run : (supplied : Bool) (old new : WorldView) (queue left : Queued) (armed : Option CutPlan) (plan : Plan) (rest : List Item) → HasServed old new queue left → Affords supplied old queue.calls armed (Run plan ∷ rest) → Affords supplied new left.calls None rest
 affords-run supplied old new queue left armed plan rest h a = let stays = h.stays in let s = h.served in record {
-  unarmed = refl;
+  unarmed = tt;
   closed = s.closed;
   plain = (both-plain (is_alone plan) (are_plain rest) a.plain).1;
   marks = omega (arith, a.marks, s.marks, marks-same old new rest stays.config, ap (λ (l : Limits). l.marks) stays.limits);
@@ -134,7 +163,7 @@ supplies-power true old new calls same after on s = record {
 
 affords-power : (supplied : Bool) (old new : WorldView) (waiting left : List (ℕ × Call)) (armed : Option CutPlan) (rest : List Item) → left ≡ waiting → Stays old new → power_in new ≡ power.On → HasComeOn old new → Affords supplied old waiting armed (Power ∷ rest) → Affords supplied new left None rest
 affords-power supplied old new waiting left armed rest is stays after on a = subst (λ (calls : List (ℕ × Call)). Affords supplied new calls None rest) (sym is) (record {
-  unarmed = refl;
+  unarmed = tt;
   closed = on.closed a.closed;
   plain = a.plain;
   marks = omega (arith, a.marks, on.marks, marks-same old new rest stays.config, ap (λ (l : Limits). l.marks) stays.limits);
@@ -149,7 +178,7 @@ none-open past new = subst AreClosed (sym new) (λ v. refl)
 
 pub affords_first : (supplied : Bool) (world : WorldView) (items : List Item) → world.log.past ≡ [] → SufficesFor world.config world.log.limits items → SuppliesIf supplied world (sum_of calls_in items) → Affords supplied world [] None items
 affords_first supplied world items new s supplies = record {
-  unarmed = refl;
+  unarmed = tt;
   closed = none-open world.log.past new;
   plain = s.plain;
   marks = omega (arith, s.marks, ap length new);
@@ -195,14 +224,15 @@ served_still old new items stays served s stock = served
 pub run_affords : (supplied : Bool) (old new : WorldView) (queue left : Queued) (armed : Option CutPlan) (plan : Plan) (rest : List Item) (how : ItemsEnd) → power_in old ≡ power.On → Affords supplied old queue.calls armed (Run plan ∷ rest) → HasDone armed old queue (Run plan) how None new left
     → (armed ≡ None → plan ≡ Alone → AreClosed old.log.past → HasEnough old queue.calls → (how ≡ end.Finished) × AreServed old queue new left × (HasSupply old queue.calls → AreSupplied old queue new left)) → (how ≡ end.Finished) × Affords supplied new left.calls None rest
 run_affords supplied old new queue left armed plan rest how before a done serves =
-    let served = serves a.unarmed (runs_alone supplied old queue.calls armed plan rest a) a.closed (has_enough supplied old queue.calls armed plan rest a) in
+    let none = unarmed-run armed plan rest a.unarmed in
+    let served = serves none (runs_alone supplied old queue.calls armed plan rest a) a.closed (has_enough supplied old queue.calls armed plan rest a) in
     let whole : HasDone armed old queue (Run plan) end.Finished None new left = subst (λ (e : ItemsEnd). HasDone armed old queue (Run plan) e None new left) served.0 done in
-    (served.0, affords-run supplied old new queue left armed plan rest (record { stays = whole.stays; before = before; after = whole.power a.unarmed; served = served.1; supplied = served.2 }) a)
+    (served.0, affords-run supplied old new queue left armed plan rest (record { stays = whole.stays; before = before; after = whole.power none; served = served.1; supplied = served.2 }) a)
 
 pub power_affords : (supplied : Bool) (old new : WorldView) (waiting left : List (ℕ × Call)) (armed : Option CutPlan) (rest : List Item) (how : RunEnd) → Affords supplied old waiting armed (Power ∷ rest) → HasPower armed old how new → ComesOn armed old how new → left ≡ left_after how waiting
     → (end_in how ≡ end.Finished) × Affords supplied new left None rest
 power_affords supplied old new waiting left armed rest how a done comes is =
-    let on = comes a.unarmed (omega (arith, a.marks)) in
+    let on = comes (unarmed-power armed rest a.unarmed) (omega (arith, a.marks)) in
     let whole : HasPower armed old Finished new = subst (λ (e : RunEnd). HasPower armed old e new) on.0 done in
     (ap end_in on.0, affords-power supplied old new waiting left armed rest (is ∙ ap (λ (e : RunEnd). left_after e waiting) on.0) whole.0 whole.1 on.1 a)
 

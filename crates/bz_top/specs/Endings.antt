@@ -125,14 +125,16 @@ items_from power.On items = items
 items_from other items = Power ∷ items
 
 -- a run that is done: a world of the script, with a sound journal to which the whole script leads. Where each run of the script goes one worker after
--- the other, and no cut is armed, no call has ended for want of a descriptor or of slots, if as many of these are there as are promised for each call
+-- the other, and no cut is armed for a run or a power on, no call has ended for want of a descriptor or of slots, if as many of these are there as are
+-- promised for each call
 pub record IsFinished (marks : ℕ) (base : Base) (script : Job) (world : WorldView) : Type 0 where
   pub right : IsLab marks base script world
   pub follows : LeadsTo world.at_start world.log.start (words_of world.config) None at_first (items_from world.at_start script.items) world.log.past
   pub served : SufficesFor world.config world.log.limits (items_from world.at_start script.items) → HasStockFor world.config world.log.start (sum_of calls_in (items_from world.at_start script.items)) → count_wanting world.log.past ≡ 0
 
 -- a run that met a limit when one more was needed: a world of the script, with a sound journal to which the
--- script leads up to there. Where each run of the script goes one worker after the other, and no cut is armed, its sums were beyond the limits
+-- script leads up to there. Where each run of the script goes one worker after the other, and no cut is armed for a run or a power on, its sums were beyond
+-- the limits
 pub record IsCutShort (marks : ℕ) (base : Base) (script : Job) (world : WorldView) (which : LimitKind) : Type 0 where
   pub right : IsLab marks base script world
   pub follows : LeadsToInPart which world.at_start world.log.start (words_of world.config) None at_first (items_from world.at_start script.items) world.log.past

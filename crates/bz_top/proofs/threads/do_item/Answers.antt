@@ -2,7 +2,7 @@ use Rattle.std.proofs.Common.{subst, ◌∷◌, ◌∙◌, refl}
 use Rattle.bz_script.specs.declared.item.Item.{Item}
 use Rattle.bz_sched.specs.Sums.{Affords}
 use Rattle.bz_top.proofs.ItemLemmas.{queue_done, arm_done, power_done}
-use Rattle.bz_top.proofs.SumLemmas.{affords_queued, never_armed, run_affords, power_affords}
+use Rattle.bz_top.proofs.SumLemmas.{affords_queued, affords_armed, run_affords, power_affords}
 use Rattle.bz_top.proofs.threads.do_item.Goals as goal
 
 pub returns-in-Queue-clause-ends : goal.returns-in-Queue-clause-ends
@@ -26,7 +26,7 @@ returns-in-Queue-clause-enough g c = λ supplied rest affords.
 
 pub returns-in-Arm-clause-enough : goal.returns-in-Arm-clause-enough
 returns-in-Arm-clause-enough g c = λ supplied rest affords.
-    absurd (never_armed supplied c.args.world c.args.queue.now.calls c.args.armed.now c.in-Arm.flush c.in-Arm.seed rest (subst (λ (item : Item). Affords supplied c.args.world c.args.queue.now.calls c.args.armed.now (item ∷ rest)) c.in-Arm.is affords))
+    (refl, affords_armed supplied c.args.world c.args.queue.now.calls c.args.armed.now c.in-Arm.flush c.in-Arm.seed rest (subst (λ (item : Item). Affords supplied c.args.world c.args.queue.now.calls c.args.armed.now (item ∷ rest)) c.in-Arm.is affords))
 
 pub returns-in-Run-clause-enough : goal.returns-in-Run-clause-enough
 returns-in-Run-clause-enough g c = λ supplied rest affords.
