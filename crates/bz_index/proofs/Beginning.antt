@@ -73,8 +73,8 @@ module _ (origin : Origin) (w : ℕ) (below : w < PASSES) (call : Call) (first :
     leaves begun.Off tells = (inl (own, power_is power.Off tells), rests)
     leaves begun.Recovering tells = ((own, power_is power.Recovering tells, few_acts tells), rests)
     leaves (begun.Limit which.Marks) tells = ((ap is_short same ∙ tells, inl own), rests)
-    leaves (begun.Limit which.Calls) tells = ((own, ap (λ (log : Log). nat_le log.limits.calls (count_begins log.past)) same ∙ tells), rests)
-    leaves (begun.Limit which.Pages) tells = ((own, ap (λ (log : Log). lacks_page log call) same ∙ tells), rests)
+    leaves (begun.Limit which.Calls) tells = ((own, ap is_short same ∙ tells.0, ap (λ (log : Log). nat_le log.limits.calls (count_begins log.past)) same ∙ tells.1), rests)
+    leaves (begun.Limit which.Pages) tells = ((own, ap is_short same ∙ tells.0, ap (λ (log : Log). nat_le log.limits.calls (count_begins log.past)) same ∙ tells.1, ap (λ (log : Log). lacks_page log call) same ∙ tells.2), rests)
 
   pub begin_leaves : (found left : List IndexEntry) (answer : Begun) → 0 < w → w ≤ origin.config.workers → HasBegun origin found w call answer left
       → Extends first found → entries_of owner_of w found ≡ entries_of owner_of w first → IsAtRest origin first w → BeginLeaves origin w call first left answer

@@ -23,38 +23,40 @@ BeginTells lab w called begun.Busy = ⊥
 BeginTells lab w called begun.Off = power_in lab ≡ power.Off
 BeginTells lab w called begun.Recovering = power_in lab ≡ power.Recovering
 BeginTells lab w called (begun.Limit which.Marks) = is_short lab.log ≡ true
-BeginTells lab w called (begun.Limit which.Calls) = nat_le lab.log.limits.calls (count_begins lab.log.past) ≡ true
-BeginTells lab w called (begun.Limit which.Pages) = lacks_page lab.log called ≡ true
+BeginTells lab w called (begun.Limit which.Calls) = (is_short lab.log ≡ false) × (nat_le lab.log.limits.calls (count_begins lab.log.past) ≡ true)
+BeginTells lab w called (begun.Limit which.Pages) = (is_short lab.log ≡ false) × (nat_le lab.log.limits.calls (count_begins lab.log.past) ≡ false) × (lacks_page lab.log called ≡ true)
 
 module _ (lab : WorldView) (w : ℕ) (called : Call) where
   abbrev Tells : Begun → Type 0
   Tells answer = BeginTells lab w called answer
 
-  by_pages : (b : Bool) (n : ℕ) → lacks_page lab.log called ≡ b → open_call w lab.log.past ≡ None → Tells (if b then begun.Limit which.Pages else begun.Begun n)
-  by_pages true n is none = is
-  by_pages false n is none = none
+  by_pages : (b : Bool) (n : ℕ) → lacks_page lab.log called ≡ b → open_call w lab.log.past ≡ None → is_short lab.log ≡ false → nat_le lab.log.limits.calls (count_begins lab.log.past) ≡ false
+      → Tells (if b then begun.Limit which.Pages else begun.Begun n)
+  by_pages true n is none room few = (room, few, is)
+  by_pages false n is none room few = none
 
-  by_calls : (b : Bool) (rest : Begun) → nat_le lab.log.limits.calls (count_begins lab.log.past) ≡ b → Tells rest → Tells (if b then begun.Limit which.Calls else rest)
-  by_calls true rest is tells = is
-  by_calls false rest is tells = tells
+  by_calls : (b : Bool) (rest : Begun) → nat_le lab.log.limits.calls (count_begins lab.log.past) ≡ b → is_short lab.log ≡ false → (nat_le lab.log.limits.calls (count_begins lab.log.past) ≡ false → Tells rest)
+      → Tells (if b then begun.Limit which.Calls else rest)
+  by_calls true rest is room tells = (room, is)
+  by_calls false rest is room tells = tells is
 
   by_busy : (o : Option Open) (rest : Begun) → o ≡ None → Tells rest → Tells (if is_some o then begun.Busy else rest)
   by_busy None rest none tells = tells
   by_busy (Some opened) rest none tells = absurd cc
 
-  when_powered : open_call w lab.log.past ≡ None → Tells (powered_answer lab w called)
-  when_powered none =
+  when_powered : open_call w lab.log.past ≡ None → is_short lab.log ≡ false → Tells (powered_answer lab w called)
+  when_powered none room =
       by_busy (open_call w lab.log.past) _ none
-      (by_calls (nat_le lab.log.limits.calls (count_begins lab.log.past)) _ refl (by_pages (lacks_page lab.log called) (begun_calls w lab.log.past + 1) refl none))
+      (by_calls (nat_le lab.log.limits.calls (count_begins lab.log.past)) _ refl room (by_pages (lacks_page lab.log called) (begun_calls w lab.log.past + 1) refl none room))
 
-  by_power : (p : Power) → power_in lab ≡ p → open_call w lab.log.past ≡ None → Tells (answer_by p lab w called)
-  by_power power.Off is none = is
-  by_power power.Recovering is none = is
-  by_power power.On is none = when_powered none
+  by_power : (p : Power) → power_in lab ≡ p → open_call w lab.log.past ≡ None → is_short lab.log ≡ false → Tells (answer_by p lab w called)
+  by_power power.Off is none room = is
+  by_power power.Recovering is none room = is
+  by_power power.On is none room = when_powered none room
 
   by_room : (b : Bool) → is_short lab.log ≡ b → (open_call w lab.log.past ≡ None) ⊎ (is_short lab.log ≡ true) → Tells (if b then begun.Limit which.Marks else answer_by (power_in lab) lab w called)
   by_room true is rests = is
-  by_room false is rests = by_power (power_in lab) refl (⊎_elim (λ none. none) (λ short. absurd cc) rests)
+  by_room false is rests = by_power (power_in lab) refl (⊎_elim (λ none. none) (λ short. absurd cc) rests) is
 
   in_range : (zeroth : Bool) → (w == 0) ≡ zeroth → (zeroth || nat_lt lab.config.workers w) ≡ true → 0 < w → w ≤ lab.config.workers → ⊥
   in_range true is any some within = let zeroth : w ≡ 0 = eqb-true w 0 is in omega arith

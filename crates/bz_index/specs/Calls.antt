@@ -1,5 +1,5 @@
 -- How a call of an index is answered, told by what its pass had seen and has seen now.
-use Rattle.std.specs.Prelude.{◌≡◌, ◌<◌, ◌⊎◌, ℕ, true, List, [], ◌∷◌, ◌++◌, length, nat_le}
+use Rattle.std.specs.Prelude.{◌≡◌, ◌<◌, ◌⊎◌, ℕ, true, false, List, [], ◌∷◌, ◌++◌, length, nat_le}
 use Rattle.bz_bus.specs.Entries.{Extends, entries_of}
 use Rattle.bz_call.specs.Pages.{names_page}
 use Rattle.bz_call.specs.declared.calls.Call.{Call}
@@ -64,6 +64,17 @@ abbrev pub IsOutOfMarks : Origin → ℕ → Call → List IndexEntry → List I
 IsOutOfMarks origin w call first now =
     (is_short (log_of origin now) ≡ true) × (HasNotBegun w first now ⊎ HasOnlyBegun w call first now)
 
+-- when the call would have begun as many had begun as may, and there were places for marks
+abbrev pub IsOutOfCalls : Origin → ℕ → List IndexEntry → List IndexEntry → Type 0
+IsOutOfCalls origin w first now =
+    HasNotBegun w first now × (is_short (log_of origin now) ≡ false) × (nat_le origin.calls (count_begins (marks_in now)) ≡ true)
+
+-- it asked for a page, as many of those had begun as may, and there were places for marks, and another call might have begun
+abbrev pub IsOutOfPages : Origin → ℕ → Call → List IndexEntry → List IndexEntry → Type 0
+IsOutOfPages origin w call first now =
+    HasNotBegun w first now × (is_short (log_of origin now) ≡ false) × (nat_le origin.calls (count_begins (marks_in now)) ≡ false)
+    × (lacks_page (log_of origin now) call ≡ true)
+
 -- the recovery was under way when the call would have begun, and worker 0 had made fewer acts than one makes
 abbrev pub IsRecovering : Origin → ℕ → List IndexEntry → List IndexEntry → Type 0
 IsRecovering origin w first now =
@@ -74,8 +85,8 @@ IsAnswer origin w call first now page (answer.Reply reply) = HasReply w call fir
 IsAnswer origin w call first now page answer.Off = IsOff origin w call first now
 IsAnswer origin w call first now page answer.Recovering = IsRecovering origin w first now
 IsAnswer origin w call first now page (answer.Limit which.Marks) = IsOutOfMarks origin w call first now
-IsAnswer origin w call first now page (answer.Limit which.Calls) = HasNotBegun w first now × (nat_le origin.calls (count_begins (marks_in now)) ≡ true)
-IsAnswer origin w call first now page (answer.Limit which.Pages) = HasNotBegun w first now × (lacks_page (log_of origin now) call ≡ true)
+IsAnswer origin w call first now page (answer.Limit which.Calls) = IsOutOfCalls origin w first now
+IsAnswer origin w call first now page (answer.Limit which.Pages) = IsOutOfPages origin w call first now
 
 -- what a call tells: the pass has seen a list that extends what it had seen, and the answer is right
 pub record IsAnswered (origin : Origin) (w : ℕ) (call : Call) (first now : List IndexEntry) (page : List (List ℕ × List ℕ)) (answer : Answer) : Type 0 where

@@ -13,10 +13,10 @@ use Rattle.bz_sound.specs.Memory.Sound.{IsApart}
 use Rattle.bz_mark.specs.Times.{power_of}
 use Rattle.bz_mark.specs.declared.power.Power.{Power as State}
 use Rattle.bz_mark.specs.declared.power.Power.TheVariants as power
-use Rattle.bz_sched.specs.AloneLaws.{is_no_power, without_power, powers_first, CallsGoApart}
+use Rattle.bz_sched.specs.AloneLaws.{without_power, powers_first, CallsGoApart}
 use Rattle.bz_sched.specs.Enough.{AreClosed}
 use Rattle.bz_sched.specs.Plans.{RunsBy}
-use Rattle.bz_sched.specs.Points.{Point, actor, IsUpToOneEffect, IsUpToOneEnd, IsStep, ready_by, ready, is_busy, IsTurn}
+use Rattle.bz_sched.specs.Points.{Point, actor, IsUpToOneEffect, IsUpToOneEnd, IsStep, ready_by, ready, IsTurn}
 use Rattle.bz_sched.specs.Queued.{calls_of}
 use Rattle.bz_sched.specs.Recoveries.{off_by, turned_on, Powers, RecoversTimes, RecoversWhole}
 use Rattle.bz_sched.specs.Scripts.{LeadsTo}

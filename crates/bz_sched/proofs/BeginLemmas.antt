@@ -32,16 +32,16 @@ by_begin stranger short busy full paged n =
     else (if paged then Limit which.Pages
     else Begun n))))
 
--- which test gave a limit
+-- which test gave a limit, and which gave none
 abbrev Gave : Bool → Bool → Bool → LimitKind → Type 0
 Gave short full paged which.Marks = short ≡ true
-Gave short full paged which.Calls = full ≡ true
-Gave short full paged which.Pages = paged ≡ true
+Gave short full paged which.Calls = (short ≡ false) × (full ≡ true)
+Gave short full paged which.Pages = (short ≡ false) × (full ≡ false) × (paged ≡ true)
 
 which_gave : (short full paged : Bool) (n : ℕ) (why : LimitKind) → Limit why ≡ by_begin false short false full paged n → Gave short full paged why
 which_gave true full paged n why is = let same : why ≡ which.Marks = cc in rw same refl
-which_gave false true paged n why is = let same : why ≡ which.Calls = cc in rw same refl
-which_gave false false true n why is = let same : why ≡ which.Pages = cc in rw same refl
+which_gave false true paged n why is = let same : why ≡ which.Calls = cc in rw same (refl, refl)
+which_gave false false true n why is = let same : why ≡ which.Pages = cc in rw same (refl, refl, refl)
 which_gave false false false n why is = absurd (cc is)
 
 number_given : (short full paged : Bool) (n m : ℕ) → Begun m ≡ by_begin false short false full paged n → m ≡ n
@@ -115,11 +115,16 @@ stops_by : (lab : WorldView) (queued : Fused) (w : ℕ) (call : Call) (why : Lim
     → Gave (is_short lab.log) (nat_le lab.log.limits.calls (count_begins lab.log.past)) (lacks_page lab.log call) why
     → StopsBy (stop.Limit why) w (point_in lab queued) (point_in lab queued) × IsAtLimit lab why
 stops_by lab queued w call which.Marks h gave = (inl refl, grind (arith, nat_tests, gave))
-stops_by lab queued w call which.Calls h gave = ((none_is (open_call w lab.log.past) h.closed, refl), grind (arith, nat_tests, gave))
+stops_by lab queued w call which.Calls h gave =
+    let room = gave.0 in
+    let full = gave.1 in
+    ((none_is (open_call w lab.log.past) h.closed, refl), (grind (arith, nat_tests, room), grind (arith, nat_tests, full)))
 stops_by lab queued w call which.Pages h gave =
-    let both = both_true (is_page call) (nat_le lab.log.limits.pages (count_page_calls lab.log.past)) gave in
+    let room = gave.0 in
+    let few = gave.1 in
+    let both = both_true (is_page call) (nat_le lab.log.limits.pages (count_page_calls lab.log.past)) gave.2 in
     let full = both.1 in
-    ((none_is (open_call w lab.log.past) h.closed, rw h.first.1 both.0, refl), grind (arith, nat_tests, full))
+    ((none_is (open_call w lab.log.past) h.closed, rw h.first.1 both.0, refl), (grind (arith, nat_tests, room), grind (arith, nat_tests, few), grind (arith, nat_tests, full)))
 
 -- a begin that meets a limit changes nothing
 pub begin_stops : (lab : WorldView) (queued : Fused) (w : ℕ) (call : Call) (why : LimitKind) (new : WorldView) → Waits lab queued.calls w call → Limit why ≡ begin_answer lab w call → new ≡ lab

@@ -1,5 +1,5 @@
 -- A call that begins while no other is open, and steps alone, meets no limit.
-use Rattle.std.proofs.Common.{◌≡◌, ◌≢◌, ◌⊎◌, ℕ, zero, suc, ◌+◌, ◌-◌, ◌*◌, ◌≤◌, ◌<◌, ◌==◌, ◌&&◌, if◌then◌else◌, Bool, true, false, List, [], ◌∷◌, length, refl, sym, ap, subst, ◌∙◌, arith, inl, inr, Option, Some, None, is_some, is_none, nat_lt}
+use Rattle.std.proofs.Common.{◌≡◌, ◌≢◌, ◌⊎◌, ℕ, zero, suc, ◌+◌, ◌-◌, ◌*◌, ◌≤◌, ◌==◌, ◌&&◌, if◌then◌else◌, Bool, true, false, List, [], ◌∷◌, length, refl, sym, ap, subst, ◌∙◌, arith, inl, inr, Option, Some, None, is_some, is_none}
 use Rattle.std.specs.Prelude.{option_map}
 use Rattle.std.proofs.lemmas.Bool.{cases_eq, true≢false}
 use Rattle.std.proofs.lemmas.Bool.Decides.{nat_tests}
@@ -142,10 +142,10 @@ not_limited most w world new call calls rest which.Marks end first same r a stop
     absurd (omega (arith, short, r.marks, a.enough, (taken-out w call calls rest first).fewer))
 not_limited most w world new call calls rest which.Calls end first same r a stops met =
     let full : IsAtLimit world which.Calls = subst (λ (z : WorldView). IsAtLimit z which.Calls) same met in
-    absurd (omega (arith, full, r.calls, r.call_limit, (taken-out w call calls rest first).fewer))
+    absurd (omega (arith, full.1, r.calls, r.call_limit, (taken-out w call calls rest first).fewer))
 not_limited most w world new call calls rest which.Pages end first same r a stops met =
     let full : IsAtLimit world which.Pages = subst (λ (z : WorldView). IsAtLimit z which.Pages) same met in
-    absurd (omega (arith, full, r.pages, r.page_limit, some-page w call calls rest first stops.1))
+    absurd (omega (arith, full.2, r.pages, r.page_limit, some-page w call calls rest first stops.1))
 
 -- an act is one of its worker's run
 act-steps : (w : ℕ) (made : Act) (past : List Mark) → stepper (mark_of w made ∷ past) ≡ Some w

@@ -1,24 +1,21 @@
 -- A recovery makes few marks, and so does power on.
-use Rattle.std.proofs.Common.{◌≡◌, ◌⊎◌, ℕ, zero, suc, ◌+◌, ◌*◌, ◌<◌, ◌≤◌, ◌==◌, if◌then◌else◌, Bool, true, false, List, ◌∷◌, length, refl, sym, ap, subst, ◌∙◌, arith, inl, inr, Option, Some, None}
+use Rattle.std.proofs.Common.{◌≡◌, ◌⊎◌, ℕ, zero, suc, ◌+◌, ◌<◌, ◌≤◌, ◌==◌, if◌then◌else◌, Bool, true, List, ◌∷◌, length, refl, sym, ap, subst, ◌∙◌, arith, inl, inr, Option, Some}
 use Rattle.std.proofs.lemmas.Bool.Decides.{nat_tests}
-use Rattle.bz_layout.specs.declared.config.Config.{Config}
 use Rattle.bz_layout.specs.declared.thresholds.TheConstants.{MARKS_PER_POWER_ON}
 use Rattle.bz_mark.specs.Log.{Limits, count_begins, count_page_calls}
 use Rattle.bz_mark.specs.declared.marks.Mark.{Mark}
 use Rattle.bz_mark.specs.declared.marks.Mark.TheVariants as mark
-use Rattle.bz_sound.specs.Calls.{open_call}
 use Rattle.bz_mark.specs.Times.{power_of}
 use Rattle.bz_mark.specs.declared.power.Power.{Power}
 use Rattle.bz_mark.specs.declared.power.Power.TheVariants as power
 use Rattle.bz_world.specs.WorldView.{WorldView, power_in, recovery_acts, recovery_most, KeepsApart}
 use Rattle.bz_world.specs.declared.answers.LimitKind.{LimitKind}
 use Rattle.bz_world.specs.declared.answers.LimitKind.TheVariants as which
-use Rattle.bz_sched.specs.Enough.{count_wanting, AreClosed, IsFew, IsFewSoFar, HasComeOn}
+use Rattle.bz_sched.specs.Enough.{count_wanting, AreClosed, IsFewSoFar, HasComeOn}
 use Rattle.bz_sched.specs.Points.{actor}
 use Rattle.bz_sched.specs.Powering.{GoesOnOrEnds, IsGivenBack, IsStarted, StartStopped, RecoversOnce}
-use Rattle.bz_sched.specs.Recoveries.{off_by, turned_off, turned_on, Recovers, RecoversTimes, RecoversWhole}
+use Rattle.bz_sched.specs.Recoveries.{off_by, turned_off, Recovers, RecoversTimes, RecoversWhole}
 use Rattle.bz_sched.specs.Runs.{IsAtLimit, Stays}
-use Rattle.bz_sched.specs.declared.turn.Turned.TheVariants.{Finished, Stopped}
 use Rattle.bz_sched.proofs.GivenLemmas.{no_fewer}
 
 -- a world after other marks, and the acts of its recovery then

@@ -1,5 +1,5 @@
 -- Power on gives back descriptors and slots: no fewer slots are free than before.
-use Rattle.std.proofs.Common.{◌≡◌, ℕ, zero, suc, ◌+◌, ◌-◌, ◌≤◌, List, ◌∷◌, refl, sym, ap, subst, ◌∙◌, arith, Some}
+use Rattle.std.proofs.Common.{◌≡◌, ℕ, zero, suc, ◌+◌, ◌≤◌, List, ◌∷◌, refl, ap, subst, ◌∙◌, arith, Some}
 use Rattle.bz_layout.specs.declared.config.Config.{Config}
 use Rattle.bz_mark.specs.declared.marks.Mark.{Mark}
 use Rattle.bz_mark.specs.declared.marks.Mark.TheVariants as mark
@@ -12,7 +12,7 @@ use Rattle.bz_world.specs.WorldView.{WorldView, count_in, power_in, KeepsApart}
 use Rattle.bz_sched.specs.Enough.{free_by, free_slots}
 use Rattle.bz_sched.specs.Points.{actor}
 use Rattle.bz_sched.specs.Powering.{IsGivenBack, IsStarted}
-use Rattle.bz_sched.specs.Recoveries.{off_by, turned_on, Recovers, RecoversTimes, RecoversWhole}
+use Rattle.bz_sched.specs.Recoveries.{off_by, Recovers, RecoversTimes, RecoversWhole}
 use Rattle.bz_sched.specs.Runs.{Stays}
 
 -- the durable words at power on are those before it

@@ -5,6 +5,7 @@ pub mod Fuses
 pub mod Turns
 pub mod TurnsInPart
 pub mod OpenCalls
+pub mod AtLimit
 pub mod Together
 pub mod Cuts
 pub mod Plans

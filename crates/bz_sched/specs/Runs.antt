@@ -4,14 +4,13 @@ use Rattle.bz_call.specs.declared.calls.Call.{Call}
 use Rattle.bz_layout.specs.Addresses.{words_of}
 use Rattle.bz_layout.specs.declared.config.Config.{Config}
 use Rattle.bz_layout.specs.declared.limits.TheConstants.{MAX_WORKERS}
-use Rattle.bz_mark.specs.Log.{count_begins, count_page_calls}
 use Rattle.bz_script.specs.declared.item.Plan.{Plan}
 use Rattle.bz_script.specs.declared.item.Plan.TheVariants.{Threads}
 use Rattle.bz_sound.specs.Calls.{open_call}
 use Rattle.bz_mark.specs.declared.power.Power.TheVariants as power
 use Rattle.bz_world.specs.WorldView.{WorldView, power_in, flush_of, flush_left_out}
 use Rattle.bz_world.specs.declared.answers.LimitKind.{LimitKind}
-use Rattle.bz_world.specs.declared.answers.LimitKind.TheVariants as which
+use Rattle.bz_sched.specs.AtLimit.{MeetsLimit}
 use Rattle.bz_sched.specs.Fuses.{Burns, Fused}
 use Rattle.bz_sched.specs.OpenCalls.{EndsCalls, EndsCallsInPart}
 use Rattle.bz_sched.specs.Points.{Point}
@@ -56,11 +55,9 @@ pub record IsReady (world : WorldView) : Type 0 where
 abbrev pub marks_left : WorldView → ℕ
 marks_left lab = lab.log.limits.marks - length lab.log.past
 
--- the limit is met: fewer than three places are left for marks, or as many calls, or page calls, have begun as may
+-- the limit is the first that is met by the journal as it is
 abbrev pub IsAtLimit : WorldView → LimitKind → Type 0
-IsAtLimit lab which.Marks = marks_left lab < 3
-IsAtLimit lab which.Calls = lab.log.limits.calls ≤ count_begins lab.log.past
-IsAtLimit lab which.Pages = lab.log.limits.pages ≤ count_page_calls lab.log.past
+IsAtLimit lab why = MeetsLimit lab.log.limits lab.log.past why
 
 -- why a part of a run stopped is so: the limit is met, or the next act of the worker is a flush and no more may be made
 abbrev pub IsStopped : WorldView → Option ℕ → Stop → Type 0

@@ -3,8 +3,10 @@
 use Rattle.std.specs.Prelude.{◌≡◌, ◌<◌, ◌≤◌, ℕ, ◌==◌, if◌then◌else◌, true, false, List, [], ◌∷◌, ◌++◌, ◌⊎◌}
 use Rattle.bz_call.specs.declared.calls.Call.{Call}
 use Rattle.bz_layout.specs.declared.limits.TheConstants.{MAX_WORKERS}
+use Rattle.bz_mark.specs.Log.{Limits}
 use Rattle.bz_mark.specs.declared.marks.Mark.{Mark}
 use Rattle.bz_mark.specs.declared.marks.Mark.TheVariants.{Begin, Evict, Cut, On, Ready}
+use Rattle.bz_sched.specs.AtLimit.{MeetsLimit}
 use Rattle.bz_sched.specs.OpenCalls.{EndsCalls, EndsCallsInPart}
 use Rattle.bz_sched.specs.Points.{Point, is_busy}
 use Rattle.bz_sched.specs.Queued.{calls_of}
@@ -54,6 +56,20 @@ pub record MinglesInPart (why : LimitKind) (old new : Point) : Type 0 where
   pub worker : ℕ
   pub lowest : (w : ℕ) → w < worker → is_busy w new ≡ false
   pub stands : StandsAt why worker new
+
+-- a moment of such marks at which this limit was met, and with it the lowest worker that has an open or a queued call at their end: others went on after it
+pub record HasMet (limits : Limits) (why : LimitKind) (old new : Point) : Type 0 where
+  pub past : List Mark
+  pub since : (added : List Mark) × (past ≡ added ++ old.past)
+  pub later : (added : List Mark) × (new.past ≡ added ++ past)
+  pub worker : ℕ
+  pub lowest : (w : ℕ) → w < worker → is_busy w new ≡ false
+  pub stands : StandsAt why worker (record { past = past; queue = new.queue })
+  pub met : MeetsLimit limits past why
+
+-- a limit is met at their end, or was met at such a moment
+abbrev pub MeetsTogether : Limits → LimitKind → Point → Point → Type 0
+MeetsTogether limits why old new = MeetsLimit limits new.past why ⊎ HasMet limits why old new
 
 -- `run threads`: calls that are open are ended first, one worker after the other
 abbrev pub RunsThreads : Point → Point → Type 0

@@ -1,5 +1,5 @@
 -- How a run on threads ends, once its index is closed.
-use Rattle.std.proofs.Common.{◌≡◌, ◌≢◌, ◌<◌, ◌≤◌, ◌⊎◌, inl, inr, ⊎_elim, ℕ, ◌+◌, ◌-◌, ◌==◌, Bool, true, false, List, [], ◌∷◌, ◌++◌, length, drop, refl, sym, ap, subst, ◌∙◌, arith, eqb-true, Option, Some, None}
+use Rattle.std.proofs.Common.{◌≡◌, ◌≢◌, ◌<◌, ◌≤◌, ◌⊎◌, inl, inr, ⊎_elim, ℕ, ◌+◌, ◌==◌, Bool, true, false, List, [], ◌∷◌, ◌++◌, drop, refl, sym, ap, subst, ◌∙◌, arith, eqb-true, Option, Some, None}
 use borrow.Author.Tests.{eqb-false}
 use Rattle.std.specs.Prelude.{if◌then◌else◌, is_some}
 use Rattle.std.proofs.lemmas.Bool.{cases_lt}
@@ -12,17 +12,19 @@ use Rattle.bz_index.specs.declared.index.IndexPass.{IndexPass}
 use Rattle.bz_index.specs.declared.shared.IndexEntry.{IndexEntry}
 use Rattle.bz_index.specs.declared.shared.Origin.{Origin}
 use Rattle.bz_layout.specs.declared.limits.TheConstants.{MAX_WORKERS}
-use Rattle.bz_mark.specs.Log.{Limits, count_begins, count_page_calls}
+use Rattle.bz_mark.specs.Log.{Limits}
 use Rattle.bz_mark.specs.declared.marks.Mark.{Mark}
+use Rattle.bz_sched.specs.AtLimit.{MeetsLimit}
 use Rattle.bz_sched.specs.Points.{Point, is_busy}
 use Rattle.bz_sched.specs.Queued.{Queued, calls_of, is_busy_by}
-use Rattle.bz_sched.specs.Runs.{point_of, Stays, IsAtLimit, HasEndedCalls}
-use Rattle.bz_sched.specs.Together.{AreOfCalls, begun_in, Mingles, StandsAt, RunsThreads, RunsThreadsUpTo}
+use Rattle.bz_sched.specs.Runs.{point_of, Stays, HasEndedCalls}
+use Rattle.bz_sched.specs.Together.{AreOfCalls, begun_in, Mingles, StandsAt, HasMet, MeetsTogether, RunsThreads, RunsThreadsUpTo}
 use Rattle.bz_sound.specs.Calls.{Open, open_call}
 use Rattle.bz_mark.specs.Times.{power_of}
 use Rattle.bz_sound.specs.Replies.{Pages}
 use Rattle.bz_mark.specs.declared.power.Power.TheVariants as power
-use Rattle.bz_threads.proofs.Fates.{MeetsLimit, Stopped, IsLeft, of_calls, begun_none, fate_leaves}
+use Rattle.bz_threads.proofs.Fates.{limits_of, HasMetThen, Stopped, IsLeft, of_calls, begun_none, fate_leaves}
+use Rattle.bz_threads.proofs.Grown.{Grown, grown_both, ends_grow}
 use Rattle.bz_threads.proofs.Owns.{marks-append, power_quiet}
 use Rattle.bz_threads.proofs.Queues.{collected}
 use Rattle.bz_threads.specs.Ends.{HasRunThreads}
@@ -91,7 +93,7 @@ module _ (old mid new : WorldView) (queued behind left : Queued) (index : Index)
     none_else : (w : ℕ) → (w ≡ 0) ⊎ (MAX_WORKERS < w) → begun_in w (marks_in added) ≡ []
     none_else w none = begun_none (origin_in index) 1 behind.calls (seen_by first) (seen_by now) added (omega arith) (omega arith) j.grown.1 j.quiet on_first (closed_first 1) w (⊎_elim (λ zeroth. inl zeroth) (λ beyond. inr (omega (arith, beyond))) none)
 
-    left_of : (w : ℕ) → 0 < w → w ≤ MAX_WORKERS → (back : IsBack index behind.calls (seen_by first) now lowest w) → IsLeft (origin_in index) w behind.calls (marks_in added) whole back.met
+    left_of : (w : ℕ) → 0 < w → w ≤ MAX_WORKERS → (back : IsBack index behind.calls (seen_by first) now lowest w) → IsLeft (origin_in index) w behind.calls (marks_in added) (marks_in (seen_by first)) back.met
     left_of w some most back = fate_leaves (origin_in index) w behind.calls (seen_by first) (seen_by now) added some (omega arith) j.grown.1 j.quiet on_first (closed_first w) back.met back.fate
 
     back_of : (w : ℕ) → 0 < w → w ≤ MAX_WORKERS → IsBack index behind.calls (seen_by first) now lowest w
@@ -156,7 +158,7 @@ module _ (old mid new : WorldView) (queued behind left : Queued) (index : Index)
       abbrev IsPart : ℕ → List (ℕ × Call) → Type 0
       IsPart w rest =
           (begun_in w (marks_in added) ++ rest ≡ calls_of w behind.calls) × (w < v → is_busy_by (is_some (open_call w whole)) rest ≡ false)
-          × (w ≡ v → Stopped (origin_in index) whole (open_call v whole) rest met)
+          × (w ≡ v → Stopped (origin_in index) v (marks_in (seen_by first)) whole rest met)
 
       its_part : (rest : List Call) × IsPart v (paired v rest)
       its_part =
@@ -185,10 +187,10 @@ module _ (old mid new : WorldView) (queued behind left : Queued) (index : Index)
       abbrev at_end : Point
       at_end = record { past = new.log.past; queue = parts.0 }
 
-      here : Stopped (origin_in index) whole (open_call v whole) (calls_of v parts.0) met
+      here : Stopped (origin_in index) v (marks_in (seen_by first)) whole (calls_of v parts.0) met
       here = (parts.2 v is_lowest.0 (let most = is_lowest.1 in omega arith)).2 refl
 
-      stands_by : (kind : LimitKind) → Stopped (origin_in index) whole (open_call v whole) (calls_of v parts.0) kind → is_busy v at_end ≡ true → StandsAt kind v at_end
+      stands_by : (kind : LimitKind) → Stopped (origin_in index) v (marks_in (seen_by first)) whole (calls_of v parts.0) kind → is_busy v at_end ≡ true → StandsAt kind v at_end
       stands_by which.Marks s busy = (busy, inl refl)
       stands_by which.Calls s busy = (busy, (subst (λ (marks : List Mark). open_call v marks ≡ None) (sym whole_is) s.here, refl))
       stands_by which.Pages s busy = (busy, (subst (λ (marks : List Mark). open_call v marks ≡ None) (sym whole_is) s.here.0, s.here.1, refl))
@@ -211,13 +213,42 @@ module _ (old mid new : WorldView) (queued behind left : Queued) (index : Index)
         },
       )
 
-      is_met : (kind : LimitKind) → MeetsLimit (origin_in index) whole kind → IsAtLimit new kind
-      is_met which.Marks meets = subst (λ (o : Origin). o.marks - length new.log.past < 3) (sym closed) (subst (λ (marks : List Mark). (origin_in index).marks - length marks < 3) (sym whole_is) meets)
-      is_met which.Calls meets = subst (λ (o : Origin). o.calls ≤ count_begins new.log.past) (sym closed) (subst (λ (marks : List Mark). (origin_in index).calls ≤ count_begins marks) (sym whole_is) meets)
-      is_met which.Pages meets = subst (λ (o : Origin). o.pages ≤ count_page_calls new.log.past) (sym closed) (subst (λ (marks : List Mark). (origin_in index).pages ≤ count_page_calls marks) (sym whole_is) meets)
+      limits_are : old.log.limits ≡ limits_of (origin_in index)
+      limits_are = sym stays.limits ∙ ap limits_of closed
+
+      abbrev Then : LimitKind → Type 0
+      Then kind = HasMetThen (origin_in index) v (marks_in (seen_by first)) whole (calls_of v parts.0) kind
+
+      stands_then : (kind : LimitKind) → (m : Then kind) → StandsAt kind v (record { past = m.moment; queue = parts.0 })
+      stands_then which.Marks m = (m.busy, inl refl)
+      stands_then which.Calls m = (m.busy, (m.here, refl))
+      stands_then which.Pages m = (m.busy, (m.here.0, m.here.1, refl))
+
+      -- from before the calls that were open were ended
+      since_old : (moment : List Mark) → Grown (marks_in (seen_by first)) moment → Grown old.log.past moment
+      since_old moment since =
+          let from : Grown mid.log.past moment = subst (λ (marks : List Mark). Grown marks moment) past_first since in
+          grown_both old.log.past mid.log.past moment (ends_grow 1 64 (point_of old queued) (point_of mid behind) ends.3) from
+
+      has_met : Then met → HasMet old.log.limits met (point_of old queued) at_end
+      has_met m = record {
+        past = m.moment;
+        since = since_old m.moment m.since;
+        later = (m.later.0, whole_is ∙ m.later.1);
+        worker = v;
+        lowest = idle_below;
+        stands = stands_then met m;
+        met = subst (λ (limits : Limits). MeetsLimit limits m.moment met) (sym limits_are) m.meets;
+      }
+
+      is_met : MeetsTogether old.log.limits met (point_of old queued) at_end
+      is_met = ⊎_elim
+          (λ meets. inl (subst (λ (marks : List Mark). MeetsLimit old.log.limits marks met) (sym whole_is) (subst (λ (limits : Limits). MeetsLimit limits whole met) (sym limits_are) meets)))
+          (λ m. inr (has_met m))
+          here.meets
 
       pub ended_limit : HasRunThreads old queued (end.Limit met) new left
-      ended_limit = (stays, (at_end, runs_in_part, refl), is_met met here.meets)
+      ended_limit = (stays, (at_end, runs_in_part, refl, is_met))
 
   -- how the run on the index ended
   pub ended : (others : (w : ℕ) → (IsWorker new.config w → ⊥) → open_call w new.log.past ≡ None) → new.config.workers ≤ MAX_WORKERS → left.calls ≡ [] → queued.room ≤ left.room
@@ -228,7 +259,7 @@ module _ (old mid new : WorldView) (queued behind left : Queued) (index : Index)
 
 -- a limit was met before the index was opened
 pub ended_before : (old new : WorldView) (queued left : Queued) (met : LimitKind) → HasEndedCalls old queued (Some met) new left → HasRunThreads old queued (end.Limit met) new left
-ended_before old new queued left met (stays, part, is) = (stays, (point_of new left, inl part, refl), is)
+ended_before old new queued left met (stays, part, is) = (stays, (point_of new left, inl part, refl, inl (subst (λ (limits : Limits). MeetsLimit limits new.log.past met) stays.limits is)))
 
 -- there was no memory for an index
 pub ended_early : (old new : WorldView) (queued left : Queued) → HasEndedCalls old queued None new left → HasRunThreads old queued end.Memory new left

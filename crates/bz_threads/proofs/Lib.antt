@@ -5,4 +5,5 @@ pub mod Opening
 pub mod Joining
 pub mod Fates
 pub mod Queues
+pub mod Grown
 pub mod Ending

@@ -2,7 +2,6 @@
 use Rattle.std.proofs.Common.{◌≡◌, ◌≤◌, ◌⊎◌, inl, inr, ℕ, List, refl, sym, ap, ◌∙◌, subst}
 use Rattle.std.specs.Prelude.{Option, Some, None, true, length, Ok}
 use Rattle.std.specs.Io.KnownBytes.{Consumes}
-use Rattle.bz_image.specs.declared.image.Image.{Image}
 use Rattle.bz_io.proofs.Consumed.{consumes_twice}
 use Rattle.bz_io.specs.Transfers.{IsReadWhole}
 use Rattle.bz_layout.specs.declared.limits.TheConstants.{MIN_MARKS, MAX_MARKS}

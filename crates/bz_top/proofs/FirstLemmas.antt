@@ -2,11 +2,13 @@
 use Rattle.std.proofs.Common.{◌≡◌, ◌≢◌, inl, inr, ℕ, List, [], ◌∷◌, refl, sym, ap, subst, ◌∙◌, None}
 use Rattle.bz_layout.specs.Addresses.{words_of}
 use Rattle.bz_layout.specs.declared.config.Config.{Config}
+use Rattle.bz_mark.specs.Log.{Limits}
 use Rattle.bz_mark.specs.declared.marks.Mark.{Mark}
 use Rattle.bz_script.specs.declared.item.Item.{Item}
 use Rattle.bz_script.specs.declared.item.Item.TheVariants.{Power}
 use Rattle.bz_mark.specs.declared.power.Power.{Power as State}
 use Rattle.bz_mark.specs.declared.power.Power.TheVariants as power
+use Rattle.bz_sched.specs.AtLimit.{MeetsLimit}
 use Rattle.bz_sched.specs.Points.{Point}
 use Rattle.bz_sched.specs.Recoveries.{Powers, PowersInPart}
 use Rattle.bz_sched.specs.Runs.{point_with, Stays, HasPower}
@@ -44,8 +46,8 @@ module _ (old : WorldView) (new_world : old.log.past ≡ []) where
             subst (λ (is : List Item). LeadsTo old.at_start old.log.start (words_of old.config) None at_first is past) (sym (from_on old.at_start items first))
             (subst (λ (p : Point). LeadsTo old.at_start old.log.start (words_of old.config) None p items past) (first_point old new_world) h);
         in_part = λ why items past h.
-            subst (λ (is : List Item). LeadsToInPart why old.at_start old.log.start (words_of old.config) None at_first is past) (sym (from_on old.at_start items first))
-            (subst (λ (p : Point). LeadsToInPart why old.at_start old.log.start (words_of old.config) None p items past) (first_point old new_world) h);
+            subst (λ (is : List Item). LeadsToInPart why old.log.limits old.at_start old.log.start (words_of old.config) None at_first is past) (sym (from_on old.at_start items first))
+            (subst (λ (p : Point). LeadsToInPart why old.log.limits old.at_start old.log.start (words_of old.config) None p items past) (first_point old new_world) h);
         to_want = λ items past h.
             subst (λ (is : List Item). LeadsToWant old.at_start old.log.start (words_of old.config) None at_first is past) (sym (from_on old.at_start items first))
             (subst (λ (p : Point). LeadsToWant old.at_start old.log.start (words_of old.config) None p items past) (first_point old new_world) h);
@@ -62,7 +64,7 @@ module _ (old : WorldView) (new_world : old.log.past ≡ []) where
         items = λ items past h.
             subst (λ (is : List Item). LeadsTo old.at_start old.log.start (words_of old.config) None at_first is past) (sym (from_off old.at_start items first)) (point_with new [], inl begun, h);
         in_part = λ why items past h.
-            subst (λ (is : List Item). LeadsToInPart why old.at_start old.log.start (words_of old.config) None at_first is past) (sym (from_off old.at_start items first)) (inr (point_with new [], inl begun, h));
+            subst (λ (is : List Item). LeadsToInPart why old.log.limits old.at_start old.log.start (words_of old.config) None at_first is past) (sym (from_off old.at_start items first)) (inr (point_with new [], inl begun, h));
         to_want = λ items past h.
             subst (λ (is : List Item). LeadsToWant old.at_start old.log.start (words_of old.config) None at_first is past) (sym (from_off old.at_start items first)) (point_with new [], inl begun, h);
       }
@@ -72,8 +74,7 @@ module _ (old : WorldView) (new_world : old.log.past ≡ []) where
       let stopped : PowersInPart which old.at_start old.log.start (words_of old.config) None at_first (point_with new []) = subst (λ (p : Point). PowersInPart which old.at_start old.log.start (words_of old.config) None p (point_with new [])) (first_point old new_world) (powers []) in
       λ items. record {
         on = stays;
-        follows = subst (λ (is : List Item). LeadsToInPart which old.at_start old.log.start (words_of old.config) None at_first is new.log.past) (sym (from_off old.at_start items first)) (inl (point_with new [], stopped, refl));
-        met = met;
+        follows = subst (λ (is : List Item). LeadsToInPart which old.log.limits old.at_start old.log.start (words_of old.config) None at_first is new.log.past) (sym (from_off old.at_start items first)) (inl (point_with new [], stopped, subst (λ (limits : Limits). MeetsLimit limits new.log.past which) stays.limits met, refl));
       }
 
 -- then the items are done
@@ -91,10 +92,10 @@ done_behind old mid new items end.Finished turned done = record {
 done_behind old mid new items (end.Limit why) turned done = record {
   on = both_stay old mid new turned.stays done.on;
   follows = turned.in_part why items new.log.past
-      (subst (λ (s : State). LeadsToInPart why s old.log.start (words_of old.config) None (point_with mid []) items new.log.past) turned.stays.at_start
-      (subst (λ (start : List ℕ). LeadsToInPart why mid.at_start start (words_of old.config) None (point_with mid []) items new.log.past) turned.stays.start
-      (subst (λ (c : Config). LeadsToInPart why mid.at_start mid.log.start (words_of c) None (point_with mid []) items new.log.past) turned.stays.config done.follows)));
-  met = done.met;
+      (subst (λ (s : State). LeadsToInPart why old.log.limits s old.log.start (words_of old.config) None (point_with mid []) items new.log.past) turned.stays.at_start
+      (subst (λ (start : List ℕ). LeadsToInPart why old.log.limits mid.at_start start (words_of old.config) None (point_with mid []) items new.log.past) turned.stays.start
+      (subst (λ (c : Config). LeadsToInPart why old.log.limits mid.at_start mid.log.start (words_of c) None (point_with mid []) items new.log.past) turned.stays.config
+      (subst (λ (limits : Limits). LeadsToInPart why limits mid.at_start mid.log.start (words_of mid.config) None (point_with mid []) items new.log.past) turned.stays.limits done.follows))));
 }
 done_behind old mid new items end.Memory turned done = record {
   on = both_stay old mid new turned.stays done.on;

@@ -5,6 +5,7 @@ use Rattle.std.proofs.lemmas.Grind.{common_steps}
 use Rattle.std.proofs.lemmas.List.{drop_more}
 use Rattle.bz_layout.specs.Addresses.{words_of}
 use Rattle.bz_layout.specs.declared.config.Config.{Config}
+use Rattle.bz_mark.specs.Log.{Limits}
 use Rattle.bz_mark.specs.declared.marks.Mark.{Mark}
 use Rattle.bz_script.specs.ItemLaws.{IsItem, AreItems}
 use Rattle.bz_script.specs.Order.{at_first as first_standing, takes_no_cut, may_stand, after, AreInOrder}
@@ -32,7 +33,7 @@ pub record Staged (items : List Item) (i : ℕ) (armed : Option CutPlan) (first 
   pub powered : used ≡ false → power_in world ≡ power.On
   pub cut : IsCutPlan armed
   pub follows : (new : List Mark) → LeadsTo old.at_start old.log.start (words_of old.config) armed (point_of world queue) (drop i items) new → LeadsTo old.at_start old.log.start (words_of old.config) None first items new
-  pub in_part : (why : LimitKind) (new : List Mark) → LeadsToInPart why old.at_start old.log.start (words_of old.config) armed (point_of world queue) (drop i items) new → LeadsToInPart why old.at_start old.log.start (words_of old.config) None first items new
+  pub in_part : (why : LimitKind) (new : List Mark) → LeadsToInPart why old.log.limits old.at_start old.log.start (words_of old.config) armed (point_of world queue) (drop i items) new → LeadsToInPart why old.log.limits old.at_start old.log.start (words_of old.config) None first items new
   pub to_want : (new : List Mark) → LeadsToWant old.at_start old.log.start (words_of old.config) armed (point_of world queue) (drop i items) new → LeadsToWant old.at_start old.log.start (words_of old.config) None first items new
 
 pub item_at : (items : List Item) (i : ℕ) (item : Item) → AreItems items → i < length items → item ≡ get_or items i item → IsItem item
@@ -111,12 +112,12 @@ then_leads at_start start words armed next p q (Arm flush seed) items new leads 
 then_leads at_start start words armed next p q (Run plan) items new leads rest = (q, leads.1, rw leads.0 at rest)
 then_leads at_start start words armed next p q Power items new leads rest = (q, leads.1, rw leads.0 at rest)
 
-then_in_part : (why : LimitKind) (at_start : State) (start : List ℕ) (words : ℕ) (armed next : Option CutPlan) (p q : Point) (item : Item) (items : List Item) (new : List Mark) → Leads at_start start words armed p item next q → LeadsToInPart why at_start start words next q items new
-    → LeadsToInPart why at_start start words armed p (item ∷ items) new
-then_in_part why at_start start words armed next p q (Queue w call) items new leads rest = rw (leads.0, leads.1) at rest
-then_in_part why at_start start words armed next p q (Arm flush seed) items new leads rest = rw (leads.0, leads.1) at rest
-then_in_part why at_start start words armed next p q (Run plan) items new leads rest = inr (q, leads.1, rw leads.0 at rest)
-then_in_part why at_start start words armed next p q Power items new leads rest = inr (q, leads.1, rw leads.0 at rest)
+then_in_part : (why : LimitKind) (limits : Limits) (at_start : State) (start : List ℕ) (words : ℕ) (armed next : Option CutPlan) (p q : Point) (item : Item) (items : List Item) (new : List Mark) → Leads at_start start words armed p item next q → LeadsToInPart why limits at_start start words next q items new
+    → LeadsToInPart why limits at_start start words armed p (item ∷ items) new
+then_in_part why limits at_start start words armed next p q (Queue w call) items new leads rest = rw (leads.0, leads.1) at rest
+then_in_part why limits at_start start words armed next p q (Arm flush seed) items new leads rest = rw (leads.0, leads.1) at rest
+then_in_part why limits at_start start words armed next p q (Run plan) items new leads rest = inr (q, leads.1, rw leads.0 at rest)
+then_in_part why limits at_start start words armed next p q Power items new leads rest = inr (q, leads.1, rw leads.0 at rest)
 
 then_want : (at_start : State) (start : List ℕ) (words : ℕ) (armed next : Option CutPlan) (p q : Point) (item : Item) (items : List Item) (new : List Mark) → Leads at_start start words armed p item next q → LeadsToWant at_start start words next q items new → LeadsToWant at_start start words armed p (item ∷ items) new
 then_want at_start start words armed next p q (Queue w call) items new leads rest = rw (leads.0, leads.1) at rest
@@ -130,11 +131,11 @@ here_wants at_start start words armed p q (Arm flush seed) items wants = absurd 
 here_wants at_start start words armed p q (Run plan) items wants = inl (q, wants, refl)
 here_wants at_start start words armed p q Power items wants = absurd wants
 
-here_in_part : (why : LimitKind) (at_start : State) (start : List ℕ) (words : ℕ) (armed : Option CutPlan) (p q : Point) (item : Item) (items : List Item) → LeadsInPart why at_start start words armed p item q → LeadsToInPart why at_start start words armed p (item ∷ items) q.past
-here_in_part why at_start start words armed p q (Queue w call) items stops = absurd stops
-here_in_part why at_start start words armed p q (Arm flush seed) items stops = absurd stops
-here_in_part why at_start start words armed p q (Run plan) items stops = inl (q, stops, refl)
-here_in_part why at_start start words armed p q Power items stops = inl (q, stops, refl)
+here_in_part : (why : LimitKind) (limits : Limits) (at_start : State) (start : List ℕ) (words : ℕ) (armed : Option CutPlan) (p q : Point) (item : Item) (items : List Item) → LeadsInPart why limits at_start start words armed p item q → LeadsToInPart why limits at_start start words armed p (item ∷ items) q.past
+here_in_part why limits at_start start words armed p q (Queue w call) items stops = absurd stops
+here_in_part why limits at_start start words armed p q (Arm flush seed) items stops = absurd stops
+here_in_part why limits at_start start words armed p q (Run plan) items stops = inl (q, stops.0, stops.1, refl)
+here_in_part why limits at_start start words armed p q Power items stops = inl (q, stops.0, stops.1, refl)
 
 module _ (items : List Item) (i : ℕ) (item : Item) (armed : Option CutPlan) (first : Point) (old world : WorldView) (queue : Queued) (s : Staged items i armed first old world queue) (lt : i < length items) (is : item ≡ get_or items i item) where
   -- an item more is done
@@ -155,7 +156,7 @@ module _ (items : List Item) (i : ℕ) (item : Item) (armed : Option CutPlan) (f
         powered = powered_then armed s.used world new item d.power s.powered;
         cut = d.cut;
         follows = λ marks rest. s.follows marks (rw here (then_leads _ _ _ armed next _ _ item (drop (i + 1) items) marks leads rest));
-        in_part = λ why marks rest. s.in_part why marks (rw here (then_in_part why _ _ _ armed next _ _ item (drop (i + 1) items) marks leads rest));
+        in_part = λ why marks rest. s.in_part why marks (rw here (then_in_part why _ _ _ _ armed next _ _ item (drop (i + 1) items) marks leads rest));
         to_want = λ marks rest. s.to_want marks (rw here (then_want _ _ _ armed next _ _ item (drop (i + 1) items) marks leads rest));
       }
 
@@ -163,14 +164,14 @@ module _ (items : List Item) (i : ℕ) (item : Item) (armed : Option CutPlan) (f
   pub staged_met : (why : LimitKind) (new : WorldView) → IsStoppedItem why armed world queue item new → IsLedFromInPart first old items why new
   staged_met why new d =
       let here = here_is items i item lt is in
-      let leads : LeadsInPart why old.at_start old.log.start (words_of old.config) armed (point_of world queue) item d.at =
-      subst (λ (at_start : State). LeadsInPart why at_start old.log.start (words_of old.config) armed (point_of world queue) item d.at) s.on.at_start
-      (subst (λ (start : List ℕ). LeadsInPart why world.at_start start (words_of old.config) armed (point_of world queue) item d.at) s.on.start
-      (subst (λ (c : Config). LeadsInPart why world.at_start world.log.start (words_of c) armed (point_of world queue) item d.at) s.on.config d.leads)) in
+      let leads : LeadsInPart why old.log.limits old.at_start old.log.start (words_of old.config) armed (point_of world queue) item d.at =
+      subst (λ (at_start : State). LeadsInPart why old.log.limits at_start old.log.start (words_of old.config) armed (point_of world queue) item d.at) s.on.at_start
+      (subst (λ (start : List ℕ). LeadsInPart why old.log.limits world.at_start start (words_of old.config) armed (point_of world queue) item d.at) s.on.start
+      (subst (λ (c : Config). LeadsInPart why old.log.limits world.at_start world.log.start (words_of c) armed (point_of world queue) item d.at) s.on.config
+      (subst (λ (limits : Limits). LeadsInPart why limits world.at_start world.log.start (words_of world.config) armed (point_of world queue) item d.at) s.on.limits d.leads))) in
       record {
         on = record { config = d.stays.config ∙ s.on.config; at_start = d.stays.at_start ∙ s.on.at_start; start = d.stays.start ∙ s.on.start; limits = d.stays.limits ∙ s.on.limits };
-        follows = s.in_part why new.log.past (rw here (subst (LeadsToInPart why old.at_start old.log.start (words_of old.config) armed (point_of world queue) (item ∷ drop (i + 1) items)) d.past (here_in_part why _ _ _ armed _ d.at item (drop (i + 1) items) leads)));
-        met = d.met;
+        follows = s.in_part why new.log.past (rw here (subst (LeadsToInPart why old.log.limits old.at_start old.log.start (words_of old.config) armed (point_of world queue) (item ∷ drop (i + 1) items)) d.past (here_in_part why _ _ _ _ armed _ d.at item (drop (i + 1) items) leads)));
       }
 
   -- memory is wanting for it

@@ -1,19 +1,24 @@
 -- One item of a script.
 use Rattle.std.proofs.Common.{◌≡◌, ◌≢◌, ◌≤◌, inl, inr, sym, subst, ℕ, ◌+◌, ◌∙◌, true, false, List, [], ◌∷◌, ◌++◌, refl, arith, Option, Some, None}
 use Rattle.bz_call.specs.declared.calls.Call.{Call}
+use Rattle.bz_mark.specs.Log.{Limits}
 use Rattle.bz_script.specs.declared.item.Item.TheVariants.{Queue, Arm, Run, Power}
 use Rattle.bz_script.specs.Order.{takes_no_cut}
 use Rattle.bz_script.specs.declared.item.Plan.{Plan}
 use Rattle.bz_script.specs.declared.item.Plan.TheVariants.{Alone, List as Listed, Turns, Threads}
+use Rattle.bz_sched.specs.AtLimit.{MeetsLimit}
+use Rattle.bz_sched.specs.Points.{Point}
 use Rattle.bz_sched.specs.Queued.{Queued}
 use Rattle.bz_sched.specs.Recoveries.{Powers, PowersCut}
-use Rattle.bz_sched.specs.Runs.{point_of, point_with, IsOfTurns, IsCutPlan, HasRun, HasPower}
+use Rattle.bz_sched.specs.Runs.{point_of, point_with, IsAtLimit, Stays, IsOfTurns, IsCutPlan, HasRun, HasPower}
+use Rattle.bz_sched.specs.Scripts.{MeetsBy}
 use Rattle.bz_sched.specs.declared.cut.CutPlan.{CutPlan}
 use Rattle.bz_sched.specs.declared.running.RunEnd.{RunEnd}
 use Rattle.bz_sched.specs.declared.running.RunEnd.TheVariants.{Finished, Cut, Limit}
 use Rattle.bz_layout.specs.Addresses.{words_of}
 use Rattle.bz_mark.specs.declared.power.Power.TheVariants as power
 use Rattle.bz_sched.specs.FromWorld.WorldView.{WorldView, power_in}
+use Rattle.bz_sched.specs.FromWorld.LimitKind.{LimitKind}
 use Rattle.bz_threads.specs.Ends.{HasRunThreads}
 use Rattle.bz_threads.specs.declared.running.ThreadsEnd.{ThreadsEnd}
 use Rattle.bz_threads.specs.declared.running.ThreadsEnd.TheVariants as threads
@@ -48,6 +53,16 @@ on_steady world on recovering = let opposed : power.On ≡ power.Recovering = sy
 off_steady : (world : WorldView) → power_in world ≡ power.Off → power_in world ≢ power.Recovering
 off_steady world off recovering = let opposed : power.Off ≡ power.Recovering = sym off ∙ recovering in absurd (cc opposed)
 
+-- a limit that is met at the end of an item, whatever it was
+limit_is : (old new : WorldView) (which : LimitKind) → Stays old new → IsAtLimit new which → MeetsLimit old.log.limits new.log.past which
+limit_is old new which stays met = subst (λ (limits : Limits). MeetsLimit limits new.log.past which) stays.limits met
+
+meets_by : (plan : Plan) (limits : Limits) (which : LimitKind) (old new : Point) → MeetsLimit limits new.past which → MeetsBy plan limits which old new
+meets_by Alone limits which old new met = met
+meets_by (Listed turns) limits which old new met = met
+meets_by (Turns seed) limits which old new met = met
+meets_by Threads limits which old new met = inl met
+
 pub run_done : (old new : WorldView) (queue left : Queued) (armed : Option CutPlan) (plan : Plan) (end : RunEnd) → HasRun armed plan old queue end new left → HasDone armed old queue (Run plan) (end_in end) None new left
 run_done old new queue left armed plan Finished (leaves, on, runs) = record {
   stays = leaves.stays;
@@ -66,7 +81,12 @@ run_done old new queue left (Some cut) plan Cut (leaves, off, (w, runs, flush)) 
   leads = (refl, inr (w, runs));
   power = λ none. absurd (cc none);
 }
-run_done old new queue left armed plan (Limit which) (stays, runs, met) = record { stays = stays; at = point_of new left; leads = runs; past = refl; met = met }
+run_done old new queue left armed plan (Limit which) (stays, runs, met) = record {
+  stays = stays;
+  at = point_of new left;
+  leads = (runs, meets_by plan old.log.limits which (point_of old queue) (point_of new left) (limit_is old new which stays met));
+  past = refl;
+}
 
 -- power on, and then the calls were dropped where its cut was made
 module _ (old new : WorldView) (queue left : Queued) (fits : queue.room ≤ left.room) where
@@ -88,7 +108,7 @@ module _ (old new : WorldView) (queue left : Queued) (fits : queue.room ≤ left
     leads = (refl, inr (subst (λ (calls : List (ℕ × Call)). PowersCut old.at_start old.log.start (words_of old.config) (Some cut) (point_of old queue) (point_with new calls)) (sym same) (powers queue.calls)));
     power = λ none. absurd (cc none);
   }
-  power_done armed (Limit which) same (stays, powers, met) = record { stays = stays; at = point_with new queue.calls; leads = powers queue.calls; past = refl; met = met }
+  power_done armed (Limit which) same (stays, powers, met) = record { stays = stays; at = point_with new queue.calls; leads = (powers queue.calls, limit_is old new which stays met); past = refl }
 
 -- a plan that takes a cut takes turns, and the other one is that of threads
 pub of_turns : (plan : Plan) → takes_no_cut plan ≡ false → IsOfTurns plan
@@ -112,7 +132,7 @@ by_threads old new queue left threads.Finished (leaves, on, runs) = record {
   leads = (refl, inl runs);
   power = λ none. on;
 }
-by_threads old new queue left (threads.Limit which) (stays, (at, runs, past), met) = record { stays = stays; at = at; leads = inl (runs, tt); past = past; met = met }
+by_threads old new queue left (threads.Limit which) (stays, (at, runs, past, met)) = record { stays = stays; at = at; leads = (inl (runs, tt), met); past = past }
 by_threads old new queue left threads.Memory (stays, (at, ends, past)) = record { stays = stays; at = at; leads = ends; past = past }
 
 pub threads_done : (old new : WorldView) (queue left : Queued) (armed : Option CutPlan) (plan : Plan) (how : ThreadsEnd) → takes_no_cut plan ≡ true → (takes_no_cut plan ≡ true → armed ≡ None) → HasRunThreads old queue how new left

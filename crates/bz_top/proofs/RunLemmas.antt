@@ -3,6 +3,7 @@ use Rattle.std.proofs.Common.{◌≡◌, ◌++◌, Option, Some, None, List, ℕ
 use Rattle.std.specs.Prelude.{codes}
 use Rattle.bz_layout.specs.Addresses.{words_of}
 use Rattle.bz_layout.specs.declared.config.Config.{Config}
+use Rattle.bz_mark.specs.Log.{Limits}
 use Rattle.bz_script.specs.Script.{Job}
 use Rattle.bz_sched.specs.Scripts.{LeadsTo, LeadsToInPart, LeadsToWant}
 use Rattle.bz_sched.specs.Enough.{count_wanting}
@@ -45,10 +46,10 @@ module _ (marks : ℕ) (base : Base) (job : Job) (old new : WorldView) (made : I
       let right : IsLab marks base job new = record { made = made_still marks base job old new made ran.on; sound = sound; numbers = numbers } in
       let cut_short : IsCutShort marks base job new which = record {
         right = right;
-        follows = subst (λ (s : State). LeadsToInPart which s new.log.start (words_of new.config) None at_first (items_from s job.items) new.log.past) (sym ran.on.at_start)
-            (subst (λ (start : List ℕ). LeadsToInPart which old.at_start start (words_of new.config) None at_first (items_from old.at_start job.items) new.log.past) (sym ran.on.start)
-            (subst (λ (c : Config). LeadsToInPart which old.at_start old.log.start (words_of c) None at_first (items_from old.at_start job.items) new.log.past) (sym ran.on.config) ran.follows));
-        met = ran.met;
+        follows = subst (λ (s : State). LeadsToInPart which new.log.limits s new.log.start (words_of new.config) None at_first (items_from s job.items) new.log.past) (sym ran.on.at_start)
+            (subst (λ (start : List ℕ). LeadsToInPart which new.log.limits old.at_start start (words_of new.config) None at_first (items_from old.at_start job.items) new.log.past) (sym ran.on.start)
+            (subst (λ (c : Config). LeadsToInPart which new.log.limits old.at_start old.log.start (words_of c) None at_first (items_from old.at_start job.items) new.log.past) (sym ran.on.config)
+            (subst (λ (limits : Limits). LeadsToInPart which limits old.at_start old.log.start (words_of old.config) None at_first (items_from old.at_start job.items) new.log.past) (sym ran.on.limits) ran.follows)));
         lacks = lacks_still old new job.items ran.on lacks;
       } in
       elim says [

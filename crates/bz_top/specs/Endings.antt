@@ -23,7 +23,6 @@ use Rattle.bz_sched.specs.Enough.{count_wanting}
 use Rattle.bz_sched.specs.FromWorld.Numbers.{AreNumbersKept}
 use Rattle.bz_sched.specs.FromWorld.WorldView.{WorldView}
 use Rattle.bz_sched.specs.FromWorld.LimitKind.{LimitKind}
-use Rattle.bz_sched.specs.Runs.{IsAtLimit}
 use Rattle.bz_sched.specs.Points.{Point}
 use Rattle.bz_sched.specs.Scripts.{LeadsTo, LeadsToInPart, LeadsToWant}
 use Rattle.bz_sched.specs.Sums.{calls_in, sum_of, SufficesFor, HasStockFor}
@@ -133,12 +132,11 @@ pub record IsFinished (marks : ℕ) (base : Base) (script : Job) (world : WorldV
   pub served : SufficesFor world.config world.log.limits (items_from world.at_start script.items) → HasStockFor world.config world.log.start (sum_of calls_in (items_from world.at_start script.items)) → count_wanting world.log.past ≡ 0
 
 -- a run that met a limit when one more was needed: a world of the script, with a sound journal to which the
--- script leads up to there. Where each run of the script goes one worker after the other, and no cut is armed for a run or a power on, its sums were beyond
+-- script leads up to there, and where the limit is met. Where each run of the script goes one worker after the other, and no cut is armed for a run or a power on, its sums were beyond
 -- the limits
 pub record IsCutShort (marks : ℕ) (base : Base) (script : Job) (world : WorldView) (which : LimitKind) : Type 0 where
   pub right : IsLab marks base script world
-  pub follows : LeadsToInPart which world.at_start world.log.start (words_of world.config) None at_first (items_from world.at_start script.items) world.log.past
-  pub met : IsAtLimit world which
+  pub follows : LeadsToInPart which world.log.limits world.at_start world.log.start (words_of world.config) None at_first (items_from world.at_start script.items) world.log.past
   pub lacks : SufficesFor world.config world.log.limits (items_from world.at_start script.items) → ⊥
 
 -- a run for which memory was wanting: a world of the script, with a sound journal to which the script leads up to a run on

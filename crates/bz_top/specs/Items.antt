@@ -2,6 +2,7 @@
 use Rattle.std.specs.Prelude.{◌≡◌, ◌≢◌, true, ◌≤◌, ◌⊎◌, ℕ, ◌+◌, List, [], Option, Some, None}
 use Rattle.bz_call.specs.declared.calls.Call.{Call}
 use Rattle.bz_layout.specs.Addresses.{words_of}
+use Rattle.bz_mark.specs.Log.{Limits}
 use Rattle.bz_mark.specs.declared.marks.Mark.{Mark}
 use Rattle.bz_script.specs.ItemLaws.{IsItem}
 use Rattle.bz_script.specs.Order.{takes_no_cut}
@@ -11,12 +12,13 @@ use Rattle.bz_mark.specs.declared.power.Power.{Power as State}
 use Rattle.bz_mark.specs.declared.power.Power.TheVariants as power
 use Rattle.bz_sched.specs.FromWorld.WorldView.{WorldView, power_in}
 use Rattle.bz_sched.specs.FromWorld.LimitKind.{LimitKind}
+use Rattle.bz_sched.specs.AtLimit.{MeetsLimit}
 use Rattle.bz_sched.specs.Plans.{RunsWhole, RunsCut, RunsInPart}
 use Rattle.bz_sched.specs.Points.{Point}
 use Rattle.bz_sched.specs.Queued.{Queued}
 use Rattle.bz_sched.specs.Recoveries.{Powers, PowersCut, PowersInPart}
-use Rattle.bz_sched.specs.Runs.{point_of, point_with, IsAtLimit, Stays, IsCutPlan}
-use Rattle.bz_sched.specs.Scripts.{queued, LeadsTo, LeadsToInPart, WantsMemory, LeadsToWant}
+use Rattle.bz_sched.specs.Runs.{point_of, point_with, Stays, IsCutPlan}
+use Rattle.bz_sched.specs.Scripts.{queued, LeadsTo, MeetsBy, LeadsToInPart, WantsMemory, LeadsToWant}
 use Rattle.bz_sched.specs.declared.cut.CutPlan.{CutPlan}
 use Rattle.bz_sched.specs.declared.running.RunEnd.{RunEnd}
 use Rattle.bz_sched.specs.declared.running.RunEnd.TheVariants.{Finished, Cut, Limit}
@@ -56,11 +58,11 @@ Leads at_start start words armed old (Arm flush seed) next new = (next ≡ Some 
 Leads at_start start words armed old (Run plan) next new = (next ≡ None) × (RunsWhole words armed plan old new ⊎ RunsCut start words armed plan old new)
 Leads at_start start words armed old Power next new = (next ≡ None) × (Powers at_start armed old new ⊎ PowersCut at_start start words armed old new)
 
--- and where it leads up to a limit
-abbrev pub LeadsInPart : LimitKind → State → List ℕ → ℕ → Option CutPlan → Point → Item → Point → Type 0
-LeadsInPart why at_start start words armed old (Run plan) new = RunsInPart why start words armed plan old new
-LeadsInPart why at_start start words armed old Power new = PowersInPart why at_start start words armed old new
-LeadsInPart why at_start start words armed old other new = ⊥
+-- and where it leads up to a limit of these
+abbrev pub LeadsInPart : LimitKind → Limits → State → List ℕ → ℕ → Option CutPlan → Point → Item → Point → Type 0
+LeadsInPart why limits at_start start words armed old (Run plan) new = RunsInPart why start words armed plan old new × MeetsBy plan limits why old new
+LeadsInPart why limits at_start start words armed old Power new = PowersInPart why at_start start words armed old new × MeetsLimit limits new.past why
+LeadsInPart why limits at_start start words armed old other new = ⊥
 
 -- and where it leads up to want of memory
 abbrev pub LeadsToWantIn : Point → Item → Point → Type 0
@@ -87,9 +89,8 @@ pub record IsDoneItem (armed : Option CutPlan) (old : WorldView) (queue : Queued
 pub record IsStoppedItem (which : LimitKind) (armed : Option CutPlan) (old : WorldView) (queue : Queued) (item : Item) (new : WorldView) : Type 0 where
   pub stays : Stays old new
   pub at : Point
-  pub leads : LeadsInPart which old.at_start old.log.start (words_of old.config) armed (point_of old queue) item at
+  pub leads : LeadsInPart which old.log.limits old.at_start old.log.start (words_of old.config) armed (point_of old queue) item at
   pub past : at.past ≡ new.log.past
-  pub met : IsAtLimit new which
 
 -- memory was wanting for it
 pub record IsWantingItem (old : WorldView) (queue : Queued) (item : Item) (new : WorldView) : Type 0 where
@@ -111,8 +112,7 @@ pub record IsLedFrom (first : Point) (old : WorldView) (items : List Item) (new 
 -- it has gone on so far, and has met a limit
 pub record IsLedFromInPart (first : Point) (old : WorldView) (items : List Item) (which : LimitKind) (new : WorldView) : Type 0 where
   pub on : Stays old new
-  pub follows : LeadsToInPart which old.at_start old.log.start (words_of old.config) None first items new.log.past
-  pub met : IsAtLimit new which
+  pub follows : LeadsToInPart which old.log.limits old.at_start old.log.start (words_of old.config) None first items new.log.past
 
 -- it has gone on so far, and memory was wanting for a run on threads
 pub record IsLedFromToWant (first : Point) (old : WorldView) (items : List Item) (new : WorldView) : Type 0 where
@@ -134,8 +134,8 @@ pub record IsTurnedOn (old new : WorldView) : Type 0 where
   pub on : power_in new ≡ power.On
   pub items : (items : List Item) (past : List Mark) → LeadsTo old.at_start old.log.start (words_of old.config) None (point_with new []) items past
       → LeadsTo old.at_start old.log.start (words_of old.config) None at_first (items_from old.at_start items) past
-  pub in_part : (why : LimitKind) (items : List Item) (past : List Mark) → LeadsToInPart why old.at_start old.log.start (words_of old.config) None (point_with new []) items past
-      → LeadsToInPart why old.at_start old.log.start (words_of old.config) None at_first (items_from old.at_start items) past
+  pub in_part : (why : LimitKind) (items : List Item) (past : List Mark) → LeadsToInPart why old.log.limits old.at_start old.log.start (words_of old.config) None (point_with new []) items past
+      → LeadsToInPart why old.log.limits old.at_start old.log.start (words_of old.config) None at_first (items_from old.at_start items) past
   pub to_want : (items : List Item) (past : List Mark) → LeadsToWant old.at_start old.log.start (words_of old.config) None (point_with new []) items past
       → LeadsToWant old.at_start old.log.start (words_of old.config) None at_first (items_from old.at_start items) past
 

@@ -1,5 +1,4 @@
-use Rattle.std.proofs.Common.{◌≡◌, List, refl, sym, ap, ◌∙◌}
-use Rattle.bz_script.specs.declared.item.Item.{Item}
+use Rattle.std.proofs.Common.{refl, sym, ap, ◌∙◌}
 use Rattle.bz_top.specs.Threads.{has_threads}
 use Rattle.bz_top.proofs.ThreadLemmas.{runs_in_turns}
 use Rattle.bz_top.proofs.answer.answer_script.Goals as goal
