@@ -1,9 +1,9 @@
 //! Laws of merges. Each function does nothing but call the laws that it follows from: its contract is the law.
 
 ghost use Rattle.bz_joined.specs.Laws.{FreezesBesideKeepTheStage, FreezesBesideKeepTheLeaf, FrozenLeavesAreTheKeys, SmallFreezesLeaveACopy, MergesGiveRoom};
-ghost use Rattle.bz_joined.specs.Lone.{LoneFreezesBesideKeepTheStage, LoneFreezesBesideKeepTheLeaf, LoneOwnFreezesLeaveACopy, MergeSwapsGiveRoom, LoneFreezesFreezeTheLeaf};
+ghost use Rattle.bz_joined.specs.Lone.{LoneFreezesBesideKeepTheStage, LoneFreezesBesideKeepTheLeaf, MergeSwapsGiveRoom, LoneFreezesFreezeTheLeaf};
 ghost use Rattle.bz_joined.specs.DueMerges.{LoneViewsTellTheLiveWords, LoneRootLeavesHaveNoNeighbour, LoneMergesAreDue};
-ghost use Rattle.bz_joined.specs.Neighbours.{NeighboursStand, LoneNeighboursLackRoom, LoneMergesTryTheirNeighbours, MergesKnowTheirLeaf, KnownLeavesStay, LoneTasksTryTheirNeighbours, LoneMergesDoNotLackRoom, MergesLackSlotsRightly};
+ghost use Rattle.bz_joined.specs.Neighbours.{NeighboursStand, LoneNeighboursLackRoom, MergesKnowTheirLeaf, KnownLeavesStay, LoneTasksTryTheirNeighbours, LoneMergesDoNotLackRoom, MergesLackSlotsRightly};
 ghost use Rattle.bz_joined.specs.SmallLeaves.{DeletesTellOfMerges, MergeableLeavesStandBelow, LoneRootLeavesAreTheTree, LoneDeletesTellOfMerges};
 
 use bz_content::laws as content;
@@ -100,22 +100,6 @@ pub fn lone_freezes_beside_keep_the_leaf()
     task::swaps_show_in_slots();
 }
 
-/// One that freezes the key's leaf leaves it to be copied.
-pub fn lone_own_freezes_leave_a_copy()
-    ensures { LoneOwnFreezesLeaveACopy }
-{
-    freezes_beside_keep_the_stage();
-    small_freezes_leave_a_copy();
-    alone::merges_go_on();
-    alone::trees_stand();
-    alone::lonely_times_are_quiet();
-    bz_layout::slots_apart();
-    bz_word::laws::statuses();
-    content::well_formed_images_have_no_fault();
-    shape::leaves_tile_the_keys();
-    task::swaps_show_in_slots();
-}
-
 /// One that turns the link to the parent gives room.
 pub fn merge_swaps_give_room()
     ensures { MergeSwapsGiveRoom }
@@ -180,13 +164,6 @@ pub fn lone_neighbours_lack_room()
     task::leaves_are_in_trees();
     task::same_records_show_the_same();
     task::seen_leaves_are_whole();
-}
-
-/// So a merge that has ended for want of a neighbour leaves a leaf that may not be merged.
-pub fn lone_merges_try_their_neighbours()
-    ensures { LoneMergesTryTheirNeighbours }
-{
-    lone_neighbours_lack_room();
 }
 
 /// A merge that goes on knows the leaf that it was made for.
