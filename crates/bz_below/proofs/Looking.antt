@@ -18,7 +18,7 @@ use Rattle.bz_task.specs.declared.todo.Seen.TheVariants.{Read as Was, NoSwap as 
 use Rattle.bz_halves.specs.Parents.{ChildrenMayBeParted}
 use Rattle.bz_parted.specs.Laws.{ReadNodesHaveChildren}
 use Rattle.bz_renew.specs.Nodes.{HaveSlots, AreSlotsTaken}
-use Rattle.bz_below.specs.Facts.{Below, below_nodes, HasPartedBelow, IsPlan, IsPlanned, LeavesRoom, HasRoom, HasParent, HasBegunBelow, HasBegunOrWaits, HasLookedBelow, below_differs, below_end, below_left, below_needs, below_facts, IsReadyBelow}
+use Rattle.bz_below.specs.Facts.{Below, below_nodes, HasPartedBelow, IsPlan, IsPlanned, LeavesRoom, HasRoom, HasParent, HasBegunBelow, HasBegunOrWaits, HasLookedBelow, below_differs, below_end, below_left, below_steps, below_needs, below_facts, IsReadyBelow}
 use Rattle.bz_below.specs.Guards.{WasThawed, LinksLeaveTheirNodes}
 use Rattle.bz_below.specs.declared.phase.Phase.{Phase}
 use Rattle.bz_below.specs.declared.phase.Phase.TheVariants.{Fresh, Room, Word, Again, Guard, Store, Flush, Named, Swap, Done, Restart, NoRoom, NoSlot, NoSwap}
@@ -32,7 +32,7 @@ use Rattle.bz_below.proofs.ParentsThen.{leaves-room}
 pub record Looks (before after : ℕ) (r : Below) (c : Config) (seen : Seen) (p : Phase) (old new : FreeSlots) : Type 0 where
   pub begun : p ≢ Fresh
   pub ready : IsReadyBelow c r p
-  pub nearer : after + below_left p < before + below_left Guard
+  pub nearer : after + (below_left p + below_steps p) ≤ before + below_left Guard
   pub taken : AreTakenFrom SPLIT_SLOTS (below_needs p) old new
   pub ends : EndsWell r.lower seen Guard p old
 

@@ -1,5 +1,5 @@
 -- What the last look at the guard of the link to the parent leads to, and teaches.
-use Rattle.std.proofs.Common.{◌≡◌, ◌≢◌, ℕ, ◌+◌, ◌<◌, ◌^◌, Bool, true, false, arith, refl, sym, subst, ◌∙◌, inr}
+use Rattle.std.proofs.Common.{◌≡◌, ◌≢◌, ℕ, ◌+◌, ◌<◌, ◌^◌, Bool, true, false, arith, refl, sym, subst, ◌∙◌, ◌≤◌, inr}
 use Rattle.bz_layout.specs.Addresses.{node_address}
 use Rattle.bz_layout.specs.Slots.{FreeSlots}
 use Rattle.bz_layout.specs.declared.config.Config.{Config}
@@ -13,7 +13,7 @@ use Rattle.bz_task.specs.declared.todo.Seen.TheVariants.{Read as Was, NoSwap as 
 use Rattle.bz_renew.specs.Nodes.{HaveSlots}
 use Rattle.bz_renew.specs.Renewals.{link_entry, guard_entry, IsTurnable, LinksMayBeTurned}
 use Rattle.bz_renew.proofs.TwoEntries.{no-target}
-use Rattle.bz_below.specs.Facts.{Below, below_nodes, IsSplittingBelow, IsSwapReady, below_differs, below_facts, below_left, below_needs, IsReadyBelow}
+use Rattle.bz_below.specs.Facts.{Below, below_nodes, IsSplittingBelow, IsSwapReady, below_differs, below_facts, below_left, below_steps, below_needs, IsReadyBelow}
 use Rattle.bz_split.specs.Facts.{SPLIT_WORDS, SPLIT_LINES}
 use Rattle.bz_below.specs.Guards.{with_guard, WasNamed, LinksStandOn}
 use Rattle.bz_below.specs.declared.phase.Phase.{Phase}
@@ -69,7 +69,7 @@ pub record IsNamedPhase (v : ℕ) (p : Phase) : Type 0 where
 pub record Names (r : Below) (c : Config) (v : ℕ) (seen : Seen) (p : Phase) (free : FreeSlots) : Type 0 where
   pub begun : p ≢ Fresh
   pub ready : IsReadyBelow c (named-of r v) p
-  pub nearer : below_left p < below_left Named
+  pub nearer : below_left p + below_steps p ≤ below_left Named
   pub taken : AreTakenFrom 0 (below_needs p) free free
   pub ends : EndsWell r.lower seen Named p free
 

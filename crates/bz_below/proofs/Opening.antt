@@ -8,7 +8,7 @@ use Rattle.bz_task.specs.Requests.{Answers, Hears, Tells}
 use Rattle.bz_task.specs.Scene.{Scene, Stage, Waiting, Took, IsScene, HasFilled}
 use Rattle.bz_task.specs.declared.todo.Seen.{Seen}
 use Rattle.bz_task.specs.declared.todo.Seen.TheVariants.{Read as Was}
-use Rattle.bz_below.specs.Facts.{Below, HasPartedBelow, HasStarted, IsUnread, IsReading, LeavesRoom, HasOpened, below_asks, below_left, below_needs, below_facts, IsReadyBelow}
+use Rattle.bz_below.specs.Facts.{Below, HasPartedBelow, HasStarted, IsUnread, IsReading, LeavesRoom, HasOpened, below_asks, below_left, below_steps, below_needs, below_facts, IsReadyBelow}
 use Rattle.bz_below.specs.Parents.{ReadParentsWere}
 use Rattle.bz_below.specs.declared.phase.Phase.{Phase}
 use Rattle.bz_below.specs.declared.phase.Phase.TheVariants.{Fresh, Room, Word, Again, Guard, Store, Flush, Named, Swap, Done, Restart, NoRoom, NoSlot, NoSwap}
@@ -50,7 +50,7 @@ opened-learns law have c before after r NoSwap seen stage s h good f t = absurd 
 pub record Opens (before after : ℕ) (r : Below) (c : Config) (seen : Seen) (p : Phase) (free : FreeSlots) : Type 0 where
   pub begun : p ≢ Fresh
   pub ready : IsReadyBelow c r p
-  pub nearer : after + below_left p < before + below_left Room
+  pub nearer : after + (below_left p + below_steps p) ≤ before + below_left Room
   pub fewer : below_needs p ≤ SPLIT_SLOTS
   pub ends : EndsWell r.lower seen Room p free
 

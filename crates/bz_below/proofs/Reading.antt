@@ -13,7 +13,7 @@ use Rattle.bz_task.specs.Requests.{Answers, Hears, Tells}
 use Rattle.bz_task.specs.Scene.{Scene, Stage, Waiting, Took, IsScene, HasFilled}
 use Rattle.bz_task.specs.declared.todo.Seen.{Seen}
 use Rattle.bz_task.specs.declared.todo.Seen.TheVariants.{Start, Read as Was, Stored, Flushed, Swapped, NoSwap as NoneLeft}
-use Rattle.bz_below.specs.Facts.{Below, IsReading, below_asks, below_left, below_needs, below_facts, word_after, IsReadyBelow}
+use Rattle.bz_below.specs.Facts.{Below, IsReading, below_asks, below_left, below_steps, below_needs, below_facts, word_after, IsReadyBelow}
 use Rattle.bz_below.specs.declared.phase.Phase.{Phase}
 use Rattle.bz_below.specs.declared.phase.Phase.TheVariants.{Fresh, Room, Word, Again}
 use Rattle.bz_below.proofs.Acting.{upper-slot}
@@ -63,7 +63,7 @@ word-known c r i j v seen Took s same good after within skipped found f t = absu
 pub record Words (c : Config) (r : Below) (i j : ℕ) (seen : Seen) (p : Phase) (free : FreeSlots) : Type 0 where
   pub begun : p ≢ Fresh
   pub ready : IsReadyBelow c r p
-  pub nearer : below_left p + j ≤ below_left (Word i) + i
+  pub nearer : below_left p + below_steps p + j ≤ below_left (Word i) + i + 1
   pub fewer : below_needs p ≤ SPLIT_SLOTS
   pub ends : EndsWell r.lower seen (Word i) p free
 

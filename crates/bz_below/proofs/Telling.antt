@@ -1,5 +1,5 @@
 -- What the parent's status tells, found once more: its words are those of one moment.
-use Rattle.std.proofs.Common.{◌≡◌, ◌≢◌, ◌<◌, arith, refl, subst, inr}
+use Rattle.std.proofs.Common.{◌≡◌, ◌≢◌, ◌+◌, ◌≤◌, arith, refl, subst, inr}
 use Rattle.bz_layout.specs.Slots.{FreeSlots}
 use Rattle.bz_layout.specs.declared.config.Config.{Config}
 use Rattle.bz_layout.specs.declared.sizes.TheConstants.{NODE_WORDS}
@@ -10,7 +10,7 @@ use Rattle.bz_task.specs.Scene.{Scene, Stage, Waiting, Took, IsScene, HasFilled,
 use Rattle.bz_task.specs.declared.todo.Seen.{Seen}
 use Rattle.bz_task.specs.declared.todo.Seen.TheVariants.{Read as Was}
 use Rattle.bz_parted.specs.Laws.{ReadNodesHaveChildren}
-use Rattle.bz_below.specs.Facts.{Below, IsReading, HasTold, below_asks, below_left, below_needs, below_facts, IsReadyBelow}
+use Rattle.bz_below.specs.Facts.{Below, IsReading, HasTold, below_asks, below_left, below_steps, below_needs, below_facts, IsReadyBelow}
 use Rattle.bz_below.specs.Parents.{WasParent, ReadParentsWere}
 use Rattle.bz_below.specs.declared.phase.Phase.{Phase}
 use Rattle.bz_below.specs.declared.phase.Phase.TheVariants.{Fresh, Room, Word, Again, Guard, Store, Flush, Named, Swap, Done, Restart, NoRoom, NoSlot, NoSwap}
@@ -49,7 +49,7 @@ told-learns law have c r NoSwap seen stage s h good f t = absurd (h)
 pub record Tolds (r : Below) (c : Config) (seen : Seen) (p : Phase) (free : FreeSlots) : Type 0 where
   pub begun : p ≢ Fresh
   pub ready : IsReadyBelow c r p
-  pub nearer : below_left p < below_left Again
+  pub nearer : below_left p + below_steps p ≤ below_left Again
   pub taken : AreTakenFrom SPLIT_SLOTS (below_needs p) free free
   pub ends : EndsWell r.lower seen Again p free
 

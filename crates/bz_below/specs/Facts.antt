@@ -76,10 +76,10 @@ below_end NoSlot = Some (IsFull NoNodes)
 below_end NoSwap = Some (IsFull NoSwaps)
 below_end phase = None
 
--- the most acts where the parent is read once: the loads of its status, of its words, of its status again and of the upper guard, a
--- store for each word, a flush for each line, the load of the upper guard, the swap, and the end
+-- the most steps where the parent is read once: the loads of its status, of its words, of its status again and of the upper guard, a
+-- store for each word, a flush for each line, which counts two, the load of the upper guard, the swap, and the end
 abbrev pub below_once : ℕ
-below_once = NODE_WORDS + SPLIT_WORDS + SPLIT_LINES + 5
+below_once = NODE_WORDS + SPLIT_WORDS + 2 * SPLIT_LINES + 5
 
 -- the parent may be read anew, in as many loads as so many readings of all its words take, with a look at both guards each time
 abbrev pub below_waits : ℕ
@@ -88,7 +88,7 @@ below_waits = (NODE_WORDS + 1) * MOST_WAITS
 abbrev pub below_acts : ℕ
 below_acts = below_waits + below_once
 
--- of these acts so many are done at most where the parent lacks the room: the load of its status, and the end
+-- of these steps so many are done at most where the parent lacks the room: the load of its status, and the end
 abbrev pub below_fails : ℕ
 below_fails = 2
 
@@ -101,19 +101,24 @@ below_swaps NoSlot = 0
 below_swaps NoSwap = 0
 below_swaps phase = 1
 
--- the most acts that are still asked for, beside the loads that may be spent on waiting: these are counted from the first word on
+-- the most steps that are left, beside the loads that may be spent on waiting: these are counted from the first word on
 abbrev pub below_left : Phase → ℕ
 below_left Fresh = below_acts
 below_left Room = below_acts - 1
 below_left NoRoom = below_acts - below_fails
 below_left (Word i) = below_once - 1 - i
-below_left Again = SPLIT_WORDS + SPLIT_LINES + 4
-below_left Guard = SPLIT_WORDS + SPLIT_LINES + 3
-below_left (Store j) = SPLIT_WORDS + SPLIT_LINES + 2 - j
-below_left (Flush j) = SPLIT_LINES + 2 - j
+below_left Again = SPLIT_WORDS + 2 * SPLIT_LINES + 4
+below_left Guard = SPLIT_WORDS + 2 * SPLIT_LINES + 3
+below_left (Store j) = SPLIT_WORDS + 2 * SPLIT_LINES + 2 - j
+below_left (Flush j) = 2 * (SPLIT_LINES - j) + 1
 below_left Named = 2
 below_left Swap = 1
 below_left phase = 0
+
+-- the steps of what is asked for
+abbrev pub below_steps : Phase → ℕ
+below_steps (Flush j) = 2
+below_steps phase = 1
 
 -- the slots are taken when both guards have been looked at again: none where it ended for want of room
 abbrev pub below_needs : Phase → ℕ

@@ -17,7 +17,7 @@ ghost use Rattle.bz_task.specs.Scene.{Scene, Stage, Waiting, IsScene};
 ghost use Rattle.bz_layout.specs.declared.swaps.TheConstants.{RENEWAL_SWAPS};
 ghost use Rattle.bz_task.specs.declared.todo.Seen.TheVariants.{Start, Read as Was, Swapped, NoSwap as NoneLeft};
 ghost use Rattle.bz_below.specs.Duties.{below_of, asks_below, end_below, left_below, swaps_below, made_below, needs_below, facts_below, differs_below, basis_below};
-ghost use Rattle.bz_below.specs.Facts.{IsEndOfSplitBelow, below_nodes, below_acts, below_end, below_left, below_swaps, below_facts, below_means, HasRoom, HasParent, IsNewParent, HasBegunBelow, HasLookedBelow, HasOpened, HasTold, IsNotOvertaken, HasBegunOrWaits, IsReadyBelow, IsThawedAbove, WasPartedBelow, LackedPart, below_needs, word_after, store_after, flush_after};
+ghost use Rattle.bz_below.specs.Facts.{IsEndOfSplitBelow, below_nodes, below_acts, below_end, below_left, below_steps, below_swaps, below_facts, below_means, HasRoom, HasParent, IsNewParent, HasBegunBelow, HasLookedBelow, HasOpened, HasTold, IsNotOvertaken, HasBegunOrWaits, IsReadyBelow, IsThawedAbove, WasPartedBelow, LackedPart, below_needs, word_after, store_after, flush_after};
 ghost use Rattle.bz_split.specs.Facts.{split_change};
 ghost use Rattle.bz_split.specs.Parts.{ArePartsOf};
 
@@ -271,7 +271,7 @@ impl SplitBelow {
         requires named { self.now.phase ≢ Phase.Named }
         requires hears { Hears (asks_below self.now) seen }
         requires known { IsKnown self.now.config (facts_below self.now) (asks_below self.now) seen moment }
-        ensures nearer { below_left result < below_left self.now.phase }
+        ensures nearer { below_left result + below_steps result ≤ below_left self.now.phase }
         ensures fewer { below_swaps result + swaps_in (asks_below self.now) ≤ swaps_below self.now }
         ensures counted { below_end result ≡ None → effects_in seen ≡ 0 }
         ensures needs { below_needs result ≡ 0 }
@@ -307,7 +307,7 @@ impl SplitBelow {
         ensures known { IsConfig self.new.config }
         ensures begun { self.new.phase ≢ Phase.Fresh }
         ensures ready { IsReadyBelow self.new.config (below_of self.new) self.new.phase }
-        ensures nearer { left_below self.new < left_below self.old }
+        ensures nearer { left_below self.new + below_steps self.new.phase ≤ left_below self.old }
         ensures fewer { swaps_below self.new + swaps_in (asks_below self.old) ≤ swaps_below self.old }
         ensures counted { end_below self.new ≡ None → effects_in seen ≡ 0 }
         ensures slots { AreTakenFrom (needs_below self.old) (needs_below self.new) slots.old slots.new }

@@ -18,7 +18,7 @@ use Rattle.bz_task.specs.declared.todo.Todo.TheVariants.{Read as Reads}
 use Rattle.bz_task.specs.declared.todo.Outcome.TheVariants.{Done as IsDone, Restart as Restarts, Full as IsFull}
 use Rattle.bz_call.specs.declared.replies.Spent.TheVariants.{Nodes, Swaps}
 use Rattle.bz_task.specs.declared.todo.Seen.TheVariants.{Start, Read as Was, Stored, Flushed, Swapped, NoSwap as NoneLeft}
-use Rattle.bz_consol.specs.Facts.{Renewal, HasViewed, IsCopying, HasBegun, HasLooked, consol_asks, consol_differs, consol_end, consol_left, consol_swaps, consol_needs, consol_facts, next_flush, IsReady}
+use Rattle.bz_consol.specs.Facts.{Renewal, HasViewed, IsCopying, HasBegun, HasLooked, consol_asks, consol_differs, consol_end, consol_left, consol_steps, consol_swaps, consol_needs, consol_facts, next_flush, IsReady}
 use Rattle.bz_renew.specs.Guards.{WasAsRead}
 use Rattle.bz_renew.specs.Renewals.{IsTurnable, LinksMayBeTurned}
 use Rattle.bz_renew.specs.Writing.{TakesFirst, IsWritingNode}
@@ -179,7 +179,7 @@ first-ends c r NoneLeft free h = absurd (h)
 pub record Looks (r : Renewal) (c : Config) (seen : Seen) (p : Phase) (old new : FreeSlots) : Type 0 where
   pub begun : p ≢ Fresh
   pub ready : IsReady c r p
-  pub nearer : consol_left p < consol_left Guard
+  pub nearer : consol_left p + consol_steps p ≤ consol_left Guard
   pub taken : AreTakenFrom CONSOLIDATION_SLOTS (consol_needs p) old new
   pub ends : EndsWell r.link seen Guard p old
 

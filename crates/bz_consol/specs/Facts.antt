@@ -1,5 +1,5 @@
 -- What a consolidation knows, and what it asks for.
-use Rattle.std.specs.Prelude.{◌≡◌, ◌≢◌, ℕ, ◌+◌, ◌-◌, ◌^◌, ◌<◌, ◌≤◌, ◌⊎◌, nat_lt, if◌then◌else◌, false, List, [], All, Option, Some, None, slice_index, length}
+use Rattle.std.specs.Prelude.{◌≡◌, ◌≢◌, ℕ, ◌+◌, ◌-◌, ◌*◌, ◌^◌, ◌<◌, ◌≤◌, ◌⊎◌, nat_lt, if◌then◌else◌, false, List, [], All, Option, Some, None, slice_index, length}
 use Rattle.bz_call.specs.declared.replies.Spent.TheVariants.{Nodes, Swaps}
 use Rattle.bz_layout.specs.Addresses.{node_address, line_of}
 use Rattle.bz_layout.specs.Slots.{FreeSlots}
@@ -52,9 +52,9 @@ consol_end NoSlot = Some (IsFull Nodes)
 consol_end NoSwap = Some (IsFull Swaps)
 consol_end phase = None
 
--- the most acts: the load of the guard, a store for each word, a flush for each line, the swap, and the end
+-- the most steps: the load of the guard, a store for each word, a flush for each line, which counts two, the swap, and the end
 abbrev pub consol_acts : ℕ
-consol_acts = NODE_WORDS + NODE_LINES + 3
+consol_acts = NODE_WORDS + 2 * NODE_LINES + 3
 
 -- the most swaps that are still asked for: that of the link, until it has ended
 abbrev pub consol_swaps : Phase → ℕ
@@ -66,11 +66,16 @@ consol_swaps phase = 1
 
 abbrev pub consol_left : Phase → ℕ
 consol_left Fresh = consol_acts
-consol_left Guard = NODE_WORDS + NODE_LINES + 2
-consol_left (Store i) = NODE_WORDS + NODE_LINES + 1 - i
-consol_left (Flush n) = NODE_LINES + 1 - n
+consol_left Guard = NODE_WORDS + 2 * NODE_LINES + 2
+consol_left (Store i) = NODE_WORDS + 2 * NODE_LINES + 1 - i
+consol_left (Flush n) = 2 * (NODE_LINES - n)
 consol_left Swap = 1
 consol_left phase = 0
+
+-- the steps of what is asked for
+abbrev pub consol_steps : Phase → ℕ
+consol_steps (Flush n) = 2
+consol_steps phase = 1
 
 -- the slot is taken when the guard has been looked at again
 abbrev pub consol_needs : Phase → ℕ

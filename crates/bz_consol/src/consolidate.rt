@@ -13,7 +13,7 @@ ghost use Rattle.bz_task.specs.Scene.{Scene, Stage, Waiting, IsScene};
 ghost use Rattle.bz_layout.specs.declared.swaps.TheConstants.{RENEWAL_SWAPS};
 ghost use Rattle.bz_task.specs.declared.todo.Seen.TheVariants.{Start, Read as Was, Swapped, NoSwap as NoneLeft};
 ghost use Rattle.bz_consol.specs.Duties.{renewal_of, asks_of, basis_of, end_of, left_of, swaps_of, made_of, needs_of, facts_of, differs_of};
-ghost use Rattle.bz_consol.specs.Facts.{IsEndOfConsolidation, HasBegun, HasLooked, IsMadeOf, consol_acts, consol_asks, consol_end, consol_left, consol_swaps, consol_facts, consol_means, consol_change, IsReady, LeadsTo, WasRenewed, next_store, next_flush};
+ghost use Rattle.bz_consol.specs.Facts.{IsEndOfConsolidation, HasBegun, HasLooked, IsMadeOf, consol_acts, consol_asks, consol_end, consol_left, consol_steps, consol_swaps, consol_facts, consol_means, consol_change, IsReady, LeadsTo, WasRenewed, next_store, next_flush};
 
 use crate::copies::copy_of;
 use crate::laws::renewals_are_good;
@@ -84,7 +84,7 @@ impl Consolidate {
         requires looked { self.now.phase ≢ Phase.Guard }
         requires hears { Hears (asks_of self.now) seen }
         requires known { IsKnown self.now.config (facts_of self.now) (asks_of self.now) seen moment }
-        ensures nearer { consol_left result < left_of self.now }
+        ensures nearer { consol_left result + consol_steps result ≤ left_of self.now }
         ensures fewer { consol_swaps result + swaps_in (asks_of self.now) ≤ swaps_of self.now }
         ensures counted { consol_end result ≡ None → effects_in seen ≡ 0 }
         ensures done { result ≡ Phase.Done → seen ≡ Swapped true }
@@ -150,7 +150,7 @@ impl Consolidate {
         ensures known { IsConfig self.new.config }
         ensures begun { self.new.phase ≢ Phase.Fresh }
         ensures ready { IsReady self.new.config (renewal_of self.new) self.new.phase }
-        ensures nearer { left_of self.new < left_of self.old }
+        ensures nearer { left_of self.new + consol_steps self.new.phase ≤ left_of self.old }
         ensures fewer { swaps_of self.new + swaps_in (asks_of self.old) ≤ swaps_of self.old }
         ensures counted { end_of self.new ≡ None → effects_in seen ≡ 0 }
         ensures slots { AreTakenFrom (needs_of self.old) (needs_of self.new) slots.old slots.new }

@@ -4,7 +4,7 @@ use Rattle.std.specs.Prelude.{Some}
 use Rattle.std.proofs.lemmas.List.{length-drop}
 use Rattle.bz_layout.specs.Slots.{FreeSlots}
 use Rattle.bz_task.specs.OwnActs.{AreTakenFrom}
-use Rattle.bz_task.specs.Requests.{swaps_in}
+use Rattle.bz_task.specs.Requests.{swaps_in, steps_in}
 use Rattle.bz_task.specs.declared.todo.Seen.{Seen}
 use Rattle.bz_task.specs.declared.todo.Todo.{Todo}
 use Rattle.bz_task.specs.declared.todo.Todo.TheVariants.{Read, Load, Store, Flush, Swap, Finish}
@@ -20,13 +20,17 @@ use Rattle.bz_costs.specs.Weights.{start_allows, weigh}
 asked-one : (old new : AnyTask) (seen : Seen) (moment : ℕ) (free left : FreeSlots) (todo more : Todo) → HasHeard old seen moment free todo new left → more ≡ todo → swaps_in (asks_of new) ≡ swaps_in (Some more)
 asked-one old new seen moment free left todo more h e = ap swaps_in (h.asked ∙ ap Some (sym e))
 
+-- and so are its steps
+asked-steps : (old new : AnyTask) (seen : Seen) (moment : ℕ) (free left : FreeSlots) (todo more : Todo) → HasHeard old seen moment free todo new left → more ≡ todo → steps_in (asks_of new) ≡ steps_in (Some more)
+asked-steps old new seen moment free left todo more h e = ap steps_in (h.asked ∙ ap Some (sym e))
+
 -- told of the act, and of how many swaps it is
 paid : (old new : AnyTask) (seen : Seen) (moment : ℕ) (free left : FreeSlots) (todo more : Todo) → HasHeard old seen moment free todo new left → more ≡ todo → weigh Marks new + (0 + start_allows more) ≤ weigh Marks old
-paid old new seen moment free left todo (Read a) h e = omega (arith, h.nearer, h.fewer)
-paid old new seen moment free left todo (Load a) h e = omega (arith, h.nearer, h.fewer)
-paid old new seen moment free left todo (Store a v) h e = omega (arith, h.nearer, h.fewer)
-paid old new seen moment free left todo (Flush line) h e = omega (arith, h.nearer, h.fewer)
-paid old new seen moment free left todo (Swap entries) h e = omega (arith, h.nearer, h.fewer, asked-counted new, asked-one old new seen moment free left todo (Swap entries) h e)
+paid old new seen moment free left todo (Read a) h e = omega (arith, h.nearer, h.fewer, asked-steps old new seen moment free left todo (Read a) h e)
+paid old new seen moment free left todo (Load a) h e = omega (arith, h.nearer, h.fewer, asked-steps old new seen moment free left todo (Load a) h e)
+paid old new seen moment free left todo (Store a v) h e = omega (arith, h.nearer, h.fewer, asked-steps old new seen moment free left todo (Store a v) h e)
+paid old new seen moment free left todo (Flush line) h e = omega (arith, h.nearer, h.fewer, asked-steps old new seen moment free left todo (Flush line) h e)
+paid old new seen moment free left todo (Swap entries) h e = omega (arith, h.nearer, h.fewer, asked-steps old new seen moment free left todo (Swap entries) h e, asked-counted new, asked-one old new seen moment free left todo (Swap entries) h e)
 paid old new seen moment free left todo Finish h e = omega (arith, h.nearer, h.fewer)
 
 -- the slots that are gone are those that it was still to take

@@ -1,4 +1,4 @@
--- No task has more acts left, more swaps among them, or more slots to take, than at its begin.
+-- No task has more steps left, more swaps among them, or more slots to take, than at its begin.
 use Rattle.std.proofs.Common.{ℕ, ◌-◌, ◌≤◌, Bool, true, false, arith}
 use Rattle.bz_below.specs.Facts.{below_needs, below_swaps}
 use Rattle.bz_running.specs.FromConsol.Facts.{consol_acts, consol_left, consol_needs, consol_swaps}
@@ -166,11 +166,11 @@ merge-needs : (p : MergePhase) → merge_needs p ≤ MERGE_SLOTS
 merge-needs merge.Fresh = omega arith
 merge-needs p = omega arith
 
--- fewer acts, swaps and slots weigh less, also where one swap is not counted any more
-lighter : (r : Resource) (acts most swaps all now slots needs : ℕ) → acts ≤ most → swaps ≤ all → needs ≤ slots → weight r acts (swaps - now) needs ≤ weight r most all slots
-lighter Marks acts most swaps all now slots needs l s n = omega (arith, l, s)
-lighter Descriptors acts most swaps all now slots needs l s n = omega (arith, s)
-lighter Slots acts most swaps all now slots needs l s n = n
+-- fewer steps, swaps and slots weigh less, also where one swap is not counted any more
+lighter : (r : Resource) (left most swaps all now slots needs : ℕ) → left ≤ most → swaps ≤ all → needs ≤ slots → weight r left (swaps - now) needs ≤ weight r most all slots
+lighter Marks left most swaps all now slots needs l s n = omega (arith, l, s)
+lighter Descriptors left most swaps all now slots needs l s n = omega (arith, s)
+lighter Slots left most swaps all now slots needs l s n = n
 
 pub weigh-little : (r : Resource) → TasksWeighLittle r
 unfolding asks_of left_of swaps_of needs_of

@@ -1,4 +1,4 @@
--- What a split costs that ends for want of room above: a few of its acts. It has asked for no swap, and has taken no slot.
+-- What a split costs that ends for want of room above: a few of its steps. It has asked for no swap, and has taken no slot.
 use Rattle.std.specs.Prelude.{ℕ}
 use Rattle.bz_below.specs.Facts.{below_fails}
 use Rattle.bz_running.specs.FromFork.Facts.{fork_fails}

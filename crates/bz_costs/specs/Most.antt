@@ -82,7 +82,7 @@ most_of r (SplittingInner t a) = most_of_inner r
 most_of r (SplittingInnerRoot t a) = most_of_inner_root r
 most_of r (Merging t) = most_of_merge r
 
--- it has no more acts left than at its begin: of the split of a leaf below a parent this is to be known, since the number of loads in which
+-- it has no more steps left than at its begin: of the split of a leaf below a parent this is to be known, since the number of loads in which
 -- it may read its parent anew is one that it keeps; of each other task it is always so
 abbrev pub IsWithinItsActs : AnyTask → Type 0
 IsWithinItsActs (SplittingBelow t a) = left_below t ≤ below_acts

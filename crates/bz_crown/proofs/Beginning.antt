@@ -1,10 +1,10 @@
 -- The split of an inner root that is told to begin, and one whose swap took effect.
 use Rattle.std.proofs.Common.{◌≡◌, true, refl, subst}
 use Rattle.bz_layout.specs.declared.config.Config.{Config}
-use Rattle.bz_task.specs.Requests.{Hears}
+use Rattle.bz_task.specs.Requests.{Hears, steps_in}
 use Rattle.bz_task.specs.declared.todo.Seen.{Seen}
 use Rattle.bz_task.specs.declared.todo.Seen.TheVariants.{Start, Swapped}
-use Rattle.bz_crown.specs.Facts.{Crown, crown_asks, crown_swaps}
+use Rattle.bz_crown.specs.Facts.{Crown, crown_asks, crown_steps, crown_swaps}
 use Rattle.bz_crown.specs.declared.phase.Phase.{Phase}
 use Rattle.bz_crown.specs.declared.phase.Phase.TheVariants.{Fresh, Swap}
 
@@ -16,6 +16,11 @@ heard-in c r o p seen told e g h = subst (λ z. Hears (crown_asks c r z) told) e
 pub begins-fresh : (c : Config) (r : Crown) (p : Phase) → Hears (crown_asks c r p) Start → p ≡ Fresh
 begins-fresh c r Fresh h = refl
 begins-fresh c r p h = absurd (h)
+
+-- the steps of what a phase asks for
+pub asked-steps : (c : Config) (r : Crown) (p : Phase) → steps_in (crown_asks c r p) ≡ crown_steps p
+asked-steps c r Fresh = refl
+asked-steps c r p = refl
 
 -- one swap was left where it was told that a swap took effect
 pub one-left : (c : Config) (r : Crown) (p : Phase) → Hears (crown_asks c r p) (Swapped true) → crown_swaps p ≡ 1

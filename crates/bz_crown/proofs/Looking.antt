@@ -1,5 +1,5 @@
 -- What another look at the root status leads to, and teaches.
-use Rattle.std.proofs.Common.{◌≡◌, ◌≢◌, ◌<◌, ◌≤◌, arith, refl, sym, ap, subst, ◌∙◌, inl, inr}
+use Rattle.std.proofs.Common.{◌≡◌, ◌≢◌, ◌≤◌, arith, refl, sym, ap, subst, ◌∙◌, ◌+◌, inl, inr}
 use Rattle.std.specs.Prelude.{Some}
 use Rattle.bz_layout.specs.Addresses.{SlotsApart}
 use Rattle.bz_layout.specs.Slots.{FreeSlots}
@@ -16,7 +16,7 @@ use Rattle.bz_task.specs.declared.todo.Todo.TheVariants.{Read as Reads}
 use Rattle.bz_task.specs.declared.todo.Seen.TheVariants.{Read as Was}
 use Rattle.bz_renew.specs.Nodes.{HaveSlots, AreSlotsTaken}
 use Rattle.bz_renew.proofs.Guards.{answered-as-read}
-use Rattle.bz_crown.specs.Facts.{Crown, crown_nodes, HasLinks, IsPlan, IsPlanned, IsSplittable, HasBegunCrown, HasLookedCrown, crown_asks, crown_end, crown_left, crown_needs, crown_facts, IsReadyCrown}
+use Rattle.bz_crown.specs.Facts.{Crown, crown_nodes, HasLinks, IsPlan, IsPlanned, IsSplittable, HasBegunCrown, HasLookedCrown, crown_asks, crown_end, crown_left, crown_steps, crown_needs, crown_facts, IsReadyCrown}
 use Rattle.bz_crown.specs.declared.phase.Phase.{Phase}
 use Rattle.bz_crown.specs.declared.phase.Phase.TheVariants.{Fresh, Word, Again, Guard, Store, Flush, Swap, Done, Restart, TooHigh, NoSlot, NoSwap}
 use Rattle.bz_crown.proofs.Ending.{EndsWell, other-upper, read-answers, was-no-swap}
@@ -26,7 +26,7 @@ use Rattle.bz_crown.proofs.Making.{begun-knows}
 pub record Looks (r : Crown) (c : Config) (seen : Seen) (p : Phase) (old new : FreeSlots) : Type 0 where
   pub begun : p ≢ Fresh
   pub ready : IsReadyCrown c r p
-  pub nearer : crown_left p < crown_left Guard
+  pub nearer : crown_left p + crown_steps p ≤ crown_left Guard
   pub taken : AreTakenFrom SPLIT_SLOTS (crown_needs p) old new
   pub ends : EndsWell r.upper r.lower seen Guard p old
 

@@ -13,7 +13,7 @@ use Rattle.bz_task.specs.Requests.{Answers, Hears, Tells}
 use Rattle.bz_task.specs.Scene.{Scene, Stage, Waiting, Took, IsScene, HasFilled}
 use Rattle.bz_task.specs.declared.todo.Seen.{Seen}
 use Rattle.bz_task.specs.declared.todo.Seen.TheVariants.{Start, Read as Was, Stored, Flushed, Swapped, NoSwap as NoneLeft}
-use Rattle.bz_crown.specs.Facts.{Crown, IsReading, crown_asks, crown_left, crown_needs, crown_facts, word_after, IsReadyCrown}
+use Rattle.bz_crown.specs.Facts.{Crown, IsReading, crown_asks, crown_left, crown_steps, crown_needs, crown_facts, word_after, IsReadyCrown}
 use Rattle.bz_branch.proofs.FromBelow.ReadWords.{kept}
 use Rattle.bz_crown.specs.declared.phase.Phase.{Phase}
 use Rattle.bz_crown.specs.declared.phase.Phase.TheVariants.{Fresh, Word, Again}
@@ -67,7 +67,7 @@ fresh-ready c r seen Took s same good f = absurd (f)
 pub record Words (c : Config) (r : Crown) (i : ℕ) (seen : Seen) (p : Phase) (free : FreeSlots) : Type 0 where
   pub begun : p ≢ Fresh
   pub ready : IsReadyCrown c r p
-  pub nearer : crown_left p < crown_left (Word i)
+  pub nearer : crown_left p + crown_steps p ≤ crown_left (Word i)
   pub fewer : crown_needs p ≤ SPLIT_SLOTS
   pub ends : EndsWell r.upper r.lower seen (Word i) p free
 

@@ -1,5 +1,5 @@
 -- What the root's own status tells, found once more: its words are those of one moment, and there may be a level above it or not.
-use Rattle.std.proofs.Common.{◌≡◌, ◌≢◌, ◌<◌, arith, refl, sym, ap, subst, inr}
+use Rattle.std.proofs.Common.{◌≡◌, ◌≢◌, ◌<◌, ◌+◌, ◌≤◌, arith, refl, sym, ap, subst, inr}
 use Rattle.bz_layout.specs.Slots.{FreeSlots}
 use Rattle.bz_layout.specs.declared.config.Config.{Config}
 use Rattle.bz_layout.specs.declared.sizes.TheConstants.{NODE_WORDS}
@@ -14,7 +14,7 @@ use Rattle.bz_task.specs.declared.todo.Seen.{Seen}
 use Rattle.bz_task.specs.declared.todo.Seen.TheVariants.{Read as Was}
 use Rattle.bz_branch.specs.FromBelow.Parents.{WereRead}
 use Rattle.bz_branch.specs.Nodes.{WasInner, ReadNodesWere}
-use Rattle.bz_crown.specs.Facts.{Crown, IsReading, HasTold, crown_asks, crown_left, crown_needs, crown_facts, IsReadyCrown}
+use Rattle.bz_crown.specs.Facts.{Crown, IsReading, HasTold, crown_asks, crown_left, crown_steps, crown_needs, crown_facts, IsReadyCrown}
 use Rattle.bz_crown.specs.declared.phase.Phase.{Phase}
 use Rattle.bz_crown.specs.declared.phase.Phase.TheVariants.{Fresh, Word, Again, Guard, Store, Flush, Swap, Done, Restart, TooHigh, NoSlot, NoSwap}
 use Rattle.bz_crown.proofs.Ending.{EndsWell, goes-on, other-lower, read-answers, was-no-swap}
@@ -73,7 +73,7 @@ told-learns law c r NoSwap seen stage s h same good f t = absurd (h)
 pub record Tolds (r : Crown) (c : Config) (seen : Seen) (p : Phase) (free : FreeSlots) : Type 0 where
   pub begun : p ≢ Fresh
   pub ready : IsReadyCrown c r p
-  pub nearer : crown_left p < crown_left Again
+  pub nearer : crown_left p + crown_steps p ≤ crown_left Again
   pub taken : AreTakenFrom SPLIT_SLOTS (crown_needs p) free free
   pub ends : EndsWell r.upper r.lower seen Again p free
 

@@ -1,5 +1,5 @@
 -- What the split of an inner root knows, and what it asks for.
-use Rattle.std.specs.Prelude.{◌≡◌, ◌≢◌, ℕ, ◌+◌, ◌-◌, ◌^◌, ◌<◌, ◌≤◌, ◌⊎◌, nat_lt, if◌then◌else◌, false, List, Option, Some, None, length}
+use Rattle.std.specs.Prelude.{◌≡◌, ◌≢◌, ℕ, ◌+◌, ◌-◌, ◌*◌, ◌^◌, ◌<◌, ◌≤◌, ◌⊎◌, nat_lt, if◌then◌else◌, false, List, Option, Some, None, length}
 use Rattle.bz_call.specs.declared.replies.Spent.TheVariants.{Nodes as NoNodes, Swaps as NoSwaps, Height as NoLevels}
 use Rattle.bz_layout.specs.Addresses.{node_address}
 use Rattle.bz_layout.specs.Slots.{FreeSlots}
@@ -63,10 +63,10 @@ crown_end NoSlot = Some (IsFull NoNodes)
 crown_end NoSwap = Some (IsFull NoSwaps)
 crown_end phase = None
 
--- the most acts: the loads of the root's words and of the two guards, a store for each word, a flush for each line, the swap, and
--- the end
+-- the most steps: the loads of the root's words and of the two guards, a store for each word, a flush for each line, which counts two,
+-- the swap, and the end
 abbrev pub crown_acts : ℕ
-crown_acts = NODE_WORDS + SPLIT_WORDS + SPLIT_LINES + 3
+crown_acts = NODE_WORDS + SPLIT_WORDS + 2 * SPLIT_LINES + 3
 
 -- the most swaps that are still asked for: that of the root link, until it has ended
 abbrev pub crown_swaps : Phase → ℕ
@@ -80,12 +80,17 @@ crown_swaps phase = 1
 abbrev pub crown_left : Phase → ℕ
 crown_left Fresh = crown_acts
 crown_left (Word i) = crown_acts - i
-crown_left Again = SPLIT_WORDS + SPLIT_LINES + 3
-crown_left Guard = SPLIT_WORDS + SPLIT_LINES + 2
-crown_left (Store j) = SPLIT_WORDS + SPLIT_LINES + 1 - j
-crown_left (Flush j) = SPLIT_LINES + 1 - j
+crown_left Again = SPLIT_WORDS + 2 * SPLIT_LINES + 3
+crown_left Guard = SPLIT_WORDS + 2 * SPLIT_LINES + 2
+crown_left (Store j) = SPLIT_WORDS + 2 * SPLIT_LINES + 1 - j
+crown_left (Flush j) = 2 * (SPLIT_LINES - j)
 crown_left Swap = 1
 crown_left phase = 0
+
+-- the steps of what is asked for
+abbrev pub crown_steps : Phase → ℕ
+crown_steps (Flush j) = 2
+crown_steps phase = 1
 
 -- the slots are taken when both guards have been looked at again
 abbrev pub crown_needs : Phase → ℕ

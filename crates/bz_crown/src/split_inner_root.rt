@@ -15,7 +15,7 @@ ghost use Rattle.bz_task.specs.declared.todo.Seen.TheVariants.{Start, Read as Wa
 ghost use Rattle.bz_branch.specs.FromSplit.Facts.{split_change};
 ghost use Rattle.bz_crown.specs.Due.{IsDue};
 ghost use Rattle.bz_crown.specs.Duties.{crown_of, asks_crown, basis_crown, end_crown, left_crown, swaps_crown, made_crown, needs_crown, facts_crown, differs_crown};
-ghost use Rattle.bz_crown.specs.Facts.{crown_nodes, crown_acts, crown_end, crown_left, crown_swaps, crown_facts, crown_means, IsEndOfCrown, HasBegunCrown, HasLookedCrown, HasTold, AreMadeOf, IsReadyCrown, IsSplittable, WasSplitAtRoot, WasTooHigh, crown_needs, word_after, store_after, flush_after};
+ghost use Rattle.bz_crown.specs.Facts.{crown_nodes, crown_acts, crown_end, crown_left, crown_steps, crown_swaps, crown_facts, crown_means, IsEndOfCrown, HasBegunCrown, HasLookedCrown, HasTold, AreMadeOf, IsReadyCrown, IsSplittable, WasSplitAtRoot, WasTooHigh, crown_needs, word_after, store_after, flush_after};
 
 use crate::phase::Phase;
 use bz_branch::laws::{inner_root_splits_are_good, read_nodes_were};
@@ -172,7 +172,7 @@ impl SplitInnerRoot {
         requires looked { self.now.phase ≢ Phase.Guard }
         requires hears { Hears (asks_crown self.now) seen }
         requires known { IsKnown self.now.config (facts_crown self.now) (asks_crown self.now) seen moment }
-        ensures nearer { crown_left result < left_crown self.now }
+        ensures nearer { crown_left result + crown_steps result ≤ left_crown self.now }
         ensures fewer { crown_swaps result + swaps_in (asks_crown self.now) ≤ swaps_crown self.now }
         ensures counted { crown_end result ≡ None → effects_in seen ≡ 0 }
         ensures needs { crown_needs result ≡ 0 }
@@ -207,7 +207,7 @@ impl SplitInnerRoot {
         ensures known { IsConfig self.new.config }
         ensures begun { self.new.phase ≢ Phase.Fresh }
         ensures ready { IsReadyCrown self.new.config (crown_of self.new) self.new.phase }
-        ensures nearer { left_crown self.new < left_crown self.old }
+        ensures nearer { left_crown self.new + crown_steps self.new.phase ≤ left_crown self.old }
         ensures fewer { swaps_crown self.new + swaps_in (asks_crown self.old) ≤ swaps_crown self.old }
         ensures counted { end_crown self.new ≡ None → effects_in seen ≡ 0 }
         ensures slots { AreTakenFrom (needs_crown self.old) (needs_crown self.new) slots.old slots.new }

@@ -8,13 +8,13 @@ use Rattle.bz_task.specs.Scene.{Scene, Stage, Waiting, Took}
 use Rattle.bz_task.specs.declared.todo.Seen.{Seen}
 use Rattle.bz_task.specs.declared.todo.Seen.TheVariants.{Start, Read as Was, Stored, Flushed, Swapped, NoSwap as NoneLeft}
 use Rattle.bz_branch.specs.FromSplit.Facts.{SPLIT_WORDS, SPLIT_LINES}
-use Rattle.bz_fork.specs.Facts.{Fork, fork_asks, fork_end, fork_facts, fork_left, fork_swaps, fork_needs, store_after, flush_after, swap_after, IsReadyFork}
+use Rattle.bz_fork.specs.Facts.{Fork, fork_asks, fork_end, fork_facts, fork_left, fork_steps, fork_swaps, fork_needs, store_after, flush_after, swap_after, IsReadyFork}
 use Rattle.bz_fork.specs.declared.phase.Phase.{Phase}
 use Rattle.bz_fork.specs.declared.phase.Phase.TheVariants.{Fresh, Unread, Tight, Word, Again, Room, Above, Check, Guard, Store, Flush, Swap, Done, Restart, NoRoom, NoSlot, NoSwap}
 
 -- the phase after an answer, told of how it ends the task
 pub record Afters (o q : Phase) (seen : Seen) : Type 0 where
-  pub nearer : fork_left q < fork_left o
+  pub nearer : fork_left q + fork_steps q ≤ fork_left o
   pub needs : fork_needs q ≡ 0
   pub done : q ≡ Done → seen ≡ Swapped true
   pub restart : q ≡ Restart → seen ≡ Swapped false

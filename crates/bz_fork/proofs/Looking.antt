@@ -1,5 +1,5 @@
 -- What another look at the guard of the link to the parent leads to, and teaches.
-use Rattle.std.proofs.Common.{◌≡◌, ◌≢◌, ℕ, ◌<◌, ◌≤◌, List, arith, refl, sym, ap, subst, ◌∙◌, inl, inr}
+use Rattle.std.proofs.Common.{◌≡◌, ◌≢◌, ℕ, ◌≤◌, List, arith, refl, sym, ap, subst, ◌∙◌, ◌+◌, inl, inr}
 use Rattle.std.specs.Prelude.{Some}
 use Rattle.bz_layout.specs.Addresses.{SlotsApart}
 use Rattle.bz_layout.specs.Slots.{FreeSlots}
@@ -21,7 +21,7 @@ use Rattle.bz_renew.specs.Renewals.{LinksMayBeTurned}
 use Rattle.bz_renew.specs.Standing.{GuardedLinksStand}
 use Rattle.bz_branch.specs.FromBelow.Facts.{HasRoom, HasParent}
 use Rattle.bz_branch.specs.Parts.{ArePartsOfNode}
-use Rattle.bz_fork.specs.Facts.{Fork, fork_nodes, HasLinks, IsPlan, IsPlanned, AreClear, HasPlace, HasBegunFork, HasLookedFork, fork_asks, fork_end, fork_left, fork_needs, fork_facts, IsReadyFork}
+use Rattle.bz_fork.specs.Facts.{Fork, fork_nodes, HasLinks, IsPlan, IsPlanned, AreClear, HasPlace, HasBegunFork, HasLookedFork, fork_asks, fork_end, fork_left, fork_steps, fork_needs, fork_facts, IsReadyFork}
 use Rattle.bz_fork.specs.declared.phase.Phase.{Phase}
 use Rattle.bz_fork.specs.declared.phase.Phase.TheVariants.{Fresh, Unread, Tight, Word, Again, Room, Above, Check, Guard, Store, Flush, Swap, Done, Restart, NoRoom, NoSlot, NoSwap}
 use Rattle.bz_fork.proofs.Ending.{EndsWell, other-upper, read-answers, was-no-swap}
@@ -33,7 +33,7 @@ use Rattle.bz_fork.proofs.Uniting.{one-separator}
 pub record Looks (r : Fork) (c : Config) (seen : Seen) (p : Phase) (old new : FreeSlots) : Type 0 where
   pub begun : p ≢ Fresh
   pub ready : IsReadyFork c r p
-  pub nearer : fork_left p < fork_left Guard
+  pub nearer : fork_left p + fork_steps p ≤ fork_left Guard
   pub taken : AreTakenFrom SPLIT_SLOTS (fork_needs p) old new
   pub ends : EndsWell r.upper r.middle r.lower seen Guard p old
 

@@ -1,5 +1,5 @@
 -- What the node's status tells, found once more, where its words are not read: they were those of one moment.
-use Rattle.std.proofs.Common.{◌≡◌, ◌≢◌, ◌<◌, ◌≤◌, List, ℕ, arith, refl, sym, ap, subst, ◌∙◌, inr}
+use Rattle.std.proofs.Common.{◌≡◌, ◌≢◌, ◌≤◌, List, ℕ, arith, refl, sym, ap, subst, ◌∙◌, ◌+◌, inr}
 use Rattle.bz_layout.specs.Slots.{FreeSlots}
 use Rattle.bz_layout.specs.declared.config.Config.{Config}
 use Rattle.bz_layout.specs.declared.sizes.TheConstants.{NODE_WORDS, STATUS_AT}
@@ -14,7 +14,7 @@ use Rattle.bz_branch.specs.FromBelow.Parents.{WereRead}
 use Rattle.bz_branch.specs.Nodes.{WasInner, ReadNodesWere}
 use Rattle.bz_branch.proofs.FromBelow.ReadWords.{listed, all-read}
 use Rattle.bz_branch.proofs.Standing.{guard-is}
-use Rattle.bz_fork.specs.Facts.{Fork, HasLinks, IsReading, HasPassedNode, TakesNoChild, HasPassed, IsReadyFork, fork_asks, fork_left, fork_needs, fork_facts}
+use Rattle.bz_fork.specs.Facts.{Fork, HasLinks, IsReading, HasPassedNode, TakesNoChild, HasPassed, IsReadyFork, fork_asks, fork_left, fork_steps, fork_needs, fork_facts}
 use Rattle.bz_fork.specs.declared.phase.Phase.{Phase}
 use Rattle.bz_fork.specs.declared.phase.Phase.TheVariants.{Fresh, Unread, Tight, Restart}
 use Rattle.bz_fork.proofs.Ending.{EndsWell, goes-on, other-unread, read-answers, was-no-swap}
@@ -56,7 +56,7 @@ passed-learns law c r p seen stage s h good f t = absurd (h)
 pub record Passes (r : Fork) (c : Config) (seen : Seen) (p : Phase) (free : FreeSlots) : Type 0 where
   pub begun : p ≢ Fresh
   pub ready : IsReadyFork c r p
-  pub nearer : fork_left p < fork_left Unread
+  pub nearer : fork_left p + fork_steps p ≤ fork_left Unread
   pub fewer : fork_needs p ≤ SPLIT_SLOTS
   pub ends : EndsWell r.upper r.middle r.lower seen Unread p free
 

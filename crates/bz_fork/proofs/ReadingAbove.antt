@@ -13,7 +13,7 @@ use Rattle.bz_task.specs.Requests.{Answers, Hears, Tells}
 use Rattle.bz_task.specs.Scene.{Scene, Stage, Waiting, Took, IsScene, HasFilled}
 use Rattle.bz_task.specs.declared.todo.Seen.{Seen}
 use Rattle.bz_task.specs.declared.todo.Seen.TheVariants.{Start, Read as Was, Stored, Flushed, Swapped, NoSwap as NoneLeft}
-use Rattle.bz_fork.specs.Facts.{Fork, IsReadingAbove, fork_asks, fork_left, fork_needs, fork_facts, above_after, IsReadyFork}
+use Rattle.bz_fork.specs.Facts.{Fork, IsReadingAbove, fork_asks, fork_left, fork_steps, fork_needs, fork_facts, above_after, IsReadyFork}
 use Rattle.bz_branch.proofs.FromBelow.ReadWords.{kept}
 use Rattle.bz_fork.specs.declared.phase.Phase.{Phase}
 use Rattle.bz_fork.specs.declared.phase.Phase.TheVariants.{Fresh, Above, Check}
@@ -53,7 +53,7 @@ above-known c r i j v seen Took s same good after within skipped found f t = abs
 pub record Aboves (c : Config) (r : Fork) (i : ℕ) (seen : Seen) (p : Phase) (free : FreeSlots) : Type 0 where
   pub begun : p ≢ Fresh
   pub ready : IsReadyFork c r p
-  pub nearer : fork_left p < fork_left (Above i)
+  pub nearer : fork_left p + fork_steps p ≤ fork_left (Above i)
   pub fewer : fork_needs p ≤ SPLIT_SLOTS
   pub ends : EndsWell r.upper r.middle r.lower seen (Above i) p free
 

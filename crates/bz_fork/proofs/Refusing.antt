@@ -1,5 +1,5 @@
 -- What the parent's status tells, found once more, where it has room for no child: it lacked the room for the separator of the node's halves.
-use Rattle.std.proofs.Common.{◌≡◌, ◌≢◌, ℕ, ◌<◌, ◌≤◌, List, arith, subst, inr}
+use Rattle.std.proofs.Common.{◌≡◌, ◌≢◌, ℕ, ◌<◌, ◌≤◌, ◌+◌, List, arith, subst, inr}
 use Rattle.bz_key.specs.Bytes.{IsKey}
 use Rattle.bz_key.proofs.PackingLaws.{length-packed}
 use Rattle.bz_layout.specs.Slots.{FreeSlots}
@@ -13,7 +13,7 @@ use Rattle.bz_task.specs.declared.todo.Seen.{Seen}
 use Rattle.bz_task.specs.declared.todo.Seen.TheVariants.{Read as Was}
 use Rattle.bz_branch.specs.FromBelow.Facts.{words_with}
 use Rattle.bz_branch.specs.Nodes.{ParentsOfNodesWere}
-use Rattle.bz_fork.specs.Facts.{Fork, HasPassedNode, TakesNoChild, HasRefused, LackedPart, IsReadyFork, fork_asks, fork_left, fork_needs, fork_facts}
+use Rattle.bz_fork.specs.Facts.{Fork, HasPassedNode, TakesNoChild, HasRefused, LackedPart, IsReadyFork, fork_asks, fork_left, fork_steps, fork_needs, fork_facts}
 use Rattle.bz_fork.specs.Halves.{HasHalves, FullNodesHaveHalves}
 use Rattle.bz_fork.specs.declared.phase.Phase.{Phase}
 use Rattle.bz_fork.specs.declared.phase.Phase.TheVariants.{Fresh, Tight, Restart, NoRoom}
@@ -58,7 +58,7 @@ refused-learns law have halve c r p seen stage s h good f t = absurd (h)
 pub record Refuses (r : Fork) (c : Config) (seen : Seen) (p : Phase) (free : FreeSlots) : Type 0 where
   pub begun : p ≢ Fresh
   pub ready : IsReadyFork c r p
-  pub nearer : fork_left p < fork_left Tight
+  pub nearer : fork_left p + fork_steps p ≤ fork_left Tight
   pub fewer : fork_needs p ≤ SPLIT_SLOTS
   pub ends : EndsWell r.upper r.middle r.lower seen Tight p free
 

@@ -1,5 +1,5 @@
 -- What the first phase leads to: the node's words are read, unless the parent has room for no child.
-use Rattle.std.proofs.Common.{◌≡◌, ◌≢◌, ◌^◌, ◌<◌, ◌≤◌, arith, refl, sym, subst}
+use Rattle.std.proofs.Common.{◌≡◌, ◌≢◌, ◌^◌, ◌<◌, ◌≤◌, ◌+◌, arith, refl, sym, subst}
 use Rattle.std.specs.Prelude.{None}
 use Rattle.bz_layout.specs.Slots.{FreeSlots}
 use Rattle.bz_layout.specs.declared.config.Config.{Config}
@@ -8,7 +8,7 @@ use Rattle.bz_task.specs.Requests.{Hears, Tells}
 use Rattle.bz_task.specs.Scene.{Scene, Stage, Waiting, Took, IsScene}
 use Rattle.bz_task.specs.declared.todo.Seen.{Seen}
 use Rattle.bz_renew.specs.Renewals.{IsTurnable, LinksMayBeTurned}
-use Rattle.bz_fork.specs.Facts.{Fork, IsFirst, IsReadyFork, fork_asks, fork_end, fork_left, fork_needs, fork_facts}
+use Rattle.bz_fork.specs.Facts.{Fork, IsFirst, IsReadyFork, fork_asks, fork_end, fork_left, fork_steps, fork_needs, fork_facts}
 use Rattle.bz_fork.specs.declared.phase.Phase.{Phase}
 use Rattle.bz_fork.specs.declared.phase.Phase.TheVariants.{Fresh, Unread, Word}
 use Rattle.bz_fork.proofs.Ending.{EndsWell, first-ends}
@@ -30,7 +30,7 @@ pub record Firsts (r : Fork) (c : Config) (seen : Seen) (p : Phase) (free : Free
   pub begun : p ≢ Fresh
   pub goes : fork_end p ≡ None
   pub ready : IsReadyFork c r p
-  pub nearer : fork_left p < fork_left Fresh
+  pub nearer : fork_left p + fork_steps p ≤ fork_left Fresh
   pub fewer : fork_needs p ≤ SPLIT_SLOTS
   pub ends : EndsWell r.upper r.middle r.lower seen Fresh p free
 

@@ -1,5 +1,5 @@
 -- What the parent's status tells, found once more: its words are those of one moment.
-use Rattle.std.proofs.Common.{◌≡◌, ◌≢◌, ◌<◌, arith, refl, subst, inr}
+use Rattle.std.proofs.Common.{◌≡◌, ◌≢◌, ◌+◌, ◌≤◌, arith, refl, subst, inr}
 use Rattle.bz_layout.specs.Slots.{FreeSlots}
 use Rattle.bz_layout.specs.declared.config.Config.{Config}
 use Rattle.bz_layout.specs.declared.sizes.TheConstants.{NODE_WORDS}
@@ -13,7 +13,7 @@ use Rattle.bz_task.specs.declared.todo.Seen.TheVariants.{Read as Was}
 use Rattle.bz_renew.specs.Standing.{GuardedLinksStand}
 use Rattle.bz_branch.specs.FromBelow.Parents.{WasParent}
 use Rattle.bz_branch.specs.Nodes.{ParentsOfNodesWere}
-use Rattle.bz_fork.specs.Facts.{Fork, IsReadingAbove, HasTold, fork_asks, fork_left, fork_needs, fork_facts, IsReadyFork}
+use Rattle.bz_fork.specs.Facts.{Fork, IsReadingAbove, HasTold, fork_asks, fork_left, fork_steps, fork_needs, fork_facts, IsReadyFork}
 use Rattle.bz_fork.specs.declared.phase.Phase.{Phase}
 use Rattle.bz_fork.specs.declared.phase.Phase.TheVariants.{Fresh, Unread, Tight, Word, Again, Room, Above, Check, Guard, Store, Flush, Swap, Done, Restart, NoRoom, NoSlot, NoSwap}
 use Rattle.bz_fork.proofs.Ending.{EndsWell, goes-on, other-middle, read-answers, was-no-swap}
@@ -74,7 +74,7 @@ told-learns law stand ranges have c r NoSwap seen stage s h good f t = absurd (h
 pub record Tolds (r : Fork) (c : Config) (seen : Seen) (p : Phase) (free : FreeSlots) : Type 0 where
   pub begun : p ≢ Fresh
   pub ready : IsReadyFork c r p
-  pub nearer : fork_left p < fork_left Check
+  pub nearer : fork_left p + fork_steps p ≤ fork_left Check
   pub taken : AreTakenFrom SPLIT_SLOTS (fork_needs p) free free
   pub ends : EndsWell r.upper r.middle r.lower seen Check p free
 

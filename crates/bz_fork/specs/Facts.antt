@@ -1,5 +1,5 @@
 -- What the split of an inner node below a parent knows, and what it asks for.
-use Rattle.std.specs.Prelude.{◌≡◌, ◌≢◌, ℕ, ◌+◌, ◌-◌, ◌^◌, ◌<◌, ◌≤◌, ◌⊎◌, nat_lt, if◌then◌else◌, true, false, List, [], ◌∷◌, Option, Some, None, length}
+use Rattle.std.specs.Prelude.{◌≡◌, ◌≢◌, ℕ, ◌+◌, ◌-◌, ◌*◌, ◌^◌, ◌<◌, ◌≤◌, ◌⊎◌, nat_lt, if◌then◌else◌, true, false, List, [], ◌∷◌, Option, Some, None, length}
 use Rattle.bz_call.specs.declared.replies.Spent.TheVariants.{Nodes as NoNodes, Swaps as NoSwaps}
 use Rattle.bz_layout.specs.Addresses.{node_address}
 use Rattle.bz_layout.specs.Slots.{FreeSlots}
@@ -71,12 +71,12 @@ fork_end NoSlot = Some (IsFull NoNodes)
 fork_end NoSwap = Some (IsFull NoSwaps)
 fork_end phase = None
 
--- the most acts: the loads of the words of node and parent and of the three guards, that of the parent twice, a store for each word, a
--- flush for each line, the swap, and the end
+-- the most steps: the loads of the words of node and parent and of the three guards, that of the parent twice, a store for each word, a
+-- flush for each line, which counts two, the swap, and the end
 abbrev pub fork_acts : ℕ
-fork_acts = NODE_WORDS + (NODE_WORDS + SPLIT_WORDS + SPLIT_LINES + 4)
+fork_acts = NODE_WORDS + (NODE_WORDS + SPLIT_WORDS + 2 * SPLIT_LINES + 4)
 
--- of these acts so many are done at most where the parent lacks the room: the loads of the node's words and of its status, that of the
+-- of these steps so many are done at most where the parent lacks the room: the loads of the node's words and of its status, that of the
 -- parent's status, and the end
 abbrev pub fork_fails : ℕ
 fork_fails = NODE_WORDS + 2
@@ -95,16 +95,21 @@ fork_left Fresh = fork_acts
 fork_left Unread = fork_acts - 1
 fork_left Tight = fork_acts - 2
 fork_left (Word i) = fork_acts - i
-fork_left Again = NODE_WORDS + SPLIT_WORDS + SPLIT_LINES + 4
-fork_left Room = NODE_WORDS + SPLIT_WORDS + SPLIT_LINES + 3
+fork_left Again = NODE_WORDS + SPLIT_WORDS + 2 * SPLIT_LINES + 4
+fork_left Room = NODE_WORDS + SPLIT_WORDS + 2 * SPLIT_LINES + 3
 fork_left NoRoom = fork_acts - fork_fails
-fork_left (Above i) = NODE_WORDS + SPLIT_WORDS + SPLIT_LINES + 3 - i
-fork_left Check = SPLIT_WORDS + SPLIT_LINES + 3
-fork_left Guard = SPLIT_WORDS + SPLIT_LINES + 2
-fork_left (Store j) = SPLIT_WORDS + SPLIT_LINES + 1 - j
-fork_left (Flush j) = SPLIT_LINES + 1 - j
+fork_left (Above i) = NODE_WORDS + SPLIT_WORDS + 2 * SPLIT_LINES + 3 - i
+fork_left Check = SPLIT_WORDS + 2 * SPLIT_LINES + 3
+fork_left Guard = SPLIT_WORDS + 2 * SPLIT_LINES + 2
+fork_left (Store j) = SPLIT_WORDS + 2 * SPLIT_LINES + 1 - j
+fork_left (Flush j) = 2 * (SPLIT_LINES - j)
 fork_left Swap = 1
 fork_left phase = 0
+
+-- the steps of what is asked for
+abbrev pub fork_steps : Phase → ℕ
+fork_steps (Flush j) = 2
+fork_steps phase = 1
 
 -- the slots are taken when all guards have been looked at again: none where it ended for want of room
 abbrev pub fork_needs : Phase → ℕ

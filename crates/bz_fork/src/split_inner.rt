@@ -15,7 +15,7 @@ ghost use Rattle.bz_branch.specs.FromSplit.Facts.{split_change};
 ghost use Rattle.bz_branch.specs.Parts.{IsFullNode};
 ghost use Rattle.bz_fork.specs.Due.{IsDue};
 ghost use Rattle.bz_fork.specs.Duties.{fork_of, asks_fork, end_fork, left_fork, swaps_fork, made_fork, needs_fork, facts_fork, differs_fork, basis_fork};
-ghost use Rattle.bz_fork.specs.Facts.{fork_nodes, fork_acts, fork_end, fork_left, fork_swaps, fork_facts, fork_means, IsEndOfFork, HasBegunFork, HasLookedFork, HasRead, HasOpened, HasTold, AreMadeOf, HasPlace, IsReadyFork, WasSplitInner, LackedPart, fork_needs, IsFirst, HasPassed, HasRefused, word_after, above_after, store_after, flush_after, swap_after, HasNode};
+ghost use Rattle.bz_fork.specs.Facts.{fork_nodes, fork_acts, fork_end, fork_left, fork_steps, fork_swaps, fork_facts, fork_means, IsEndOfFork, HasBegunFork, HasLookedFork, HasRead, HasOpened, HasTold, AreMadeOf, HasPlace, IsReadyFork, WasSplitInner, LackedPart, fork_needs, IsFirst, HasPassed, HasRefused, word_after, above_after, store_after, flush_after, swap_after, HasNode};
 
 use crate::laws::full_nodes_have_halves;
 use crate::parent::parent_with;
@@ -252,7 +252,7 @@ impl SplitInner {
         requires looked { self.now.phase ≢ Phase.Guard }
         requires hears { Hears (asks_fork self.now) seen }
         requires known { IsKnown self.now.config (facts_fork self.now) (asks_fork self.now) seen moment }
-        ensures nearer { fork_left result < left_fork self.now }
+        ensures nearer { fork_left result + fork_steps result ≤ left_fork self.now }
         ensures fewer { fork_swaps result + swaps_in (asks_fork self.now) ≤ swaps_fork self.now }
         ensures counted { fork_end result ≡ None → effects_in seen ≡ 0 }
         ensures needs { fork_needs result ≡ 0 }
@@ -287,7 +287,7 @@ impl SplitInner {
         ensures known { IsConfig self.new.config }
         ensures begun { self.new.phase ≢ Phase.Fresh }
         ensures ready { IsReadyFork self.new.config (fork_of self.new) self.new.phase }
-        ensures nearer { left_fork self.new < left_fork self.old }
+        ensures nearer { left_fork self.new + fork_steps self.new.phase ≤ left_fork self.old }
         ensures fewer { swaps_fork self.new + swaps_in (asks_fork self.old) ≤ swaps_fork self.old }
         ensures counted { end_fork self.new ≡ None → effects_in seen ≡ 0 }
         ensures slots { AreTakenFrom (needs_fork self.old) (needs_fork self.new) slots.old slots.new }

@@ -1,5 +1,5 @@
 -- What an insert knows, and what it asks for.
-use Rattle.std.specs.Prelude.{◌≡◌, ℕ, ◌+◌, ◌-◌, ◌<◌, ◌≤◌, nat_lt, if◌then◌else◌, Bool, true, false, Option, Some, None, slice_index}
+use Rattle.std.specs.Prelude.{◌≡◌, ℕ, ◌+◌, ◌-◌, ◌*◌, ◌<◌, ◌≤◌, nat_lt, if◌then◌else◌, Bool, true, false, Option, Some, None, slice_index}
 use Rattle.bz_call.specs.declared.replies.Spent.TheVariants.{Swaps}
 use Rattle.bz_key.specs.Bytes.{IsKey, IsPayload}
 use Rattle.bz_layout.specs.declared.config.Config.{Config}
@@ -33,17 +33,22 @@ insert_end NeedsRoom = Some Needs
 insert_end Full = Some (IsFull Swaps)
 insert_end phase = None
 
--- the most acts: two swaps, the stores and the flushes of the record, and the end
+-- the most steps: two swaps, the stores of the record, its flushes, each of which counts two, and the end
 abbrev pub insert_acts : ℕ
-insert_acts = RECORD_WORDS + RECORD_LINES + 3
+insert_acts = RECORD_WORDS + 2 * RECORD_LINES + 3
 
 abbrev pub insert_left : Phase → ℕ
 insert_left Fresh = insert_acts
-insert_left Reserve = RECORD_WORDS + RECORD_LINES + 2
-insert_left (Store i) = RECORD_WORDS + RECORD_LINES + 1 - i
-insert_left (Flush n) = RECORD_LINES + 1 - n
+insert_left Reserve = RECORD_WORDS + 2 * RECORD_LINES + 2
+insert_left (Store i) = RECORD_WORDS + 2 * RECORD_LINES + 1 - i
+insert_left (Flush n) = 2 * (RECORD_LINES - n)
 insert_left Publish = 1
 insert_left phase = 0
+
+-- the steps of what is asked for
+abbrev pub insert_steps : Phase → ℕ
+insert_steps (Flush n) = 2
+insert_steps phase = 1
 
 -- the most swaps: both up to the reservation, the publication from the first store on
 abbrev pub insert_swaps : Phase → ℕ

@@ -1,6 +1,6 @@
 //! The task that inserts a record into a leaf.
 
-ghost use Rattle.std.specs.Prelude.{◌≡◌, ◌≢◌, ◌↔◌, ◌-◌, ◌+◌, ◌<◌, ◌≤◌, ◌^◌, ◌⊎◌, ℕ, Some, None, true, false};
+ghost use Rattle.std.specs.Prelude.{◌≡◌, ◌≢◌, ◌↔◌, ◌-◌, ◌+◌, ◌*◌, ◌<◌, ◌≤◌, ◌^◌, ◌⊎◌, ℕ, Some, None, true, false};
 ghost use Rattle.bz_layout.specs.Config.{IsConfig};
 ghost use Rattle.bz_layout.specs.declared.thresholds.TheConstants.{RECORD_WORDS, RECORD_LINES};
 ghost use Rattle.bz_task.specs.Basis.{no_basis};
@@ -12,7 +12,7 @@ ghost use Rattle.bz_task.specs.declared.todo.Seen.TheVariants.{Start, Swapped, N
 ghost use Rattle.bz_record.specs.Laws.{inserts};
 ghost use Rattle.bz_record.specs.Records.{words_for, size_of, HasRoom, LacksRoom};
 ghost use Rattle.bz_insert.specs.Duties.{config_of, asks_of, end_of, left_of, swaps_of, made_of, change_of, publishing_of, facts_of, means_of};
-ghost use Rattle.bz_insert.specs.Facts.{IsEndOfInsert, insert_asks, insert_end, insert_acts, insert_left, insert_swaps, insert_made, insert_publishes, insert_facts, insert_means, IsReady, next_store, next_flush};
+ghost use Rattle.bz_insert.specs.Facts.{IsEndOfInsert, insert_asks, insert_end, insert_acts, insert_left, insert_steps, insert_swaps, insert_made, insert_publishes, insert_facts, insert_means, IsReady, next_store, next_flush};
 
 use crate::phase::Phase;
 use bz_call::Spent;
@@ -73,7 +73,7 @@ impl Insert {
     fn after(&self, seen: Seen, moment: u32) -> Phase
         requires hears { Hears (insert_asks self.now.config self.now.added self.now.phase) seen }
         requires known { IsKnown self.now.config (insert_facts self.now.added self.now.phase) (insert_asks self.now.config self.now.added self.now.phase) seen moment }
-        ensures nearer { insert_left result < insert_left self.now.phase }
+        ensures nearer { insert_left result + insert_steps result ≤ insert_left self.now.phase }
         ensures fewer { insert_swaps result + swaps_in (insert_asks self.now.config self.now.added self.now.phase) ≤ insert_swaps self.now.phase }
         ensures counted { insert_end result ≡ None → insert_made result ≡ insert_made self.now.phase + effects_in seen }
         ensures done { result ≡ Phase.Done → seen ≡ Swapped true }
@@ -137,7 +137,7 @@ impl Insert {
     fn after_store(&self, i: u32) -> Phase
         requires { IsReady self.now.config self.now.added (Phase.Store i) }
         ensures next { result ≡ next_store self.now.added i }
-        ensures nearer { insert_left result < RECORD_WORDS + RECORD_LINES + 1 - i }
+        ensures nearer { insert_left result + insert_steps result ≤ RECORD_WORDS + 2 * RECORD_LINES + 1 - i }
         ensures swaps { insert_swaps result ≡ 1 }
         ensures made { insert_made result ≡ 1 }
         ensures ready { IsReady self.now.config self.now.added result }
@@ -155,7 +155,7 @@ impl Insert {
         requires config { IsConfig self.now.config }
         requires ready { IsReady self.now.config self.now.added (Phase.Flush n) }
         ensures next { result ≡ next_flush self.now.config self.now.added n }
-        ensures nearer { insert_left result < RECORD_LINES + 1 - n }
+        ensures nearer { insert_left result + insert_steps result ≤ 2 * (RECORD_LINES - n) }
         ensures swaps { insert_swaps result ≡ 1 }
         ensures made { insert_made result ≡ 1 }
         ensures ready { IsReady self.now.config self.now.added result }

@@ -1,10 +1,10 @@
 -- A merge that is told to begin, and what is heard in its phases.
 use Rattle.std.proofs.Common.{◌≡◌, refl, subst}
 use Rattle.bz_layout.specs.declared.config.Config.{Config}
-use Rattle.bz_task.specs.Requests.{Hears}
+use Rattle.bz_task.specs.Requests.{Hears, steps_in}
 use Rattle.bz_task.specs.declared.todo.Seen.{Seen}
 use Rattle.bz_task.specs.declared.todo.Seen.TheVariants.{Start}
-use Rattle.bz_merge.specs.Facts.{merge_asks}
+use Rattle.bz_merge.specs.Facts.{merge_asks, merge_steps}
 use Rattle.bz_merge.specs.Plans.{Merging}
 use Rattle.bz_merge.specs.declared.phase.Phase.{Phase}
 use Rattle.bz_merge.specs.declared.phase.Phase.TheVariants.{Fresh}
@@ -17,3 +17,8 @@ heard-in c r o p seen told e g h = subst (λ z. Hears (merge_asks c r z) told) e
 pub begins-fresh : (c : Config) (r : Merging) (p : Phase) → Hears (merge_asks c r p) Start → p ≡ Fresh
 begins-fresh c r Fresh h = refl
 begins-fresh c r p h = absurd (h)
+
+-- the steps of what a phase asks for
+pub asked-steps : (c : Config) (r : Merging) (p : Phase) → steps_in (merge_asks c r p) ≡ merge_steps p
+asked-steps c r Fresh = refl
+asked-steps c r p = refl

@@ -2,13 +2,13 @@
 use Rattle.std.proofs.Common.{◌≡◌, ◌≢◌, ◌+◌, ◌<◌, ◌≤◌, ℕ, if◌then◌else◌, Bool, true, false, arith, sym, subst}
 use Rattle.std.specs.Prelude.{nat_lt}
 use Rattle.bz_task.specs.Scene.{Scene, Stage, Waiting, Took}
-use Rattle.bz_merge.specs.Facts.{MERGE_WORDS, MERGE_LINES, merge_left, merge_needs, merge_facts, store_after, flush_after}
+use Rattle.bz_merge.specs.Facts.{MERGE_WORDS, MERGE_LINES, merge_left, merge_steps, merge_needs, merge_facts, store_after, flush_after}
 use Rattle.bz_merge.specs.Plans.{Merging}
 use Rattle.bz_merge.specs.declared.phase.Phase.{Phase}
 use Rattle.bz_merge.specs.declared.phase.Phase.TheVariants.{Fresh, Store, Flush, Swap, Done, Restart, NoSlot, NoSwap}
 
 pub record GoesOn (right : Bool) (o q : Phase) : Type 0 where
-  pub nearer : merge_left right q < merge_left right o
+  pub nearer : merge_left right q + merge_steps q ≤ merge_left right o
   pub needs : merge_needs q ≤ merge_needs o
   pub done : q ≢ Done
   pub restart : q ≢ Restart

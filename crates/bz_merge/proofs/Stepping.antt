@@ -15,7 +15,7 @@ use Rattle.bz_task.specs.declared.todo.Seen.{Seen}
 use Rattle.bz_task.specs.declared.todo.Seen.TheVariants.{Start, Read as Was, Stored, Flushed, Swapped, NoSwap as NoneLeft}
 use Rattle.bz_task.specs.declared.todo.Todo.TheVariants.{Read as Reads}
 use Rattle.bz_merge.specs.Decisions.{HasTold, HasSettled, HasBegun, HasLooked}
-use Rattle.bz_merge.specs.Facts.{round_acts, rest_acts, merge_asks, merge_end, merge_left, merge_needs, merge_differs, word_after, beside_after, IsReady}
+use Rattle.bz_merge.specs.Facts.{round_acts, rest_acts, merge_asks, merge_end, merge_left, merge_steps, merge_needs, merge_differs, word_after, beside_after, IsReady}
 use Rattle.bz_merge.specs.Plans.{Merging, merge_nodes}
 use Rattle.bz_merge.specs.declared.phase.Phase.{Phase}
 use Rattle.bz_merge.specs.declared.phase.Phase.TheVariants.{Fresh, Word, Again, Beside, Parent, Still, Freeze, FreezeBeside, Guard, Store, Restart, NoNeighbour, NoSlot}
@@ -46,7 +46,7 @@ other-still c r seen h ne = let f = found (node_address c r.beside_slot + STATUS
 -- it ends with a restart alone, or because no neighbour has room, and no slot is taken
 pub record Picks (r : Merging) (right : Bool) (o q : Phase) (seen : Seen) : Type 0 where
   pub begun : q ≢ Fresh
-  pub nearer : merge_left right q < merge_left r.right o
+  pub nearer : merge_left right q + merge_steps q ≤ merge_left r.right o
   pub needs : merge_needs q ≤ merge_needs o
   pub done : merge_end q ≢ Some IsDone
   pub restart : merge_end q ≡ Some Restarts → merge_differs r o seen
@@ -54,7 +54,7 @@ pub record Picks (r : Merging) (right : Bool) (o q : Phase) (seen : Seen) : Type
   pub full_nodes : merge_end q ≢ Some (IsFull NoNodes)
 
 -- a phase that goes on
-goes-on : (r : Merging) (right : Bool) (o q : Phase) (seen : Seen) → q ≢ Fresh → merge_end q ≡ None → merge_left right q < merge_left r.right o → merge_needs q ≤ merge_needs o → Picks r right o q seen
+goes-on : (r : Merging) (right : Bool) (o q : Phase) (seen : Seen) → q ≢ Fresh → merge_end q ≡ None → merge_left right q + merge_steps q ≤ merge_left r.right o → merge_needs q ≤ merge_needs o → Picks r right o q seen
 goes-on r right o q seen begun none nearer needs = record {
   begun = begun;
   nearer = nearer;
@@ -67,10 +67,10 @@ goes-on r right o q seen begun none nearer needs = record {
 
 -- one that ends it, as no neighbour has room or as something was another one
 none-picks : (r : Merging) (right : Bool) (o : Phase) (seen : Seen) → 0 < merge_left r.right o → Picks r right o NoNeighbour seen
-none-picks r right o seen some = record { begun = λ e. cc; nearer = some; needs = omega arith; done = λ e. cc; restart = λ e. absurd (cc); full_swaps = λ e. cc; full_nodes = λ e. cc }
+none-picks r right o seen some = record { begun = λ e. cc; nearer = omega (arith, some); needs = omega arith; done = λ e. cc; restart = λ e. absurd (cc); full_swaps = λ e. cc; full_nodes = λ e. cc }
 
 restart-picks : (r : Merging) (right : Bool) (o : Phase) (seen : Seen) → 0 < merge_left r.right o → merge_differs r o seen → Picks r right o Restart seen
-restart-picks r right o seen some differs = record { begun = λ e. cc; nearer = some; needs = omega arith; done = λ e. cc; restart = λ e. differs; full_swaps = λ e. cc; full_nodes = λ e. cc }
+restart-picks r right o seen some differs = record { begun = λ e. cc; nearer = omega (arith, some); needs = omega arith; done = λ e. cc; restart = λ e. differs; full_swaps = λ e. cc; full_nodes = λ e. cc }
 
 rest-few : (right : Bool) → rest_acts right ≤ round_acts
 rest-few true = omega arith
@@ -129,7 +129,7 @@ module _ (c : Config) (r : Merging) (o q : Phase) (seen : Seen) where
 pub record Looks (c : Config) (r : Merging) (right : Bool) (o q : Phase) (old new : FreeSlots) : Type 0 where
   pub begun : q ≢ Fresh
   pub ready : IsReady c r q
-  pub nearer : merge_left r.right q < merge_left right o
+  pub nearer : merge_left r.right q + merge_steps q ≤ merge_left right o
   pub slots : AreTakenFrom (merge_needs o) (merge_needs q) old new
   pub done : merge_end q ≢ Some IsDone
   pub full_swaps : merge_end q ≢ Some (IsFull NoSwaps)

@@ -9,7 +9,7 @@ use Rattle.bz_task.specs.declared.todo.Seen.{Seen}
 use Rattle.bz_task.specs.declared.todo.Seen.TheVariants.{Start, Read as Was, Stored, Flushed, Swapped, NoSwap as NoneLeft}
 use Rattle.bz_merge.specs.Counts.{merge_swaps, merge_made}
 use Rattle.bz_merge.specs.Decisions.{HasSwapped}
-use Rattle.bz_merge.specs.Facts.{IsSwapping, WritesOrSwaps, merge_asks, merge_end, merge_facts, merge_left, merge_needs}
+use Rattle.bz_merge.specs.Facts.{IsSwapping, WritesOrSwaps, merge_asks, merge_end, merge_facts, merge_left, merge_steps, merge_needs}
 use Rattle.bz_merge.specs.Plans.{Merging}
 use Rattle.bz_merge.specs.declared.phase.Phase.{Phase}
 use Rattle.bz_merge.specs.declared.phase.Phase.TheVariants.{Fresh, Word, Again, Beside, Parent, Still, Freeze, FreezeBeside, Guard, Store, Flush, Swap, Done, Restart, NoNeighbour, NoSlot, NoSwap}
@@ -119,7 +119,7 @@ swap-plain r phase stage s f e = freeze-plain r stage s (subst (λ z. merge_fact
 
 -- what comes of a swap
 pub record Comes (r : Merging) (phase : Phase) (seen : Seen) (q : Phase) : Type 0 where
-  pub nearer : merge_left r.right q < merge_left r.right phase
+  pub nearer : merge_left r.right q + merge_steps q ≤ merge_left r.right phase
   pub swaps : merge_swaps q + 1 ≤ merge_swaps phase
   pub counted : merge_end q ≡ None → merge_made r q ≡ merge_made r phase + effects_in seen
   pub needs : merge_needs q ≤ merge_needs phase
@@ -139,7 +139,7 @@ none-lost seen a b = let h = sym a ∙ b in absurd (cc)
 
 pub comes : (r : Merging) (phase : Phase) (seen : Seen) (q : Phase) → IsSwapping phase → IsThawed r phase → HasSwapped r phase seen q → Comes r phase seen q
 comes r phase seen NoSwap w thawed h = record {
-  nearer = some-left r.right phase w;
+  nearer = omega (arith, some-left r.right phase w);
   swaps = some-swaps phase w;
   counted = λ e. absurd (cc);
   needs = omega arith;
@@ -152,7 +152,7 @@ comes r phase seen NoSwap w thawed h = record {
   begun = λ e. absurd (cc);
 }
 comes r phase seen Restart w thawed h = record {
-  nearer = some-left r.right phase w;
+  nearer = omega (arith, some-left r.right phase w);
   swaps = some-swaps phase w;
   counted = λ e. absurd (cc);
   needs = omega arith;

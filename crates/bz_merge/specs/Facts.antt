@@ -65,7 +65,7 @@ merge_end NoSlot = Some (IsFull NoNodes)
 merge_end NoSwap = Some (IsFull NoSwaps)
 merge_end phase = None
 
--- the acts of a neighbour that is read: its words, the parent's status and its own once more
+-- the steps of a neighbour that is read: its words, the parent's status and its own once more
 abbrev pub round_acts : ℕ
 round_acts = NODE_WORDS + 2
 
@@ -73,11 +73,11 @@ round_acts = NODE_WORDS + 2
 abbrev pub rest_acts : Bool → ℕ
 rest_acts right = if right then round_acts else 0
 
--- from the freezes on: two swaps, the load of the guard, a store for each word, a flush for each line, the swap, and the end
+-- from the freezes on: two swaps, the load of the guard, a store for each word, a flush for each line, which counts two, the swap, and the end
 abbrev pub join_acts : ℕ
-join_acts = MERGE_WORDS + MERGE_LINES + 4
+join_acts = MERGE_WORDS + 2 * MERGE_LINES + 4
 
--- the most acts
+-- the most steps
 abbrev pub merge_acts : ℕ
 merge_acts = NODE_WORDS + round_acts + round_acts + join_acts + 1
 
@@ -91,10 +91,15 @@ merge_left right Still = 1 + rest_acts right + join_acts
 merge_left right Freeze = join_acts
 merge_left right FreezeBeside = join_acts - 1
 merge_left right Guard = join_acts - 2
-merge_left right (Store j) = MERGE_WORDS + MERGE_LINES + 1 - j
-merge_left right (Flush j) = MERGE_LINES + 1 - j
+merge_left right (Store j) = MERGE_WORDS + 2 * MERGE_LINES + 1 - j
+merge_left right (Flush j) = 2 * (MERGE_LINES - j)
 merge_left right Swap = 1
 merge_left right phase = 0
+
+-- the steps of what is asked for
+abbrev pub merge_steps : Phase → ℕ
+merge_steps (Flush j) = 2
+merge_steps phase = 1
 
 -- the slots are taken when the guard has been looked at again
 abbrev pub merge_needs : Phase → ℕ

@@ -19,7 +19,7 @@ ghost use Rattle.bz_task.specs.declared.todo.Seen.TheVariants.{Start, Read as Wa
 ghost use Rattle.bz_merge.specs.Counts.{merge_swaps, merge_made};
 ghost use Rattle.bz_merge.specs.Decisions.{IsParentOfLeaf, HasTold, IsWeighable, HasSettled, HasFrozen, HasFirst, HasWon, HasSwapped, MayMerge, HasBegun, HasLooked};
 ghost use Rattle.bz_merge.specs.Duties.{merging_of, asks_of, end_of, left_of, swaps_of, made_of, needs_of, basis_of, facts_of, differs_of};
-ghost use Rattle.bz_merge.specs.Facts.{merge_acts, merge_end, merge_left, merge_needs, merge_facts, merge_means, merge_change, IsEndOfMerge, WasMerged, NoneFitted, IsReady, WritesOrSwaps, IsSwapping, word_after, beside_after, store_after, flush_after};
+ghost use Rattle.bz_merge.specs.Facts.{merge_acts, merge_end, merge_left, merge_steps, merge_needs, merge_facts, merge_means, merge_change, IsEndOfMerge, WasMerged, NoneFitted, IsReady, WritesOrSwaps, IsSwapping, word_after, beside_after, store_after, flush_after};
 ghost use Rattle.bz_merge.specs.Plans.{merge_nodes, viewed_leaf, beside_leaf, first_of, second_of};
 ghost use Rattle.bz_merge.specs.Thawed.{IsThawedAbove};
 
@@ -335,7 +335,7 @@ impl Merge {
         requires begun { WritesOrSwaps self.now.phase }
         requires hears { Hears (asks_of self.now) seen }
         requires known { IsKnown self.now.config (facts_of self.now) (asks_of self.now) seen moment }
-        ensures nearer { merge_left self.now.side.right result < left_of self.now }
+        ensures nearer { merge_left self.now.side.right result + merge_steps result ≤ left_of self.now }
         ensures fewer { merge_swaps result + swaps_in (asks_of self.now) ≤ swaps_of self.now }
         ensures counted { merge_end result ≡ None → merge_made (merging_of self.now) result ≡ made_of self.now + effects_in seen }
         ensures needs { merge_needs result ≤ needs_of self.now }
@@ -372,7 +372,7 @@ impl Merge {
         ensures known { IsConfig self.new.config }
         ensures begun { self.new.phase ≢ Phase.Fresh }
         ensures ready { IsReady self.new.config (merging_of self.new) self.new.phase }
-        ensures nearer { left_of self.new < left_of self.old }
+        ensures nearer { left_of self.new + merge_steps self.new.phase ≤ left_of self.old }
         ensures fewer { swaps_of self.new + swaps_in (asks_of self.old) ≤ swaps_of self.old }
         ensures counted { end_of self.new ≡ None → made_of self.new ≡ made_of self.old + effects_in seen }
         ensures slots { AreTakenFrom (needs_of self.old) (needs_of self.new) slots.old slots.new }

@@ -1,5 +1,5 @@
 -- What an update knows, and what it asks for.
-use Rattle.std.specs.Prelude.{◌≡◌, ℕ, ◌+◌, ◌-◌, ◌<◌, ◌≤◌, nat_lt, if◌then◌else◌, Bool, true, false, List, [], ◌∷◌, Option, Some, None, slice_index}
+use Rattle.std.specs.Prelude.{◌≡◌, ℕ, ◌+◌, ◌-◌, ◌*◌, ◌<◌, ◌≤◌, nat_lt, if◌then◌else◌, Bool, true, false, List, [], ◌∷◌, Option, Some, None, slice_index}
 use Rattle.bz_call.specs.declared.replies.Spent.TheVariants.{Swaps}
 use Rattle.bz_key.specs.Bytes.{IsKey, IsPayload}
 use Rattle.bz_layout.specs.declared.config.Config.{Config}
@@ -40,17 +40,22 @@ update_end NeedsRoom = Some Needs
 update_end Full = Some (IsFull Swaps)
 update_end phase = None
 
--- the most acts: two swaps, the stores and the flushes of the record, and the end
+-- the most steps: two swaps, the stores of the record, its flushes, each of which counts two, and the end
 abbrev pub update_acts : ℕ
-update_acts = RECORD_WORDS + RECORD_LINES + 3
+update_acts = RECORD_WORDS + 2 * RECORD_LINES + 3
 
 abbrev pub update_left : UpdatePhase → ℕ
 update_left Fresh = update_acts
-update_left (Grow f) = RECORD_WORDS + RECORD_LINES + 2
-update_left (Store f i) = RECORD_WORDS + RECORD_LINES + 1 - i
-update_left (Flush f n) = RECORD_LINES + 1 - n
+update_left (Grow f) = RECORD_WORDS + 2 * RECORD_LINES + 2
+update_left (Store f i) = RECORD_WORDS + 2 * RECORD_LINES + 1 - i
+update_left (Flush f n) = 2 * (RECORD_LINES - n)
 update_left (Replace f) = 1
 update_left phase = 0
+
+-- the steps of what is asked for
+abbrev pub update_steps : UpdatePhase → ℕ
+update_steps (Flush f n) = 2
+update_steps phase = 1
 
 -- the most swaps: both up to the growth, the replacement from the first store on
 abbrev pub update_swaps : UpdatePhase → ℕ

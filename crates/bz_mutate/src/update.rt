@@ -1,6 +1,6 @@
 //! The task that updates a key of a leaf.
 
-ghost use Rattle.std.specs.Prelude.{◌≡◌, ◌≢◌, ◌↔◌, ◌-◌, ◌+◌, ◌<◌, ◌≤◌, ◌^◌, ◌⊎◌, Some, None, true, false};
+ghost use Rattle.std.specs.Prelude.{◌≡◌, ◌≢◌, ◌↔◌, ◌-◌, ◌+◌, ◌*◌, ◌<◌, ◌≤◌, ◌^◌, ◌⊎◌, Some, None, true, false};
 ghost use Rattle.bz_layout.specs.Config.{IsConfig};
 ghost use Rattle.bz_layout.specs.declared.thresholds.TheConstants.{RECORD_WORDS, RECORD_LINES};
 ghost use Rattle.bz_word.specs.Statuses.{status};
@@ -14,7 +14,7 @@ ghost use Rattle.bz_record.specs.Records.{words_for, size_of, HasRoom, LacksRoom
 ghost use Rattle.bz_record.specs.declared.found_record.FoundRecord.{FoundRecord};
 ghost use Rattle.bz_mutate.specs.Viewed.{IsVisible, IsFound};
 ghost use Rattle.bz_mutate.specs.UpdateDuties.{config_of, asks_of, end_of, left_of, swaps_of, made_of, change_of, publishing_of, facts_of, means_of};
-ghost use Rattle.bz_mutate.specs.UpdateFacts.{IsEndOfUpdate, update_asks, update_end, update_acts, update_left, update_swaps, update_made, update_publishes, update_facts, IsFirst, IsReady, next_store, next_flush};
+ghost use Rattle.bz_mutate.specs.UpdateFacts.{IsEndOfUpdate, update_asks, update_end, update_acts, update_left, update_steps, update_swaps, update_made, update_publishes, update_facts, IsFirst, IsReady, next_store, next_flush};
 
 use crate::update_phase::UpdatePhase;
 use bz_call::Spent;
@@ -75,7 +75,7 @@ impl Update {
     fn after(&self, seen: Seen, moment: u32) -> UpdatePhase
         requires hears { Hears (update_asks self.now.config self.now.added self.now.phase) seen }
         requires known { IsKnown self.now.config (update_facts self.now.view self.now.added self.now.phase) (update_asks self.now.config self.now.added self.now.phase) seen moment }
-        ensures nearer { update_left result < update_left self.now.phase }
+        ensures nearer { update_left result + update_steps result ≤ update_left self.now.phase }
         ensures fewer { update_swaps result + swaps_in (update_asks self.now.config self.now.added self.now.phase) ≤ update_swaps self.now.phase }
         ensures counted { update_end result ≡ None → update_made result ≡ update_made self.now.phase + effects_in seen }
         ensures done { result ≡ UpdatePhase.Done → seen ≡ Swapped true }
@@ -152,7 +152,7 @@ impl Update {
     fn after_store(&self, old: FoundRecord, i: u32) -> UpdatePhase
         requires { IsReady self.now.config self.now.view self.now.added (UpdatePhase.Store old i) }
         ensures next { result ≡ next_store self.now.added old i }
-        ensures nearer { update_left result < RECORD_WORDS + RECORD_LINES + 1 - i }
+        ensures nearer { update_left result + update_steps result ≤ RECORD_WORDS + 2 * RECORD_LINES + 1 - i }
         ensures swaps { update_swaps result ≡ 1 }
         ensures made { update_made result ≡ 1 }
         ensures ready { IsReady self.now.config self.now.view self.now.added result }
@@ -170,7 +170,7 @@ impl Update {
         requires config { IsConfig self.now.config }
         requires ready { IsReady self.now.config self.now.view self.now.added (UpdatePhase.Flush old n) }
         ensures next { result ≡ next_flush self.now.config self.now.added old n }
-        ensures nearer { update_left result < RECORD_LINES + 1 - n }
+        ensures nearer { update_left result + update_steps result ≤ 2 * (RECORD_LINES - n) }
         ensures swaps { update_swaps result ≡ 1 }
         ensures made { update_made result ≡ 1 }
         ensures ready { IsReady self.now.config self.now.view self.now.added result }

@@ -1,5 +1,5 @@
 -- Each read of a look-up is counted, and nothing else is asked of other tasks.
-use Rattle.std.proofs.Common.{◌≡◌, ℕ, ◌+◌, ◌<◌, ◌≤◌, Some, arith, refl, sym, subst, ◌∙◌}
+use Rattle.std.proofs.Common.{◌≡◌, ℕ, ◌+◌, ◌≤◌, Some, arith, refl, sym, subst, ◌∙◌}
 use Rattle.bz_descend.specs.SeekDuties as seek
 use Rattle.bz_descend.specs.SeekFacts.{seek_asks, asks_one}
 use Rattle.bz_descend.specs.declared.seek.Seek.{Seek}
@@ -11,8 +11,10 @@ use Rattle.bz_find.specs.declared.find.Find.{Find}
 use Rattle.bz_find.specs.declared.phase.Phase.{Phase}
 use Rattle.bz_find.specs.declared.phase.Phase.TheVariants as phase
 use Rattle.bz_layout.specs.declared.config.Config.{Config}
+use Rattle.std.specs.Prelude.{Option}
+use Rattle.bz_task.specs.Requests.{steps_in}
 use Rattle.bz_task.specs.declared.todo.Todo.{Todo}
-use Rattle.bz_task.specs.declared.todo.Todo.TheVariants.{Read, Finish}
+use Rattle.bz_task.specs.declared.todo.Todo.TheVariants.{Read, Flush, Finish}
 use Rattle.bz_running.specs.LookingUp.{NoLook, look_of, reads_in, HasCounted}
 use Rattle.bz_running.specs.declared.running.AnyTask.{AnyTask}
 
@@ -49,9 +51,14 @@ seek-few (way.Pointer r) = omega arith
 seek-few way.Found = omega arith
 seek-few way.Changed = omega arith
 
+-- whatever is asked for counts a step
+some-steps : (asked : Option Todo) → 1 ≤ steps_in asked
+some-steps (Some (Flush line)) = omega arith
+some-steps asked = omega arith
+
 -- what is left of its most reads falls only where each is counted
-pub seek-counts : (t u : Seek) (todo : Todo) → seek.left_of u < seek.left_of t → seek.asks_of u ≡ Some todo → seek.asked_of t + reads_in todo ≤ seek.asked_of u
-seek-counts t u todo near asks = omega (arith, near, seek-asks u.config u.phase todo asks, seek-few t.phase)
+pub seek-counts : (t u : Seek) (todo : Todo) → seek.left_of u + steps_in (seek.asks_of u) ≤ seek.left_of t → seek.asks_of u ≡ Some todo → seek.asked_of t + reads_in todo ≤ seek.asked_of u
+seek-counts t u todo near asks = omega (arith, near, some-steps (seek.asks_of u), seek-asks u.config u.phase todo asks, seek-few t.phase)
 
 -- so does one of a look-up in a leaf
 find-asks : (t : Find) (p : Phase) (todo : Todo) → find_asks t p ≡ Some todo → reads_in todo ≡ reads_of p
@@ -76,8 +83,8 @@ find-few (phase.Guard at) = omega arith
 find-few (phase.Viewed at) = omega arith
 find-few phase.Changed = omega arith
 
-pub find-counts : (t u : Find) (todo : Todo) → find.left_of u < find.left_of t → find.asks_of u ≡ Some todo → find.asked_of t + reads_in todo ≤ find.asked_of u
-find-counts t u todo near asks = omega (arith, near, find-asks u u.phase todo asks, find-few t.phase)
+pub find-counts : (t u : Find) (todo : Todo) → find.left_of u + steps_in (find.asks_of u) ≤ find.left_of t → find.asks_of u ≡ Some todo → find.asked_of t + reads_in todo ≤ find.asked_of u
+find-counts t u todo near asks = omega (arith, near, some-steps (find.asks_of u), find-asks u u.phase todo asks, find-few t.phase)
 
 pub none-counts : (old new : AnyTask) (todo : Todo) → look_of old ≡ NoLook → look_of new ≡ NoLook → HasCounted old todo new
 none-counts old new todo e f = record { look = f ∙ sym e; reads = λ l. absurd (l e) }

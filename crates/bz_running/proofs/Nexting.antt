@@ -3,7 +3,7 @@ use Rattle.std.proofs.Common.{◌≡◌, ◌+◌, ◌<◌, ◌≤◌, ℕ, true,
 use Rattle.bz_call.specs.declared.replies.Spent.TheVariants.{Nodes, Swaps}
 use Rattle.bz_layout.specs.Slots.{FreeSlots}
 use Rattle.bz_task.specs.OwnActs.{AreTakenFrom}
-use Rattle.bz_task.specs.Requests.{Hears, IsKnown, EndsAtOnce, swaps_in, effects_in}
+use Rattle.bz_task.specs.Requests.{Hears, IsKnown, EndsAtOnce, swaps_in, steps_in, effects_in}
 use Rattle.bz_task.specs.Scene.{Scene}
 use Rattle.bz_task.specs.declared.todo.Outcome.{Outcome}
 use Rattle.bz_task.specs.declared.todo.Outcome.TheVariants.{Done, Full}
@@ -23,7 +23,7 @@ pub record MayHear (seen : Seen) (moment : ℕ) (free : FreeSlots) (t : AnyTask)
 
 pub record Nexts (seen : Seen) (moment : ℕ) (free left : FreeSlots) (todo : Todo) (new old : AnyTask) : Type 0 where
   pub asked : asks_of new ≡ Some todo
-  pub nearer : left_of new < left_of old
+  pub nearer : left_of new + steps_in (asks_of new) ≤ left_of old
   pub fewer : swaps_of new + swaps_in (asks_of old) ≤ swaps_of old
   pub counted : end_of new ≡ None → made_of new ≡ made_of old + effects_in seen
   pub config : config_of new ≡ config_of old

@@ -5,7 +5,7 @@ use Rattle.bz_call.specs.declared.replies.Spent.TheVariants.{Nodes, Swaps}
 use Rattle.bz_layout.specs.Slots.{FreeSlots}
 use Rattle.bz_task.specs.OwnActs.{AreTakenFrom, AreUnreached, gained}
 use Rattle.bz_task.specs.Outcomes.{IsPath, IsView, IsKeyView}
-use Rattle.bz_task.specs.Requests.{Tells, swaps_in, effects_in}
+use Rattle.bz_task.specs.Requests.{Tells, swaps_in, steps_in, effects_in}
 use Rattle.bz_task.specs.Scene.{Past, Scene, Stage, Waiting, IsScene}
 use Rattle.bz_task.specs.declared.path.Path.{Path}
 use Rattle.bz_task.specs.declared.todo.Outcome.{Outcome}
@@ -34,7 +34,7 @@ pub record IsLookup (key : List ℕ) (way : Option Path) (t : AnyTask) : Type 0 
 -- the task was told this at a moment, and asks for that
 pub record HasHeard (old : AnyTask) (seen : Seen) (moment : ℕ) (free : FreeSlots) (todo : Todo) (new : AnyTask) (left : FreeSlots) : Type 0 where
   pub asked : asks_of new ≡ Some todo
-  pub nearer : left_of new < left_of old
+  pub nearer : left_of new + steps_in (asks_of new) ≤ left_of old
   pub fewer : swaps_of new + swaps_in (asks_of old) ≤ swaps_of old
   pub counted : end_of new ≡ None → made_of new ≡ made_of old + effects_in seen
   pub swaps : change_swaps new ≡ change_swaps old

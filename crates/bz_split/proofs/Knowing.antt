@@ -29,7 +29,7 @@ use Rattle.bz_renew.specs.Renewals.{IsTurnable, LinksMayBeTurned}
 use Rattle.bz_renew.proofs.Guards.{answered-as-read}
 use Rattle.bz_renew.proofs.NodeWrites.{all-begun, nodes-taken, none-begun}
 use Rattle.bz_renew.proofs.Plainness.{IsPlain, inner-plain}
-use Rattle.bz_split.specs.Facts.{Split, nodes_in, SPLIT_WORDS, SPLIT_LINES, HasParted, IsSplitting, HasBegun, HasLooked, split_asks, split_differs, split_end, split_left, split_needs, split_facts, next_store, next_flush, IsReady}
+use Rattle.bz_split.specs.Facts.{Split, nodes_in, SPLIT_WORDS, SPLIT_LINES, HasParted, IsSplitting, HasBegun, HasLooked, split_asks, split_differs, split_end, split_left, split_steps, split_needs, split_facts, next_store, next_flush, IsReady}
 use Rattle.bz_split.specs.declared.phase.Phase.{Phase}
 use Rattle.bz_split.specs.declared.phase.Phase.TheVariants.{Fresh, Guard, Store, Flush, Swap, Done, Restart, NoSlot, NoSwap}
 
@@ -222,7 +222,7 @@ first-ends c r NoneLeft free h = absurd (h)
 pub record Looks (r : Split) (c : Config) (seen : Seen) (p : Phase) (old new : FreeSlots) : Type 0 where
   pub begun : p ≢ Fresh
   pub ready : IsReady c r p
-  pub nearer : split_left p < split_left Guard
+  pub nearer : split_left p + split_steps p ≤ split_left Guard
   pub taken : AreTakenFrom SPLIT_SLOTS (split_needs p) old new
   pub ends : EndsWell r.link seen Guard p old
 

@@ -65,9 +65,9 @@ split_end NoSlot = Some (IsFull NoNodes)
 split_end NoSwap = Some (IsFull NoSwaps)
 split_end phase = None
 
--- the most acts: the load of the guard, a store for each word, a flush for each line, the swap, and the end
+-- the most steps: the load of the guard, a store for each word, a flush for each line, which counts two, the swap, and the end
 abbrev pub split_acts : ℕ
-split_acts = SPLIT_WORDS + SPLIT_LINES + 3
+split_acts = SPLIT_WORDS + 2 * SPLIT_LINES + 3
 
 -- the most swaps that are still asked for: that of the link, until it has ended
 abbrev pub split_swaps : Phase → ℕ
@@ -79,11 +79,16 @@ split_swaps phase = 1
 
 abbrev pub split_left : Phase → ℕ
 split_left Fresh = split_acts
-split_left Guard = SPLIT_WORDS + SPLIT_LINES + 2
-split_left (Store j) = SPLIT_WORDS + SPLIT_LINES + 1 - j
-split_left (Flush j) = SPLIT_LINES + 1 - j
+split_left Guard = SPLIT_WORDS + 2 * SPLIT_LINES + 2
+split_left (Store j) = SPLIT_WORDS + 2 * SPLIT_LINES + 1 - j
+split_left (Flush j) = 2 * (SPLIT_LINES - j)
 split_left Swap = 1
 split_left phase = 0
+
+-- the steps of what is asked for
+abbrev pub split_steps : Phase → ℕ
+split_steps (Flush j) = 2
+split_steps phase = 1
 
 -- the slots are taken when the guard has been looked at again
 abbrev pub split_needs : Phase → ℕ

@@ -18,7 +18,7 @@ ghost use Rattle.bz_layout.specs.declared.swaps.TheConstants.{RENEWAL_SWAPS};
 ghost use Rattle.bz_task.specs.declared.todo.Seen.TheVariants.{Start, Read as Was, Swapped, NoSwap as NoneLeft};
 ghost use Rattle.bz_split.specs.Duties.{split_of, asks_of, basis_of, end_of, left_of, swaps_of, made_of, needs_of, facts_of, differs_of};
 ghost use Rattle.bz_split.specs.Parts.{ArePartsOf};
-ghost use Rattle.bz_split.specs.Facts.{IsEndOfSplit, HasBegun, HasLooked, nodes_in, split_acts, split_end, split_left, split_swaps, split_facts, split_means, split_change, IsReady, WasParted, next_store, next_flush};
+ghost use Rattle.bz_split.specs.Facts.{IsEndOfSplit, HasBegun, HasLooked, nodes_in, split_acts, split_end, split_left, split_steps, split_swaps, split_facts, split_means, split_change, IsReady, WasParted, next_store, next_flush};
 
 use crate::laws::root_leaf_splits_are_good;
 use crate::parts::parts_of;
@@ -98,7 +98,7 @@ impl SplitRoot {
         requires looked { self.now.phase ≢ Phase.Guard }
         requires hears { Hears (asks_of self.now) seen }
         requires known { IsKnown self.now.config (facts_of self.now) (asks_of self.now) seen moment }
-        ensures nearer { split_left result < left_of self.now }
+        ensures nearer { split_left result + split_steps result ≤ left_of self.now }
         ensures fewer { split_swaps result + swaps_in (asks_of self.now) ≤ swaps_of self.now }
         ensures counted { split_end result ≡ None → effects_in seen ≡ 0 }
         ensures done { result ≡ Phase.Done → seen ≡ Swapped true }
@@ -166,7 +166,7 @@ impl SplitRoot {
         ensures known { IsConfig self.new.config }
         ensures begun { self.new.phase ≢ Phase.Fresh }
         ensures ready { IsReady self.new.config (split_of self.new) self.new.phase }
-        ensures nearer { left_of self.new < left_of self.old }
+        ensures nearer { left_of self.new + split_steps self.new.phase ≤ left_of self.old }
         ensures fewer { swaps_of self.new + swaps_in (asks_of self.old) ≤ swaps_of self.old }
         ensures counted { end_of self.new ≡ None → effects_in seen ≡ 0 }
         ensures slots { AreTakenFrom (needs_of self.old) (needs_of self.new) slots.old slots.new }

@@ -72,6 +72,11 @@ abbrev pub swaps_in : Option Todo → ℕ
 swaps_in (Some (Swap entries)) = 1
 swaps_in asked = 0
 
+-- how many steps what is asked for counts: a flush two, and any other act one, a swap too, beside what its effect takes. An end counts one
+abbrev pub steps_in : Option Todo → ℕ
+steps_in (Some (Flush line)) = 2
+steps_in asked = 1
+
 -- how many swaps the answer tells to have taken effect
 abbrev pub effects_in : Seen → ℕ
 effects_in (Swapped true) = 1

@@ -9,7 +9,7 @@ ghost use Rattle.bz_word.specs.declared.entry.Entry.{Entry};
 ghost use Rattle.bz_task.specs.Basis.{Basis};
 ghost use Rattle.bz_task.specs.Instant.{Instant};
 ghost use Rattle.bz_task.specs.OwnActs.{Stores, Flushes, AreTakenFrom, AreUnreached, gained};
-ghost use Rattle.bz_task.specs.Requests.{IsAskable, Hears, Tells, IsKnown, IsCause, EndsAtOnce, swaps_in, effects_in};
+ghost use Rattle.bz_task.specs.Requests.{IsAskable, Hears, Tells, IsKnown, IsCause, EndsAtOnce, swaps_in, steps_in, effects_in};
 ghost use Rattle.bz_task.specs.Scene.{Scene, Stage, Waiting, Took, IsScene, IsLawful, HasFilled, here};
 ghost use Rattle.bz_task.specs.Swaps.{Change, Stand, SwapsTo, IsGoodSwap, Takes};
 ghost use Rattle.bz_task.specs.declared.todo.Outcome.TheVariants.{Done, Restart, Full};
@@ -33,7 +33,8 @@ pub trait Task: Drop {
     /// How it has ended, if it has.
     ghost end: { Self → Option Outcome };
 
-    /// The most acts that it will still ask for.
+    /// The most steps that it has left: a flush counts two, and each other act one, as does its end. What it asks for now is not
+    /// counted any more.
     ghost left: { Self → ℕ };
 
     /// The most swaps that it will still ask for, with the one that it asks for now.
@@ -80,7 +81,7 @@ pub trait Task: Drop {
         // while it is still to take slots, these are the slots of its memory
         requires memory { 0 < needs self.old → slots.old.nodes ≡ (config self.old).nodes }
         ensures asked { asks self.new ≡ Some result }
-        ensures nearer { left self.new < left self.old }
+        ensures nearer { left self.new + steps_in (asks self.new) ≤ left self.old }
         ensures fewer { swaps self.new + swaps_in (asks self.old) ≤ swaps self.old }
         ensures counted { end self.new ≡ None → made self.new ≡ made self.old + effects_in seen }
         ensures config { config self.new ≡ config self.old }

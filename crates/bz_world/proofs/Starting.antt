@@ -26,7 +26,7 @@ use Rattle.bz_world.specs.Inside.Serving.{IsServing, IsDoing, IsSlot, stage_in, 
 use Rattle.bz_world.specs.Inside.Telling.{MustStart}
 use Rattle.bz_world.specs.declared.parts.Parts.{Parts}
 use Rattle.bz_lone.specs.FromCosts.Weights.{start_allows}
-use Rattle.bz_swap.specs.Alone.{allowed_for, left_to}
+use Rattle.bz_swap.specs.Alone.{allowed_by_kind, left_to}
 use Rattle.bz_world.specs.Inside.Paid.{errand_of, no_extra, stock_of, IsPaidIn}
 use Rattle.bz_world.proofs.PaidSteps.{starts-in}
 use Rattle.bz_world.proofs.Alone.{none-untold, none-well}
@@ -68,7 +68,7 @@ may-ask b p w todo m =
 
 -- a read, a store or a flush
 module _ (lone : AloneLaws) (starts : StartsAreSeen) (begun : BegunLaws) (alone : LonelyCallsAreAlone) (p : Parts) (w : ℕ) (todo : Todo) (m : MustStart p w todo) (doing : Doing) (holds : Holds (started p.access w doing)) (does : IsDoing (started p.access w doing) p.owners.items w todo)
-    (waits : stage_in (started p.access w doing) doing ≡ Waiting) (no-swap : (s : ℕ) → doing ≢ Swapping s) (allows : allowed_for doing ≡ start_allows todo) where
+    (waits : stage_in (started p.access w doing) doing ≡ Waiting) (no-swap : (s : ℕ) → doing ≢ Swapping s) (allows : allowed_by_kind doing ≡ start_allows todo) where
   abbrev between : IsBetween p w m.serving
   between = m.asking.between
 
@@ -101,7 +101,7 @@ module _ (lone : AloneLaws) (starts : StartsAreSeen) (begun : BegunLaws) (alone 
   -- its start is paid for
   pays : IsPaidIn p.config (started p.access w doing) p.journal.past (stock_of p) w (errand_of m.serving) m.serving.task 0 no_extra its-scene.past
   pays = starts-in lone.paid p.config p.access (started p.access w doing) p.journal.past (stock_of p) w (errand_of m.serving) m.serving.task 0 todo its-scene.past (record {
-    left = let more : left_to (started p.access w doing) w ≤ left_to p.access w + allowed_for doing = lone.paid.steps.start p.access w doing in omega (arith, more, allows);
+    left = let more : left_to (started p.access w doing) w ≤ left_to p.access w + allowed_by_kind doing = lone.paid.kinds.start p.access w doing in omega (arith, more, allows);
     taken = omega arith;
     rivals = lone.paid.rivals.start p.access w doing;
   }) m.asking.paid

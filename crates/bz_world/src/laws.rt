@@ -53,6 +53,7 @@ pub(crate) fn paid_laws()
     lone::asked_swaps_are_counted();
     rivals::rivals_fall();
     swap::lone_steps_are_allowed();
+    swap::lone_steps_are_allowed_by_kind();
 }
 
 /// Those of what comes after a task.

@@ -39,7 +39,7 @@ use Rattle.bz_sound.specs.Power.Growth.{BeginsFollow, EffectsFollowActs, EndsFol
 use Rattle.bz_sound.specs.Power.ImageLaws.{AnswersComeFromTheImage, ChangesFollow, PagesComeFromTheImage, SameContentDecodes, SpentAnswersFull}
 use Rattle.bz_stage.specs.Laws.{LackingLeavesSay}
 use Rattle.bz_story.specs.Laws.{EffectsAreTold, FlushesAreTold, LivesGoOn, QuietMarksAreLawful, ScenesAreSeen, StoresAreTold}
-use Rattle.bz_swap.specs.LoneRuns.{LoneStepsAreAllowed}
+use Rattle.bz_swap.specs.LoneRuns.{LoneStepsAreAllowed, LoneStepsAreAllowedByKind}
 use Rattle.bz_swap.specs.TakenStatuses.{BegunStayTaken, TakenStatusesStay}
 use Rattle.bz_task.specs.declared.path.Link.{Link}
 use Rattle.bz_task.specs.declared.path.Path.{Path}
@@ -88,6 +88,7 @@ pub record PaidLaws : Type 0 where
   pub idle : IdleMemoriesAllowNothing
   pub asked : AskedSwapsAreCounted
   pub steps : LoneStepsAreAllowed
+  pub kinds : LoneStepsAreAllowedByKind
   pub rivals : RivalsFall
 
 -- and what comes after a task

@@ -1,10 +1,14 @@
-use Rattle.std.proofs.Common.{◌≡◌, ◌<◌, arith, subst, sym, inr}
+use Rattle.std.proofs.Common.{◌≡◌, ◌<◌, arith, refl, subst, sym, inr}
 use Rattle.std.specs.Prelude.{Some}
+use Rattle.bz_layout.specs.declared.config.Config.{Config}
 use Rattle.bz_task.specs.OwnActs.{gained}
+use Rattle.bz_task.specs.Requests.{steps_in}
 use Rattle.bz_task.specs.Scene.{Waiting}
 use Rattle.bz_task.specs.declared.todo.Outcome.TheVariants.{Restart}
 use Rattle.bz_descend.specs.SeekDuties.{end_of, left_of, facts_of}
-use Rattle.bz_descend.specs.SeekFacts.{seek_facts}
+use Rattle.bz_descend.specs.SeekFacts.{seek_asks, seek_facts}
+use Rattle.bz_descend.specs.declared.sight.Way.{Way}
+use Rattle.bz_descend.specs.declared.sight.Way.TheVariants.{Fresh}
 use Rattle.bz_descend.proofs.Moving.{counted-on, fewer-left, restarts}
 use Rattle.bz_descend.proofs.Seeking.{seek-no-slot}
 use Rattle.bz_descend.proofs.seek.SeekTask.next.Goals as goal
@@ -12,10 +16,17 @@ use Rattle.bz_descend.proofs.seek.SeekTask.next.Goals as goal
 pub asks_for-requires-clause-few : goal.asks_for-requires-clause-few
 asks_for-requires-clause-few c = let a = c.after-self.ensures in omega (arith, a.asked, a.nearer, c.heard.ensures.counted.few)
 
+-- nothing that it asks for is a flush
+one-step : (c : Config) (p : Way) → steps_in (seek_asks c p) ≡ 1
+one-step c Fresh = refl
+one-step c p = refl
+
 pub returns-clause-nearer : goal.returns-clause-nearer
 returns-clause-nearer c =
     let t = c.args.self.now in let a = c.after-self.ensures in let u = c.after-self.new.self in
-    subst (λ z. left_of z < left_of t) (sym c.asks_for.ensures.new) (fewer-left t.path u.path t.phase c.after-self.result t.asked u.asked a.asked a.nearer c.heard.ensures.counted.few)
+    let new = c.asks_for.new.self in
+    let near : left_of new < left_of t = subst (λ z. left_of z < left_of t) (sym c.asks_for.ensures.new) (fewer-left t.path u.path t.phase c.after-self.result t.asked u.asked a.asked a.nearer c.heard.ensures.counted.few) in
+    omega (arith, near, one-step new.config new.phase)
 
 pub returns-clause-restart : goal.returns-clause-restart
 returns-clause-restart c e =

@@ -1,13 +1,17 @@
-use Rattle.std.proofs.Common.{◌≡◌, ap, subst, sym, ◌∙◌, inr}
+use Rattle.std.proofs.Common.{◌≡◌, ◌<◌, arith, refl, ap, subst, sym, ◌∙◌, inr}
 use Rattle.std.specs.Prelude.{Some, None}
 use Rattle.bz_leaf.specs.Facts.{IsLastLink}
 use Rattle.bz_task.specs.Outcomes.{IsPath}
+use Rattle.bz_task.specs.Requests.{steps_in}
 use Rattle.bz_task.specs.OwnActs.{gained}
 use Rattle.bz_task.specs.Scene.{Waiting}
 use Rattle.bz_task.specs.declared.todo.Outcome.TheVariants.{Restart}
-use Rattle.bz_find.specs.Duties.{end_of, facts_of}
+use Rattle.bz_find.specs.Duties.{end_of, left_of, facts_of}
 use Rattle.bz_find.specs.Facts.{find_change}
-use Rattle.bz_find.specs.Phases.{find_end, told, counted}
+use Rattle.bz_find.specs.Phases.{find_asks, find_end, told, counted}
+use Rattle.bz_find.specs.declared.find.Find.{Find}
+use Rattle.bz_find.specs.declared.phase.Phase.{Phase}
+use Rattle.bz_find.specs.declared.phase.Phase.TheVariants.{Fresh}
 use Rattle.bz_find.proofs.Counts.{counts-told}
 use Rattle.bz_find.proofs.Keeping.{keeps-at}
 use Rattle.bz_find.proofs.Restarts.{restarts-at, begins-at, end-counted}
@@ -15,12 +19,19 @@ use Rattle.bz_find.proofs.Stepping.{steps, fewer-left}
 use Rattle.bz_find.proofs.Telling.{tells, no-slot}
 use Rattle.bz_find.proofs.find.FindTask.next.Goals as goal
 
+-- nothing that it asks for is a flush
+one-step : (t : Find) (p : Phase) → steps_in (find_asks t p) ≡ 1
+one-step t Fresh = refl
+one-step t p = refl
+
 pub returns-clause-nearer : goal.returns-clause-nearer
 returns-clause-nearer c =
     let t = c.args.self.now in
     let u = told t t.phase c.args.seen c.args.moment in
     let k = keeps-at t t.phase c.args.seen c.args.moment c.requires.hears in
-    rw c.answered.ensures.new (fewer-left t u k.asked (steps t c.args.seen c.args.moment c.heard.ensures.bounded c.requires.hears c.heard.ensures.plain).1 c.heard.ensures.bounded.few)
+    let new = c.answered.new.self in
+    let near : left_of new < left_of t = rw c.answered.ensures.new (fewer-left t u k.asked (steps t c.args.seen c.args.moment c.heard.ensures.bounded c.requires.hears c.heard.ensures.plain).1 c.heard.ensures.bounded.few) in
+    omega (arith, near, one-step new new.phase)
 
 pub returns-clause-change : goal.returns-clause-change
 returns-clause-change c =

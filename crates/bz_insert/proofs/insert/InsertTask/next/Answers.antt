@@ -1,16 +1,26 @@
-use Rattle.std.proofs.Common.{◌≡◌, ◌⊎◌, sym, ap, subst, ◌∙◌, inl, inr, Some, None}
-use Rattle.bz_task.specs.Requests.{EndsAtOnce}
+use Rattle.std.proofs.Common.{◌≡◌, ◌⊎◌, arith, refl, sym, ap, subst, ◌∙◌, inl, inr, Some, None}
+use Rattle.bz_layout.specs.declared.config.Config.{Config}
+use Rattle.bz_record.specs.declared.new_record.NewRecord.{NewRecord}
+use Rattle.bz_task.specs.Requests.{EndsAtOnce, steps_in}
 use Rattle.bz_task.specs.declared.todo.Outcome.{Outcome}
 use Rattle.bz_task.specs.declared.todo.Outcome.TheVariants.{NeedsRoom as Needs}
-use Rattle.bz_insert.specs.Facts.{insert_end}
+use Rattle.bz_insert.specs.Facts.{insert_asks, insert_end, insert_steps}
 use Rattle.bz_insert.specs.declared.phase.Phase.{Phase}
-use Rattle.bz_insert.specs.declared.phase.Phase.TheVariants.{Reserve, NeedsRoom}
+use Rattle.bz_insert.specs.declared.phase.Phase.TheVariants.{Fresh, Reserve, NeedsRoom}
 use Rattle.bz_insert.proofs.Staying.{no-slot}
 use Rattle.bz_insert.proofs.insert.InsertTask.next.Goals as goal
 
 pub returns-clause-learns : goal.returns-clause-learns
 returns-clause-learns c stage s now same good free facts tells =
     no-slot c.nothing_is_gained.ensures c.records_are_written.ensures c.args.self.now.added s c.args.slots.now c.after-self.result (c.after-self.ensures.learns stage s same facts tells)
+
+-- the steps of what a phase asks for
+asked-steps : (c : Config) (r : NewRecord) (p : Phase) → steps_in (insert_asks c r p) ≡ insert_steps p
+asked-steps c r Fresh = refl
+asked-steps c r p = refl
+
+pub returns-clause-nearer : goal.returns-clause-nearer
+returns-clause-nearer c = let t = c.args.self.now in omega (arith, c.after-self.ensures.nearer, asked-steps t.config t.added c.after-self.result)
 
 -- it may end as it begins for want of room alone
 first-ends : (p : Phase) (outcome : Outcome) → (p ≡ Reserve) ⊎ (p ≡ NeedsRoom) → insert_end p ≡ Some outcome → EndsAtOnce 0 outcome

@@ -1,5 +1,21 @@
+use Rattle.std.proofs.Common.{◌≡◌, arith, refl}
+use Rattle.bz_layout.specs.declared.config.Config.{Config}
+use Rattle.bz_node.specs.declared.image.NodeImage.{NodeImage}
+use Rattle.bz_task.specs.Requests.{steps_in}
+use Rattle.bz_task.specs.declared.path.Link.{Link}
+use Rattle.bz_leaf.specs.Facts.{leaf_asks}
+use Rattle.bz_leaf.specs.declared.phase.Phase.{Phase}
+use Rattle.bz_leaf.specs.declared.phase.Phase.TheVariants.{Fresh}
 use Rattle.bz_leaf.proofs.Learning.{no-slot}
 use Rattle.bz_leaf.proofs.read_leaf.ReadLeafTask.next.Goals as goal
+
+-- nothing that it asks for is a flush
+one-step : (c : Config) (link : Link) (image : NodeImage) (p : Phase) → steps_in (leaf_asks c link image p) ≡ 1
+one-step c link image Fresh = refl
+one-step c link image p = refl
+
+pub returns-clause-nearer : goal.returns-clause-nearer
+returns-clause-nearer c = let u = c.after-self.new.self in omega (arith, c.after-self.ensures.nearer, one-step u.config u.link u.image c.after-self.result)
 
 pub returns-clause-learns : goal.returns-clause-learns
 returns-clause-learns c stage s now same good free facts tells =

@@ -1,11 +1,21 @@
-use Rattle.std.proofs.Common.{◌≡◌, subst, Some}
-use Rattle.bz_task.specs.Requests.{EndsAtOnce}
+use Rattle.std.proofs.Common.{◌≡◌, arith, refl, subst, Some}
+use Rattle.bz_layout.specs.declared.config.Config.{Config}
+use Rattle.bz_task.specs.Requests.{EndsAtOnce, steps_in}
 use Rattle.bz_task.specs.declared.todo.Outcome.{Outcome}
 use Rattle.bz_task.specs.declared.todo.Outcome.TheVariants.{NeedsRoom as Needs}
-use Rattle.bz_mutate.specs.DeleteFacts.{IsFirst, delete_end}
+use Rattle.bz_task.specs.declared.view.KeyView.{KeyView}
+use Rattle.bz_mutate.specs.DeleteFacts.{IsFirst, delete_asks, delete_end}
 use Rattle.bz_mutate.specs.declared.delete_phase.DeletePhase.{DeletePhase}
-use Rattle.bz_mutate.specs.declared.delete_phase.DeletePhase.TheVariants.{Remove, NeedsRoom}
+use Rattle.bz_mutate.specs.declared.delete_phase.DeletePhase.TheVariants.{Fresh, Remove, NeedsRoom}
 use Rattle.bz_mutate.proofs.delete.DeleteTask.next.Goals as goal
+
+-- nothing that it asks for is a flush
+one-step : (c : Config) (v : KeyView) (p : DeletePhase) → steps_in (delete_asks c v p) ≡ 1
+one-step c v Fresh = refl
+one-step c v p = refl
+
+pub returns-clause-nearer : goal.returns-clause-nearer
+returns-clause-nearer c = let t = c.args.self.now in omega (arith, c.after-self.ensures.nearer, one-step t.config t.view c.after-self.result)
 
 -- it may end as it begins for want of room alone
 first-ends : (p : DeletePhase) (outcome : Outcome) → IsFirst p → delete_end p ≡ Some outcome → EndsAtOnce 0 outcome

@@ -1,0 +1,15 @@
+use Rattle.std.proofs.Common.{◌≡◌, ℕ, arith, refl}
+use Rattle.bz_layout.specs.declared.config.Config.{Config}
+use Rattle.bz_task.specs.Requests.{steps_in}
+use Rattle.bz_freeze.specs.Facts.{freeze_asks}
+use Rattle.bz_freeze.specs.declared.phase.Phase.{Phase}
+use Rattle.bz_freeze.specs.declared.phase.Phase.TheVariants.{Fresh}
+use Rattle.bz_freeze.proofs.freeze.FreezeTask.next.Goals as goal
+
+-- nothing that it asks for is a flush
+one-step : (c : Config) (k st : ℕ) (p : Phase) → steps_in (freeze_asks c k st p) ≡ 1
+one-step c k st Fresh = refl
+one-step c k st p = refl
+
+pub returns-clause-nearer : goal.returns-clause-nearer
+returns-clause-nearer c = let t = c.args.self.now in omega (arith, c.after-self.ensures.nearer, one-step t.config t.slot t.status c.after-self.result)
