@@ -27,3 +27,4 @@ mod Trees
 mod Leads
 mod Ways
 mod Brief
+pub mod Proved

@@ -3,3 +3,4 @@ mod Places
 mod Parents
 mod Rising
 pub mod FromBranch
+pub mod Proved

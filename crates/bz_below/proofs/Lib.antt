@@ -20,3 +20,4 @@ mod NewParents
 mod Briefness
 pub mod FromSplit
 mod Beginning
+pub mod Proved

@@ -8,3 +8,5 @@ pub mod Staying
 pub mod Paths
 pub mod FromSplit
 pub mod FromBelow
+pub mod Proved
+pub mod FromRenew

@@ -7,7 +7,6 @@ ghost use Rattle.bz_branch.specs.RootSplits.{InnerRootSplitsAreGood};
 
 use bz_content::laws as content;
 use bz_halves::laws as halves;
-use bz_parted::laws as parted;
 use bz_renew::laws as renew;
 use bz_shape::laws as shape;
 use bz_slotted::laws as slotted;
@@ -16,14 +15,7 @@ use bz_task::laws;
 /// The words of an inner node that were read one by one are those of one moment, where its status is found again.
 pub fn read_nodes_were()
     ensures { ReadNodesWere }
-{
-    content::well_formed_images_have_no_fault();
-    shape::trees_have_forms();
-    slotted::inner_rules_are_facts();
-    laws::nodes_stay();
-    laws::headers_say_the_level();
-    parted::read_nodes_have_children();
-}
+{}
 
 /// So are those of its parent, and the node's place may be parted there.
 pub fn parents_of_nodes_were()
@@ -44,30 +36,10 @@ pub fn parents_of_nodes_were()
 /// are frozen, is lawful for everybody and changes no content.
 pub fn inner_splits_are_good()
     ensures { InnerSplitsAreGood }
-{
-    content::well_formed_images_have_no_fault();
-    content::plain_words_stand_for_themselves();
-    content::splits_keep_the_content();
-    laws::ranges_stay();
-    renew::links_turn();
-    renew::links_turn_and_nodes_freeze();
-    renew::guarded_links_stand();
-    renew::link_swaps_are_good();
-}
+{}
 
 /// The swap by which a new root over the halves of an inner root takes its place, and that is frozen, is lawful for everybody and
 /// changes no content.
 pub fn inner_root_splits_are_good()
     ensures { InnerRootSplitsAreGood }
-{
-    content::well_formed_images_have_no_fault();
-    content::plain_words_stand_for_themselves();
-    content::root_splits_keep_the_content();
-    laws::ranges_stay();
-    laws::roots_are_reached();
-    laws::headers_say_the_level();
-    renew::links_turn();
-    renew::links_turn_and_nodes_freeze();
-    renew::guarded_links_stand();
-    renew::link_swaps_are_good();
-}
+{}

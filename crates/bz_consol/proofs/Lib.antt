@@ -5,3 +5,4 @@ mod Renewing
 mod Acting
 mod Viewing
 mod Beginning
+pub mod Proved

@@ -16,3 +16,4 @@ pub mod Values
 pub mod WellFormed
 pub mod Worked
 pub mod Proved
+pub mod FromSlotted

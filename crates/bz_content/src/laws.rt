@@ -1,14 +1,8 @@
 //! Laws of images. Each function does nothing but call the laws that it follows from: its contract is the law.
 
-ghost use Rattle.bz_content.specs.WorkedInsert.{WorkedInsert};
-ghost use Rattle.bz_content.specs.Laws.{ViewsAreHonest, PlainWordsStandForThemselves, WellFormedImagesHaveNoFault, FreshMemoryIsEmpty, FreshMemoryReachesSlotZero, MapIsTheContent};
-ghost use Rattle.bz_content.specs.Laws.{LeafSwapsKeepTheTree, QuietSwapsKeepTheContent, RewritesChangeOneKey};
-ghost use Rattle.bz_content.specs.Laws.{ConsolidationsKeepTheContent, SplitsKeepTheContent, RootSplitsKeepTheContent, MergesKeepTheContent};
-
-/// The rules of an image see to what a tree needs of them.
-pub fn views_are_honest()
-    ensures { ViewsAreHonest }
-{}
+ghost use Rattle.bz_content.specs.Laws.{PlainWordsStandForThemselves, WellFormedImagesHaveNoFault, FreshMemoryIsEmpty, FreshMemoryReachesSlotZero, MapIsTheContent};
+ghost use Rattle.bz_content.specs.Laws.{LeafSwapsKeepTheTree, RewritesChangeOneKey};
+ghost use Rattle.bz_content.specs.Laws.{ConsolidationsKeepTheContent, SplitsKeepTheContent};
 
 /// A plain value resolves to itself.
 pub fn plain_words_stand_for_themselves()
@@ -41,11 +35,6 @@ pub fn leaf_swaps_keep_the_tree()
     ensures { LeafSwapsKeepTheTree }
 {}
 
-/// A reservation, the first swap of an update, a freeze and private stores keep tree and content.
-pub fn quiet_swaps_keep_the_content()
-    ensures { QuietSwapsKeepTheContent }
-{}
-
 /// A publication, a delete and the second swap of an update change what is said of their record's key alone.
 pub fn rewrites_change_one_key()
     ensures { RewritesChangeOneKey }
@@ -59,19 +48,4 @@ pub fn consolidations_keep_the_content()
 /// A split of a leaf or an inner node below an inner node keeps the content.
 pub fn splits_keep_the_content()
     ensures { SplitsKeepTheContent }
-{}
-
-/// A split of the root keeps the content.
-pub fn root_splits_keep_the_content()
-    ensures { RootSplitsKeepTheContent }
-{}
-
-/// A merge of two leaves keeps the content.
-pub fn merges_keep_the_content()
-    ensures { MergesKeepTheContent }
-{}
-
-/// The images of the worked insert are well formed and hold what they should.
-pub fn worked_insert_reads()
-    ensures { WorkedInsert }
 {}

@@ -7,3 +7,4 @@ mod Lost
 mod Most
 mod Splits
 mod Stages
+pub mod Proved

@@ -1,6 +1,6 @@
 //! Laws of costs. Each function does nothing: its contract is the law.
 
-ghost use Rattle.bz_costs.specs.Costs.{HigherStagesCostMore, RoundsArePaid, StretchesAreTheMost, LoneCallsAreAffordable, WholeCallsAreAffordable};
+ghost use Rattle.bz_costs.specs.Costs.{RoundsArePaid, StretchesAreTheMost, LoneCallsAreAffordable, WholeCallsAreAffordable};
 ghost use Rattle.bz_costs.specs.Examples.{WeightsAreTold, CostsAreTold};
 ghost use Rattle.bz_costs.specs.Laws.{AskedSwapsAreCounted, HearingIsPaid, TasksWeighLittle, LostSplitsCostLittle};
 ghost use Rattle.bz_costs.specs.Resources.{Resource};
@@ -24,11 +24,6 @@ pub fn tasks_weigh_little()
 /// A split that ends for want of room has cost little.
 pub fn lost_splits_cost_little()
     ensures { (r : Resource) → LostSplitsCostLittle r }
-{}
-
-/// A stage costs no less than a lower one.
-pub fn higher_stages_cost_more()
-    ensures { (r : Resource) → HigherStagesCostMore r }
 {}
 
 /// What a round does that does not end the call, and all that comes after it, is paid for by the stage.

@@ -22,3 +22,4 @@ mod Halving
 mod Starting
 mod Passing
 mod Refusing
+pub mod Proved

@@ -1,3 +1,4 @@
 mod Freezing
 mod Asking
 mod Staying
+pub mod Proved

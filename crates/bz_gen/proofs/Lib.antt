@@ -2,3 +2,4 @@ pub mod Decimals
 pub mod Jobs
 pub mod Steps
 pub mod Texts
+pub mod Proved

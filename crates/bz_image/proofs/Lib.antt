@@ -7,3 +7,4 @@ pub mod Pieces
 pub mod Refusals
 pub mod FetchLemmas
 pub mod DurableLemmas
+pub mod Proved

@@ -14,3 +14,4 @@ mod Going
 mod Ends
 mod Turned
 mod Meanings
+pub mod Proved

@@ -11,6 +11,4 @@ pub fn answers_are_right()
 /// order of their moments.
 pub fn seen_is_one_history()
     ensures { SeenIsOneHistory }
-{
-    bz_sound::power_laws::one_history();
-}
+{}

@@ -14,3 +14,6 @@ mod Single
 mod SmallLeaves
 mod Standing
 mod Swapped
+pub mod Proved
+pub mod FromRounds
+pub mod FromAlone

@@ -1,16 +1,6 @@
 //! Laws of the number of leaves. Each function does nothing but call the laws that it follows from: its contract is the law.
 
-ghost use Rattle.bz_leaves.specs.Laws.{WordsOfLeavesDoNotCount, ConsolidationsKeepTheLeaves, LeafSplitsAddOne, RootLeafSplitsAddOne, MergesTakeOne};
-
-/// Nor is it another where words of leaves alone are others.
-pub fn words_of_leaves_do_not_count()
-    ensures { WordsOfLeavesDoNotCount }
-{}
-
-/// And a consolidation.
-pub fn consolidations_keep_the_leaves()
-    ensures { ConsolidationsKeepTheLeaves }
-{}
+ghost use Rattle.bz_leaves.specs.Laws.{LeafSplitsAddOne, RootLeafSplitsAddOne, MergesTakeOne};
 
 /// The split of a leaf below an inner node adds one, that of an inner node none.
 pub fn leaf_splits_add_one()

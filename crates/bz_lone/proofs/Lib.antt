@@ -22,3 +22,4 @@ mod OwnPrices
 mod OwnLeft
 mod OwnMerges
 mod Own
+pub mod Proved

@@ -5,9 +5,7 @@ ghost use Rattle.bz_lone.specs.Renewals.{RenewalsArePaid, AscentsArePaid};
 ghost use Rattle.bz_lone.specs.Rounds.{LessIsSpared, EndsAreAfforded, EndsArePaid, WaysArePaid, ChangesArePaid, LeavesAreRead, ReadLeavesArePaid, TasksMayBegin, RoundsBegin, DisturbedRoundsArePaid, EndsLeaveARound};
 ghost use Rattle.bz_lone.specs.Steps.{AnyCallIsPaid, AnyRoundIsPaid, FirstRoundsArePaid, IdleMemoriesAllowNothing, QuietStepsArePaid, ForeignEffectsArePaid, EffectMarksArePaid, LessIsPaid, OwnEffectsArePaid, HearingsArePaid, StartsArePaid};
 
-use bz_costs::laws as costs;
 pub use bz_costs::laws::{asked_swaps_are_counted, lone_calls_are_affordable};
-use bz_joined::laws as joined;
 pub use bz_joined::laws::{
     brief_look_ups_go_on, deletes_take_one_record, deletes_tell_few, deletes_tell_of_merges,
     effects_never_fall, gets_are_brief, known_leaves_stay, leaves_come_and_go,
@@ -19,66 +17,41 @@ pub use bz_joined::laws::{
     merges_count_at_last, merges_know_their_leaf, merges_lack_slots_rightly, neighbours_stand,
     own_swaps_are_counted, paths_read_few, stages_stand, trees_stand, ways_are_brief,
 };
-use bz_rivals::laws as rivals;
-use bz_swap::laws as swap;
 
 /// Whatever a call has come to, it ends within the marks that the configuration tells.
 pub fn any_call_is_paid()
     ensures { AnyCallIsPaid }
-{
-    rivals::rivals_are_few();
-    swap::lone_steps_are_allowed();
-    costs::tasks_weigh_little();
-}
+{}
 
 /// So does one that is about to look its key up.
 pub fn any_round_is_paid()
     ensures { AnyRoundIsPaid }
-{
-    rivals::rivals_are_few();
-    swap::lone_steps_are_allowed();
-    costs::tasks_weigh_little();
-    costs::higher_stages_cost_more();
-    costs::stretches_are_the_most();
-}
+{}
 
 /// So does one that begins while nobody does anything, within what is promised for each call.
 pub fn first_rounds_are_paid()
     ensures { (r : Resource) → FirstRoundsArePaid r }
-{
-    costs::higher_stages_cost_more();
-    costs::stretches_are_the_most();
-    costs::whole_calls_are_affordable();
-}
+{}
 
 /// Then the swap memory allows nothing more.
 pub fn idle_memories_allow_nothing()
     ensures { IdleMemoriesAllowNothing }
-{
-    swap::lone_steps_are_allowed();
-}
+{}
 
 /// A step without an effect is paid for.
 pub fn quiet_steps_are_paid()
     ensures { (r : Resource) → QuietStepsArePaid r }
-{
-    joined::stages_stand();
-}
+{}
 
 /// So is one at which another worker's swap takes effect.
 pub fn foreign_effects_are_paid()
     ensures { (r : Resource) → ForeignEffectsArePaid r }
-{
-    costs::stretches_are_the_most();
-    costs::higher_stages_cost_more();
-}
+{}
 
 /// So is the mark of an effect.
 pub fn effect_marks_are_paid()
     ensures { (r : Resource) → EffectMarksArePaid r }
-{
-    joined::stages_stand();
-}
+{}
 
 /// What pays for more pays for less.
 pub fn less_is_paid()
@@ -88,25 +61,12 @@ pub fn less_is_paid()
 /// A step at which the worker's own swap takes effect is paid for, and what comes after that.
 pub fn own_effects_are_paid()
     ensures { (r : Resource) → OwnEffectsArePaid r }
-{
-    joined::loners_go_on();
-    costs::asked_swaps_are_counted();
-    costs::higher_stages_cost_more();
-    costs::rounds_are_paid();
-    costs::splits_are_paid();
-    joined::lone_freezes_beside_keep_the_leaf();
-    joined::lone_freezes_freeze_the_leaf();
-    joined::merge_swaps_give_room();
-    joined::lone_swaps_leave();
-}
+{}
 
 /// What a task is told pays for the slots that are gone then, and for the start of its next act.
 pub fn hearings_are_paid()
     ensures { (r : Resource) → HearingsArePaid r }
-{
-    costs::hearing_is_paid();
-    costs::asked_swaps_are_counted();
-}
+{}
 
 /// That start is paid for.
 pub fn starts_are_paid()
@@ -146,17 +106,12 @@ pub fn leaves_are_read()
 /// What comes after that is paid for.
 pub fn read_leaves_are_paid()
     ensures { (r : Resource) → ReadLeavesArePaid r }
-{
-    costs::higher_stages_cost_more();
-    costs::stretches_are_the_most();
-}
+{}
 
 /// A task that is spared may begin.
 pub fn tasks_may_begin()
     ensures { (r : Resource) → TasksMayBegin r }
-{
-    costs::tasks_weigh_little();
-}
+{}
 
 /// A round that is paid for may begin.
 pub fn rounds_begin()
@@ -166,31 +121,19 @@ pub fn rounds_begin()
 /// A round is paid for where the one before was disturbed.
 pub fn disturbed_rounds_are_paid()
     ensures { (r : Resource) → DisturbedRoundsArePaid r }
-{
-    costs::higher_stages_cost_more();
-    costs::stretches_are_the_most();
-}
+{}
 
 /// And after the end of a task that left the leaf better than it was.
 pub fn ends_leave_a_round()
     ensures { (r : Resource) → EndsLeaveARound r }
-{
-    costs::higher_stages_cost_more();
-    costs::stretches_are_the_most();
-}
+{}
 
 /// What is done to a leaf without room is paid for.
 pub fn renewals_are_paid()
     ensures { (r : Resource) → RenewalsArePaid r }
-{
-    costs::rounds_are_paid();
-}
+{}
 
 /// So is what is done to the full nodes above it.
 pub fn ascents_are_paid()
     ensures { (r : Resource) → AscentsArePaid r }
-{
-    costs::rounds_are_paid();
-    costs::splits_are_paid();
-    costs::lost_splits_cost_little();
-}
+{}

@@ -80,3 +80,4 @@ pub mod Verdicts
 pub mod Visits
 pub mod WordChanges
 pub mod Words
+pub mod Proved

@@ -4,15 +4,13 @@ ghost use Rattle.bz_machine.specs.Budgets.{BeginsBounded, StaysBounded, BudgetsA
 ghost use Rattle.bz_machine.specs.BudgetTable.{PlacesCount, BudgetsAreSpent};
 ghost use Rattle.bz_machine.specs.DirtyHomes.{DirtyStayHome};
 ghost use Rattle.bz_machine.specs.Ends.{EndsStayWhole};
-ghost use Rattle.bz_machine.specs.Examples.{SwapsAlone};
 ghost use Rattle.bz_machine.specs.Fronts.{FrontsStay, AllStayRising};
-ghost use Rattle.bz_machine.specs.Invariance.{BeginsAsState, KeepsState, ActsAtomically, KeepsRange, BeginsInRange, CutRecovers};
+ghost use Rattle.bz_machine.specs.Invariance.{CutRecovers};
 ghost use Rattle.bz_machine.specs.Lawful.{StayInRange};
 ghost use Rattle.bz_machine.specs.LoneRuns.{LoneStepsAreAllowed, LoneStepsAreAllowedByKind};
-ghost use Rattle.bz_machine.specs.Sleeper.{SleeperIsHarmless};
 ghost use Rattle.bz_machine.specs.Owners.{OwnersStay};
 ghost use Rattle.bz_machine.specs.Progress.{TagsStayHome};
-ghost use Rattle.bz_machine.specs.Promise.{Atomic, EffectsLast, FailuresLast, PlainIsHeld, CutsKeep};
+ghost use Rattle.bz_machine.specs.Promise.{Atomic, EffectsLast, FailuresLast, CutsKeep};
 
 /// Whatever has happened since power on, each further event leaves what every address holds or is the effect
 /// of one whole swap, notes a miss only where a target differs, and answers rightly.
@@ -30,54 +28,14 @@ pub fn failures_last()
     ensures { FailuresLast }
 {}
 
-/// A plain word in the cache is what its address holds.
-pub fn plain_is_held()
-    ensures { PlainIsHeld }
-{}
-
 /// A power cut leaves what every address holds, and what is needed to resolve it.
 pub fn cuts_keep()
     ensures { CutsKeep }
 {}
 
-/// A swap of one word alone, act by act.
-pub fn swaps_alone()
-    ensures { SwapsAlone }
-{}
-
 /// At every moment each word outside the descriptors is one of a kind.
 pub fn stay_in_range()
     ensures { StayInRange }
-{}
-
-/// A helper that sleeps while the swap succeeds and the value returns: nothing that it does counts twice.
-pub fn sleeper_is_harmless()
-    ensures { SleeperIsHarmless }
-{}
-
-/// The invariant holds at power on.
-pub fn begins_as_state()
-    ensures { BeginsAsState }
-{}
-
-/// The invariant holds after each event that may happen.
-pub fn keeps_state()
-    ensures { KeepsState }
-{}
-
-/// Under the invariant, each event that may happen is atomic.
-pub fn acts_atomically()
-    ensures { ActsAtomically }
-{}
-
-/// At power on no number is out of range.
-pub fn begins_in_range()
-    ensures { BeginsInRange }
-{}
-
-/// No event takes a number out of range.
-pub fn keeps_range()
-    ensures { KeepsRange }
 {}
 
 /// Under the invariant, a power cut leaves what every address holds, and what is needed to resolve it.

@@ -27,3 +27,4 @@ mod Needing
 mod Beginning
 mod GoingOn
 mod Stepping
+pub mod Proved

@@ -1,3 +1,4 @@
 mod Lookups
 mod Views
 mod Shows
+pub mod Proved

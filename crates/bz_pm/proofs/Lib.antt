@@ -5,3 +5,4 @@ mod Asking
 mod Copying
 mod Settling
 mod States
+pub mod Proved

@@ -1,11 +1,6 @@
 //! Laws of the acts of a memory: each function does nothing, and its contract is the law.
 
-ghost use Rattle.bz_pm.specs.Changes.{StoredStoresOnly, ComparedComparesOnly, FlushedFlushesOnly, EvictedEvictsOnly, CutCutsOnly, AskAsksOnly, FenceFencesOnly};
-
-/// A store changes the cached word of its address alone.
-pub fn store()
-    ensures { StoredStoresOnly }
-{}
+ghost use Rattle.bz_pm.specs.Changes.{ComparedComparesOnly, FlushedFlushesOnly, EvictedEvictsOnly, CutCutsOnly};
 
 /// A compare-and-swap changes the cached word of its address alone, where that is the expected one.
 pub fn compare()
@@ -25,15 +20,4 @@ pub fn evict()
 /// A power cut changes the cached words alone, into the durable ones.
 pub fn cut()
     ensures { CutCutsOnly }
-{}
-
-/// An ask changes no word, and adds its line as it is in the caches to what its worker asked for.
-pub fn ask()
-    ensures { AskAsksOnly }
-{}
-
-/// A fence changes durable words of the lines that its worker asked for alone, each into the saved one or not at all, and
-/// none that dates from then or later.
-pub fn fence()
-    ensures { FenceFencesOnly }
 {}

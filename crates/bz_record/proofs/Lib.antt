@@ -21,3 +21,4 @@ mod Changing
 mod Remembering
 mod Finding
 mod Viewing
+pub mod Proved

@@ -9,3 +9,4 @@ pub mod Onward
 pub mod Reaching
 pub mod Reading
 pub mod Standing
+pub mod Proved

@@ -22,3 +22,4 @@ pub mod Staying
 pub mod Guards
 mod Slots
 mod Viewing
+pub mod Proved

@@ -9,3 +9,4 @@ pub mod Runs
 pub mod Stands
 pub mod Sums
 pub mod Wins
+pub mod Proved

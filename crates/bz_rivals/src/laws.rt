@@ -1,14 +1,8 @@
 //! Laws of rivals. Each function does nothing: its contract is the law.
 
-ghost use Rattle.bz_rivals.specs.Examples.{RivalsAreTold};
 ghost use Rattle.bz_rivals.specs.Laws.{RivalsAreFew, RivalsFall, RivalsAreExact, LoneEffectsAreFew};
 ghost use Rattle.bz_rivals.specs.Notes.{NotesAreOfBegun, ZeroSwapsNothing};
 ghost use Rattle.bz_rivals.specs.Wins.{OwnSwapsWin, ExpectedStand, WholeSwapsWin};
-
-/// The rivals of workers in a small memory.
-pub fn rivals_are_told()
-    ensures { RivalsAreTold }
-{}
 
 /// There are at most as many rivals as other workers.
 pub fn rivals_are_few()

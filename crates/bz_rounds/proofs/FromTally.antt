@@ -2,3 +2,4 @@
 pub use Rattle.bz_tally.proofs.Links
 pub use Rattle.bz_tally.proofs.Merging
 pub use Rattle.bz_tally.proofs.Pairs
+pub use Rattle.bz_tally.proofs.Proved

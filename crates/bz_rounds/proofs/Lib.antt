@@ -21,3 +21,5 @@ mod Thawed
 mod Viewing
 mod Wanting
 mod Whichever
+pub mod Proved
+pub mod FromAlone

@@ -29,3 +29,4 @@ pub mod OpenTurns
 pub mod OpenLemmas
 pub mod AboveLemmas
 pub mod ApartLemmas
+pub mod Proved

@@ -1,24 +1,7 @@
 //! The laws of runs. Each function does nothing: its contract is the law.
 
 ghost use Rattle.bz_sched.specs.AloneLaws.{CallsAboveEnd, CallsGoApart};
-ghost use Rattle.bz_sched.specs.TurnLaws.{AloneEndsIdle, TurnsEndIdle, WordsAreKept};
 ghost use Rattle.bz_sched.specs.Numbers.{NumbersOfFormats};
-
-/// A turn word adds acts of its worker alone, at most as many as it says, and fewer only where no call of that worker is then
-/// open or waits; and no eviction.
-pub fn words_are_kept()
-    ensures { WordsAreKept }
-{}
-
-/// After `run alone` no call of the workers 1 to 64 is open or waits.
-pub fn alone_ends_idle()
-    ensures { AloneEndsIdle }
-{}
-
-/// After `run turns` no call of the workers 1 to 64 is open or waits.
-pub fn turns_end_idle()
-    ensures { TurnsEndIdle }
-{}
 
 /// Where each run goes one worker after the other, and no cut is armed for a run or a power on, each call that stands above a run has ended.
 pub fn calls_above_end()

@@ -3,3 +3,4 @@ pub mod Lines
 pub mod NumberLemmas
 pub mod Scripts
 pub mod TurnWords
+pub mod Proved

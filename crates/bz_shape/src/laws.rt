@@ -1,7 +1,7 @@
 //! Laws of trees and of the swaps on them. Each function does nothing: its contract is the law.
 
 ghost use Rattle.bz_shape.specs.TreeLaws.{FormsFitTrees, TreesHaveForms, SlotsComeOnce, LeavesTileTheKeys, MapIsTheContent};
-ghost use Rattle.bz_shape.specs.SwapLaws.{UnreachedSlotsDoNotMatter, QuietSlotsKeepTheTree, LeafSwapsKeepTheTree, ConsolidationsKeepTheContent, SplitsKeepTheContent, RootSplitsKeepTheContent, MergesKeepTheContent};
+ghost use Rattle.bz_shape.specs.SwapLaws.{LeafSwapsKeepTheTree, ConsolidationsKeepTheContent, SplitsKeepTheContent};
 
 /// An image that a form fits has no fault, and the form that its walk shows agrees with that one.
 pub fn forms_fit_trees()
@@ -28,16 +28,6 @@ pub fn map_is_the_content()
     ensures { MapIsTheContent }
 {}
 
-/// Changes of slots that are not reached change neither the tree nor the content.
-pub fn unreached_slots_do_not_matter()
-    ensures { UnreachedSlotsDoNotMatter }
-{}
-
-/// Where every reached slot says what it said, tree and content are the same.
-pub fn quiet_slots_keep_the_tree()
-    ensures { QuietSlotsKeepTheTree }
-{}
-
 /// A swap on one leaf leaves the tree, and changes the content at keys of that leaf alone.
 pub fn leaf_swaps_keep_the_tree()
     ensures { LeafSwapsKeepTheTree }
@@ -51,14 +41,4 @@ pub fn consolidations_keep_the_content()
 /// A split of a leaf or an inner slot below an inner slot keeps the content.
 pub fn splits_keep_the_content()
     ensures { SplitsKeepTheContent }
-{}
-
-/// A split of the root keeps the content.
-pub fn root_splits_keep_the_content()
-    ensures { RootSplitsKeepTheContent }
-{}
-
-/// A merge of two leaves keeps the content.
-pub fn merges_keep_the_content()
-    ensures { MergesKeepTheContent }
 {}

@@ -8,3 +8,4 @@ mod Starting
 mod SwapMemories
 mod Swapped
 mod SwappedWords
+pub mod Proved

@@ -1,7 +1,7 @@
 //! Laws of a node's words. Each function does nothing: its contract is the law.
 
-ghost use Rattle.bz_slotted.specs.InnerChanges.{PointerSwapChangesChild, StandingIsQuiet};
-ghost use Rattle.bz_slotted.specs.LeafLaws.{RewriteChangesOneKey, ReservationIsQuiet, GrowthIsQuiet, FreezeIsQuiet, StoresAreQuiet};
+ghost use Rattle.bz_slotted.specs.InnerChanges.{PointerSwapChangesChild};
+ghost use Rattle.bz_slotted.specs.LeafLaws.{RewriteChangesOneKey, FreezeIsQuiet};
 ghost use Rattle.bz_slotted.specs.ReadingLaws.{WholeLeavesAreReadable, WholeInnersAreReadable, HighFencesAreRead, MadeLeavesAreWhole};
 ghost use Rattle.bz_slotted.specs.Laws.{LeafRulesAreFacts, InnerRulesAreFacts, InnerKeysRise, FoundKeysAreInRange, LiveWordsFit};
 
@@ -36,34 +36,14 @@ pub fn rewrite_changes_one_key()
     ensures { RewriteChangesOneKey }
 {}
 
-/// A reservation breaks no rule and changes no answer.
-pub fn reservation_is_quiet()
-    ensures { ReservationIsQuiet }
-{}
-
-/// The first swap of an update breaks no rule and changes no answer.
-pub fn growth_is_quiet()
-    ensures { GrowthIsQuiet }
-{}
-
 /// A freeze breaks no rule and changes no answer.
 pub fn freeze_is_quiet()
     ensures { FreezeIsQuiet }
 {}
 
-/// The private stores of a record to come break no rule and change no answer.
-pub fn stores_are_quiet()
-    ensures { StoresAreQuiet }
-{}
-
 /// A swap of one child pointer breaks no rule, and changes that child alone.
 pub fn pointer_swap_changes_child()
     ensures { PointerSwapChangesChild }
-{}
-
-/// The acts by which a swap comes and goes break no rule where they change no resolved word.
-pub fn standing_is_quiet()
-    ensures { StandingIsQuiet }
 {}
 
 /// A leaf that breaks no rule can be read as pairs, which are its records and answer as it does.

@@ -1,6 +1,5 @@
 //! Laws over sound journals over a memory. Each function does nothing but call the laws that it follows from: its
 //! contract is the law.
-ghost use Rattle.bz_sound.specs.Memory.Example.{WorkedGetIsSound};
 ghost use Rattle.bz_sound.specs.Memory.History.{OneHistory};
 ghost use Rattle.bz_sound.specs.Memory.Laws.{FreshJournalsAreSound, QuietActsFollow, FlushesFollow, EffectsFollowActs, BeginsFollow, EndsFollow, PageEndsFollow};
 ghost use Rattle.bz_sound.specs.Memory.Laws.{LoadsAreSettled};
@@ -8,7 +7,7 @@ ghost use Rattle.bz_sound.specs.Memory.ImageLaws.{AnswersComeFromTheImage, Pages
 ghost use Rattle.bz_sound.specs.Memory.ImageLaws.{EffectsAnswer, SpentAnswersFull, HeldSwapsAreSpent, HeldSlotsAreSpent};
 ghost use Rattle.bz_sound.specs.Memory.CallLaws.{EffectsStandOnce};
 ghost use Rattle.bz_sound.specs.Memory.OpenCallLaws.{OpenCallsLeaveRoom, EffectsStayOpen};
-ghost use Rattle.bz_sound.specs.Memory.CallLaws.{OpenCallsAreKept, OpenCallsAreLast, ApartCallsAreAlone, ActsAreOfOpenCalls, EffectsComeDirectly, EndsLieWithinTheirCalls, ToldChangesTookEffect, FullHasACause};
+ghost use Rattle.bz_sound.specs.Memory.CallLaws.{OpenCallsAreKept, OpenCallsAreLast, ToldChangesTookEffect};
 
 /// A journal without marks over a well-formed image is sound.
 pub fn fresh_journals_are_sound()
@@ -108,21 +107,6 @@ pub fn open_calls_leave_room()
     ensures { OpenCallsLeaveRoom }
 {}
 
-/// While calls run one after the other no two are open.
-pub fn apart_calls_are_alone()
-    ensures { ApartCallsAreAlone }
-{}
-
-/// Acts are of workers whose call is open.
-pub fn acts_are_of_open_calls()
-    ensures { ActsAreOfOpenCalls }
-{}
-
-/// An Effect stands directly after a flush or an eviction.
-pub fn effects_come_directly()
-    ensures { EffectsComeDirectly }
-{}
-
 /// No call takes effect twice.
 pub fn effects_stand_once()
     ensures { EffectsStandOnce }
@@ -133,32 +117,12 @@ pub fn effects_stay_open()
     ensures { EffectsStayOpen }
 {}
 
-/// The moment that an End names lies after the Begin of its call and not after the End.
-pub fn ends_lie_within_their_calls()
-    ensures { EndsLieWithinTheirCalls }
-{}
-
 /// A call that tells of a key inserted or deleted took effect.
 pub fn told_changes_took_effect()
     ensures { ToldChangesTookEffect }
-{}
-
-/// A Full changed nothing and has a cause.
-pub fn full_has_a_cause()
-    ensures { FullHasACause }
 {}
 
 /// The calls of a sound journal are one history of one map, in the order of the moments that it names.
 pub fn one_history()
     ensures { OneHistory }
 {}
-
-/// A small journal that was worked out by hand is sound, and those that differ from it in one thing are not.
-pub fn worked_get_is_sound()
-    ensures { WorkedGetIsSound }
-{
-    bz_layout::fresh_words_say();
-    bz_content::laws::well_formed_images_have_no_fault();
-    bz_content::laws::map_is_the_content();
-    bz_content::laws::fresh_memory_is_empty();
-}

@@ -1,13 +1,13 @@
 //! Laws over sound journals over a memory whose power fails and comes on again. Each function does nothing but call
 //! the laws that it follows from: its contract is the law.
 ghost use Rattle.bz_sound.specs.Lonely.{LonelyCallsAreAlone};
-ghost use Rattle.bz_sound.specs.Power.CallLaws.{OpenCallsAreLast, OpenCallsLeaveRoom, ActsAreAllowed, EffectsComeDirectly, EffectsStandOnce, EndsLieWithinTheirCalls, ToldChangesTookEffect, FullHasACause};
-ghost use Rattle.bz_sound.specs.Power.CutLaws.{CutsLeave, PowerMarksLeave};
+ghost use Rattle.bz_sound.specs.Power.CallLaws.{OpenCallsAreLast, OpenCallsLeaveRoom, EffectsStandOnce, ToldChangesTookEffect};
+ghost use Rattle.bz_sound.specs.Power.CutLaws.{CutsLeave};
 ghost use Rattle.bz_sound.specs.Power.Example.{WorkedCuts};
 ghost use Rattle.bz_sound.specs.Power.Growth.{FreshJournalsAreSound, QuietActsFollow, FlushesFollow, EffectsFollowActs, BeginsFollow, EndsFollow, PageEndsFollow, LoadsAreSettled};
 ghost use Rattle.bz_sound.specs.Power.History.{OneHistory};
 ghost use Rattle.bz_sound.specs.Power.ImageLaws.{AnswersComeFromTheImage, PagesComeFromTheImage, ChangesFollow, SameContentDecodes, EffectsAnswer, SpentAnswersFull, HeldSwapsAreSpent, HeldSlotsAreSpent};
-ghost use Rattle.bz_sound.specs.Power.Laws.{SoundAsBefore, PowerTellsWhatFollows, PowerMarksStand, CutsFollow, OnsFollow, ReadysFollow};
+ghost use Rattle.bz_sound.specs.Power.Laws.{SoundAsBefore, PowerTellsWhatFollows, CutsFollow, OnsFollow, ReadysFollow};
 
 /// Without a power cut a journal is sound exactly where it is by the definitions that have none.
 pub fn sound_as_before()
@@ -17,11 +17,6 @@ pub fn sound_as_before()
 /// The power tells which mark may follow: after a Cut nothing but an On, and an On nowhere else.
 pub fn power_tells_what_follows()
     ensures { PowerTellsWhatFollows }
-{}
-
-/// So each Cut, On, Ready and Begin of a sound journal stands where the power is as it asks.
-pub fn power_marks_stand()
-    ensures { PowerMarksStand }
 {}
 
 /// A power cut keeps a journal sound, wherever the power is not off.
@@ -39,11 +34,6 @@ pub fn cuts_leave()
     ensures { CutsLeave }
 {}
 
-/// Power on and the end of recovery leave words, map and open calls.
-pub fn power_marks_leave()
-    ensures { PowerMarksLeave }
-{}
-
 /// So does the end of recovery directly after an act of worker 0.
 pub fn readys_follow()
     ensures { ReadysFollow }
@@ -52,10 +42,7 @@ pub fn readys_follow()
 /// A journal without marks over a well-formed image is sound.
 pub fn fresh_journals_are_sound()
     ensures { FreshJournalsAreSound }
-{
-    bz_content::laws::well_formed_images_have_no_fault();
-    bz_content::laws::map_is_the_content();
-}
+{}
 
 /// A load, store or compare-and-swap keeps a journal sound, worker 0's in recovery among them.
 pub fn quiet_acts_follow()
@@ -107,34 +94,14 @@ pub fn lonely_calls_are_alone()
     ensures { LonelyCallsAreAlone }
 {}
 
-/// Acts are of worker 0 in recovery, and of workers whose call is open.
-pub fn acts_are_allowed()
-    ensures { ActsAreAllowed }
-{}
-
-/// An Effect stands directly after a flush or an eviction.
-pub fn effects_come_directly()
-    ensures { EffectsComeDirectly }
-{}
-
 /// No call takes effect twice.
 pub fn effects_stand_once()
     ensures { EffectsStandOnce }
 {}
 
-/// The moment that an End names lies after the Begin of its call and not after the End.
-pub fn ends_lie_within_their_calls()
-    ensures { EndsLieWithinTheirCalls }
-{}
-
 /// A call that tells of a key inserted or deleted took effect.
 pub fn told_changes_took_effect()
     ensures { ToldChangesTookEffect }
-{}
-
-/// A Full changed nothing and has a cause since the power came on.
-pub fn full_has_a_cause()
-    ensures { FullHasACause }
 {}
 
 /// What the image has there for a key gives the right reply.
@@ -186,8 +153,4 @@ pub fn one_history()
 /// thing are not.
 pub fn worked_cuts_are_sound()
     ensures { WorkedCuts }
-{
-    bz_content::laws::well_formed_images_have_no_fault();
-    bz_content::laws::map_is_the_content();
-    bz_content::laws::worked_insert_reads();
-}
+{}

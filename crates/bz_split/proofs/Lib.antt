@@ -7,3 +7,4 @@ pub mod Counting
 mod Acting
 mod Viewing
 mod Beginning
+pub mod Proved

@@ -11,3 +11,4 @@ pub mod Powering
 pub mod Recoveries
 pub mod Revivals
 pub mod Rebirths
+pub mod Proved

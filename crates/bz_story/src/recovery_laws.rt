@@ -1,41 +1,17 @@
 //! Laws of a memory that is being recovered. Each function does nothing: its contract is the law.
 
-ghost use Rattle.bz_story.specs.RecoveryLaws.{CutsLeaveTheImage, ImagesAreOff, RecoveriesBegin, RecoveriesKeepTheImage, RecoveriesGoOn, ActsMayStart, ActsRecover, EvictionsLeaveRecoveries, RecoveriesRevive};
+ghost use Rattle.bz_story.specs.RecoveryLaws.{CutsLeaveTheImage, RecoveriesKeepTheImage, RecoveriesGoOn, ActsMayStart, ActsRecover, EvictionsLeaveRecoveries, RecoveriesRevive};
 ghost use Rattle.bz_story.specs.Reviving.{CutsAreMarked, ImagesOpenJournals, PowerOnIsMarked, TurnsMakeNoMark, ActsAreMarked, EvictionsAreMarked, RecoveriesGiveLife, WalksEnd};
-
-use bz_recover::laws as recover;
 
 /// After a power cut the durable words resolve to what they resolved to, also where one cuts a recovery short.
 pub fn cuts_leave_the_image()
     ensures { CutsLeaveTheImage }
-{
-    bz_content::laws::well_formed_images_have_no_fault();
-    bz_layout::addresses_fit();
-    bz_swap::laws::plain_fields_stay();
-    recover::acts_are_these();
-    recover::cuts_keep_the_image();
-    recover::recoveries_know();
-}
-
-/// A memory that is opened over an image that breaks no rule is as after a power cut.
-pub fn images_are_off()
-    ensures { ImagesAreOff }
-{
-    bz_content::laws::well_formed_images_have_no_fault();
-    bz_swap::laws::plain_fields_stay();
-}
-
-/// A new recovery knows the memory over which it begins.
-pub fn recoveries_begin()
-    ensures { RecoveriesBegin }
 {}
 
 /// At every moment of a recovery the durable words resolve to the values of power on.
 pub fn recoveries_keep_the_image()
     ensures { RecoveriesKeepTheImage }
-{
-    recover::recoveries_know();
-}
+{}
 
 /// A recovery that is told what came of its act knows the memory, and asks for the next one.
 pub fn recoveries_go_on()
@@ -45,66 +21,37 @@ pub fn recoveries_go_on()
 /// What a recovery asks for may be started, by worker 0.
 pub fn acts_may_start()
     ensures { ActsMayStart }
-{
-    bz_swap::laws::plain_fields_stay();
-    recover::recoveries_know();
-}
+{}
 
 /// An act of worker 0 is the one that was asked for; the durable words hold what they held.
 pub fn acts_recover()
     ensures { ActsRecover }
-{
-    bz_layout::addresses_fit();
-    bz_swap::laws::plain_fields_stay();
-    bz_swap::laws::sizes_stay();
-    recover::acts_are_these();
-    recover::recoveries_know();
-    recover::acts_left_stay();
-    recover::resolving_keeps_the_content();
-}
+{}
 
 /// An eviction tells no effect, and the durable words hold what they held.
 pub fn evictions_leave_recoveries()
     ensures { EvictionsLeaveRecoveries }
-{
-    bz_layout::addresses_fit();
-    bz_swap::laws::plain_fields_stay();
-    bz_swap::laws::sizes_stay();
-    recover::acts_are_these();
-    recover::recoveries_know();
-    recover::acts_left_stay();
-    recover::resolving_keeps_the_content();
-}
+{}
 
 /// Where the recovery asks for nothing more the memory may be renewed, and is seen then as a settled one.
 pub fn recoveries_revive()
     ensures { RecoveriesRevive }
-{
-    bz_sight::laws::renewed_memories_are_seen();
-    recover::recovered_memories_may_be_renewed();
-    recover::recoveries_know();
-}
+{}
 
 /// A power cut ends a life, or cuts a recovery short; no call is open then.
 pub fn cuts_are_marked()
     ensures { CutsAreMarked }
-{
-    cuts_leave_the_image();
-}
+{}
 
 /// A journal that begins over an image begins with the power off.
 pub fn images_open_journals()
     ensures { ImagesOpenJournals }
-{
-    images_are_off();
-}
+{}
 
 /// Power on changes no word, and a recovery begins.
 pub fn power_on_is_marked()
     ensures { PowerOnIsMarked }
-{
-    recoveries_begin();
-}
+{}
 
 /// What a recovery is told, and what worker 0 starts, makes no mark.
 pub fn turns_make_no_mark()
@@ -114,27 +61,19 @@ pub fn turns_make_no_mark()
 /// After the mark of an act of worker 0 the durable words decode as before.
 pub fn acts_are_marked()
     ensures { ActsAreMarked }
-{
-    acts_recover();
-}
+{}
 
 /// So they do after an eviction.
 pub fn evictions_are_marked()
     ensures { EvictionsAreMarked }
-{
-    evictions_leave_recoveries();
-}
+{}
 
 /// Where the recovery has ended a new life begins.
 pub fn recoveries_give_life()
     ensures { RecoveriesGiveLife }
-{
-    recoveries_revive();
-}
+{}
 
 /// Then exactly the slots of the tree are held.
 pub fn walks_end()
     ensures { WalksEnd }
-{
-    recover::recoveries_know();
-}
+{}

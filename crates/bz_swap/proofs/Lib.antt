@@ -61,3 +61,4 @@ pub mod Values
 pub mod WordActs
 pub mod WordSizes
 pub mod WorkStarts
+pub mod Proved

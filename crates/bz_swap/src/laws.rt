@@ -6,17 +6,11 @@ ghost use Rattle.bz_swap.specs.LayoutSizes.{SizesAreOfLayout};
 ghost use Rattle.bz_swap.specs.LoneRuns.{LoneStepsAreAllowed, LoneStepsAreAllowedByKind};
 ghost use Rattle.bz_swap.specs.PlainFields.{PlainFieldsStay};
 ghost use Rattle.bz_swap.specs.Settled.{SettledStay, EffectsStay, DroppedStay, OwnedStay};
-ghost use Rattle.bz_swap.specs.Sizes.{SizesStay};
 ghost use Rattle.bz_swap.specs.TakenStatuses.{TakenStatusesStay, BegunStayTaken};
 
 /// What the calls of `Access` do are the events of the atomic swap memory.
 pub fn access_is_atomic()
     ensures { AccessIsAtomic }
-{}
-
-/// There are as many durable words as cached ones, in whole lines, whatever happens.
-pub fn sizes_stay()
-    ensures { SizesStay }
 {}
 
 /// The words of the descriptors after their statuses stay plain, where a recovery writes plain words.

@@ -9,3 +9,4 @@ pub mod Nearness
 pub mod Renewing
 pub mod Standing
 pub mod Sweeps
+pub mod Proved

@@ -18,3 +18,4 @@ pub mod RootHalving
 pub mod Splitting
 pub mod Stored
 pub mod Tasks
+pub mod Proved

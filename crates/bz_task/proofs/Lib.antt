@@ -17,3 +17,5 @@ mod Separators
 mod Resting
 mod Targeting
 pub mod FromSwap
+pub mod Proved
+pub mod FromContent

@@ -3,12 +3,8 @@
 ghost use Rattle.bz_task.specs.Laws.{NodesStay, FrozenNodesStay, SeparatorsStay, FrontsStay, RangesStay, NodesWereInside, RootsAreReached, HeadersSayTheLevel, SameRecordsShowTheSame, SwapsShowInSlots, SeenLeavesAreWhole, LeavesAreInTrees, ChildrenAreInTrees, ThawedLeavesStay, PathsStay, ViewsStay, KeyViewsStay, NothingIsGained};
 ghost use Rattle.bz_task.specs.LeafSwaps.{LeafSwapsAreGood};
 ghost use Rattle.bz_task.specs.Resting.{RestingMemoriesAreGood};
-ghost use Rattle.bz_task.specs.Settled.{SettledMemoriesAreGood};
 ghost use Rattle.bz_task.specs.Targets.{TargetsAreOfTheMemory, TargetsStay, OwnWordsAreNoTargets};
 ghost use Rattle.bz_task.specs.Others.{SharersOfNothingAreApart, QuietActsAreLawful, StoresAreLawful, EffectsAreLawful};
-
-use bz_content::{laws as content, slotted_laws as slotted};
-use bz_shape::laws as shape;
 
 /// While its status has the value that was read, a reached node is as it was.
 pub fn nodes_stay()
@@ -33,13 +29,7 @@ pub fn fronts_stay()
 /// The level and the range of a node are the same whenever it is in the tree.
 pub fn ranges_stay()
     ensures { RangesStay }
-{
-    fronts_stay();
-    content::well_formed_images_have_no_fault();
-    shape::trees_have_forms();
-    slotted::leaf_rules_are_facts();
-    slotted::inner_rules_are_facts();
-}
+{}
 
 /// What a node of the tree is later, it was at some moment at which it was still in the tree.
 pub fn nodes_were_inside()
@@ -49,31 +39,17 @@ pub fn nodes_were_inside()
 /// A swap on one leaf that leaves it whole is lawful for everybody.
 pub fn leaf_swaps_are_good()
     ensures { LeafSwapsAreGood }
-{
-    content::well_formed_images_have_no_fault();
-    content::leaf_swaps_keep_the_tree();
-    content::plain_words_stand_for_themselves();
-    shape::leaves_tile_the_keys();
-    bz_layout::slots_apart();
-}
+{}
 
 /// The root is in the tree, and holds every key.
 pub fn roots_are_reached()
     ensures { RootsAreReached }
-{
-    content::well_formed_images_have_no_fault();
-    shape::trees_have_forms();
-}
+{}
 
 /// A node of the tree has a lawful header, with the level at which it stands.
 pub fn headers_say_the_level()
     ensures { HeadersSayTheLevel }
-{
-    content::well_formed_images_have_no_fault();
-    shape::trees_have_forms();
-    slotted::leaf_rules_are_facts();
-    slotted::inner_rules_are_facts();
-}
+{}
 
 /// Where the records are the same, so are the places that readers read.
 pub fn same_records_show_the_same()
@@ -88,39 +64,22 @@ pub fn swaps_show_in_slots()
 /// Words that are those of a leaf to its readers are a leaf by themselves, and say what it says.
 pub fn seen_leaves_are_whole()
     ensures { SeenLeavesAreWhole }
-{
-    slotted::leaf_rules_are_facts();
-}
+{}
 
 /// What stands where, of a leaf of the tree.
 pub fn leaves_are_in_trees()
     ensures { LeavesAreInTrees }
-{
-    headers_say_the_level();
-    content::well_formed_images_have_no_fault();
-    shape::trees_have_forms();
-}
+{}
 
 /// The child of a node of the tree is in the tree.
 pub fn children_are_in_trees()
     ensures { ChildrenAreInTrees }
-{
-    headers_say_the_level();
-    content::well_formed_images_have_no_fault();
-    shape::trees_have_forms();
-}
+{}
 
 /// A leaf that was not frozen is in the tree and as it was, while its status has the value that was read.
 pub fn thawed_leaves_stay()
     ensures { ThawedLeavesStay }
-{
-    nodes_stay();
-    fronts_stay();
-    ranges_stay();
-    headers_say_the_level();
-    content::well_formed_images_have_no_fault();
-    shape::trees_have_forms();
-}
+{}
 
 /// A path stays what it is.
 pub fn paths_stay()
@@ -145,9 +104,7 @@ pub fn nothing_is_gained()
 /// Workers who share nothing own no word both.
 pub fn sharers_of_nothing_are_apart()
     ensures { SharersOfNothingAreApart }
-{
-    bz_layout::slots_apart();
-}
+{}
 
 /// A read, a flush, an eviction and an act of a swap without effect are lawful for everybody.
 pub fn quiet_acts_are_lawful()
@@ -164,30 +121,10 @@ pub fn effects_are_lawful()
     ensures { EffectsAreLawful }
 {}
 
-/// A memory in which nothing goes on is good.
-pub fn settled_memories_are_good()
-    ensures { SettledMemoriesAreGood }
-{
-    content::well_formed_images_have_no_fault();
-    shape::trees_have_forms();
-    slotted::inner_keys_rise();
-}
-
 /// A memory in which nothing changes for readers stays good, and holds the same.
 pub fn resting_memories_are_good()
     ensures { RestingMemoriesAreGood }
-{
-    roots_are_reached();
-    headers_say_the_level();
-    leaves_are_in_trees();
-    content::well_formed_images_have_no_fault();
-    content::views_are_honest();
-    shape::trees_have_forms();
-    shape::quiet_slots_keep_the_tree();
-    slotted::leaf_rules_are_facts();
-    slotted::stores_are_quiet();
-    slotted::standing_is_quiet();
-}
+{}
 
 /// What a swap may name is a matter of the memory alone.
 pub fn targets_are_of_the_memory()
@@ -197,11 +134,7 @@ pub fn targets_are_of_the_memory()
 /// An address that a swap may name stays one.
 pub fn targets_stay()
     ensures { TargetsStay }
-{
-    headers_say_the_level();
-    leaves_are_in_trees();
-    slotted::leaf_rules_are_facts();
-}
+{}
 
 /// A word of one's own is none that a swap may name.
 pub fn own_words_are_no_targets()

@@ -8,3 +8,4 @@ pub mod RightReports
 pub mod RightSummaries
 pub mod Fates
 pub mod InTime
+pub mod Proved

@@ -6,3 +6,4 @@ pub mod SayLemmas
 pub mod LineLemmas
 pub mod UsageLemmas
 pub mod FoundLemmas
+pub mod Proved

@@ -87,3 +87,4 @@ mod Contained
 mod Counting
 mod Tabled
 mod Numbers
+pub mod Proved

@@ -2,13 +2,8 @@
 
 ghost use Rattle.bz_world.specs.LoneLeaves.{LonelyCallsCountLeaves};
 
-use bz_sound::power_laws as sound;
-
 /// During a call beside which no other is open the leaves grow by one for each leaf of its key that had too many live words, and fall by
 /// one for each that had too few.
 pub fn lonely_calls_count_leaves()
     ensures { LonelyCallsCountLeaves }
-{
-    sound::power_tells_what_follows();
-    sound::lonely_calls_are_alone();
-}
+{}

@@ -1,5 +1,5 @@
-use Rattle.bz_alone.proofs.Brief.{brief-look-ups-go-on}
+use Rattle.bz_alone.proofs.Proved as proved
 use Rattle.bz_alone.proofs.laws.brief_look_ups_go_on.Goals as goal
 
 pub returns : goal.returns
-returns c = brief-look-ups-go-on c.loners_go_on.ensures
+returns c = proved.brief_look_ups_go_on

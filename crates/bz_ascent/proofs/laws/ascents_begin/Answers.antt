@@ -1,5 +1,5 @@
-use Rattle.bz_ascent.proofs.Places.{begins}
+use Rattle.bz_ascent.proofs.Proved as proved
 use Rattle.bz_ascent.proofs.laws.ascents_begin.Goals as goal
 
 pub returns : goal.returns
-returns c = begins c.views_show_frozen_leaves.ensures
+returns c = proved.ascents_begin

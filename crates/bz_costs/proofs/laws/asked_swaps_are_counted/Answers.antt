@@ -1,5 +1,5 @@
-use Rattle.bz_costs.proofs.Asked.{asked-counted}
+use Rattle.bz_costs.proofs.Proved as proved
 use Rattle.bz_costs.proofs.laws.asked_swaps_are_counted.Goals as goal
 
 pub returns : goal.returns
-returns c = asked-counted
+returns c = proved.asked_swaps_are_counted

@@ -1,5 +1,5 @@
-use Rattle.bz_costs.proofs.Examples.{costs-are-told}
+use Rattle.bz_costs.proofs.Proved as proved
 use Rattle.bz_costs.proofs.laws.costs_are_told.Goals as goal
 
 pub returns : goal.returns
-returns c = costs-are-told
+returns c = proved.costs_are_told

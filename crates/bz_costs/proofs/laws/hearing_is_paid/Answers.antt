@@ -1,5 +1,5 @@
-use Rattle.bz_costs.proofs.Heard.{hearing-paid}
+use Rattle.bz_costs.proofs.Proved as proved
 use Rattle.bz_costs.proofs.laws.hearing_is_paid.Goals as goal
 
 pub returns : goal.returns
-returns c = hearing-paid
+returns c = proved.hearing_is_paid

@@ -1,5 +1,5 @@
-use Rattle.bz_costs.proofs.Affordable.{affordable}
+use Rattle.bz_costs.proofs.Proved as proved
 use Rattle.bz_costs.proofs.laws.lone_calls_are_affordable.Goals as goal
 
 pub returns : goal.returns
-returns c = affordable
+returns c = proved.lone_calls_are_affordable

@@ -1,5 +1,5 @@
-use Rattle.bz_costs.proofs.Stages.{rounds-paid}
+use Rattle.bz_costs.proofs.Proved as proved
 use Rattle.bz_costs.proofs.laws.rounds_are_paid.Goals as goal
 
 pub returns : goal.returns
-returns c = rounds-paid
+returns c = proved.rounds_are_paid

@@ -1,5 +1,5 @@
-use Rattle.bz_costs.proofs.Least.{weigh-little}
+use Rattle.bz_costs.proofs.Proved as proved
 use Rattle.bz_costs.proofs.laws.tasks_weigh_little.Goals as goal
 
 pub returns : goal.returns
-returns c = weigh-little
+returns c = proved.tasks_weigh_little

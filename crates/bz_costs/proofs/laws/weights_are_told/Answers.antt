@@ -1,5 +1,5 @@
-use Rattle.bz_costs.proofs.Examples.{weights-are-told}
+use Rattle.bz_costs.proofs.Proved as proved
 use Rattle.bz_costs.proofs.laws.weights_are_told.Goals as goal
 
 pub returns : goal.returns
-returns c = weights-are-told
+returns c = proved.weights_are_told

@@ -1,5 +1,5 @@
-use Rattle.bz_joined.proofs.SmallLeaves.{deletes-tell}
+use Rattle.bz_joined.proofs.Proved as proved
 use Rattle.bz_joined.proofs.laws.deletes_tell_of_merges.Goals as goal
 
 pub returns : goal.returns
-returns c = deletes-tell c.deletes_tell_few.ensures
+returns c = proved.deletes_tell_of_merges

@@ -1,5 +1,5 @@
-use Rattle.bz_joined.proofs.Freezes.{freezes-beside}
+use Rattle.bz_joined.proofs.Proved as proved
 use Rattle.bz_joined.proofs.laws.freezes_beside_keep_the_stage.Goals as goal
 
 pub returns : goal.returns
-returns c = freezes-beside c.quiet_swaps_keep_the_content.ensures
+returns c = proved.freezes_beside_keep_the_stage

@@ -1,5 +1,5 @@
-use Rattle.bz_joined.proofs.Knowing.{known-stay}
+use Rattle.bz_joined.proofs.Proved as proved
 use Rattle.bz_joined.proofs.laws.known_leaves_stay.Goals as goal
 
 pub returns : goal.returns
-returns c = known-stay
+returns c = proved.known_leaves_stay

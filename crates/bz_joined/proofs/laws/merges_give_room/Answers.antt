@@ -1,5 +1,5 @@
-use Rattle.bz_joined.proofs.Merges.{merges}
+use Rattle.bz_joined.proofs.Proved as proved
 use Rattle.bz_joined.proofs.laws.merges_give_room.Goals as goal
 
 pub returns : goal.returns
-returns c = merges (record { leaf = c.leaf_rules_are_facts.ensures; inner = c.inner_rules_are_facts.ensures }) c.settled_leaf_takes_record.ensures c.merges_keep_the_content.ensures
+returns c = proved.merges_give_room

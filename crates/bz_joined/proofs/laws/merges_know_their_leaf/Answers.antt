@@ -1,5 +1,5 @@
-use Rattle.bz_joined.proofs.Knowing.{merges-know}
+use Rattle.bz_joined.proofs.Proved as proved
 use Rattle.bz_joined.proofs.laws.merges_know_their_leaf.Goals as goal
 
 pub returns : goal.returns
-returns c = merges-know
+returns c = proved.merges_know_their_leaf

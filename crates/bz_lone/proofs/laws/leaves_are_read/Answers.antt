@@ -1,5 +1,5 @@
-use Rattle.bz_lone.proofs.Reading.{leaves-read}
+use Rattle.bz_lone.proofs.Proved as proved
 use Rattle.bz_lone.proofs.laws.leaves_are_read.Goals as goal
 
 pub returns : goal.returns
-returns c = λ r. leaves-read r
+returns c = proved.leaves_are_read

@@ -1,5 +1,5 @@
-use Rattle.bz_lone.proofs.Simple.{less-paid}
+use Rattle.bz_lone.proofs.Proved as proved
 use Rattle.bz_lone.proofs.laws.less_is_paid.Goals as goal
 
 pub returns : goal.returns
-returns c = λ r. less-paid r
+returns c = proved.less_is_paid

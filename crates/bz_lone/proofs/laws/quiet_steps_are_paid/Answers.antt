@@ -1,5 +1,5 @@
-use Rattle.bz_lone.proofs.Quiet.{quiet-paid}
+use Rattle.bz_lone.proofs.Proved as proved
 use Rattle.bz_lone.proofs.laws.quiet_steps_are_paid.Goals as goal
 
 pub returns : goal.returns
-returns c = λ r. quiet-paid r c.stages_stand.ensures
+returns c = proved.quiet_steps_are_paid

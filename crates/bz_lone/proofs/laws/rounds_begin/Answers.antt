@@ -1,5 +1,5 @@
-use Rattle.bz_lone.proofs.Begins.{rounds-begin}
+use Rattle.bz_lone.proofs.Proved as proved
 use Rattle.bz_lone.proofs.laws.rounds_begin.Goals as goal
 
 pub returns : goal.returns
-returns c = λ r. rounds-begin r
+returns c = proved.rounds_begin

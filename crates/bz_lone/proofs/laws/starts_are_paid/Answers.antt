@@ -1,5 +1,5 @@
-use Rattle.bz_lone.proofs.Simple.{starts-paid}
+use Rattle.bz_lone.proofs.Proved as proved
 use Rattle.bz_lone.proofs.laws.starts_are_paid.Goals as goal
 
 pub returns : goal.returns
-returns c = λ r. starts-paid r
+returns c = proved.starts_are_paid

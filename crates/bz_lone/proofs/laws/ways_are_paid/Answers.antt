@@ -1,5 +1,5 @@
-use Rattle.bz_lone.proofs.Ways.{ways-paid}
+use Rattle.bz_lone.proofs.Proved as proved
 use Rattle.bz_lone.proofs.laws.ways_are_paid.Goals as goal
 
 pub returns : goal.returns
-returns c = λ r. ways-paid r
+returns c = proved.ways_are_paid

@@ -1,5 +1,5 @@
-use Rattle.bz_machine.proofs.ActsSpend as law
+use Rattle.bz_machine.proofs.Proved as proved
 use Rattle.bz_machine.proofs.laws.acts_spend.Goals as goal
 
 pub returns : goal.returns
-returns c = law.acts_spend
+returns c = proved.acts_spend

@@ -1,5 +1,5 @@
-use Rattle.bz_machine.proofs.PowerOn as law
+use Rattle.bz_machine.proofs.Proved as proved
 use Rattle.bz_machine.proofs.laws.atomic.Goals as goal
 
 pub returns : goal.returns
-returns c = law.atomic
+returns c = proved.atomic

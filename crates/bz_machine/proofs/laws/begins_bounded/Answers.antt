@@ -1,5 +1,5 @@
-use Rattle.bz_machine.proofs.Bounded as law
+use Rattle.bz_machine.proofs.Proved as proved
 use Rattle.bz_machine.proofs.laws.begins_bounded.Goals as goal
 
 pub returns : goal.returns
-returns c = law.bounded-power_on
+returns c = proved.begins_bounded

@@ -1,5 +1,5 @@
-use Rattle.bz_machine.proofs.EventLaws as law
+use Rattle.bz_machine.proofs.Proved as proved
 use Rattle.bz_machine.proofs.laws.cut_recovers.Goals as goal
 
 pub returns : goal.returns
-returns c = law.cut_recovers
+returns c = proved.cut_recovers

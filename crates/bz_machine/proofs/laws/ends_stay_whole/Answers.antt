@@ -1,5 +1,5 @@
-use Rattle.bz_machine.proofs.EndsStay as law
+use Rattle.bz_machine.proofs.Proved as proved
 use Rattle.bz_machine.proofs.laws.ends_stay_whole.Goals as goal
 
 pub returns : goal.returns
-returns c = law.ends_stay_whole
+returns c = proved.ends_stay_whole

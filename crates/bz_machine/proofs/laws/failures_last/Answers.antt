@@ -1,5 +1,5 @@
-use Rattle.bz_machine.proofs.PowerOn as law
+use Rattle.bz_machine.proofs.Proved as proved
 use Rattle.bz_machine.proofs.laws.failures_last.Goals as goal
 
 pub returns : goal.returns
-returns c = law.failures_last
+returns c = proved.failures_last

@@ -1,5 +1,5 @@
-use Rattle.bz_machine.proofs.FrontsStay as law
+use Rattle.bz_machine.proofs.Proved as proved
 use Rattle.bz_machine.proofs.laws.fronts_stay.Goals as goal
 
 pub returns : goal.returns
-returns c = law.fronts_stay
+returns c = proved.fronts_stay

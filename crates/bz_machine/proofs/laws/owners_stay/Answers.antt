@@ -1,5 +1,5 @@
-use Rattle.bz_machine.proofs.OwnersStay as law
+use Rattle.bz_machine.proofs.Proved as proved
 use Rattle.bz_machine.proofs.laws.owners_stay.Goals as goal
 
 pub returns : goal.returns
-returns c = law.owners_stay
+returns c = proved.owners_stay

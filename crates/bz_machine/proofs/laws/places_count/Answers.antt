@@ -1,5 +1,5 @@
-use Rattle.bz_machine.proofs.Tables as law
+use Rattle.bz_machine.proofs.Proved as proved
 use Rattle.bz_machine.proofs.laws.places_count.Goals as goal
 
 pub returns : goal.returns
-returns c = law.places_count
+returns c = proved.places_count

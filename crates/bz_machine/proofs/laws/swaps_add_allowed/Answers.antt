@@ -1,5 +1,5 @@
-use Rattle.bz_machine.proofs.SwapStarts as law
+use Rattle.bz_machine.proofs.Proved as proved
 use Rattle.bz_machine.proofs.laws.swaps_add_allowed.Goals as goal
 
 pub returns : goal.returns
-returns c = law.swaps_add_allowed
+returns c = proved.swaps_add_allowed

@@ -1,5 +1,5 @@
-use Rattle.bz_machine.proofs.TagsHome as law
+use Rattle.bz_machine.proofs.Proved as proved
 use Rattle.bz_machine.proofs.laws.tags_stay_home.Goals as goal
 
 pub returns : goal.returns
-returns c = law.tags_stay_home
+returns c = proved.tags_stay_home

@@ -1,5 +1,5 @@
-use Rattle.bz_pm.proofs.Lemmas as law
+use Rattle.bz_pm.proofs.Proved as proved
 use Rattle.bz_pm.proofs.laws.cut.Goals as goal
 
 pub returns : goal.returns
-returns c = law.cut
+returns c = proved.cut

@@ -1,10 +1,5 @@
-use Rattle.bz_record.proofs.Growing.{growing}
+use Rattle.bz_record.proofs.Proved as proved
 use Rattle.bz_record.proofs.laws.growths_are_good.Goals as goal
 
 pub returns : goal.returns
-returns c = growing (record {
-  leaves = c.leaves_stay.ensures;
-  slots = c.swaps_show_in_slots.ensures;
-  quiet = c.growth_is_quiet.ensures;
-  statuses = c.statuses.ensures;
-}) c.leaf_swaps_are_good.ensures
+returns c = proved.growths_are_good

@@ -1,5 +1,5 @@
-use Rattle.bz_record.proofs.Remembering.{remembering}
+use Rattle.bz_record.proofs.Proved as proved
 use Rattle.bz_record.proofs.laws.records_were.Goals as goal
 
 pub returns : goal.returns
-returns c = remembering c.leaves_were.ensures
+returns c = proved.records_were

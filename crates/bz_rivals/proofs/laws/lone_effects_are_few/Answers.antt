@@ -1,5 +1,5 @@
-use Rattle.bz_rivals.proofs.Runs.{lone-effects-are-few}
+use Rattle.bz_rivals.proofs.Proved as proved
 use Rattle.bz_rivals.proofs.laws.lone_effects_are_few.Goals as goal
 
 pub returns : goal.returns
-returns c = lone-effects-are-few
+returns c = proved.lone_effects_are_few

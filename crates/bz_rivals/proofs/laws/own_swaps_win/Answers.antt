@@ -1,5 +1,5 @@
-use Rattle.bz_rivals.proofs.Wins.{own-swaps-win}
+use Rattle.bz_rivals.proofs.Proved as proved
 use Rattle.bz_rivals.proofs.laws.own_swaps_win.Goals as goal
 
 pub returns : goal.returns
-returns c = own-swaps-win
+returns c = proved.own_swaps_win

@@ -1,5 +1,5 @@
-use Rattle.bz_rivals.proofs.Exact.{rivals-are-exact}
+use Rattle.bz_rivals.proofs.Proved as proved
 use Rattle.bz_rivals.proofs.laws.rivals_are_exact.Goals as goal
 
 pub returns : goal.returns
-returns c = rivals-are-exact
+returns c = proved.rivals_are_exact

@@ -1,5 +1,5 @@
-use Rattle.bz_rivals.proofs.Few.{rivals-are-few}
+use Rattle.bz_rivals.proofs.Proved as proved
 use Rattle.bz_rivals.proofs.laws.rivals_are_few.Goals as goal
 
 pub returns : goal.returns
-returns c = rivals-are-few
+returns c = proved.rivals_are_few

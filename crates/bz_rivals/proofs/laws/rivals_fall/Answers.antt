@@ -1,5 +1,5 @@
-use Rattle.bz_rivals.proofs.Falls.{rivals-fall}
+use Rattle.bz_rivals.proofs.Proved as proved
 use Rattle.bz_rivals.proofs.laws.rivals_fall.Goals as goal
 
 pub returns : goal.returns
-returns c = rivals-fall
+returns c = proved.rivals_fall

@@ -1,5 +1,5 @@
-use Rattle.bz_sched.proofs.ApartLemmas.{calls-go-apart}
+use Rattle.bz_sched.proofs.Proved as proved
 use Rattle.bz_sched.proofs.laws.calls_go_apart.Goals as goal
 
 pub returns : goal.returns
-returns c = calls-go-apart
+returns c = proved.calls_go_apart

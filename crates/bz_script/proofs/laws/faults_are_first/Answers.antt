@@ -1,5 +1,5 @@
-use Rattle.bz_script.proofs.FirstFaults.{script_first}
+use Rattle.bz_script.proofs.Proved as proved
 use Rattle.bz_script.proofs.laws.faults_are_first.Goals as goal
 
 pub returns : goal.returns
-returns c = script_first
+returns c = proved.faults_are_first

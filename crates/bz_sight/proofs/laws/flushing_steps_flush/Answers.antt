@@ -1,5 +1,5 @@
-use Rattle.bz_sight.proofs.Acting.{flushing}
+use Rattle.bz_sight.proofs.Proved as proved
 use Rattle.bz_sight.proofs.laws.flushing_steps_flush.Goals as goal
 
 pub returns : goal.returns
-returns c = flushing
+returns c = proved.flushing_steps_flush

@@ -1,5 +1,5 @@
-use Rattle.bz_sight.proofs.Acting.{quiet-step}
+use Rattle.bz_sight.proofs.Proved as proved
 use Rattle.bz_sight.proofs.laws.quiet_steps_pass.Goals as goal
 
 pub returns : goal.returns
-returns c = quiet-step c.plain_fields_stay.ensures
+returns c = proved.quiet_steps_pass

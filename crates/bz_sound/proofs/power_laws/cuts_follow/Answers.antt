@@ -1,5 +1,5 @@
-use Rattle.bz_sound.proofs.Cuts.Growth.{cuts-follow}
+use Rattle.bz_sound.proofs.Proved as proved
 use Rattle.bz_sound.proofs.power_laws.cuts_follow.Goals as goal
 
 pub returns : goal.returns
-returns c = cuts-follow
+returns c = proved.cuts_follow

@@ -1,5 +1,5 @@
-use Rattle.bz_sound.proofs.Cuts.Growth.{effects}
+use Rattle.bz_sound.proofs.Proved as proved
 use Rattle.bz_sound.proofs.power_laws.effects_follow_acts.Goals as goal
 
 pub returns : goal.returns
-returns c = effects
+returns c = proved.effects_follow_acts

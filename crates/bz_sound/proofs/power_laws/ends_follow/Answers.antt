@@ -1,5 +1,5 @@
-use Rattle.bz_sound.proofs.Cuts.Growth.{ends}
+use Rattle.bz_sound.proofs.Proved as proved
 use Rattle.bz_sound.proofs.power_laws.ends_follow.Goals as goal
 
 pub returns : goal.returns
-returns c = ends
+returns c = proved.ends_follow

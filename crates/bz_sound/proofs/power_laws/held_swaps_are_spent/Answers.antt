@@ -1,5 +1,5 @@
-use Rattle.bz_sound.proofs.Cuts.Told.{held-spent}
+use Rattle.bz_sound.proofs.Proved as proved
 use Rattle.bz_sound.proofs.power_laws.held_swaps_are_spent.Goals as goal
 
 pub returns : goal.returns
-returns c = held-spent
+returns c = proved.held_swaps_are_spent

@@ -1,5 +1,5 @@
-use Rattle.bz_sound.proofs.Lonely.{lonely-calls-are-alone}
+use Rattle.bz_sound.proofs.Proved as proved
 use Rattle.bz_sound.proofs.power_laws.lonely_calls_are_alone.Goals as goal
 
 pub returns : goal.returns
-returns c = lonely-calls-are-alone
+returns c = proved.lonely_calls_are_alone

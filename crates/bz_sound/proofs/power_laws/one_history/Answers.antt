@@ -1,5 +1,5 @@
-use Rattle.bz_sound.proofs.Cuts.OneHistory.{powered-history}
+use Rattle.bz_sound.proofs.Proved as proved
 use Rattle.bz_sound.proofs.power_laws.one_history.Goals as goal
 
 pub returns : goal.returns
-returns c = powered-history
+returns c = proved.one_history

@@ -1,5 +1,5 @@
-use Rattle.bz_sound.proofs.Cuts.Growth.{page-ends}
+use Rattle.bz_sound.proofs.Proved as proved
 use Rattle.bz_sound.proofs.power_laws.page_ends_follow.Goals as goal
 
 pub returns : goal.returns
-returns c = page-ends
+returns c = proved.page_ends_follow

@@ -1,16 +1,5 @@
-use Rattle.bz_split.proofs.BelowSplitting.{splits-below}
+use Rattle.bz_split.proofs.Proved as proved
 use Rattle.bz_split.proofs.laws.leaf_splits_below_are_good.Goals as goal
 
 pub returns : goal.returns
-returns c = splits-below (record {
-  formed = c.well_formed_images_have_no_fault.ensures;
-  plain = c.plain_words_stand_for_themselves.ensures;
-  keep = c.splits_keep_the_content.ensures;
-  may = c.links_turn.ensures.asked;
-  root = c.links_turn_and_nodes_freeze.ensures.root;
-  child = c.links_turn_and_nodes_freeze.ensures.child;
-  stand = c.guarded_links_stand.ensures;
-  still = c.frozen_leaves_stand_still.ensures;
-  ranges = c.ranges_stay.ensures;
-  links = c.link_swaps_are_good.ensures;
-})
+returns c = proved.leaf_splits_below_are_good

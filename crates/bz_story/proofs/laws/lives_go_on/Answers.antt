@@ -1,5 +1,5 @@
-use Rattle.bz_story.proofs.Lives.{lives-on}
+use Rattle.bz_story.proofs.Proved as proved
 use Rattle.bz_story.proofs.laws.lives_go_on.Goals as goal
 
 pub returns : goal.returns
-returns c = lives-on c.acts_pass.ensures
+returns c = proved.lives_go_on

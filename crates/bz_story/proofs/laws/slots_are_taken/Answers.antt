@@ -1,5 +1,5 @@
-use Rattle.bz_story.proofs.Takings.{slots-taken}
+use Rattle.bz_story.proofs.Proved as proved
 use Rattle.bz_story.proofs.laws.slots_are_taken.Goals as goal
 
 pub returns : goal.returns
-returns c = slots-taken
+returns c = proved.slots_are_taken

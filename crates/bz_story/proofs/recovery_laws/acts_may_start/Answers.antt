@@ -1,5 +1,5 @@
-use Rattle.bz_story.proofs.Powering.{may-start}
+use Rattle.bz_story.proofs.Proved as proved
 use Rattle.bz_story.proofs.recovery_laws.acts_may_start.Goals as goal
 
 pub returns : goal.returns
-returns c = may-start c.plain_fields_stay.ensures c.recoveries_know.ensures
+returns c = proved.acts_may_start

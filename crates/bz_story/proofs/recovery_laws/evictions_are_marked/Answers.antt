@@ -1,5 +1,5 @@
-use Rattle.bz_story.proofs.Rebirths.{evictions-marked}
+use Rattle.bz_story.proofs.Proved as proved
 use Rattle.bz_story.proofs.recovery_laws.evictions_are_marked.Goals as goal
 
 pub returns : goal.returns
-returns c = evictions-marked c.evictions_leave_recoveries.ensures
+returns c = proved.evictions_are_marked

@@ -1,5 +1,5 @@
-use Rattle.bz_swap.proofs.BegunStay as law
+use Rattle.bz_swap.proofs.Proved as proved
 use Rattle.bz_swap.proofs.laws.begun_stay_taken.Goals as goal
 
 pub returns : goal.returns
-returns c = law.begun_stay_taken
+returns c = proved.begun_stay_taken

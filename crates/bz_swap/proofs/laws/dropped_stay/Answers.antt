@@ -1,5 +1,5 @@
-use Rattle.bz_swap.proofs.DroppedStay as law
+use Rattle.bz_swap.proofs.Proved as proved
 use Rattle.bz_swap.proofs.laws.dropped_stay.Goals as goal
 
 pub returns : goal.returns
-returns c = law.dropped_stay
+returns c = proved.dropped_stay

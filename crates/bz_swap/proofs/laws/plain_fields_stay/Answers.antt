@@ -1,5 +1,5 @@
-use Rattle.bz_swap.proofs.FieldsStay as law
+use Rattle.bz_swap.proofs.Proved as proved
 use Rattle.bz_swap.proofs.laws.plain_fields_stay.Goals as goal
 
 pub returns : goal.returns
-returns c = law.plain_fields_stay
+returns c = proved.plain_fields_stay

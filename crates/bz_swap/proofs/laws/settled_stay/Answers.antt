@@ -1,5 +1,5 @@
-use Rattle.bz_swap.proofs.SettledStay as law
+use Rattle.bz_swap.proofs.Proved as proved
 use Rattle.bz_swap.proofs.laws.settled_stay.Goals as goal
 
 pub returns : goal.returns
-returns c = law.settled_stay
+returns c = proved.settled_stay

@@ -1,5 +1,5 @@
-use Rattle.bz_swap.proofs.TakenStay as law
+use Rattle.bz_swap.proofs.Proved as proved
 use Rattle.bz_swap.proofs.laws.taken_statuses_stay.Goals as goal
 
 pub returns : goal.returns
-returns c = law.taken_statuses_stay
+returns c = proved.taken_statuses_stay

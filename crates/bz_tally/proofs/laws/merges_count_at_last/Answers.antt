@@ -1,5 +1,5 @@
-use Rattle.bz_tally.proofs.Lasts.{merges-count-at-last}
+use Rattle.bz_tally.proofs.Proved as proved
 use Rattle.bz_tally.proofs.laws.merges_count_at_last.Goals as goal
 
 pub returns : goal.returns
-returns c = merges-count-at-last c.swaps_count.ensures
+returns c = proved.merges_count_at_last

@@ -1,5 +1,5 @@
-use Rattle.bz_task.proofs.Others.{effects-lawful}
+use Rattle.bz_task.proofs.Proved as proved
 use Rattle.bz_task.proofs.laws.effects_are_lawful.Goals as goal
 
 pub returns : goal.returns
-returns c = effects-lawful
+returns c = proved.effects_are_lawful

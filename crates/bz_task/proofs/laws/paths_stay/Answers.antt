@@ -1,5 +1,5 @@
-use Rattle.bz_task.proofs.Stays.{paths-stay}
+use Rattle.bz_task.proofs.Proved as proved
 use Rattle.bz_task.proofs.laws.paths_stay.Goals as goal
 
 pub returns : goal.returns
-returns c = paths-stay
+returns c = proved.paths_stay

@@ -1,5 +1,5 @@
-use Rattle.bz_task.proofs.Sames.{same-shown}
+use Rattle.bz_task.proofs.Proved as proved
 use Rattle.bz_task.proofs.laws.same_records_show_the_same.Goals as goal
 
 pub returns : goal.returns
-returns c = same-shown
+returns c = proved.same_records_show_the_same

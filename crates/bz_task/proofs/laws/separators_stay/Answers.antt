@@ -1,5 +1,5 @@
-use Rattle.bz_task.proofs.Separators.{separators-stay}
+use Rattle.bz_task.proofs.Proved as proved
 use Rattle.bz_task.proofs.laws.separators_stay.Goals as goal
 
 pub returns : goal.returns
-returns c = separators-stay
+returns c = proved.separators_stay

@@ -1,5 +1,5 @@
-use Rattle.bz_task.proofs.Others.{stores-lawful}
+use Rattle.bz_task.proofs.Proved as proved
 use Rattle.bz_task.proofs.laws.stores_are_lawful.Goals as goal
 
 pub returns : goal.returns
-returns c = stores-lawful
+returns c = proved.stores_are_lawful

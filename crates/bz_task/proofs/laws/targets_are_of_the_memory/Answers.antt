@@ -1,5 +1,5 @@
-use Rattle.bz_task.proofs.Targeting.{of-memory}
+use Rattle.bz_task.proofs.Proved as proved
 use Rattle.bz_task.proofs.laws.targets_are_of_the_memory.Goals as goal
 
 pub returns : goal.returns
-returns c = of-memory
+returns c = proved.targets_are_of_the_memory

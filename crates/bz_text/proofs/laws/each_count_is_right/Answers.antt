@@ -1,5 +1,5 @@
-use Rattle.bz_text.proofs.RightSummaries.{each-count-is-right}
+use Rattle.bz_text.proofs.Proved as proved
 use Rattle.bz_text.proofs.laws.each_count_is_right.Goals as goal
 
 pub returns : goal.returns
-returns c = each-count-is-right
+returns c = proved.each_count_is_right

@@ -1,5 +1,5 @@
-use Rattle.bz_text.proofs.Fates.{fates-are-right}
+use Rattle.bz_text.proofs.Proved as proved
 use Rattle.bz_text.proofs.laws.fates_are_right.Goals as goal
 
 pub returns : goal.returns
-returns c = fates-are-right
+returns c = proved.fates_are_right

@@ -1,5 +1,5 @@
-use Rattle.bz_sight.proofs.SwapMemories.{effect-shows}
+use Rattle.bz_sight.proofs.Proved as proved
 use Rattle.bz_sight.proofs.laws.swap.effects_show_on_the_image.Goals as goal
 
 pub returns : goal.returns
-returns c = effect-shows c.held_memories_leave_their_values.ensures
+returns c = proved.effects_show_on_the_image

@@ -1,5 +1,0 @@
-use Rattle.bz_content.proofs.Proved as proved
-use Rattle.bz_content.proofs.laws.root_splits_keep_the_content.Goals as goal
-
-pub returns : goal.returns
-returns c = proved.root_splits_keep_the_content

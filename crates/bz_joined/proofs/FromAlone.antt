@@ -1,0 +1,2 @@
+-- What crates above take of bz_alone by this one.
+pub use Rattle.bz_rounds.proofs.FromAlone.Proved

@@ -1,5 +1,0 @@
-use Rattle.bz_machine.proofs.EventLaws as law
-use Rattle.bz_machine.proofs.laws.keeps_state.Goals as goal
-
-pub returns : goal.returns
-returns c = law.keeps_state

@@ -1,5 +1,0 @@
-use Rattle.bz_pm.proofs.Fences as law
-use Rattle.bz_pm.proofs.laws.fence.Goals as goal
-
-pub returns : goal.returns
-returns c = law.fence

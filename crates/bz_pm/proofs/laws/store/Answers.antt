@@ -1,5 +1,0 @@
-use Rattle.bz_pm.proofs.Lemmas as law
-use Rattle.bz_pm.proofs.laws.store.Goals as goal
-
-pub returns : goal.returns
-returns c = law.store

@@ -1,5 +1,0 @@
-use Rattle.bz_sound.proofs.Memory.Told.{full-has-cause}
-use Rattle.bz_sound.proofs.memory_laws.full_has_a_cause.Goals as goal
-
-pub returns : goal.returns
-returns c = full-has-cause

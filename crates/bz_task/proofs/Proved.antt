@@ -1,0 +1,165 @@
+-- What this crate proves, as lemmas that other crates cite by these names.
+use Rattle.bz_content.proofs.FromSlotted.Proved.{inner_keys_rise, inner_rules_are_facts, leaf_rules_are_facts, standing_is_quiet, stores_are_quiet}
+use Rattle.bz_content.proofs.Proved.{leaf_swaps_keep_the_tree, plain_words_stand_for_themselves, views_are_honest, well_formed_images_have_no_fault}
+use Rattle.bz_layout.proofs.Laws.{slots_apart}
+use Rattle.bz_shape.proofs.Proved.{leaves_tile_the_keys, quiet_slots_keep_the_tree, trees_have_forms}
+use Rattle.bz_task.proofs.Ages.{nodes-stay}
+use Rattle.bz_task.proofs.Frozen.{fronts-stay, frozen-nodes-stay}
+use Rattle.bz_task.proofs.Inside.{nodes-were-inside}
+use Rattle.bz_task.proofs.LeafSwaps.{leaf-swaps, slot-words}
+use Rattle.bz_task.proofs.Others.{effects-lawful, quiet-lawful, sharers-apart, stores-lawful}
+use Rattle.bz_task.proofs.Ranges.{headers, ranges-stay}
+use Rattle.bz_task.proofs.Resting.{resting}
+use Rattle.bz_task.proofs.Roots.{roots-reached}
+use Rattle.bz_task.proofs.Sames.{same-shown}
+use Rattle.bz_task.proofs.SeenLeaves.{seen-whole}
+use Rattle.bz_task.proofs.Separators.{separators-stay}
+use Rattle.bz_task.proofs.Settled.{settled-good}
+use Rattle.bz_task.proofs.Stays.{key-views-stay, nothing-gained, paths-stay, views-stay}
+use Rattle.bz_task.proofs.Targeting.{not-mine, of-memory, targets-stay}
+use Rattle.bz_task.proofs.Thawed.{child-inside, in-tree, thawed-stay}
+use Rattle.bz_task.specs.Laws.{ChildrenAreInTrees, FrontsStay, FrozenNodesStay, HeadersSayTheLevel, KeyViewsStay, LeavesAreInTrees, NodesStay, NodesWereInside, NothingIsGained, PathsStay, RangesStay, RootsAreReached, SameRecordsShowTheSame, SeenLeavesAreWhole, SeparatorsStay, SwapsShowInSlots, ThawedLeavesStay, ViewsStay}
+use Rattle.bz_task.specs.LeafSwaps.{LeafSwapsAreGood}
+use Rattle.bz_task.specs.Others.{EffectsAreLawful, QuietActsAreLawful, SharersOfNothingAreApart, StoresAreLawful}
+use Rattle.bz_task.specs.Resting.{RestingMemoriesAreGood}
+use Rattle.bz_task.specs.Settled.{SettledMemoriesAreGood}
+use Rattle.bz_task.specs.Targets.{OwnWordsAreNoTargets, TargetsAreOfTheMemory, TargetsStay}
+
+-- while its status has the value that was read, a reached node is as it was
+pub nodes_stay : NodesStay
+nodes_stay = nodes-stay
+
+-- a frozen node stays as it was
+pub frozen_nodes_stay : FrozenNodesStay
+frozen_nodes_stay = frozen-nodes-stay
+
+-- separators and the places of child pointers of an inner node stay
+pub separators_stay : SeparatorsStay
+separators_stay = separators-stay
+
+-- header and fences of a reached node stay
+pub fronts_stay : FrontsStay
+fronts_stay = fronts-stay
+
+-- the level and the range of a node are the same whenever it is in the tree
+pub ranges_stay : RangesStay
+ranges_stay = ranges-stay (record {
+  formed = well_formed_images_have_no_fault;
+  forms = trees_have_forms;
+  leaf = leaf_rules_are_facts;
+  inner = inner_rules_are_facts;
+}) fronts_stay
+
+-- what a node of the tree is later, it was at some moment at which it was still in the tree
+pub nodes_were_inside : NodesWereInside
+nodes_were_inside = nodes-were-inside
+
+-- a swap on one leaf that leaves it whole is lawful for everybody
+pub leaf_swaps_are_good : LeafSwapsAreGood
+leaf_swaps_are_good = leaf-swaps (record {
+  formed = well_formed_images_have_no_fault;
+  leaves = leaf_swaps_keep_the_tree;
+  tile = leaves_tile_the_keys;
+  plain = plain_words_stand_for_themselves;
+  apart = slots_apart;
+})
+
+-- the root is in the tree, and holds every key
+pub roots_are_reached : RootsAreReached
+roots_are_reached = roots-reached well_formed_images_have_no_fault trees_have_forms
+
+-- a node of the tree has a lawful header, with the level at which it stands
+pub headers_say_the_level : HeadersSayTheLevel
+headers_say_the_level = headers (record {
+  formed = well_formed_images_have_no_fault;
+  forms = trees_have_forms;
+  leaf = leaf_rules_are_facts;
+  inner = inner_rules_are_facts;
+})
+
+-- where the records are the same, so are the places that readers read
+pub same_records_show_the_same : SameRecordsShowTheSame
+same_records_show_the_same = same-shown
+
+-- a word of a slot before and after a swap
+pub swaps_show_in_slots : SwapsShowInSlots
+swaps_show_in_slots = slot-words
+
+-- words that are those of a leaf to its readers are a leaf by themselves, and say what it says
+pub seen_leaves_are_whole : SeenLeavesAreWhole
+seen_leaves_are_whole = seen-whole leaf_rules_are_facts
+
+-- what stands where, of a leaf of the tree
+pub leaves_are_in_trees : LeavesAreInTrees
+leaves_are_in_trees = in-tree well_formed_images_have_no_fault trees_have_forms headers_say_the_level
+
+-- the child of a node of the tree is in the tree
+pub children_are_in_trees : ChildrenAreInTrees
+children_are_in_trees = child-inside well_formed_images_have_no_fault trees_have_forms headers_say_the_level
+
+-- a leaf that was not frozen is in the tree and as it was, while its status has the value that was read
+pub thawed_leaves_stay : ThawedLeavesStay
+thawed_leaves_stay = thawed-stay nodes_stay fronts_stay ranges_stay well_formed_images_have_no_fault trees_have_forms headers_say_the_level
+
+-- a path stays what it is
+pub paths_stay : PathsStay
+paths_stay = paths-stay
+
+-- a view stays what it is
+pub views_stay : ViewsStay
+views_stay = views-stay
+
+-- what was found of a key stays what it is
+pub key_views_stay : KeyViewsStay
+key_views_stay = key-views-stay
+
+-- where no slot is taken, all that were taken have been stored into
+pub nothing_is_gained : NothingIsGained
+nothing_is_gained = nothing-gained
+
+-- workers who share nothing own no word both
+pub sharers_of_nothing_are_apart : SharersOfNothingAreApart
+sharers_of_nothing_are_apart = sharers-apart slots_apart
+
+-- a read, a flush, an eviction and an act of a swap without effect are lawful for everybody
+pub quiet_acts_are_lawful : QuietActsAreLawful
+quiet_acts_are_lawful = quiet-lawful
+
+-- a private store is lawful for every other worker
+pub stores_are_lawful : StoresAreLawful
+stores_are_lawful = stores-lawful
+
+-- the effect of a task's swap is lawful for every other worker
+pub effects_are_lawful : EffectsAreLawful
+effects_are_lawful = effects-lawful
+
+-- a memory in which nothing goes on is good
+pub settled_memories_are_good : SettledMemoriesAreGood
+settled_memories_are_good = settled-good well_formed_images_have_no_fault trees_have_forms inner_keys_rise
+
+-- a memory in which nothing changes for readers stays good, and holds the same
+pub resting_memories_are_good : RestingMemoriesAreGood
+resting_memories_are_good = resting (record {
+  formed = well_formed_images_have_no_fault;
+  forms = trees_have_forms;
+  honest = views_are_honest;
+  quiet = quiet_slots_keep_the_tree;
+  stores = stores_are_quiet;
+  stands = standing_is_quiet;
+  rules = leaf_rules_are_facts;
+  roots = roots_are_reached;
+  headers = headers_say_the_level;
+  leaves = leaves_are_in_trees;
+})
+
+-- what a swap may name is a matter of the memory alone
+pub targets_are_of_the_memory : TargetsAreOfTheMemory
+targets_are_of_the_memory = of-memory
+
+-- an address that a swap may name stays one
+pub targets_stay : TargetsStay
+targets_stay = targets-stay (record { headers = headers_say_the_level; leaves = leaves_are_in_trees; rules = leaf_rules_are_facts })
+
+-- a word of one's own is none that a swap may name
+pub own_words_are_no_targets : OwnWordsAreNoTargets
+own_words_are_no_targets = not-mine
