@@ -1,22 +1,28 @@
 -- What this crate proves, as lemmas that other crates cite by these names.
-use Rattle.bz_mark.proofs.ExampleProofs.{leaves_five_or_six as leaves_five_or_six-holds, table_is_right as table_is_right-holds}
-use Rattle.bz_mark.proofs.LawProofs.{evictions_leave_what_may_be_held as evictions_leave_what_may_be_held-holds, held_after_one_mark as held_after_one_mark-holds, swaps_as_found as swaps_as_found-holds, truthful_at_each_moment as truthful_at_each_moment-holds, truthful_with_evictions as truthful_with_evictions-holds, words_stay as words_stay-holds}
-use Rattle.bz_mark.proofs.WordLaws.{length-words_of, words_of-next}
+use Rattle.bz_mark.proofs.ExampleProofs.{asks_and_fences_leave_these as asks_and_fences_leave_these-holds, leaves_five_or_six as leaves_five_or_six-holds, table_is_right as table_is_right-holds}
+use Rattle.bz_mark.proofs.Joined.{words_are_by_moments as words_are_by_moments-holds}
+use Rattle.bz_mark.proofs.LawProofs.{evictions_leave_what_may_be_held as evictions_leave_what_may_be_held-holds, swaps_as_found as swaps_as_found-holds, truthful_at_each_moment as truthful_at_each_moment-holds, truthful_with_evictions as truthful_with_evictions-holds, states_stay as states_stay-holds}
+use Rattle.bz_mark.proofs.MayHoldLaws.{held_after_one_mark as held_after_one_mark-holds}
+use Rattle.bz_mark.proofs.WordLaws.{length-words_of, states_of-next}
 use Rattle.bz_mark.specs.Evictions.{EvictionsLeaveWhatMayBeHeld}
-use Rattle.bz_mark.specs.Example.{LeavesFiveOrSix, TableIsRight}
-use Rattle.bz_mark.specs.Laws.{HeldAfterOneMark, LengthsStay, SwapsAsFound, TruthfulAtEachMoment, TruthfulWithEvictions, WordsFollow, WordsStay}
+use Rattle.bz_mark.specs.Example.{AsksAndFencesLeaveThese, LeavesFiveOrSix, TableIsRight}
+use Rattle.bz_mark.specs.Laws.{HeldAfterOneMark, LengthsStay, StatesFollow, StatesStay, SwapsAsFound, TruthfulAtEachMoment, TruthfulWithEvictions, WordsAreByMoments}
 
 -- there are always as many words as in the start image
 pub lengths_stay : LengthsStay
 lengths_stay = length-words_of
 
--- the words at the next moment are what the mark in between makes of the words at this one
-pub words_follow : WordsFollow
-words_follow = words_of-next
+-- the memory at the next moment is what the mark in between makes of the memory at this one
+pub states_follow : StatesFollow
+states_follow = states_of-next
 
--- the words at a moment stay what they are when marks are added
-pub words_stay : WordsStay
-words_stay = words_stay-holds
+-- the memory at a moment stays what it is when marks are added
+pub states_stay : StatesStay
+states_stay = states_stay-holds
+
+-- the words of the memory after marks are those by moments, where the marks are those of a memory and fewer than the acts that it counts
+pub words_are_by_moments : WordsAreByMoments
+words_are_by_moments = words_are_by_moments-holds
 
 -- a compare-and-swap that tells what stood there is the act of a memory
 pub swaps_as_found : SwapsAsFound
@@ -41,6 +47,10 @@ evictions_leave_what_may_be_held = evictions_leave_what_may_be_held-holds
 -- the words after each mark of a journal that was worked out by hand
 pub table_is_right : TableIsRight
 table_is_right = table_is_right-holds
+
+-- what asks, fences, evictions and cuts leave of two words of a line, worked out by hand
+pub asks_and_fences_leave_these : AsksAndFencesLeaveThese
+asks_and_fences_leave_these = asks_and_fences_leave_these-holds
 
 -- a power cut after a store, a flush and another store leaves one of the two stored values, and nothing else
 pub leaves_five_or_six : LeavesFiveOrSix

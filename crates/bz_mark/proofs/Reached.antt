@@ -1,110 +1,153 @@
--- Each image of words that may be held is left by some evictions.
-use Rattle.std.proofs.Common.{◌≡◌, ◌≢◌, ◌<◌, ◌≤◌, ◌⊎◌, ℕ, zero, suc, List, [], ◌∷◌, length, slice_index, refl, sym, ap, ◌∙◌, subst, inl, inr, arith}
-use Rattle.std.specs.Prelude.{slice_set}
-use Rattle.std.proofs.lemmas.Bool.{cases_eq}
-use Rattle.std.proofs.lemmas.Grind.{common_steps}
-use Rattle.std.proofs.lemmas.List.{get_or-set_other, ext_get_or}
+-- Each image of words that may be held is left by an eviction of each word at its moment.
+use Rattle.std.proofs.Common.{◌≡◌, ◌≢◌, ◌<◌, ◌≤◌, ◌⊎◌, ◌==◌, ℕ, true, false, zero, suc, List, [], ◌∷◌, length, slice_index, sym, ap, ◌∙◌, subst, inl, inr, arith}
+use Rattle.std.specs.Prelude.{max}
+use Rattle.std.proofs.lemmas.Bool.{cases_eq, cases_lt}
+use Rattle.std.proofs.lemmas.Bool.Decides.{nat_tests}
 use Rattle.bz_mark.specs.declared.marks.Mark.{Mark}
 use Rattle.bz_mark.specs.declared.marks.Mark.TheVariants.{Evict, Cut}
-use Rattle.bz_mark.specs.WordsAfter.{words_after_marks}
-use Rattle.bz_mark.proofs.WordLaws.{length-words_of}
-use Rattle.bz_mark.specs.MayHold.{Levels}
-use Rattle.bz_mark.specs.Evictions.{AddsEvictions, none, added, kept, MayBeLeft}
-use Rattle.bz_mark.proofs.Held.{Held}
-use Rattle.bz_mark.proofs.Steps.{cut_or_not, not_levelled, same_cached}
-use Rattle.bz_mark.proofs.Left.{held-durable, added-cached}
-use Rattle.bz_mark.proofs.Choosing.{Chosen, choose}
+use Rattle.bz_mark.specs.Dates.{since, cached_at}
+use Rattle.bz_mark.specs.Evictions.{AddsEvictions, none, added, kept, MayBeLeft, HoldsEach}
+use Rattle.bz_mark.proofs.DateLaws.{no_cut, since-within, since-is, since-rises, since-between}
+use Rattle.bz_mark.proofs.Renumbering.{Renumbers, to-within, same, with_eviction, since-evicted, with_mark, since-marked}
+use Rattle.bz_mark.proofs.Steps.{cut_or_not}
 
--- the durable word at a is the image's, or the cached one is
-abbrev IsClose : List ℕ → List ℕ → List Mark → ℕ → Type 0
-IsClose start image more a = (slice_index (words_after_marks start more).durable a ≡ slice_index image a) ⊎ (slice_index image a ≡ slice_index (words_after_marks start more).cached a)
+-- the moment of a word has come, and below k the word has been evicted at it
+abbrev HasCome : (ℕ → ℕ) → ℕ → ℕ → ℕ → Type 0
+HasCome at now k a = (at a < now) ⊎ ((at a ≡ now) × (a < k))
 
-record EvictedBelow (start image : List ℕ) (past : List Mark) (k : ℕ) (more : List Mark) : Type 0 where
-  pub adds : AddsEvictions (length start) past more
-  pub below : (a : ℕ) → a < k → slice_index (words_after_marks start more).durable a ≡ slice_index image a
-  pub above : (a : ℕ) → k ≤ a → a < length start → IsClose start image more a
+-- a journal with an eviction of each word at its moment, where that has come
+record Evicted (start : List ℕ) (at : ℕ → ℕ) (past : List Mark) (k : ℕ) (more : List Mark) : Type 0 where
+  adds : AddsEvictions (length start) past more
+  moments : Renumbers start past more
+  low : (a : ℕ) → a < length start → HasCome at (length past) k a → at a ≤ moments.to (since more a)
+  high : (a : ℕ) → moments.to (since more a) ≤ max (since past a) (at a)
 
-set_here : (durable : List ℕ) (a b v : ℕ) → b < length durable → a ≡ b → slice_index (slice_set durable b v) a ≡ v
-set_here durable a b v within is = grind (arith, common_steps)
+-- none has come before the start
+from_start : (start : List ℕ) (at : ℕ → ℕ) → Evicted start at [] 0 []
+from_start start at = record {
+  adds = none;
+  moments = same start [];
+  low = λ a within come. elim come [ inl before ↦ absurd (omega arith) | inr below ↦ absurd (omega (arith, below.1)) ];
+  high = λ a. omega arith;
+}
 
--- the words that differ are evicted one by one
-evict_below : (start image : List ℕ) (past more : List Mark) (k : ℕ) → k ≤ length start → AddsEvictions (length start) past more
-    → ((a : ℕ) → a < length start → IsClose start image more a) → (after : List Mark) × EvictedBelow start image past k after
-evict_below start image past more zero few adds close = (more, record { adds = adds; below = λ a low. absurd (omega arith); above = λ a low high. close a high })
-evict_below start image past more (suc k) few adds close =
-    let before : (after : List Mark) × EvictedBelow start image past k after = evict_below start image past more k (omega arith) adds close in
-    let here : k < length start = omega arith in
-    let long : length (words_after_marks start before.0).durable ≡ length start = (length-words_of start before.0).durable in
-    elim (before.1.above k (omega arith) here) [
-      | inl same ↦ (
-        before.0,
-        record {
-          adds = before.1.adds;
-          below = λ a low. elim (cases_eq a k) [ inl is ↦ rw is same | inr other ↦ before.1.below a (omega arith) ];
-          above = λ a low high. before.1.above a (omega arith) high;
-        },
-      )
-      | inr cached ↦ (
-        Evict k ∷ before.0,
-        record {
-          adds = added here before.1.adds;
-          below = λ a low. elim (cases_eq a k) [
-            | inl is ↦ set_here (words_after_marks start before.0).durable a k (slice_index (words_after_marks start before.0).cached k) (rw long here) is ∙ sym cached ∙ ap (slice_index image) (sym is)
-            | inr other ↦ get_or-set_other (words_after_marks start before.0).durable k a (slice_index (words_after_marks start before.0).cached k) 0 other ∙ before.1.below a (omega arith)
-          ];
-          above = λ a low high.
-              let other : a ≢ k = omega arith in
-              elim (before.1.above a (omega arith) high) [
-                | inl same ↦ inl (get_or-set_other (words_after_marks start before.0).durable k a (slice_index (words_after_marks start before.0).cached k) 0 other ∙ same)
-                | inr is ↦ inr is
-              ];
-        },
-      )
-    ]
+-- after a cut each that has come is of no more use
+from_cut : (start : List ℕ) (at : ℕ → ℕ) (past : List Mark) → Evicted start at (Cut ∷ past) 0 (Cut ∷ past)
+from_cut start at past = record {
+  adds = none;
+  moments = same start (Cut ∷ past);
+  low = λ a within come. elim come [ inl before ↦ omega (arith, before) | inr below ↦ absurd (omega (arith, below.1)) ];
+  high = λ a. omega arith;
+}
 
--- so an image near what the marks leave is left by evictions after them
-evict_all : (start image : List ℕ) (past more : List Mark) → length image ≡ length start → AddsEvictions (length start) past more
-    → ((a : ℕ) → a < length start → IsClose start image more a) → MayBeLeft start past image
-evict_all start image past more size adds close =
-    let all : (after : List Mark) × EvictedBelow start image past (length start) after = evict_below start image past more (length start) (omega arith) adds close in
-    let long : length (words_after_marks start all.0).durable ≡ length start = (length-words_of start all.0).durable in
-    (all.0, all.1.adds, ext_get_or 0 (words_after_marks start all.0).durable image (long ∙ sym size) (λ a within. all.1.below a (rw long at within)))
+-- one mark more
+marked : (start : List ℕ) (at : ℕ → ℕ) (past more : List Mark) (mark : Mark) → mark ≢ Cut → Evicted start at past (length start) more → Evicted start at (mark ∷ past) 0 (mark ∷ more)
+marked start at past more mark go e = record {
+  adds = kept go e.adds;
+  moments = with_mark start past more e.moments mark (no_cut mark go);
+  low = λ a within come. rw (since-marked start past more e.moments mark (no_cut mark go) a)
+      (omega (arith, since-rises past mark a (e.moments.to (since more a)) (to-within start past more e.moments (since more a) (since-within more a)), e.low a within (earlier a within come)));
+  high = λ a. rw (since-marked start past more e.moments mark (no_cut mark go) a, since-is mark past a) (since-between past mark a (e.moments.to (since more a)) (since past a) (at a) (e.high a));
+}
+  where
+    earlier : (a : ℕ) → a < length start → HasCome at (length (mark ∷ past)) 0 a → HasCome at (length past) (length start) a
+    earlier a within (inr below) = absurd (omega (arith, below.1))
+    earlier a within (inl before) = elim (cases_eq (at a) (length past)) [ inl now ↦ inr (now, within) | inr other ↦ inl (omega arith) ]
 
--- a value that the word might hold before the newest mark, and that is the image's unless the image has the cached one
-abbrev IsEarlier : List ℕ → List ℕ → Mark → List Mark → ℕ → ℕ → Type 0
-IsEarlier start image mark past a v =
-    Held start past a v × (((Levels a mark → ⊥) × (v ≡ slice_index image a)) ⊎ (slice_index image a ≡ slice_index (words_after_marks start (mark ∷ past)).cached a))
+same_test : (a b : ℕ) → a ≡ b → (a == b) ≡ true
+same_test a b e = grind (arith, nat_tests)
 
-earlier : (start image : List ℕ) (mark : Mark) (past : List Mark) (a : ℕ) → a < length start → Held start (mark ∷ past) a (slice_index image a)
-    → (v : ℕ) × IsEarlier start image mark past a v
-earlier start image mark past a within (inl now) = (slice_index (words_after_marks start past).durable a, (held-durable start past a within, inr now))
-earlier start image mark past a within (inr before) = (slice_index image a, (before.1, inl (before.0, refl)))
+other_test : (a b : ℕ) → a ≢ b → (a == b) ≡ false
+other_test a b ne = grind (arith, nat_tests)
 
-close_after : (start image words : List ℕ) (mark : Mark) (past more : List Mark) (a : ℕ) → mark ≢ Cut → a < length start → AddsEvictions (length start) past more
-    → (words_after_marks start more).durable ≡ words → IsEarlier start image mark past a (slice_index words a) → IsClose start image (mark ∷ more) a
-close_after start image words mark past more a go within adds is earlier = elim (earlier.1) [
-  | inl same ↦ inl (not_levelled start (words_after_marks start more) mark a (length-words_of start more) within same.0 ∙ ap (λ (xs : List ℕ). slice_index xs a) is ∙ same.1)
-  | inr cached ↦ inr (cached ∙ ap (λ (xs : List ℕ). slice_index xs a) (sym (same_cached (words_after_marks start more) (words_after_marks start past) mark go (added-cached start adds))))
+-- the next word, if this is its moment
+evict_next : (start : List ℕ) (at : ℕ → ℕ) (past more : List Mark) (k : ℕ) → k < length start → Evicted start at past k more → (after : List Mark) × Evicted start at past (suc k) after
+evict_next start at past more k here e = elim (cases_eq (at k) (length past)) [
+  | inl now ↦ (
+    Evict k ∷ more,
+    record {
+      adds = added here e.adds;
+      moments = with_eviction start past more e.moments k;
+      low = λ a within come. rw (since-evicted start past more e.moments k a) (elim (cases_eq a k) [
+        | inl is ↦ rw (same_test a k is) (elim come [ inl before ↦ omega (arith, before) | inr below ↦ omega (arith, below.0) ])
+        | inr ne ↦ rw (other_test a k ne) (e.low a within (elim come [ inl before ↦ inl before | inr below ↦ inr (below.0, omega (arith, below.1)) ]))
+      ]);
+      high = λ a. rw (since-evicted start past more e.moments k a) (elim (cases_eq a k) [
+        | inl is ↦ rw (same_test a k is) (let now_too : at a ≡ length past = ap at is ∙ now in omega arith)
+        | inr ne ↦ rw (other_test a k ne) (e.high a)
+      ]);
+    },
+  )
+  | inr other ↦ (
+    more,
+    record {
+      adds = e.adds;
+      moments = e.moments;
+      low = λ a within come. e.low a within (elim come [ inl before ↦ inl before | inr below ↦ inr (below.0, next other a below.0 below.1) ]);
+      high = e.high;
+    },
+  )
 ]
+  where
+    next : at k ≢ length past → (a : ℕ) → at a ≡ length past → a < suc k → a < k
+    next other a now below = elim (cases_eq a k) [ inl is ↦ absurd (other (ap at (sym is) ∙ now)) | inr ne ↦ omega arith ]
 
-after_cut : (start image : List ℕ) (past : List Mark) (a : ℕ) → Held start (Cut ∷ past) a (slice_index image a) → slice_index image a ≡ slice_index (words_after_marks start past).durable a
-after_cut start image past a (inl now) = now
-after_cut start image past a (inr before) = absurd (before.0 tt)
+-- each word whose moment is now
+evict_all : (start : List ℕ) (at : ℕ → ℕ) (past more : List Mark) (k : ℕ) → k ≤ length start → Evicted start at past 0 more → (after : List Mark) × Evicted start at past k after
+evict_all start at past more zero few e = (more, e)
+evict_all start at past more (suc k) few e =
+    let before : (after : List Mark) × Evicted start at past k after = evict_all start at past more k (omega arith) e in
+    evict_next start at past before.0 k (omega arith) before.1
 
-reached_cut : (start image : List ℕ) (mark : Mark) (past : List Mark) → mark ≡ Cut → length image ≡ length start
-    → ((a : ℕ) → a < length start → Held start (Cut ∷ past) a (slice_index image a)) → MayBeLeft start (Cut ∷ past) image
-reached_cut start image mark past is size held =
-    let long : length (words_after_marks start past).durable ≡ length start = (length-words_of start past).durable in
-    (Cut ∷ past, none, ext_get_or 0 (words_after_marks start past).durable image (long ∙ sym size) (λ a within. sym (after_cut start image past a (held a (rw long at within)))))
-
--- an image of words that may be held is left by evictions
-pub reached : (start : List ℕ) (past : List Mark) (image : List ℕ) → length image ≡ length start → ((a : ℕ) → a < length start → Held start past a (slice_index image a)) → MayBeLeft start past image
-reached start [] image size held = ([], none, ext_get_or 0 start image (sym size) (λ a within. sym (held a within)))
-reached start (mark ∷ past) image size held = elim (cut_or_not mark) [
-  | inl cut ↦ subst (λ (newest : Mark). MayBeLeft start (newest ∷ past) image) (sym cut)
-      (reached_cut start image mark past cut size (subst (λ (newest : Mark). (a : ℕ) → a < length start → Held start (newest ∷ past) a (slice_index image a)) cut held))
+-- each word at its moment
+evict_each : (start : List ℕ) (at : ℕ → ℕ) (past : List Mark) → (after : List Mark) × Evicted start at past (length start) after
+evict_each start at [] = evict_all start at [] [] (length start) (omega arith) (from_start start at)
+evict_each start at (mark ∷ past) = elim (cut_or_not mark) [
+  | inl cut ↦ evict_all start at (mark ∷ past) (mark ∷ past) (length start) (omega arith) (subst (λ (newest : Mark). Evicted start at (newest ∷ past) 0 (newest ∷ past)) (sym cut) (from_cut start at past))
   | inr go ↦
-      let words : (words : List ℕ) × Chosen (length start) (IsEarlier start image mark past) words = choose (length start) (IsEarlier start image mark past) (λ a within. earlier start image mark past a within (held a within)) in
-      let before : MayBeLeft start past words.0 = reached start past words.0 words.1.size (λ a within. (words.1.right a within).0) in
-      evict_all start image (mark ∷ past) (mark ∷ before.0) size (kept go before.1) (λ a within. close_after start image words.0 mark past before.0 a go within before.1 before.2 (words.1.right a within))
+      let before : (after : List Mark) × Evicted start at past (length start) after = evict_each start at past in
+      evict_all start at (mark ∷ past) (mark ∷ before.0) (length start) (omega arith) (marked start at past before.0 mark go before.1)
 ]
+
+-- a moment at which the word has the image's value, and from which its durable value may date
+record IsMomentOf (start : List ℕ) (past : List Mark) (image : List ℕ) (a moment : ℕ) : Type 0 where
+  dated : since past a ≤ moment
+  within : moment ≤ length past
+  value : slice_index image a ≡ cached_at start past moment a
+
+module _ (start : List ℕ) (past : List Mark) (image : List ℕ) (each : HoldsEach start past image) where
+  moment_in : (a : ℕ) → (a < length start) ⊎ (length start ≤ a) → ℕ
+  moment_in a (inl within) = (each.words a within).moment
+  moment_in a (inr beyond) = 0
+
+  in-moment : (a : ℕ) (side : (a < length start) ⊎ (length start ≤ a)) → a < length start → IsMomentOf start past image a (moment_in a side)
+  unfolding moment_in
+  in-moment a (inl within) here = let held = each.words a within in record { dated = held.dated; within = held.within; value = held.value }
+  in-moment a (inr beyond) here = absurd (omega arith)
+
+  moment_of : ℕ → ℕ
+  moment_of a = moment_in a (cases_lt a (length start))
+
+  of-moment : (a : ℕ) → a < length start → IsMomentOf start past image a (moment_of a)
+  unfolding moment_of
+  of-moment a within = in-moment a (cases_lt a (length start)) within
+
+  -- the evictions leave the image's words
+  pub reached : MayBeLeft start past image
+  reached =
+      let all : (after : List Mark) × Evicted start moment_of past (length start) after = evict_each start moment_of past in (
+        all.0,
+        all.1.adds,
+        record {
+          size = each.size;
+          words = λ a within.
+              let m : IsMomentOf start past image a (moment_of a) = of-moment a within in
+              let is : all.1.moments.to (since all.0 a) ≡ moment_of a = here all.0 all.1 a within m (cases_lt (moment_of a) (length past)) in
+              m.value ∙ sym (all.1.moments.cached (since all.0 a) a (since-within all.0 a) ∙ ap (λ (k : ℕ). cached_at start past k a) is);
+        },
+      )
+    where
+      here : (more : List Mark) (e : Evicted start moment_of past (length start) more) (a : ℕ) → a < length start → IsMomentOf start past image a (moment_of a)
+          → (moment_of a < length past) ⊎ (length past ≤ moment_of a) → e.moments.to (since more a) ≡ moment_of a
+      here more e a within m (inl before) = omega (arith, e.low a within (inl before), e.high a, m.dated)
+      here more e a within m (inr now) = omega (arith, e.low a within (inr (omega (arith, m.within), within)), e.high a, m.dated)

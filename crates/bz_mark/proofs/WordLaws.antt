@@ -1,32 +1,36 @@
 -- Laws of the words after marks: one mark more, lengths, and what was before a moment.
 pub mod Lines
+pub mod Settled
 use Rattle.std.proofs.Common.{◌≡◌, ◌≤◌, ◌<◌, ◌+◌, ◌%◌, ◌^◌, ℕ, List, [], ◌∷◌, ◌++◌, length, slice_index, refl, sym, ap, ◌∙◌, subst, inl, inr, arith, length-append}
 use Rattle.std.specs.Prelude.{Some, slice_get, ◌==◌, if◌then◌else◌}
 use Rattle.std.proofs.lemmas.Bool.{cases_lt}
 use Rattle.std.proofs.lemmas.List.{length-set}
 use Rattle.std.proofs.lemmas.Option.{slice_get-get_or, get_or_from_slice_get}
 use Rattle.std.proofs.lemmas.Grind.{common_steps}
-use Rattle.bz_pm.specs.Words.{Words, IsMemory}
+use Rattle.bz_pm.specs.Words.{IsMemory}
+use Rattle.bz_pm.specs.State.{State, asks_of}
 use Rattle.bz_mark.specs.declared.marks.Mark.{Mark}
-use Rattle.bz_mark.specs.declared.marks.Mark.TheVariants.{Begin, End, Load, Store, Cas, Flush, Evict, Cut, On, Ready, Effect}
+use Rattle.bz_mark.specs.declared.marks.Mark.TheVariants.{Store, Cas, Flush, Fence, Evict, Cut}
 use Rattle.bz_mark.specs.Moments.{at_moment, mark_at}
 use Rattle.bz_mark.proofs.MomentLaws.{at_moment-earlier, at_moment-next, at_moment-before, at_moment-now, mark_at-earlier, mark_at-newest}
-use Rattle.bz_mark.specs.WordsAfter.{words_after, words_after_marks, cached_at, durable_at, KeepsLength, Found, IsTruthful}
+use Rattle.bz_mark.specs.WordsAfter.{state_after, state_after_marks, words_after_marks, KeepsLength, Found, IsTruthful}
 use Rattle.bz_mark.proofs.WordLaws.Lines.{length-line}
+use Rattle.bz_mark.proofs.WordLaws.Settled.{length-settled}
 
 -- a mark keeps the number of words
-pub length-words_after : (start : List ℕ) (words : Words) (mark : Mark) → KeepsLength start words → KeepsLength start (words_after words mark)
-length-words_after start words (Store w a v) same = record { cached = length-set words.cached a v ∙ same.cached; durable = same.durable }
-length-words_after start words (Cas w a old new found) same = record { cached = grind (arith, common_steps, same.cached); durable = same.durable }
-length-words_after start words (Flush w line) same = record { cached = same.cached; durable = length-line line words.cached words.durable (same.cached ∙ sym same.durable) ∙ same.durable }
-length-words_after start words (Evict a) same = record { cached = same.cached; durable = length-set words.durable a (slice_index words.cached a) ∙ same.durable }
-length-words_after start words Cut same = record { cached = same.durable; durable = same.durable }
-length-words_after start words mark same = same
+pub length-state_after : (start : List ℕ) (m : State) (mark : Mark) → KeepsLength start m.words → KeepsLength start (state_after m mark).words
+length-state_after start m (Store w a v) same = record { cached = length-set m.words.cached a v ∙ same.cached; durable = same.durable }
+length-state_after start m (Cas w a old new found) same = record { cached = grind (arith, common_steps, same.cached); durable = same.durable }
+length-state_after start m (Flush w line) same = record { cached = same.cached; durable = length-line line m.words.cached m.words.durable (same.cached ∙ sym same.durable) ∙ same.durable }
+length-state_after start m (Fence w) same = record { cached = same.cached; durable = length-settled (asks_of m w) (record { durable = m.words.durable; since = m.since }) ∙ same.durable }
+length-state_after start m (Evict a) same = record { cached = same.cached; durable = length-set m.words.durable a (slice_index m.words.cached a) ∙ same.durable }
+length-state_after start m Cut same = record { cached = same.durable; durable = same.durable }
+length-state_after start m mark same = same
 
 -- whatever the marks name, the number of words stays
 pub length-words_of : (start : List ℕ) (past : List Mark) → KeepsLength start (words_after_marks start past)
 length-words_of start [] = record { cached = refl; durable = refl }
-length-words_of start (mark ∷ past) = length-words_after start (words_after_marks start past) mark (length-words_of start past)
+length-words_of start (mark ∷ past) = length-state_after start (state_after_marks start past) mark (length-words_of start past)
 
 -- the words after marks are those of a memory
 pub IsMemory-words_of : (start : List ℕ) (past : List Mark) → length start % 8 ≡ 0 → length start < 2 ^ 32 → IsMemory (words_after_marks start past)
@@ -40,21 +44,14 @@ at_moment-later moment [] past h = refl
 at_moment-later moment (mark ∷ more) past h =
     at_moment-earlier moment mark (more ++ past) (omega (arith, length-append more past)) ∙ at_moment-later moment more past h
 
--- so each word has at a moment the values that it had
-pub cached_at-later : (start : List ℕ) (more past : List Mark) (moment a : ℕ) → moment ≤ length past → cached_at start (more ++ past) moment a ≡ cached_at start past moment a
-cached_at-later start more past moment a h = ap (λ (marks : List Mark). slice_index (words_after_marks start marks).cached a) (at_moment-later moment more past h)
-
-pub durable_at-later : (start : List ℕ) (more past : List Mark) (moment a : ℕ) → moment ≤ length past → durable_at start (more ++ past) moment a ≡ durable_at start past moment a
-durable_at-later start more past moment a h = ap (λ (marks : List Mark). slice_index (words_after_marks start marks).durable a) (at_moment-later moment more past h)
-
--- the moment after all marks
+-- the memory after all marks is that at the last moment
 pub words_of-now : (start : List ℕ) (past : List Mark) → words_after_marks start (at_moment (length past) past) ≡ words_after_marks start past
 words_of-now start past = ap (words_after_marks start) (at_moment-now past)
 
 -- from a moment to the next
-pub words_of-next : (start : List ℕ) (past : List Mark) (moment : ℕ) (mark : Mark) → moment < length past → mark_at moment past ≡ Some mark
-    → words_after_marks start (at_moment (moment + 1) past) ≡ words_after (words_after_marks start (at_moment moment past)) mark
-words_of-next start past moment mark h is = ap (words_after_marks start) (at_moment-next moment mark past is h)
+pub states_of-next : (start : List ℕ) (past : List Mark) (moment : ℕ) (mark : Mark) → moment < length past → mark_at moment past ≡ Some mark
+    → state_after_marks start (at_moment (moment + 1) past) ≡ state_after (state_after_marks start (at_moment moment past)) mark
+states_of-next start past moment mark h is = ap (state_after_marks start) (at_moment-next moment mark past is h)
 
 -- a value read within the memory is found
 pub found-read : (words : List ℕ) (a v : ℕ) → a < length words → v ≡ slice_index words a → slice_get words a ≡ Some v

@@ -4,6 +4,7 @@ pub mod Moments
 pub mod PageLists
 pub mod Kept
 pub mod WordsAfter
+pub mod Dates
 pub mod Times
 pub mod Counts
 pub mod MayHold

@@ -1,33 +1,35 @@
--- The cached and the durable words after marks. The newest mark stands first.
-use Rattle.std.specs.Prelude.{◌≡◌, ◌==◌, if◌then◌else◌, ℕ, List, [], ◌∷◌, length, slice_get, slice_index, slice_set, Some}
+-- A memory after marks: the words, and what the memory keeps of the past. The newest mark stands first.
+use Rattle.std.specs.Prelude.{◌≡◌, ◌==◌, if◌then◌else◌, ℕ, List, [], ◌∷◌, length, slice_get, slice_set, Some}
+use Rattle.bz_layout.specs.declared.limits.TheConstants.{MAX_WORKERS}
 use Rattle.bz_pm.specs.Words.{Words}
-use Rattle.bz_pm.specs.Acts.{stored, flushed, evicted, after_cut}
-use Rattle.bz_mark.specs.Moments.{at_moment}
+use Rattle.bz_pm.specs.State.{State}
+use Rattle.bz_pm.specs.After.{opened, next_moment, after_store, after_flush, after_ask, after_fence, after_eviction, after_power_cut}
 use Rattle.bz_mark.specs.declared.marks.Mark.{Mark}
-use Rattle.bz_mark.specs.declared.marks.Mark.TheVariants.{Load, Store, Cas, Flush, Evict, Cut}
+use Rattle.bz_mark.specs.declared.marks.Mark.TheVariants.{Load, Store, Cas, Flush, Ask, Fence, Evict, Cut}
 
--- the words after a mark: what the act of the memory leaves, and the same words where the mark is no act that changes some.
+-- the memory after a mark: what the act leaves, and the same memory where the mark is no act that changes something.
 -- A compare-and-swap changes the word where it found the expected value.
-abbrev pub words_after : Words → Mark → Words
-words_after words (Store w a v) = stored words a v
-words_after words (Cas w a old new found) = record { cached = if found == old then slice_set words.cached a new else words.cached; durable = words.durable }
-words_after words (Flush w line) = flushed words line
-words_after words (Evict a) = evicted words a
-words_after words Cut = after_cut words
-words_after words mark = words
+abbrev pub state_after : State → Mark → State
+state_after m (Store w a v) = after_store m a v
+state_after m (Cas w a old new found) = record m {
+  words = record { cached = if found == old then slice_set m.words.cached a new else m.words.cached; durable = m.words.durable };
+  acts = next_moment m.acts;
+}
+state_after m (Flush w line) = after_flush m line
+state_after m (Ask w line) = after_ask m w line
+state_after m (Fence w) = after_fence m w
+state_after m (Evict a) = after_eviction m a
+state_after m Cut = after_power_cut m
+state_after m mark = m
 
--- the words after all marks: both lists begin as the start image
+-- the memory after all marks: cached and durable words begin as the start image
+abbrev pub state_after_marks : List ℕ → List Mark → State
+state_after_marks start [] = opened start MAX_WORKERS
+state_after_marks start (mark ∷ past) = state_after (state_after_marks start past) mark
+
+-- its words
 abbrev pub words_after_marks : List ℕ → List Mark → Words
-words_after_marks start [] = record { cached = start; durable = start }
-words_after_marks start (mark ∷ past) = words_after (words_after_marks start past) mark
-
--- the cached value of a word after the first marks, as many as the moment says
-abbrev pub cached_at : List ℕ → List Mark → ℕ → ℕ → ℕ
-cached_at start past moment a = slice_index (words_after_marks start (at_moment moment past)).cached a
-
--- the durable value of a word after the first marks, as many as the moment says
-abbrev pub durable_at : List ℕ → List Mark → ℕ → ℕ → ℕ
-durable_at start past moment a = slice_index (words_after_marks start (at_moment moment past)).durable a
+words_after_marks start past = (state_after_marks start past).words
 
 -- as many cached and durable words as the start image has
 pub record KeepsLength (start : List ℕ) (words : Words) : Type 0 where

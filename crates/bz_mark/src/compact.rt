@@ -40,6 +40,13 @@ pub enum CompactMark {
         w: u8,
         line: u32,
     },
+    Ask {
+        w: u8,
+        line: u32,
+    },
+    Fence {
+        w: u8,
+    },
     Evict {
         a: u32,
     },
@@ -87,6 +94,8 @@ pub fn whole_mark(calls: &[Call], replies: &[Reply], mark: CompactMark) -> Mark
             found,
         },
         CompactMark::Flush { w, line } => Mark::Flush { w, line },
+        CompactMark::Ask { w, line } => Mark::Ask { w, line },
+        CompactMark::Fence { w } => Mark::Fence { w },
         CompactMark::Evict { a } => Mark::Evict { a },
         CompactMark::Cut => Mark::Cut,
         CompactMark::On => Mark::On,

@@ -93,6 +93,8 @@ impl Journal {
                 found,
             }),
             Mark::Flush { w, line } => self.push_plain(CompactMark::Flush { w, line }),
+            Mark::Ask { w, line } => self.push_plain(CompactMark::Ask { w, line }),
+            Mark::Fence { w } => self.push_plain(CompactMark::Fence { w }),
             Mark::Evict { a } => self.push_plain(CompactMark::Evict { a }),
             Mark::Cut => self.push_plain(CompactMark::Cut),
             Mark::On => self.push_plain(CompactMark::On),

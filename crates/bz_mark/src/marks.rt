@@ -49,6 +49,17 @@ pub enum Mark {
         line: u32,
     },
 
+    /// The worker asks that a line, as it is in the caches now, be durable after its next fence.
+    Ask {
+        w: u8,
+        line: u32,
+    },
+
+    /// A fence: what the worker asked for is durable, or something later is.
+    Fence {
+        w: u8,
+    },
+
     /// A word became durable by itself.
     Evict {
         a: u32,
@@ -63,7 +74,7 @@ pub enum Mark {
     /// The act before ended recovery.
     Ready,
 
-    /// The flush or eviction before made the success of this call durable.
+    /// The flush, fence or eviction before made the success of this call durable.
     Effect {
         w: u8,
         n: u32,

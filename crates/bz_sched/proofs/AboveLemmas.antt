@@ -87,6 +87,8 @@ act-marks w (mark.Load u a x) past v own = (refl, λ z. refl)
 act-marks w (mark.Store u a x) past v own = (refl, λ z. refl)
 act-marks w (mark.Cas u a old new found) past v own = (refl, λ z. refl)
 act-marks w (mark.Flush u line) past v own = (refl, λ z. refl)
+act-marks w (mark.Ask u line) past v own = (refl, λ z. refl)
+act-marks w (mark.Fence u) past v own = (refl, λ z. refl)
 act-marks w other past v own = absurd (cc own)
 
 effect-marks : (w : ℕ) (effect past : List Mark) → IsUpToOneEffect effect → (in_marks w (effect ++ past) ≡ in_marks w past) × ((u : ℕ) → is_some (open_call u (effect ++ past)) ≡ is_some (open_call u past))
@@ -143,6 +145,8 @@ closed-act w (mark.Load u a x) past own closed = record { ended = refl; closed =
 closed-act w (mark.Store u a x) past own closed = record { ended = refl; closed = closed }
 closed-act w (mark.Cas u a old new found) past own closed = record { ended = refl; closed = closed }
 closed-act w (mark.Flush u line) past own closed = record { ended = refl; closed = closed }
+closed-act w (mark.Ask u line) past own closed = record { ended = refl; closed = closed }
+closed-act w (mark.Fence u) past own closed = record { ended = refl; closed = closed }
 closed-act w other past own closed = absurd (cc own)
 
 closed-both : (w : ℕ) (a b c : List Mark) → StaysClosed w a b → StaysClosed w b c → StaysClosed w a c

@@ -51,6 +51,8 @@ act-apart (mark.Load u a x) past v own apart = (tt, apart)
 act-apart (mark.Store u a x) past v own apart = (tt, apart)
 act-apart (mark.Cas u a old new found) past v own apart = (tt, apart)
 act-apart (mark.Flush u line) past v own apart = (tt, apart)
+act-apart (mark.Ask u line) past v own apart = (tt, apart)
+act-apart (mark.Fence u) past v own apart = (tt, apart)
 act-apart other past v own apart = absurd (cc own)
 
 effect-apart : (effect past : List Mark) → IsUpToOneEffect effect → IsApart past → IsApart (effect ++ past)

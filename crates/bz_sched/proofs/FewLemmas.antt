@@ -37,6 +37,8 @@ acts-one lab (mark.Load w a v) past own = counted w (acts_in lab past) own
 acts-one lab (mark.Store w a v) past own = counted w (acts_in lab past) own
 acts-one lab (mark.Cas w a old new found) past own = counted w (acts_in lab past) own
 acts-one lab (mark.Flush w line) past own = counted w (acts_in lab past) own
+acts-one lab (mark.Ask w line) past own = counted w (acts_in lab past) own
+acts-one lab (mark.Fence w) past own = counted w (acts_in lab past) own
 acts-one lab m past own = absurd (cc own)
 
 acts-more : (old new : WorldView) → Recovers old.log.past new.log.past → recovery_acts new ≡ recovery_acts old + 1
@@ -93,6 +95,8 @@ act-closed (mark.Load w a v) past own closed = closed
 act-closed (mark.Store w a v) past own closed = closed
 act-closed (mark.Cas w a old new found) past own closed = closed
 act-closed (mark.Flush w line) past own closed = closed
+act-closed (mark.Ask w line) past own closed = closed
+act-closed (mark.Fence w) past own closed = closed
 act-closed m past own closed = absurd (cc own)
 
 one-closed : (old new : List Mark) → Recovers old new → AreClosed old → AreClosed new
@@ -124,6 +128,8 @@ act-same (mark.Load w a v) past own = record { begins = refl; pages = refl; want
 act-same (mark.Store w a v) past own = record { begins = refl; pages = refl; wanting = refl }
 act-same (mark.Cas w a old new found) past own = record { begins = refl; pages = refl; wanting = refl }
 act-same (mark.Flush w line) past own = record { begins = refl; pages = refl; wanting = refl }
+act-same (mark.Ask w line) past own = record { begins = refl; pages = refl; wanting = refl }
+act-same (mark.Fence w) past own = record { begins = refl; pages = refl; wanting = refl }
 act-same m past own = absurd (cc own)
 
 one-same : (old new : List Mark) → Recovers old new → SameCalls old new

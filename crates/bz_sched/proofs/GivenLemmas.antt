@@ -26,6 +26,8 @@ act-image start (mark.Load w a v) past own = refl
 act-image start (mark.Store w a v) past own = refl
 act-image start (mark.Cas w a old new found) past own = refl
 act-image start (mark.Flush w line) past own = refl
+act-image start (mark.Ask w line) past own = refl
+act-image start (mark.Fence w) past own = refl
 act-image start m past own = absurd (cc own)
 
 one-image : (start : List ℕ) (old new : List Mark) → Recovers old new → image_at_on start new ≡ image_at_on start old

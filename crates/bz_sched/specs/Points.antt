@@ -2,7 +2,7 @@
 use Rattle.std.specs.Prelude.{◌≡◌, ℕ, ◌+◌, is_some, Bool, true, false, List, [], ◌∷◌, ◌++◌, Option, Some, None}
 use Rattle.bz_call.specs.declared.calls.Call.{Call}
 use Rattle.bz_mark.specs.declared.marks.Mark.{Mark}
-use Rattle.bz_mark.specs.declared.marks.Mark.TheVariants.{Begin, End, Load, Store, Cas, Flush, Effect}
+use Rattle.bz_mark.specs.declared.marks.Mark.TheVariants.{Begin, End, Load, Store, Cas, Flush, Ask, Fence, Effect}
 use Rattle.bz_sound.specs.Calls.{open_call, begun_calls}
 use Rattle.bz_sched.specs.Queued.{calls_of, without_first, is_busy_by}
 
@@ -17,6 +17,8 @@ actor (Load w a v) = Some w
 actor (Store w a v) = Some w
 actor (Cas w a old new found) = Some w
 actor (Flush w line) = Some w
+actor (Ask w line) = Some w
+actor (Fence w) = Some w
 actor mark = None
 
 -- how many of these marks are flushes

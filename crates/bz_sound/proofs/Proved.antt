@@ -29,15 +29,15 @@ use Rattle.bz_sound.specs.Power.Laws.{CutsFollow, OnsFollow, PowerMarksStand, Po
 pub fresh_journals_are_sound : FreshJournalsAreSound
 fresh_journals_are_sound = fresh-sound well_formed_images_have_no_fault map_is_the_content
 
--- a load, store or compare-and-swap keeps a journal sound, worker 0's in recovery among them
+-- a load, store, compare-and-swap or ask keeps a journal sound, worker 0's in recovery among them
 pub quiet_acts_follow : QuietActsFollow
 quiet_acts_follow = quiet-acts
 
--- so does a flush or an eviction after which the durable words decode to the map
+-- so does a flush, a fence or an eviction after which the durable words decode to the map
 pub flushes_follow : FlushesFollow
 flushes_follow = flushes
 
--- so does a flush or an eviction with the Effect that names what it changed
+-- so does a flush, a fence or an eviction with the Effect that names what it changed
 pub effects_follow_acts : EffectsFollowActs
 effects_follow_acts = effects
 
@@ -65,7 +65,7 @@ answers_come_from_the_image = image-answers
 pub pages_come_from_the_image : PagesComeFromTheImage
 pages_come_from_the_image = image-pages
 
--- a flush or an eviction that changes the content as an open call does is followed by its Effect
+-- a flush, a fence or an eviction that changes the content as an open call does is followed by its Effect
 pub changes_follow : ChangesFollow
 changes_follow = changes-follow
 
@@ -105,7 +105,7 @@ apart_calls_are_alone = apart-alone
 pub acts_are_of_open_calls : ActsAreOfOpenCalls
 acts_are_of_open_calls = acts-of-open-calls
 
--- an Effect stands directly after a flush or an eviction
+-- an Effect stands directly after a flush, a fence or an eviction
 pub effects_come_directly : EffectsComeDirectly
 effects_come_directly = effects-directly
 

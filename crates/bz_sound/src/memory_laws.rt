@@ -17,17 +17,17 @@ pub fn fresh_journals_are_sound()
     bz_content::laws::map_is_the_content();
 }
 
-/// A load, store or compare-and-swap keeps a journal sound.
+/// A load, store, compare-and-swap or ask keeps a journal sound.
 pub fn quiet_acts_follow()
     ensures { QuietActsFollow }
 {}
 
-/// So does a flush or an eviction after which the durable words decode to the map.
+/// So does a flush, a fence or an eviction after which the durable words decode to the map.
 pub fn flushes_follow()
     ensures { FlushesFollow }
 {}
 
-/// So does a flush or an eviction with the Effect that names what it changed.
+/// So does a flush, a fence or an eviction with the Effect that names what it changed.
 pub fn effects_follow_acts()
     ensures { EffectsFollowActs }
 {}
@@ -62,7 +62,7 @@ pub fn pages_come_from_the_image()
     ensures { PagesComeFromTheImage }
 {}
 
-/// A flush or an eviction that changes the content as an open call does is followed by its Effect.
+/// A flush, a fence or an eviction that changes the content as an open call does is followed by its Effect.
 pub fn changes_follow()
     ensures { ChangesFollow }
 {}
@@ -87,7 +87,7 @@ pub fn held_slots_are_spent()
     ensures { HeldSlotsAreSpent }
 {}
 
-/// A flush or an eviction that leaves the content needs no Effect.
+/// A flush, a fence or an eviction that leaves the content needs no Effect.
 pub fn same_content_decodes()
     ensures { SameContentDecodes }
 {}

@@ -44,17 +44,17 @@ pub fn fresh_journals_are_sound()
     ensures { FreshJournalsAreSound }
 {}
 
-/// A load, store or compare-and-swap keeps a journal sound, worker 0's in recovery among them.
+/// A load, store, compare-and-swap or ask keeps a journal sound, worker 0's in recovery among them.
 pub fn quiet_acts_follow()
     ensures { QuietActsFollow }
 {}
 
-/// So does a flush or an eviction after which the durable words decode to the map.
+/// So does a flush, a fence or an eviction after which the durable words decode to the map.
 pub fn flushes_follow()
     ensures { FlushesFollow }
 {}
 
-/// So does a flush or an eviction with the Effect that names what it changed.
+/// So does a flush, a fence or an eviction with the Effect that names what it changed.
 pub fn effects_follow_acts()
     ensures { EffectsFollowActs }
 {}
@@ -114,7 +114,7 @@ pub fn pages_come_from_the_image()
     ensures { PagesComeFromTheImage }
 {}
 
-/// A flush or an eviction that changes the content as an open call does is followed by its Effect.
+/// A flush, a fence or an eviction that changes the content as an open call does is followed by its Effect.
 pub fn changes_follow()
     ensures { ChangesFollow }
 {}

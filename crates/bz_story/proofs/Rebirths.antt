@@ -10,16 +10,16 @@ use Rattle.bz_acts.specs.declared.acted.Act.TheVariants as act
 use Rattle.bz_call.specs.Map.{Map}
 use Rattle.bz_content.specs.Content.{image_fault, content_in}
 use Rattle.bz_layout.specs.declared.config.Config.{Config}
-use Rattle.bz_layout.specs.Slots.{FreeSlots}
 use Rattle.bz_mark.specs.Log.{Log, with_mark}
 use Rattle.bz_mark.proofs.MomentLaws.{at_moment-now}
-use Rattle.bz_mark.specs.WordsAfter.{words_after_marks, words_after}
+use Rattle.bz_mark.specs.WordsAfter.{state_after, state_after_marks, words_after_marks}
 use Rattle.bz_mark.specs.declared.marks.Mark.{Mark}
 use Rattle.bz_mark.specs.declared.marks.Mark.TheVariants.{Evict, Ready}
 use Rattle.bz_pm.specs.Acts.{evicted, after_cut as words_after_cut}
+use Rattle.bz_pm.specs.State.{State}
 use Rattle.bz_pm.specs.Words.{Words}
 use Rattle.bz_recover.specs.Contents.{SaysTheSame}
-use Rattle.bz_recover.specs.Duties.{acts_left, WalksIn}
+use Rattle.bz_recover.specs.Duties.{acts_left}
 use Rattle.bz_recover.specs.Knowledge.{RecoveriesKnow}
 use Rattle.bz_recover.specs.Walking.{IsTreeOf, AreReached}
 use Rattle.bz_recover.specs.declared.recover.Recover.{Recover}
@@ -77,11 +77,11 @@ one-made : (acts left was : ℕ) → left ≡ was → acts + 1 + left ≡ acts +
 one-made acts left was same = omega (arith, same)
 
 -- the words after an act
-act-words : (ws : Words) (made : Act) → FoundRightly ws made → words_after ws (mark_of 0 made) ≡ after_act ws made
-act-words ws (act.Load a v) found = refl
-act-words ws (act.Store a v) found = refl
-act-words ws (act.Cas a old new seen) found = ap (λ (x : ℕ). let after : Words = record { cached = if x == old then slice_set ws.cached a new else ws.cached; durable = ws.durable } in after) found
-act-words ws (act.Flush line) found = refl
+act-words : (m : State) (made : Act) → FoundRightly m.words made → (state_after m (mark_of 0 made)).words ≡ after_act m.words made
+act-words m (act.Load a v) found = refl
+act-words m (act.Store a v) found = refl
+act-words m (act.Cas a old new seen) found = ap (λ (x : ℕ). let after : Words = record { cached = if x == old then slice_set m.words.cached a new else m.words.cached; durable = m.words.durable } in after) found
+act-words m (act.Flush line) found = refl
 
 -- the durable words before and after such a mark, which hold the same
 record Keeps (c : Config) (old new : SwapMemory) (log : Log) (mark : Mark) : Type 0 where
@@ -158,7 +158,10 @@ acts-marked law c v old new log t made answer told r s =
     let k : Keeps c old new log (mark_of 0 made) = record {
       quiet = act-quiet log.start log.past made;
       before = r.words;
-      after = raw.one.act.after ∙ (sym (act-words (memory_words old) made raw.one.act.found) ∙ ap (λ (ws : Words). words_after ws (mark_of 0 made)) r.words);
+      after =
+          raw.one.act.after
+          ∙ (ap (λ (ws : Words). after_act ws made) r.words
+          ∙ sym (act-words (state_after_marks log.start log.past) made (subst (λ (ws : Words). FoundRightly ws made) r.words raw.one.act.found)));
       same = done.same;
     } in
     record {

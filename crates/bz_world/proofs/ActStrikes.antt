@@ -23,7 +23,7 @@ use Rattle.bz_world.specs.declared.parts.Parts.{Parts}
 use Rattle.bz_world.specs.declared.serving.OpenCall.{OpenCall}
 use Rattle.bz_world.proofs.Owners.{pending-begun}
 use Rattle.bz_world.proofs.Paid.{act-steps, who-steps}
-use Rattle.bz_world.proofs.Marking.{act-marked, act-follows}
+use Rattle.bz_world.proofs.Marking.{act-marked, act-no_fence, act-follows}
 use Rattle.bz_world.proofs.Powered.{may-act}
 use Rattle.bz_world.proofs.Quiet.{some-worker, call-is-open}
 use Rattle.bz_world.proofs.Stepped.{act-tabled, act-taken, held}
@@ -44,6 +44,7 @@ act-strikes place inside taken begun wins rivals old new w s x made done k is-wo
   taken = act-taken taken begun old new w made done (Some s) k.taken (held old.access k.living.seen.phase k.living.seen.holds) k.living.seen.swaps a (some-worker old k w x is-worker) (pending-begun old k) (λ d v is from. absurd (let never : Store d v ≡ Flush (swap_address s / 8) = sym is ∙ flushed.act in cc never));
   marked = act-marked w old.access new.access old.journal made k.living.words a.step.one.act;
   flush = subst (λ (z : Act). IsAfterFlush (mark_of w z ∷ old.journal.past)) (sym flushed.act) tt;
+  no_fence = λ v. act-no_fence w v made;
   follows = act-follows _ (map_at_start old.config old.journal.start) old.journal.past w made (may-act old.at_start old.journal.past w (some-worker old k w x is-worker) (call-is-open old k w x is-worker));
   unnoted = λ t well. wins.unnoted old.access new.access w made done (Some s) t a.step well;
   stepped = λ v steps. subst (λ u. StepsAt old.access new.access u s) (sym (who-steps v w (stepper (mark_of w made ∷ old.journal.past)) (act-steps w made old.journal.past) steps))

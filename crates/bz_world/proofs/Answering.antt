@@ -13,7 +13,7 @@ use Rattle.bz_lone.specs.Prices.{coming}
 use Rattle.bz_mark.specs.Moments.{at_moment, mark_at}
 use Rattle.bz_mark.proofs.MomentLaws.{at_moment-next}
 use Rattle.bz_mark.specs.declared.marks.Mark.{Mark}
-use Rattle.bz_mark.specs.declared.marks.Mark.TheVariants.{Begin, End, Load, Store, Cas, Flush, Evict, Cut, On, Ready, Effect}
+use Rattle.bz_mark.specs.declared.marks.Mark.TheVariants.{Begin, End, Load, Store, Cas, Flush, Ask, Fence, Evict, Cut, On, Ready, Effect}
 use Rattle.bz_page.specs.Pages.{IsPageOf}
 use Rattle.bz_running.specs.Kinds as kinds
 use Rattle.bz_shape.specs.Order as order
@@ -82,6 +82,8 @@ load-by w (Some (End v n r at)) past is one e = absurd (true≢false (sym is))
 load-by w (Some (Store v a x)) past is one e = absurd (true≢false (sym is))
 load-by w (Some (Cas v a old new found)) past is one e = absurd (true≢false (sym is))
 load-by w (Some (Flush v line)) past is one e = absurd (true≢false (sym is))
+load-by w (Some (Ask v line)) past is one e = absurd (true≢false (sym is))
+load-by w (Some (Fence v)) past is one e = absurd (true≢false (sym is))
 load-by w (Some (Evict a)) past is one e = absurd (true≢false (sym is))
 load-by w (Some Cut) past is one e = absurd (true≢false (sym is))
 load-by w (Some On) past is one e = absurd (true≢false (sym is))

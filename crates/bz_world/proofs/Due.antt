@@ -14,7 +14,7 @@ use Rattle.bz_lone.specs.Errands.{is_freeze, is_read}
 use Rattle.bz_mark.specs.Log.{Log, with_mark}
 use Rattle.bz_mark.specs.Moments.{at_moment}
 use Rattle.bz_mark.specs.declared.marks.Mark.{Mark}
-use Rattle.bz_mark.specs.declared.marks.Mark.TheVariants.{Begin, End, Load, Store, Cas, Flush, Evict, Cut, On, Ready, Effect}
+use Rattle.bz_mark.specs.declared.marks.Mark.TheVariants.{Begin, End, Load, Store, Cas, Flush, Ask, Fence, Evict, Cut, On, Ready, Effect}
 use Rattle.bz_mark.proofs.MomentLaws.{at_moment-now, at_moment-earlier}
 use Rattle.bz_running.specs.Kinds as kinds
 use Rattle.bz_running.specs.Kinds.{Kind, is_look}
@@ -54,12 +54,16 @@ act-map w (act.Flush line) past start = refl
 
 pub flush-map : (mark : Mark) (past : List Mark) → IsAfterFlush (mark ∷ past) → (start : Map) → map_after start (mark ∷ past) ≡ map_after start past
 flush-map (Flush w line) past flush start = refl
+flush-map (Ask w line) past flush start = refl
+flush-map (Fence w) past flush start = refl
 flush-map (Evict a) past flush start = refl
 flush-map mark past flush start = absurd flush
 
 -- nor begins a call
 pub flush-lonely : (w : ℕ) (mark : Mark) (past : List Mark) → IsAfterFlush (mark ∷ past) → IsLonely w (mark ∷ past) → IsLonely w past
 flush-lonely w (Flush v line) past flush lonely = lonely
+flush-lonely w (Ask v line) past flush lonely = lonely
+flush-lonely w (Fence v) past flush lonely = lonely
 flush-lonely w (Evict a) past flush lonely = lonely
 flush-lonely w mark past flush lonely = absurd flush
 
@@ -109,6 +113,8 @@ still-by alone start w at past opened (Load v a value) quiet after earlier was w
 still-by alone start w at past opened (Store v a value) quiet after earlier was was-open l = earlier was was-open l
 still-by alone start w at past opened (Cas v a old new found) quiet after earlier was was-open l = earlier was was-open l
 still-by alone start w at past opened (Flush v line) quiet after earlier was was-open l = earlier was was-open l
+still-by alone start w at past opened (Ask v line) quiet after earlier was was-open l = earlier was was-open l
+still-by alone start w at past opened (Fence v) quiet after earlier was was-open l = earlier was was-open l
 still-by alone start w at past opened (Evict a) quiet after earlier was was-open l = earlier was was-open l
 still-by alone start w at past opened On quiet after earlier was was-open l = earlier was was-open l
 still-by alone start w at past opened Ready quiet after earlier was was-open l = earlier was was-open l

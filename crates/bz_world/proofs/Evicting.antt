@@ -90,6 +90,7 @@ evict-strikes sees begun wins old new a s k e room = record {
   taken = evict-taken old new a (Some s) k e begun;
   marked = evict-marked old new a (Some s) k e;
   flush = tt;
+  no_fence = λ w is. cc;
   follows = is-not-off old k.tabled k.on;
   unnoted = λ t well. wins.evicted old.access new.access a (Some s) t e.eviction ∙ well.unnoted;
   stepped = λ w steps. absurd (cc steps);

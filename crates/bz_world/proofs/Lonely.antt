@@ -53,6 +53,8 @@ acts-begin w n past called = let t : (w == w) ≡ true = grind (arith, nat_tests
 -- a flush or an eviction begins no call either
 pub lonely-flush : (v : ℕ) (m : Mark) (past : List Mark) → IsAfterFlush (m ∷ past) → IsLonely v (m ∷ past) → IsLonely v past
 lonely-flush v (mark.Flush u line) past f l = l
+lonely-flush v (mark.Ask u line) past f l = l
+lonely-flush v (mark.Fence u) past f l = l
 lonely-flush v (mark.Evict a) past f l = l
 lonely-flush v (mark.Begin u n c) past f l = absurd f
 lonely-flush v (mark.End u n r a) past f l = absurd f

@@ -103,6 +103,8 @@ act-runs c w made past = steps-run c w (mark_of w made ∷ past) (act-steps w ma
 -- after a flush, or an eviction, it is the one that steps
 pub flush-runs : (c : Config) (w : ℕ) (past : List Mark) → IsAfterFlush past → runner c past ≡ Some w → stepper past ≡ Some w
 flush-runs c w (mark.Flush v line ∷ past) flush is = is
+flush-runs c w (mark.Ask v line ∷ past) flush is = is
+flush-runs c w (mark.Fence v ∷ past) flush is = is
 flush-runs c w (mark.Evict a ∷ past) flush is = is
 flush-runs c w past flush is = absurd flush
 

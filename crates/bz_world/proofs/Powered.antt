@@ -7,7 +7,7 @@ use Rattle.bz_layout.specs.Slots.{FreeSlots}
 use Rattle.bz_layout.specs.declared.config.Config.{Config}
 use Rattle.bz_mark.specs.Log.{Log}
 use Rattle.bz_mark.specs.declared.marks.Mark.{Mark}
-use Rattle.bz_mark.specs.declared.marks.Mark.TheVariants.{Begin, End, Load, Store, Cas, Flush, Evict, Cut, On, Ready, Effect}
+use Rattle.bz_mark.specs.declared.marks.Mark.TheVariants.{Begin, End, Load, Store, Cas, Flush, Ask, Fence, Evict, Cut, On, Ready, Effect}
 use Rattle.bz_mark.specs.declared.power.Power.{Power}
 use Rattle.bz_mark.specs.declared.power.Power.TheVariants as power
 use Rattle.bz_sound.specs.Calls.{Open}
@@ -39,6 +39,8 @@ leaves-power w past (act.Flush line) = tt
 
 pub flush-leaves : (mark : Mark) (past : List Mark) → IsAfterFlush (mark ∷ past) → LeavesPower past mark
 flush-leaves (Flush w line) past f = tt
+flush-leaves (Ask w line) past f = tt
+flush-leaves (Fence w) past f = tt
 flush-leaves (Evict a) past f = tt
 flush-leaves (Begin w n call) past f = absurd f
 flush-leaves (End w n reply at) past f = absurd f

@@ -50,6 +50,8 @@ use Rattle.bz_world.specs.Inside.Laws.{StrikeLaws}
 -- a flush or an eviction opens and ends no call
 pub flush-calls : (v : ℕ) (m : Mark) (past : List Mark) → IsAfterFlush (m ∷ past) → open_call v (m ∷ past) ≡ open_call v past
 flush-calls v (mark.Flush u line) past f = refl
+flush-calls v (mark.Ask u line) past f = refl
+flush-calls v (mark.Fence u) past f = refl
 flush-calls v (mark.Evict a) past f = refl
 flush-calls v (mark.Begin u n c) past f = absurd f
 flush-calls v (mark.End u n r a) past f = absurd f

@@ -9,10 +9,10 @@ use Rattle.bz_layout.specs.declared.config.Config.{Config}
 use Rattle.bz_machine.specs.Machine.{is_succeeded}
 use Rattle.bz_machine.specs.declared.status.SwapStatus.TheVariants.{Free}
 use Rattle.bz_mark.specs.Log.{Log}
-use Rattle.bz_mark.specs.WordsAfter.{words_after_marks}
+use Rattle.bz_mark.specs.WordsAfter.{state_after_marks, words_after_marks}
 use Rattle.bz_mark.specs.declared.marks.Mark.{Mark}
-use Rattle.bz_mark.specs.declared.marks.Mark.TheVariants.{Effect}
-use Rattle.bz_mark.proofs.Steps.{levelled, levels_or_not, not_levelled}
+use Rattle.bz_mark.specs.declared.marks.Mark.TheVariants.{Fence, Effect}
+use Rattle.bz_mark.proofs.Steps.{levelled_or_left}
 use Rattle.bz_mark.proofs.WordLaws.{length-words_of}
 use Rattle.bz_pm.specs.Words.{Words}
 use Rattle.bz_running.specs.Duties.{asks_of, facts_of}
@@ -54,7 +54,7 @@ status-some swaps words s = by (nat_lt s swaps)
     by false done = absurd (true≢false (sym done))
 
 -- the mark by which a swap takes effect has made the cached word of its status the durable one, so that is not free
-module _ (was is : SwapMemory) (start : List ℕ) (past : List Mark) (mark : Mark) (s : ℕ) (before-it : memory_words was ≡ words_after_marks start past) (after-it : memory_words is ≡ words_after_marks start (mark ∷ past)) (swaps : is.swaps ≡ was.swaps) where
+module _ (was is : SwapMemory) (start : List ℕ) (past : List Mark) (mark : Mark) (s : ℕ) (before-it : memory_words was ≡ words_after_marks start past) (after-it : memory_words is ≡ words_after_marks start (mark ∷ past)) (swaps : is.swaps ≡ was.swaps) (no_fence : (w : ℕ) → mark ≢ Fence w) where
   within : slice_index is.durable (swap_address s) ≢ 0 → swap_address s < length start
   within some = elim (cases_lt (swap_address s) (length start)) [
     | inl below ↦ below
@@ -65,9 +65,9 @@ module _ (was is : SwapMemory) (start : List ℕ) (past : List Mark) (mark : Mar
   same-effect same = ap (λ (n : ℕ). is_succeeded (status_at n is.durable s)) swaps ∙ ap (λ (z : ℕ). is_succeeded (if nat_lt s was.swaps then status_of z else Free)) same
 
   effect-takes : has_effect was s ≡ false → has_effect is s ≡ true → IsTaken is s
-  effect-takes none done free = elim (levels_or_not (swap_address s) mark) [
-    | inl levels ↦ some (word ∙ (levelled start (words_after_marks start past) mark (swap_address s) (length-words_of start past) (within some) levels ∙ (ap (λ (m : Words). slice_index m.cached (swap_address s)) (sym after-it) ∙ free)))
-    | inr leaves ↦ true≢false (sym done ∙ (same-effect (word ∙ (not_levelled start (words_after_marks start past) mark (swap_address s) (length-words_of start past) (within some) leaves ∙ ap (λ (m : Words). slice_index m.durable (swap_address s)) (sym before-it))) ∙ none))
+  effect-takes none done free = elim (levelled_or_left start (state_after_marks start past) mark (swap_address s) (length-words_of start past) (within some) no_fence) [
+    | inl levels ↦ some (word ∙ (levels ∙ (ap (λ (m : Words). slice_index m.cached (swap_address s)) (sym after-it) ∙ free)))
+    | inr leaves ↦ true≢false (sym done ∙ (same-effect (word ∙ (leaves ∙ ap (λ (m : Words). slice_index m.durable (swap_address s)) (sym before-it))) ∙ none))
   ]
     where
       some : slice_index is.durable (swap_address s) ≢ 0
@@ -104,7 +104,7 @@ module _ (b : StrikeLaws) (p : Parts) (s : ℕ) (h : IsStriking p s) (lonely : I
 
   -- so the status of no descriptor that is taken is free
   its-taken : IsTaken p.access s
-  its-taken = effect-takes (old b p s h).access p.access log.start log.past h.mark s (kept b p s h).living.words h.marked h.takes.same.swaps h.takes.effect.before h.takes.effect.done
+  its-taken = effect-takes (old b p s h).access p.access log.start log.past h.mark s (kept b p s h).living.words h.marked h.takes.same.swaps h.no_fence h.takes.effect.before h.takes.effect.done
 
   all-begun : (t : ℕ) → t < p.access.taken → IsTaken p.access t
   all-begun t few = elim (h.taken.held t few) [

@@ -12,7 +12,7 @@ use Rattle.bz_mark.specs.Log.{Log, with_mark}
 use Rattle.bz_mark.specs.Moments.{at_moment}
 use Rattle.bz_mark.proofs.MomentLaws.{at_moment-earlier, at_moment-before}
 use Rattle.bz_mark.specs.declared.marks.Mark.{Mark}
-use Rattle.bz_mark.specs.declared.marks.Mark.TheVariants.{Begin, End, Load, Store, Cas, Flush, Evict, Cut, On, Ready, Effect}
+use Rattle.bz_mark.specs.declared.marks.Mark.TheVariants.{Begin, End, Load, Store, Cas, Flush, Ask, Fence, Evict, Cut, On, Ready, Effect}
 use Rattle.bz_sound.specs.Calls.{Open, open_call, with_effect}
 use Rattle.bz_sound.specs.Lonely.{IsLonely, LonelyCallsAreAlone}
 use Rattle.bz_mark.specs.Times.{power_of}
@@ -93,6 +93,8 @@ was-open w past (Load v a x) opened none is = still-open w past opened is
 was-open w past (Store v a x) opened none is = still-open w past opened is
 was-open w past (Cas v a old new found) opened none is = still-open w past opened is
 was-open w past (Flush v line) opened none is = still-open w past opened is
+was-open w past (Ask v line) opened none is = still-open w past opened is
+was-open w past (Fence v) opened none is = still-open w past opened is
 was-open w past (Evict a) opened none is = still-open w past opened is
 was-open w past On opened none is = still-open w past opened is
 was-open w past Ready opened none is = still-open w past opened is

@@ -22,7 +22,7 @@ use Rattle.bz_layout.specs.declared.config.Config.{Config}
 use Rattle.bz_layout.specs.declared.thresholds.TheConstants.{MARKS_PER_CALL, SLOTS_PER_CALL, SPLIT_SLOTS, SWAPS_PER_CALL}
 use Rattle.bz_mark.specs.Log.{Log, with_mark, count_begins, count_page_calls, count_page_ends}
 use Rattle.bz_mark.specs.declared.marks.Mark.{Mark}
-use Rattle.bz_mark.specs.declared.marks.Mark.TheVariants.{Begin, End, Load, Store, Cas, Flush, Evict, Cut, On, Ready, Effect}
+use Rattle.bz_mark.specs.declared.marks.Mark.TheVariants.{Begin, End, Load, Store, Cas, Flush, Ask, Fence, Evict, Cut, On, Ready, Effect}
 use Rattle.bz_recover.specs.Places.{MOST_ACTS}
 use Rattle.bz_mark.specs.declared.power.Power.{Power}
 use Rattle.bz_mark.specs.declared.power.Power.TheVariants as power
@@ -252,6 +252,8 @@ stepper (Load w a v ∷ past) = Some w
 stepper (Store w a v ∷ past) = Some w
 stepper (Cas w a old new found ∷ past) = Some w
 stepper (Flush w line ∷ past) = Some w
+stepper (Ask w line ∷ past) = Some w
+stepper (Fence w ∷ past) = Some w
 stepper (Effect w n ∷ past) = stepper past
 stepper (mark ∷ past) = None
 

@@ -1,7 +1,7 @@
 -- What sound journals tell of their calls, and what the image says of replies and effects, where the power fails.
 use Rattle.bz_call.specs.declared.replies.Reply.TheVariants.{Full}
 use Rattle.bz_mark.specs.Moments.{at_moment}
-use Rattle.bz_mark.specs.declared.marks.Mark.TheVariants.{Load, Store, Cas, Flush}
+use Rattle.bz_mark.specs.declared.marks.Mark.TheVariants.{Load, Store, Cas, Flush, Ask, Fence}
 use Rattle.bz_sound.specs.Memory.Moments.{map_at_start}
 use Rattle.bz_mark.specs.Counts.{is_taken}
 use Rattle.bz_sound.specs.Power.Calls.{MayFollow}
@@ -36,6 +36,8 @@ acts-allowed c at_start log moment w sound h = record {
   store = λ a v is. each-at (MayFollow at_start (map_at_start c log.start)) log.past moment (Store w a v) sound.once h is;
   compare_and_swap = λ a old new found is. each-at (MayFollow at_start (map_at_start c log.start)) log.past moment (Cas w a old new found) sound.once h is;
   flush = λ line is. each-at (MayFollow at_start (map_at_start c log.start)) log.past moment (Flush w line) sound.once h is;
+  ask = λ line is. each-at (MayFollow at_start (map_at_start c log.start)) log.past moment (Ask w line) sound.once h is;
+  fence = λ is. each-at (MayFollow at_start (map_at_start c log.start)) log.past moment (Fence w) sound.once h is;
 }
 
 pub effects-directly : EffectsComeDirectly

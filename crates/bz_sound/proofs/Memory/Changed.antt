@@ -1,4 +1,4 @@
--- A flush or an eviction that changes the content as a call does makes the call's effect durable.
+-- A flush, a fence or an eviction that changes the content as a call does makes the call's effect durable.
 use Rattle.std.proofs.Common.{◌≡◌, ℕ, Bool, List, ◌∷◌, refl, sym, ap, ◌∙◌, subst, Option, Some, None, cond}
 use Rattle.std.specs.Prelude.{bytes_eq, if◌then◌else◌}
 use Rattle.std.proofs.lemmas.Map.Text.{is_eq-slice_cmp}
@@ -11,7 +11,7 @@ use Rattle.bz_call.specs.declared.calls.Call.{Call}
 use Rattle.bz_call.specs.declared.calls.Call.TheVariants.{Insert, Delete, Update, Upsert, Get, Page}
 use Rattle.bz_mark.specs.Log.{Log}
 use Rattle.bz_mark.specs.declared.marks.Mark.{Mark}
-use Rattle.bz_mark.specs.declared.marks.Mark.TheVariants.{Flush, Evict}
+use Rattle.bz_mark.specs.declared.marks.Mark.TheVariants.{Flush, Fence, Evict}
 use Rattle.bz_sound.specs.Calls.{Open, open_call, map_after, map_with}
 use Rattle.bz_sound.specs.Memory.ImageLaws.{IsChangeOf, ChangesKey, EffectFollows, ChangesFollow, SameContentDecodes}
 use Rattle.bz_sound.specs.Memory.Moments.{image_after, map_at_start, HoldsMap, Decodes, IsAfterFlush}
@@ -79,6 +79,7 @@ pub change-decodes : (c : Config) (log : Log) (mark : Mark) (w : ℕ) (opened : 
     → open_call w log.past ≡ Some opened → opened.effect ≡ None → IsChangeOf opened.call old new → image_fault c (image_after log.start (mark ∷ log.past)) ≡ None
     → ChangesKey c (image_after log.start log.past) (image_after log.start (mark ∷ log.past)) (key_of opened.call) old new → EffectFollows c log mark w opened old
 change-decodes c log (Flush v line) w opened old new now flush is quiet changes whole change = durable-change c log (Flush v line) w opened old new now flush is refl quiet changes whole change
+change-decodes c log (Fence v) w opened old new now flush is quiet changes whole change = durable-change c log (Fence v) w opened old new now flush is refl quiet changes whole change
 change-decodes c log (Evict a) w opened old new now flush is quiet changes whole change = durable-change c log (Evict a) w opened old new now flush is refl quiet changes whole change
 change-decodes c log mark w opened old new now flush is quiet changes whole change = absurd flush
 
@@ -88,6 +89,7 @@ changes-follow c log mark w opened old new sound flush is quiet changes whole ch
 pub content-decodes : (c : Config) (log : Log) (mark : Mark) → Decodes c log.start log.past → IsAfterFlush (mark ∷ log.past) → image_fault c (image_after log.start (mark ∷ log.past)) ≡ None
     → ((key : List ℕ) → content_in c (image_after log.start (mark ∷ log.past)) key ≡ content_in c (image_after log.start log.past) key) → Decodes c log.start (mark ∷ log.past)
 content-decodes c log (Flush v line) now flush whole same = record { well_formed = whole; content = λ key. same key ∙ now.content key }
+content-decodes c log (Fence v) now flush whole same = record { well_formed = whole; content = λ key. same key ∙ now.content key }
 content-decodes c log (Evict a) now flush whole same = record { well_formed = whole; content = λ key. same key ∙ now.content key }
 content-decodes c log mark now flush whole same = absurd flush
 

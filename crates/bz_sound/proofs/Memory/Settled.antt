@@ -1,4 +1,4 @@
--- Directly after a load the durable words decode: the next mark is no Effect, since that comes after a flush or an eviction.
+-- Directly after a load the durable words decode: the next mark is no Effect, since that comes after a flush, a fence or an eviction.
 use Rattle.std.proofs.Common.{◌≡◌, ◌<◌, ℕ, List, [], ◌∷◌, length, arith}
 use Rattle.std.specs.Prelude.{Some}
 use Rattle.bz_call.specs.Map.{Map}

@@ -12,7 +12,7 @@ use Rattle.bz_mark.specs.Log.{Log}
 use Rattle.bz_mark.specs.Moments.{at_moment, mark_at}
 use Rattle.bz_mark.proofs.MomentLaws.{length-at_moment, mark_at-at_moment}
 use Rattle.bz_mark.specs.declared.marks.Mark.{Mark}
-use Rattle.bz_mark.specs.declared.marks.Mark.TheVariants.{Begin, End, Load, Store, Cas, Flush, Cut, Effect}
+use Rattle.bz_mark.specs.declared.marks.Mark.TheVariants.{Begin, End, Load, Store, Cas, Flush, Ask, Fence, Cut, Effect}
 use Rattle.bz_sound.proofs.CallLaws.{began_before, has_begin}
 use Rattle.bz_sound.specs.Calls.{Open, open_call, begun_calls, with_effect}
 use Rattle.bz_sound.specs.Replies.{Pages}
@@ -35,6 +35,8 @@ acts-of-open-calls c log moment w sound h = record {
   store = λ a v is. each-at (MayFollow (map_at_start c log.start)) log.past moment (Store w a v) sound.once h is;
   compare_and_swap = λ a old new found is. each-at (MayFollow (map_at_start c log.start)) log.past moment (Cas w a old new found) sound.once h is;
   flush = λ line is. each-at (MayFollow (map_at_start c log.start)) log.past moment (Flush w line) sound.once h is;
+  ask = λ line is. each-at (MayFollow (map_at_start c log.start)) log.past moment (Ask w line) sound.once h is;
+  fence = λ is. each-at (MayFollow (map_at_start c log.start)) log.past moment (Fence w) sound.once h is;
 }
 
 -- a Begin opens the worker's next call

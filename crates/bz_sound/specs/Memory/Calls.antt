@@ -2,7 +2,7 @@
 use Rattle.std.specs.Prelude.{◌≡◌, ◌≤◌, ℕ, List, Some}
 use Rattle.bz_call.specs.Map.{Map}
 use Rattle.bz_mark.specs.declared.marks.Mark.{Mark}
-use Rattle.bz_mark.specs.declared.marks.Mark.TheVariants.{Begin, End, Load, Store, Cas, Flush, Evict, Cut, On, Ready, Effect}
+use Rattle.bz_mark.specs.declared.marks.Mark.TheVariants.{Begin, End, Load, Store, Cas, Flush, Ask, Fence, Evict, Cut, On, Ready, Effect}
 use Rattle.bz_sound.specs.Calls.{Open, open_call, MayBegin, MayEnd, MayEffect}
 use Rattle.bz_sound.specs.Memory.Moments.{IsAfterFlush, EachMark}
 
@@ -11,8 +11,8 @@ pub record HasOpenCall (past : List Mark) (w : ℕ) : Type 0 where
   pub opened : Open
   pub is_open : open_call w past ≡ Some opened
 
--- Worker 0 makes no calls. A worker acts while it has an open call. An effect stands directly after a flush or an
--- eviction, of any worker, and names an open call that has none yet and changes the map; the map was this one at
+-- Worker 0 makes no calls. A worker acts while it has an open call. An effect stands directly after a flush, a
+-- fence or an eviction, of any worker, and names an open call that has none yet and changes the map; the map was this one at
 -- the start. The power neither fails nor comes on.
 abbrev pub MayFollow : Map → List Mark → Mark → Type 0
 MayFollow start past (Begin w n call) = (1 ≤ w) × MayBegin past w n
@@ -21,6 +21,8 @@ MayFollow start past (Load w a v) = HasOpenCall past w
 MayFollow start past (Store w a v) = HasOpenCall past w
 MayFollow start past (Cas w a old new found) = HasOpenCall past w
 MayFollow start past (Flush w line) = HasOpenCall past w
+MayFollow start past (Ask w line) = HasOpenCall past w
+MayFollow start past (Fence w) = HasOpenCall past w
 MayFollow start past (Evict a) = Unit {0}
 MayFollow start past (Effect w n) = IsAfterFlush past × MayEffect start past w n
 MayFollow start past Cut = ⊥

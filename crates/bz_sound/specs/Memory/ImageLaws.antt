@@ -86,7 +86,7 @@ pub record EffectFollows (c : Config) (log : Log) (mark : Mark) (w : ℕ) (opene
   pub decodes : Decodes c log.start (Effect w opened.number ∷ mark ∷ log.past)
   pub step : apply (map_after (map_at_start c log.start) (mark ∷ log.past)) opened.call ≡ apply_at old (map_after (map_at_start c log.start) (mark ∷ log.past)) opened.call
 
--- so it is where a flush or an eviction changes the content as an open call does that has no Effect yet
+-- so it is where a flush, a fence or an eviction changes the content as an open call does that has no Effect yet
 abbrev pub ChangesFollow : Type 0
 ChangesFollow =
     (c : Config) (log : Log) (mark : Mark) (w : ℕ) (opened : Open) (old new : Option (List ℕ)) →
@@ -145,7 +145,7 @@ HeldSlotsAreSpent =
     (c : Config) (start : List ℕ) (past : List Mark) (w slots : ℕ) (free : List ℕ) (holder place : ℕ → ℕ) → length free < slots → AreOthersHeld (λ slot. is_used c start past slot) free c past w holder place →
     LacksSlots c (count_used c start past) slots w past
 
--- where a flush or an eviction leaves the content, the words decode as before
+-- where a flush, a fence or an eviction leaves the content, the words decode as before
 abbrev pub SameContentDecodes : Type 0
 SameContentDecodes =
     (c : Config) (log : Log) (mark : Mark) → IsSound c log → IsAfterFlush (mark ∷ log.past) → image_fault c (image_after log.start (mark ∷ log.past)) ≡ None →

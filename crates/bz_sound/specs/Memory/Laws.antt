@@ -9,7 +9,7 @@ use Rattle.bz_mark.specs.Log.{Log, Limits, with_mark, with_page}
 use Rattle.bz_mark.specs.Moments.{at_moment}
 use Rattle.bz_mark.specs.WordsAfter.{words_after_marks, Found}
 use Rattle.bz_mark.specs.declared.marks.Mark.{Mark}
-use Rattle.bz_mark.specs.declared.marks.Mark.TheVariants.{Begin, End, Load, Store, Cas, Effect}
+use Rattle.bz_mark.specs.declared.marks.Mark.TheVariants.{Begin, End, Load, Store, Cas, Ask, Effect}
 use Rattle.bz_sound.specs.Calls.{open_call, MayBegin}
 use Rattle.bz_sound.specs.Memory.Moments.{map_at_start, Decodes, IsAfterLoad, IsAfterFlush}
 use Rattle.bz_sound.specs.Memory.Calls.{MayFollow}
@@ -27,21 +27,22 @@ abbrev pub IsQuietAct : Mark → Type 0
 IsQuietAct (Load w a v) = Unit {0}
 IsQuietAct (Store w a v) = Unit {0}
 IsQuietAct (Cas w a old new found) = Unit {0}
+IsQuietAct (Ask w line) = Unit {0}
 IsQuietAct mark = ⊥
 
--- a load, store or compare-and-swap may be added
+-- a load, store, compare-and-swap or ask may be added
 abbrev pub QuietActsFollow : Type 0
 QuietActsFollow =
     (c : Config) (log : Log) (mark : Mark) → IsSound c log → IsQuietAct mark → MayFollow (map_at_start c log.start) log.past mark →
     Found (words_after_marks log.start log.past) mark → IsSound c (with_mark log mark)
 
--- a flush or an eviction may be added after which the durable words decode to the map as it was
+-- a flush, a fence or an eviction may be added after which the durable words decode to the map as it was
 abbrev pub FlushesFollow : Type 0
 FlushesFollow =
     (c : Config) (log : Log) (mark : Mark) → IsSound c log → IsAfterFlush (mark ∷ log.past) → MayFollow (map_at_start c log.start) log.past mark →
     Decodes c log.start (mark ∷ log.past) → IsSound c (with_mark log mark)
 
--- So may a flush or an eviction with the Effect of a call, after which they decode to the map with the call's step. In
+-- So may each of these with the Effect of a call, after which they decode to the map with the call's step. In
 -- between they need not decode: that moment is inner.
 abbrev pub EffectsFollowActs : Type 0
 EffectsFollowActs =

@@ -1,9 +1,9 @@
 -- What must have run out where a call answers Full. The newest mark stands first.
 use Rattle.std.specs.Prelude.{◌≤◌, ◌<◌, ◌+◌, ◌*◌, ◌==◌, ◌&&◌, ◌||◌, ◌≡◌, ◌⊎◌, not, nat_lt, nat_le, ℕ, Bool, true, false, List, [], ◌∷◌, length, map, slice_index, is_some, count_by}
 use Rattle.std.specs.List.{range_with_len}
-use Rattle.bz_layout.specs.Addresses.{swap_address, node_address, slot_of}
+use Rattle.bz_layout.specs.Addresses.{node_address, slot_of}
 use Rattle.bz_layout.specs.declared.config.Config.{Config}
-use Rattle.bz_layout.specs.declared.sizes.TheConstants.{SWAP_STATUS_AT, NODE_WORDS}
+use Rattle.bz_layout.specs.declared.sizes.TheConstants.{NODE_WORDS}
 use Rattle.bz_layout.specs.declared.thresholds.TheConstants.{CONSOLIDATION_SLOTS, INNER_LIMIT, MAX_LEVELS, MERGE_SLOTS, SPLIT_ABOVE, SPLIT_SLOTS}
 use Rattle.bz_node.specs.Layout.{needed}
 use Rattle.bz_node.specs.Reading.{children_in}

@@ -25,19 +25,19 @@ FreshJournalsAreSound =
     (c : Config) (at_start : Power) (start : List ℕ) (limits : Limits) → length start ≡ layout.words_of c → image_fault c (slice_index start) ≡ None →
     IsSound c at_start (record { start = start; past = []; pages = []; limits = limits })
 
--- a load, store or compare-and-swap may be added, of worker 0 in recovery and of any other worker whose call is open
+-- a load, store, compare-and-swap or ask may be added, of worker 0 in recovery and of any other worker whose call is open
 abbrev pub QuietActsFollow : Type 0
 QuietActsFollow =
     (c : Config) (at_start : Power) (log : Log) (mark : Mark) → IsSound c at_start log → IsQuietAct mark → MayFollow at_start (map_at_start c log.start) log.past mark →
     Found (words_after_marks log.start log.past) mark → IsSound c at_start (with_mark log mark)
 
--- a flush or an eviction may be added after which the durable words decode to the map as it was
+-- a flush, a fence or an eviction may be added after which the durable words decode to the map as it was
 abbrev pub FlushesFollow : Type 0
 FlushesFollow =
     (c : Config) (at_start : Power) (log : Log) (mark : Mark) → IsSound c at_start log → IsAfterFlush (mark ∷ log.past) →
     MayFollow at_start (map_at_start c log.start) log.past mark → Decodes c log.start (mark ∷ log.past) → IsSound c at_start (with_mark log mark)
 
--- so may a flush or an eviction with the Effect of a call, after which they decode to the map with the call's step
+-- so may each of these with the Effect of a call, after which they decode to the map with the call's step
 abbrev pub EffectsFollowActs : Type 0
 EffectsFollowActs =
     (c : Config) (at_start : Power) (log : Log) (mark : Mark) (w n : ℕ) → IsSound c at_start log → MayFollow at_start (map_at_start c log.start) log.past mark →

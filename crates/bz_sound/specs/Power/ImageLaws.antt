@@ -35,7 +35,7 @@ PagesComeFromTheImage =
     IsSound c at_start log → ReadsAt log.past w opened at → opened.call ≡ call.Page from → IsImagePage c (image_at log.start at log.past) from next pairs →
     IsRightReply c log.start (log.pages ++ pairs ∷ []) log.past (record { worker = w; opened = opened; reply = Page (length log.pages) next; at = at })
 
--- where a flush or an eviction changes the content as an open call does that has no Effect yet, its Effect may follow
+-- where a flush, a fence or an eviction changes the content as an open call does that has no Effect yet, its Effect may follow
 abbrev pub ChangesFollow : Type 0
 ChangesFollow =
     (c : Config) (at_start : Power) (log : Log) (mark : Mark) (w : ℕ) (opened : Open) (old new : Option (List ℕ)) →

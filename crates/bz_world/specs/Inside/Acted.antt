@@ -7,7 +7,7 @@ use Rattle.bz_machine.specs.declared.done.Done.{Done}
 use Rattle.bz_machine.specs.declared.done.Done.TheVariants as done
 use Rattle.bz_mark.specs.Log.{with_mark}
 use Rattle.bz_mark.specs.declared.marks.Mark.{Mark}
-use Rattle.bz_mark.specs.declared.marks.Mark.TheVariants.{Evict}
+use Rattle.bz_mark.specs.declared.marks.Mark.TheVariants.{Fence, Evict}
 use Rattle.bz_lone.specs.FromCosts.Weights.{start_takes}
 use Rattle.bz_rivals.specs.Rivals.{rivals, foreign}
 use Rattle.bz_rivals.specs.Wins.{GoesWell}
@@ -81,6 +81,7 @@ pub record IsStriking (p : Parts) (s : ℕ) : Type 0 where
   pub taken : AreTaken p
   pub marked : IsMarked p.access before.journal mark
   pub flush : IsAfterFlush (mark ∷ before.journal.past)
+  pub no_fence : (w : ℕ) → mark ≢ Fence w
   pub follows : MayFollow before.at_start (map_at_start before.config before.journal.start) before.journal.past mark
   -- of a swap that went well no miss is noted
   pub unnoted : (t : ℕ) → GoesWell before.access t → is_missed p.access t ≡ false
