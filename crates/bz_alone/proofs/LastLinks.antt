@@ -12,11 +12,12 @@ use Rattle.bz_task.specs.Instant.{words, page_at}
 use Rattle.bz_task.specs.Outcomes.{IsPath, IsLink, IsUnderRoot, IsUnderNode}
 use Rattle.bz_task.specs.Requests.{Answers}
 use Rattle.bz_task.specs.Scene.{Scene, IsScene, here}
+use Rattle.bz_task.specs.Shown.{IsRead}
 use Rattle.bz_task.specs.declared.path.Link.{Link}
 use Rattle.bz_task.specs.declared.path.Path.{Path}
 use Rattle.bz_leaf.specs.Facts.{IsLastLink, IsKnownLeaf, Reading}
 use Rattle.bz_renew.proofs.Words.{node-at}
-use Rattle.bz_alone.specs.Quiet.{IsQuietSince, IsRead, ReadValuesStand}
+use Rattle.bz_alone.specs.Quiet.{IsQuietSince, ReadValuesStand}
 use Rattle.bz_alone.proofs.Inners.{Rules, inner-thawed, root-thawed}
 use Rattle.bz_alone.proofs.Standing.{good-at, reached-in, now-as, status-stands}
 

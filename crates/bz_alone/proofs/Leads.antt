@@ -13,7 +13,8 @@ use Rattle.bz_task.specs.Good.{IsGood}
 use Rattle.bz_task.specs.Instant.{words, page_at, form_at}
 use Rattle.bz_task.specs.Outcomes.{IsLink, EndsAtLeaf}
 use Rattle.bz_task.specs.Scene.{Past}
-use Rattle.bz_alone.specs.Quiet.{IsQuietSince, IsRead, ReadValuesStand, LonelyTimesAreQuiet}
+use Rattle.bz_task.specs.Shown.{IsRead}
+use Rattle.bz_alone.specs.Quiet.{IsQuietSince, ReadValuesStand, LonelyTimesAreQuiet}
 use Rattle.bz_alone.specs.Trees.{TreesStand, PathsLeadToLeaves}
 use Rattle.bz_alone.proofs.Inners.{Rules}
 

@@ -9,6 +9,7 @@ use Rattle.bz_renew.proofs.TwoEntries.{all-two}
 use Rattle.bz_renew.specs.Freezings.{freezing_entry}
 use Rattle.bz_renew.specs.Renewals.{link_entry, guard_entry, renewal}
 use Rattle.bz_task.specs.Scene.{Scene, Waiting, IsScene, here}
+use Rattle.bz_task.specs.Shown.{IsRead}
 use Rattle.bz_task.specs.Swaps.{Stand}
 use Rattle.bz_freeze.specs.Facts.{entry_of}
 use Rattle.bz_below.specs.FromSplit.BelowSplits.{AreLinksDown, parent_freezing, below_swap}
@@ -21,7 +22,7 @@ use Rattle.bz_running.specs.FromMerge.Phase.{Phase}
 use Rattle.bz_running.specs.FromMerge.Phase.TheVariants.{Again, Parent, Still, Freeze, FreezeBeside, Guard, Swap}
 use Rattle.bz_alone.specs.Alone.{IsAlone, GoesOn}
 use Rattle.bz_alone.specs.Changes.{MergesGoOn}
-use Rattle.bz_alone.specs.Quiet.{IsQuietSince, IsRead}
+use Rattle.bz_alone.specs.Quiet.{IsQuietSince}
 use Rattle.bz_alone.proofs.Basis.{Laws}
 use Rattle.bz_alone.proofs.Freezing.{one-stands}
 use Rattle.bz_alone.proofs.Going.{idles, reads, swaps}

@@ -10,12 +10,13 @@ use Rattle.bz_task.specs.Instant.{Instant, page_at}
 use Rattle.bz_task.specs.Laws.{KeepsFront, FrontsStay, HasHeader, HeadersSayTheLevel}
 use Rattle.bz_task.specs.Outcomes.{IsUnderNode, IsGuarded}
 use Rattle.bz_task.specs.Scene.{Past, Scene, IsScene, here}
+use Rattle.bz_task.specs.Shown.{IsRead}
 use Rattle.bz_task.specs.declared.path.Link.{Link}
 use Rattle.bz_below.specs.FromSplit.BelowSplits.{AreLinksDown}
 use Rattle.bz_running.specs.FromMerge.OwnFreezes.{FrozeAfter}
 use Rattle.bz_running.specs.FromMerge.Plans.{Merging, viewed_leaf, beside_leaf, first_of, second_of, IsPair, IsPlanned}
 use Rattle.bz_running.specs.FromMerge.Siblings.{SeenLeaf, WasSeen}
-use Rattle.bz_alone.specs.Quiet.{IsQuietSince, EffectsNeverFall, IsRead}
+use Rattle.bz_alone.specs.Quiet.{IsQuietSince, EffectsNeverFall}
 use Rattle.bz_alone.proofs.Basis.{Laws}
 use Rattle.bz_alone.proofs.Standing.{reached-in, status-stands, guard-stands, link-stands}
 

@@ -7,13 +7,14 @@ use Rattle.bz_layout.specs.declared.sizes.TheConstants.{STATUS_AT}
 use Rattle.bz_word.specs.Statuses.{status}
 use Rattle.bz_task.specs.Instant.{Instant}
 use Rattle.bz_task.specs.Scene.{Past, Scene, IsScene, here}
+use Rattle.bz_task.specs.Shown.{IsRead}
 use Rattle.bz_below.specs.FromSplit.BelowSplits.{AreLinksDown}
 use Rattle.bz_running.specs.FromMerge.Counts.{freezes_of, both_freezes}
 use Rattle.bz_running.specs.FromMerge.OwnFreezes.{FrozeAfter, FrozeViewed, ViewedWasFrozen, FrozeBeside, BothWereFrozen}
 use Rattle.bz_running.specs.FromMerge.Plans.{Merging, viewed_leaf, beside_leaf}
 use Rattle.bz_running.specs.FromMerge.Siblings.{SeenLeaf}
 use Rattle.bz_alone.specs.Alone.{IsAlone}
-use Rattle.bz_alone.specs.Quiet.{IsQuietSince, HadEffects, IsRead}
+use Rattle.bz_alone.specs.Quiet.{IsQuietSince, HadEffects}
 use Rattle.bz_alone.proofs.Named.{WasSeenOnce, both-seen, pair-apart, AsRead, FreezeLaws, leaf-as-seen, quiet-as-read, guard-now, link-now, left-as-read}
 use Rattle.bz_alone.proofs.Standing.{now-as}
 

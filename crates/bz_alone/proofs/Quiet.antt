@@ -5,10 +5,10 @@ use Rattle.bz_layout.specs.declared.sizes.TheConstants.{STATUS_AT}
 use Rattle.bz_word.specs.Statuses.{status}
 use Rattle.bz_task.specs.Instant.{Instant, words}
 use Rattle.bz_task.specs.Laws.{AreMoments, NodesStay, SameRecordsShowTheSame}
-use Rattle.bz_task.specs.Shown.{SameWords, SameRecords, SameRoot}
+use Rattle.bz_task.specs.Shown.{IsRead, SameWords, SameRecords, SameRoot}
 use Rattle.bz_task.specs.Steps.{IsQuiet, IsStep, IsHistory}
 use Rattle.bz_renew.proofs.Words.{node-at}
-use Rattle.bz_alone.specs.Quiet.{EffectsNeverFall, QuietTimesStay, IsRead, ReadValuesStand, LonelyTimesAreQuiet}
+use Rattle.bz_alone.specs.Quiet.{EffectsNeverFall, QuietTimesStay, ReadValuesStand, LonelyTimesAreQuiet}
 
 -- no effect came so far: the same nodes are reached, with the status words that they had, and the root is the same
 record IsStill (c : Config) (x y : Instant) : Type 0 where

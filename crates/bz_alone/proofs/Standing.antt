@@ -6,10 +6,10 @@ use Rattle.bz_task.specs.Good.{IsGood}
 use Rattle.bz_task.specs.Instant.{words, is_inside}
 use Rattle.bz_task.specs.Outcomes.{IsGuarded}
 use Rattle.bz_task.specs.Scene.{Scene, IsScene, here}
-use Rattle.bz_task.specs.Shown.{IsShown}
+use Rattle.bz_task.specs.Shown.{IsRead, IsShown}
 use Rattle.bz_task.specs.declared.path.Link.{Link}
 use Rattle.bz_renew.proofs.Words.{node-at}
-use Rattle.bz_alone.specs.Quiet.{IsQuietSince, IsRead, ReadValuesStand}
+use Rattle.bz_alone.specs.Quiet.{IsQuietSince, ReadValuesStand}
 
 module _ (values : ReadValuesStand) (s : Scene) (good : IsScene s) (m : ℕ) (q : IsQuietSince m s.past) where
   pub good-at : (i : ℕ) → m ≤ i → i ≤ s.past.now → IsGood s.past.config (s.past.at i)

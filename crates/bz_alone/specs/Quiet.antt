@@ -1,12 +1,10 @@
 -- A time in which no swap takes effect: nothing changes for readers, so what was read is what stands.
-use Rattle.std.specs.Prelude.{◌≡◌, ℕ, ◌+◌, ◌<◌, ◌≤◌, ◌⊎◌, true}
-use Rattle.bz_layout.specs.Addresses.{node_address}
+use Rattle.std.specs.Prelude.{◌≡◌, ℕ, ◌+◌, ◌≤◌}
 use Rattle.bz_layout.specs.declared.config.Config.{Config}
-use Rattle.bz_layout.specs.declared.sizes.TheConstants.{NODE_WORDS, ROOT_AT, ROOT_STATUS_AT}
-use Rattle.bz_task.specs.Instant.{Instant, words}
+use Rattle.bz_task.specs.Instant.{Instant}
 use Rattle.bz_task.specs.Laws.{AreMoments}
 use Rattle.bz_task.specs.Scene.{Past, IsScene, Scene}
-use Rattle.bz_task.specs.Shown.{IsShown}
+use Rattle.bz_task.specs.Shown.{IsRead}
 use Rattle.bz_task.specs.Steps.{IsQuiet, IsHistory}
 use Rattle.bz_alone.specs.Alone.{IsAlone}
 
@@ -24,19 +22,6 @@ pub record IsQuietSince (m : ℕ) (p : Past) : Type 0 where
   pub since : p.since ≤ m
   pub now : m ≤ p.now
   pub effects : (p.at p.now).effects ≡ (p.at m).effects
-
--- a word of a node to which a link has led, which readers read
-pub record IsShownWord (c : Config) (x : Instant) (a : ℕ) : Type 0 where
-  pub slot : ℕ
-  pub place : ℕ
-  pub address : a ≡ node_address c slot + place
-  pub within : place < NODE_WORDS
-  pub reached : x.reached slot ≡ true
-  pub shown : IsShown (words c x slot) place
-
--- an address whose value readers read: the root pointer, the root status, or such a word
-abbrev pub IsRead : Config → Instant → ℕ → Type 0
-IsRead c x a = (a ≡ ROOT_AT) ⊎ ((a ≡ ROOT_STATUS_AT) ⊎ IsShownWord c x a)
 
 -- a moment of such a time
 pub record IsIn (m : ℕ) (p : Past) (i : ℕ) : Type 0 where

@@ -57,7 +57,7 @@ was-named stand r v s good f a thawed = record {
   thawed = thawed;
   value = a.value;
   under = stand s r.upper good f.planned.parted.links.upper_guard;
-  durable = λ n i h l. f.writing.flushed n i h l (omega (arith, h, l)) ∙ f.writing.stored_is n i h l (omega (arith, h, l));
+  durable = λ n i h l. (f.writing.flushed n i h l (omega (arith, h, l))).image ∙ f.writing.stored_is n i h l (omega (arith, h, l));
 }
 
 -- what a phase after it must be

@@ -91,13 +91,13 @@ module _ (b : Laws) (s : Scene) (y : Instant) (r : NewRecord) (good : IsScene s)
 
   -- the words of the record stand in the image
   raw-stands : Stands (node s.past.config (here s).image r.slot) r
-  raw-stands i l = node-at s.past.config (here s).image r.slot (offset_of r + i) (omega (arith, l, f.room.fits)) ∙ (h.flushed i l ∙ h.stored i l)
+  raw-stands i l = node-at s.past.config (here s).image r.slot (offset_of r + i) (omega (arith, l, f.room.fits)) ∙ ((h.flushed i l).image ∙ h.stored i l)
 
   plain-raw : (i : ℕ) → i < size_of r → (here s).image (address_of s.past.config r i) < 2 ^ 61
-  plain-raw i l = subst (λ z. z < 2 ^ 61) (sym (h.flushed i l ∙ h.stored i l)) (word-plain b.small r f i l)
+  plain-raw i l = subst (λ z. z < 2 ^ 61) (sym ((h.flushed i l).image ∙ h.stored i l)) (word-plain b.small r f i l)
 
   durable-stands : Stands (durable s.past.config (here s) r.slot) r
-  durable-stands i l = node-at s.past.config (resolve (here s).image) r.slot (offset_of r + i) (omega (arith, l, f.room.fits)) ∙ (b.plain (here s).image (address_of s.past.config r i) (plain-raw i l) ∙ (h.flushed i l ∙ h.stored i l))
+  durable-stands i l = node-at s.past.config (resolve (here s).image) r.slot (offset_of r + i) (omega (arith, l, f.room.fits)) ∙ (b.plain (here s).image (address_of s.past.config r i) (plain-raw i l) ∙ ((h.flushed i l).image ∙ h.stored i l))
 
   -- its place is the reserved one
   reserved-meta : durable s.past.config (here s) r.slot (META_AT + (status r.status).count) ≡ meta_word (Reserved (place_of r))

@@ -43,7 +43,7 @@ module _ (s : Scene) (new : ℕ) (good : IsScene s) (fresh : IsFresh s new) wher
   stored plain i l =
       let own : IsMineAndDurable s (node_address s.past.config new + i) = fresh.own i l in
       let v : (here s).value (node_address s.past.config new + i) < 2 ^ 61 = (good.mine (node_address s.past.config new + i) own.mine).1.1 in
-      plain (here s).image (node_address s.past.config new + i) (subst (λ z. z < 2 ^ 61) (sym own.flushed) v) ∙ own.flushed
+      plain (here s).image (node_address s.past.config new + i) (subst (λ z. z < 2 ^ 61) (sym own.flushed.image) v) ∙ own.flushed.image
 
 -- any swap that names none of its words
 module _ (plain : PlainWordsStandForThemselves) (entries : List Entry) (s : Scene) (y : Instant) (new : ℕ) (good : IsScene s) (fresh : IsFresh s new) (unnamed : (i : ℕ) → i < NODE_WORDS → is_target entries (node_address s.past.config new + i) ≡ false) (swaps : SwapsTo s.past.config entries (here s) y) where
@@ -54,7 +54,7 @@ module _ (plain : PlainWordsStandForThemselves) (entries : List Entry) (s : Scen
       each k = elim (cases_lt k NODE_WORDS) [
         | inl l ↦ (
             let a : ℕ = node_address s.past.config new + k in
-            node-at s.past.config y.image new k l ∙ (swaps.raw a (inr (omega arith)) ∙ ((fresh.own k l).flushed ∙ sym (node-at s.past.config (here s).value new k l))))
+            node-at s.past.config y.image new k l ∙ (swaps.raw a (inr (omega arith)) ∙ ((fresh.own k l).flushed.image ∙ sym (node-at s.past.config (here s).value new k l))))
         | inr l ↦ node-past s.past.config y.image new k l ∙ sym (node-past s.past.config (here s).value new k l)
       ]
 

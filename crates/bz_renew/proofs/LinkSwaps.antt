@@ -132,7 +132,7 @@ module _ (formed : WellFormedImagesHaveNoFault) (plain : PlainWordsStandForThems
   resolved-own k i f l =
       let own : IsMineAndDurable s (node_address s.past.config k + i) = f.own i l in
       let v : (here s).value (node_address s.past.config k + i) < 2 ^ 61 = (good.mine (node_address s.past.config k + i) own.mine).1.1 in
-      plain (here s).image (node_address s.past.config k + i) (subst (λ z. z < 2 ^ 61) (sym own.flushed) v) ∙ own.flushed
+      plain (here s).image (node_address s.past.config k + i) (subst (λ z. z < 2 ^ 61) (sym own.flushed.image) v) ∙ own.flushed.image
 
   resolved : (k i : ℕ) → y.reached k ≡ true → i < NODE_WORDS → IsShown (words s.past.config y k) i → resolve (here s).image (node_address s.past.config k + i) ≡ (here s).value (node_address s.past.config k + i)
   resolved k i r l h = go ((here s).reached k) refl

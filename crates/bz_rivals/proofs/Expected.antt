@@ -10,6 +10,7 @@ use Rattle.bz_swap.specs.Atomic.{value_in, value_of}
 use Rattle.bz_swap.specs.Held.{IsHeld}
 use Rattle.bz_swap.specs.Starts.{IsEntry}
 use Rattle.bz_swap.specs.SwapMemory.{SwapMemory, value_at, is_named}
+use Rattle.bz_swap.proofs.SettledWords.{settled-same}
 use Rattle.bz_rivals.specs.Wins.{Stand, AreExpected, ExpectedStand}
 
 -- outside a recovery time: of a named word what the durable words stand for, of a private one the cached word
@@ -24,7 +25,7 @@ value-at m e not held entry = elim (cases_Bool (is_named m e.target)) [
   | inl named ↦ (let now : (if is_named m e.target then value_at m e.target else slice_index m.cached e.target) ≡ value_at m e.target = rw named refl in
       sym (working-value m.phase m e.target not ∙ now))
   | inr private ↦ (let now : (if is_named m e.target then value_at m e.target else slice_index m.cached e.target) ≡ slice_index m.cached e.target = rw private refl in
-      (held.private e.target entry.address.outside private).1 ∙ sym (entry.flushed private) ∙ sym (working-value m.phase m e.target not ∙ now))
+      (held.private e.target entry.address.outside private).1 ∙ sym (settled-same m e.target (entry.settled private)) ∙ sym (working-value m.phase m e.target not ∙ now))
 ]
 
 all-stand : (m : SwapMemory) (entries : List Entry) → m.phase ≢ Recovering → IsHeld m → All (IsEntry m) entries → AreExpected m entries → Stand m entries

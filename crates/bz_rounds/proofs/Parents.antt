@@ -7,6 +7,7 @@ use Rattle.bz_task.specs.Instant.{words, durable, form_at}
 use Rattle.bz_task.specs.Laws.{SamePlace, RangesStay}
 use Rattle.bz_task.specs.Outcomes.{IsUnderNode, IsGuarded}
 use Rattle.bz_task.specs.Scene.{Scene, IsScene, here}
+use Rattle.bz_task.specs.Shown.{IsRead}
 use Rattle.bz_task.specs.declared.path.Link.{Link}
 use Rattle.bz_renew.specs.Freezings.{IsFreezable}
 use Rattle.bz_renew.specs.Renewals.{LinksMayBeTurned}
@@ -14,7 +15,7 @@ use Rattle.bz_renew.specs.Standing.{StillLeads, GuardedLinksStand}
 use Rattle.bz_tally.specs.FromSplit.BelowSplits.{AreLinksDown}
 use Rattle.bz_ascent.specs.FromBranch.Nodes.{IsOpenLink}
 use Rattle.bz_ascent.proofs.FromBranch.Standing as open_link
-use Rattle.bz_alone.specs.Quiet.{IsQuietSince, IsRead, ReadValuesStand}
+use Rattle.bz_alone.specs.Quiet.{IsQuietSince, ReadValuesStand}
 
 -- the laws on which it rests
 pub record Links : Type 0 where

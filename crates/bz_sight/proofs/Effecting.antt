@@ -7,22 +7,25 @@ use Rattle.bz_layout.specs.Addresses.{swap_address, words_of as size_of, IsOutsi
 use Rattle.bz_layout.specs.declared.config.Config.{Config}
 use Rattle.bz_cells.specs.Store.{IsOutside, is_outside}
 use Rattle.bz_swap.specs.Held.{IsHeld}
-use Rattle.bz_swap.specs.SwapMemory.{SwapMemory, value_at, is_named, is_among, is_target, entries_of}
+use Rattle.bz_swap.specs.SwapMemory.{SwapMemory, value_at, is_named, is_among, is_settled_at, is_target, entries_of}
 use Rattle.bz_swap.specs.Starts.{IsAddress}
+use Rattle.bz_swap.proofs.SettledWords.{settled-alike}
 use Rattle.bz_word.specs.declared.entry.Entry.{Entry}
 use Rattle.bz_content.specs.Lawful.{is_fixed, is_in_descriptor, is_lawful}
 use Rattle.bz_content.specs.Resolving.{resolve}
 use Rattle.bz_sight.specs.Swapped.{LeavesItsValues}
 use Rattle.bz_task.specs.Good.{IsGood}
 use Rattle.bz_task.specs.Instant.{Instant}
-use Rattle.bz_task.specs.Scene.{Scene, IsMine, IsScene, here}
+use Rattle.bz_task.specs.Scene.{Scene, IsMine, IsFlushed, IsScene, here}
+use Rattle.bz_task.specs.Shown.{IsRead}
 use Rattle.bz_task.specs.Steps.{IsStep}
-use Rattle.bz_task.specs.Swaps.{Stand, SwapsTo, swapped}
+use Rattle.bz_task.specs.Swaps.{Stand, SwapsTo, ShowsSettled, swapped}
 use Rattle.bz_task.specs.Targets.{OwnWordsAreNoTargets, IsTargetAt}
 use Rattle.bz_sight.specs.Effects.{TakesPlace, EffectsTakePlace, EffectsKeepOwn, effect_instant}
 use Rattle.bz_sight.specs.Sight.{IsSeen, answer_at}
 use Rattle.bz_sight.proofs.Passings.{held, outside-test, answer-named, answer-private, outside-descriptors, fixed-place, fixed-lawful, descriptor-lawful, Laws}
 use Rattle.bz_sight.proofs.Leavings.{own-private, own-outside, outside-by, inside-answers}
+use Rattle.bz_sight.proofs.ReadWords.{target-read, read-outside}
 
 -- all of a list: its first and its others
 all-head : {A : Type 0} (P : A → Type 0) (x : A) (xs : List A) → All P (x ∷ xs) → P x
@@ -189,19 +192,32 @@ module _ (b : Laws) (c : Config) (x : Instant) (old new : SwapMemory) (s : ℕ) 
       go false e true q = fixed-lawful c x.image (slice_index new.durable) a e q (fixed-same a q) (((b.formed c x.image).0 seen.good.form).lawful a l)
       go false e false q = left-after.lawful c a (sym (t.same.swaps ∙ seen.swaps)) (subst (λ n. IsOutside n a) (sym (t.same.swaps ∙ seen.swaps)) (outside-descriptors c a e)) q
 
+  -- a word that nobody reads is private
+  unread-private : (a : ℕ) → ¬ IsRead c x a → is_named old a ≡ false
+  unread-private a unread = go (is_named old a) refl
+    where
+      go : (u : Bool) → is_named old a ≡ u → is_named old a ≡ false
+      go true e = absurd (unread (target-read c x a (seen.targets a e)))
+      go false e = e
+
+  -- a private word stays settled
+  settled-after : (a : ℕ) → IsOutside old.swaps a → is_named old a ≡ false → x.settled a ≡ true → is_settled_at new a ≡ true
+  settled-after a o e h = settled-alike old new a (t.cached a o e) (t.durable a o) ∙ (ap (λ f. f a) (sym seen.settled) ∙ h)
+
   swaps-to : x.effects + 1 < 2 ^ 32 → SwapsTo c (entries_of old s) x y
   swaps-to few = record {
     raw = λ a o. t.durable a (outside-of a o) ∙ ap (λ f. f a) (sym seen.image);
     lawful = lawful-after;
     resolved = λ a o. resolved-after a (outside-of a o);
     value = answer-after;
+    settled = λ a o unread h. settled-after a (outside-of a o) (unread-private a unread) h;
     effects = refl;
     few = few;
     reached = λ k. refl;
   }
 
-  seen-after : IsGood c y → IsStep c x y → IsSeen c new y
-  seen-after good step = record {
+  seen-after : IsGood c y → IsStep c x y → ShowsSettled c x y → IsSeen c new y
+  seen-after good step shows = record {
     config = seen.config;
     swaps = t.same.swaps ∙ seen.swaps;
     size = t.same.size ∙ seen.size;
@@ -211,10 +227,17 @@ module _ (b : Laws) (c : Config) (x : Instant) (old new : SwapMemory) (s : ℕ) 
     fixed = λ a fix. let place : a < 16 = (fixed-place a fix).0 in fixed-cached a fix place;
     image = refl;
     value = refl;
+    settled = refl;
     good = good;
     targets = λ a e. b.stay c x y a seen.good good step (seen.targets a (sym (named-same a) ∙ e));
+    shown = shown-after;
   }
     where
+      shown-after : (a : ℕ) → IsRead c y a → is_named new a ≡ false → is_settled_at new a ≡ true
+      shown-after a r e =
+          let private : is_named old a ≡ false = sym (named-same a) ∙ e in
+          settled-after a (read-outside c old.swaps y a seen.swaps r) private (elim (shows a r) [ inl was ↦ seen.shown a was private | inr h ↦ h ])
+
       fixed-private : (a : ℕ) → is_fixed a ≡ true → is_named old a ≡ false
       fixed-private a fix = go (is_named old a) refl
         where
@@ -239,6 +262,10 @@ module _ (b : Laws) (c : Config) (x : Instant) (old new : SwapMemory) (s : ℕ) 
   own-image : (v : Scene) → IsScene v → v.past.config ≡ c → here v ≡ x → (a : ℕ) → IsMine v a → slice_index new.durable a ≡ (here v).image a
   own-image v good same at a mine = t.durable a (own-outside c old v seen.swaps good same a mine) ∙ (ap (λ f. f a) (sym seen.image) ∙ ap (λ z. z.image a) (sym at))
 
+  own-settled : OwnWordsAreNoTargets → (v : Scene) → IsScene v → v.past.config ≡ c → here v ≡ x → (a : ℕ) → IsMine v a → IsFlushed v a → is_settled_at new a ≡ true
+  own-settled law v good same at a mine f =
+      settled-after a (own-outside c old v seen.swaps good same a mine) (own-private law c x old v seen good same at a mine) (ap (λ z. z.settled a) (sym at) ∙ f.settled)
+
 pub effects-take-place : Laws → EffectsTakePlace
 effects-take-place b c x old new s seen t = record {
   stand = stand b c x old new s seen t;
@@ -249,5 +276,8 @@ effects-take-place b c x old new s seen t = record {
 pub effects-keep-own : Laws → OwnWordsAreNoTargets → EffectsKeepOwn
 effects-keep-own b law c x old new k s seen t good same at = record {
   value = λ a mine. own-value b c x old new k seen t law s good same at a mine;
-  flushed = λ a mine f. own-image b c x old new k seen t s good same at a mine ∙ (f ∙ sym (own-value b c x old new k seen t law s good same at a mine));
+  flushed = λ a mine f. record {
+    image = own-image b c x old new k seen t s good same at a mine ∙ (f.image ∙ sym (own-value b c x old new k seen t law s good same at a mine));
+    settled = own-settled b c x old new k seen t law s good same at a mine f;
+  };
 }

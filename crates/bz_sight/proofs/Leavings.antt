@@ -1,6 +1,6 @@
 -- What an act by which no swap takes effect is to each worker: it leaves what anybody owns, but for a store and a flush of
 -- the owner's.
-use Rattle.std.proofs.Common.{◌≡◌, ℕ, ◌≤◌, ◌⊎◌, Bool, true, false, slice_index, arith, refl, sym, ap, subst, ◌∙◌, inl, inr}
+use Rattle.std.proofs.Common.{◌≡◌, ℕ, ◌≤◌, Bool, true, false, slice_index, arith, refl, sym, ap, subst, ◌∙◌, inl, inr}
 use Rattle.std.specs.Prelude.{if◌then◌else◌, nat_lt}
 use Rattle.std.proofs.lemmas.Bool.Decides.{nat_tests}
 use Rattle.std.proofs.lemmas.Bool.{cases_lt}
@@ -8,10 +8,11 @@ use Rattle.bz_layout.specs.Addresses.{swap_address, node_address}
 use Rattle.bz_layout.specs.declared.config.Config.{Config}
 use Rattle.bz_cells.specs.Store.{IsOutside, is_outside}
 use Rattle.bz_swap.specs.SwapMemory.{SwapMemory, is_named, is_among}
-use Rattle.bz_task.specs.Instant.{Instant}
-use Rattle.bz_task.specs.Scene.{Scene, IsMine, IsScene, here}
+use Rattle.bz_swap.proofs.SettledWords.{settled-same, same-settled, settled-alike}
+use Rattle.bz_task.specs.Instant.{Instant, IsDurableAt}
+use Rattle.bz_task.specs.Scene.{Scene, IsMine, IsFlushed, IsScene, here}
 use Rattle.bz_task.specs.Targets.{OwnWordsAreNoTargets, IsTargetAt}
-use Rattle.bz_sight.specs.Passing.{Passes, ActsLeaveAll, StoresAreSeen, FlushesAreSeen}
+use Rattle.bz_sight.specs.Passing.{Passes, AllStay, ActsLeaveAll, StoresAreSeen, FlushesAreSeen}
 use Rattle.bz_sight.specs.Sight.{IsSeen, answer_at, next_instant}
 use Rattle.bz_sight.proofs.Passings.{answer-named, answer-private}
 
@@ -67,34 +68,39 @@ module _ (c : Config) (x : Instant) (old new : SwapMemory) (seen : IsSeen c old 
   value-stays : (a : ℕ) → (IsOutside old.swaps a → is_named old a ≡ false → slice_index new.cached a ≡ slice_index old.cached a) → (next_instant new x).value a ≡ x.value a
   value-stays a stay = answer-stays a stay ∙ ap (λ f. f a) (sym seen.value)
 
+-- an own word that is copied to the memory itself is durable, and settled
+copied : OwnWordsAreNoTargets → (c : Config) (x : Instant) (old new : SwapMemory) (v : Scene) → IsSeen c old x → Passes c x old new → AllStay old new → IsScene v → v.past.config ≡ c → here v ≡ x →
+    (a : ℕ) → IsMine v a → slice_index new.durable a ≡ slice_index old.cached a → IsDurableAt (next_instant new x) a
+copied law c x old new v seen p all good same at a mine copy =
+    let private : is_named old a ≡ false = own-private law c x old v seen good same at a mine in
+    let o : IsOutside old.swaps a = own-outside c old v seen.swaps good same a mine in
+    record {
+      image = copy ∙ (sym (all a o private) ∙ sym (answer-private new a (outside-new c x old new seen p a o) (named-same c x old new seen p a ∙ private)));
+      settled = same-settled new a (all a o private ∙ sym copy);
+    }
+
 pub leaves-all : OwnWordsAreNoTargets → ActsLeaveAll
 leaves-all law c x old new v seen p all good same at = record {
   value = λ a. value-stays c x old new seen p a (all a) ∙ ap (λ z. z.value a) (sym at);
   reached = λ k. ap (λ z. z.reached k) (sym at);
   effects = ap (λ z. z.effects) (sym at);
-  image = image-of;
+  flushed = λ a mine f. copied law c x old new v seen p all good same at a mine (durable a f);
 }
   where
-    image-of : (a : ℕ) → IsMine v a → (slice_index new.durable a ≡ (here v).image a) ⊎ (slice_index new.durable a ≡ (here v).value a)
-    image-of a mine =
-        let private : is_named old a ≡ false = own-private law c x old v seen good same at a mine in
-        let value : (here v).value a ≡ slice_index old.cached a = ap (λ z. z.value a) at ∙ (ap (λ f. f a) seen.value ∙ answer-private old a (own-outside c old v seen.swaps good same a mine) private) in
-        elim (p.durable a) [
-          | inl stays ↦ inl (stays ∙ (ap (λ f. f a) (sym seen.image) ∙ ap (λ z. z.image a) (sym at)))
-          | inr copied ↦ inr (copied ∙ sym value)
-        ]
+    durable : (a : ℕ) → IsFlushed v a → slice_index new.durable a ≡ slice_index old.cached a
+    durable a f =
+        let settled : slice_index old.cached a ≡ slice_index old.durable a = settled-same old a (ap (λ g. g a) (sym seen.settled) ∙ (ap (λ z. z.settled a) (sym at) ∙ f.settled)) in
+        elim (p.durable a) [ inl stays ↦ stays ∙ sym settled | inr copy ↦ copy ]
 
 pub stores-seen : StoresAreSeen
 stores-seen c x old new a v seen p s = record {
   value = answer-private new a (outside-new c x old new seen p a s.outside) (named-same c x old new seen p a ∙ s.private) ∙ s.cached;
   others = λ b ne. value-stays c x old new seen p b (λ o e. s.others b ne);
   image = λ b. s.durable b ∙ ap (λ f. f b) (sym seen.image);
+  settled = λ b ne. settled-alike old new b (s.others b ne) (s.durable b) ∙ ap (λ f. f b) (sym seen.settled);
   reached = λ k. refl;
   effects = refl;
 }
 
 pub flushes-seen : OwnWordsAreNoTargets → FlushesAreSeen
-flushes-seen law c x old new line v seen p all good same at copies a in-line mine =
-    let private : is_named old a ≡ false = own-private law c x old v seen good same at a mine in
-    let o : IsOutside old.swaps a = own-outside c old v seen.swaps good same a mine in
-    copies a in-line ∙ (sym (all a o private) ∙ sym (answer-private new a (outside-new c x old new seen p a o) (named-same c x old new seen p a ∙ private)))
+flushes-seen law c x old new line v seen p all good same at copies a in-line mine = copied law c x old new v seen p all good same at a mine (copies a in-line)

@@ -3,6 +3,7 @@ mod Effecting
 mod Leavings
 mod Openings
 mod Passings
+mod ReadWords
 mod Renewals
 mod Starting
 mod SwapMemories

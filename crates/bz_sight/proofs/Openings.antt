@@ -13,6 +13,7 @@ use Rattle.bz_swap.specs.Held.{Holds}
 use Rattle.bz_swap.specs.PlainFields.{PlainFieldsStay, ArePlainFields}
 use Rattle.bz_swap.specs.Power.{AreRecovered, opened}
 use Rattle.bz_swap.specs.SwapMemory.{SwapMemory}
+use Rattle.bz_swap.proofs.SettledWords.{same-settled}
 use Rattle.bz_swap.specs.declared.phase.Phase.TheVariants.{Opened}
 use Rattle.bz_task.specs.Settled.{SettledMemoriesAreGood}
 use Rattle.bz_sight.specs.Opening.{FreshMemoryIsSeen, fresh_image, fresh_instant}
@@ -84,8 +85,10 @@ module _ (b : Laws) (c : Config) (config : IsConfig c) where
     fixed = λ a e. refl;
     image = refl;
     value = λ t a. answers a t;
+    settled = λ t a. sym (same-settled first a refl) t;
     good = b.settled c (fresh_image c) (b.empty c config).0;
     targets = λ a e. absurd (true≢false (sym e));
+    shown = λ a r e. refl;
   }
 
 pub fresh-seen : Laws → FreshMemoryIsSeen

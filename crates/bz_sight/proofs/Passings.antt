@@ -36,6 +36,7 @@ use Rattle.bz_task.specs.Steps.{IsQuiet}
 use Rattle.bz_task.specs.Targets.{IsTargetAt, TargetsStay}
 use Rattle.bz_sight.specs.Passing.{Passes, ActsPass}
 use Rattle.bz_sight.specs.Sight.{IsSeen, IsHidden, answer_at, next_instant}
+use Rattle.bz_sight.proofs.ReadWords.{read-before, read-settled}
 
 -- the laws that these proofs stand on
 pub record Laws : Type 0 where
@@ -374,8 +375,10 @@ module _ (b : Laws) (c : Config) (x : Instant) (old new : SwapMemory) (seen : Is
     fixed = fixed-after;
     image = refl;
     value = refl;
+    settled = refl;
     good = same.good;
     targets = λ a e. b.stay c x y a seen.good same.good (inl quiet-for-readers) (seen.targets a (sym (named-same a) ∙ e));
+    shown = λ a r e. read-settled c x old new a seen p (read-before c x y a quiet-for-readers r) (sym (named-same a) ∙ e);
   }
 
 pub acts-pass : Laws → ActsPass

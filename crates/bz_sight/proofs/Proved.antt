@@ -148,8 +148,8 @@ effects_keep_own = effects-keep-own (record {
 
 -- what a task may ask for may be started
 pub tasks_may_start : TasksMayStart
-tasks_may_start = may-start (record { values = held_memories_leave_their_values; memory = targets_are_of_the_memory; own = own_words_are_no_targets; fields = plain_fields_stay })
+tasks_may_start = may-start (record { memory = targets_are_of_the_memory; own = own_words_are_no_targets; fields = plain_fields_stay })
 
 -- a start makes no act: the same memory is seen
 pub starts_are_seen : StartsAreSeen
-starts_are_seen = starts-seen (record { values = held_memories_leave_their_values; memory = targets_are_of_the_memory; own = own_words_are_no_targets; fields = plain_fields_stay })
+starts_are_seen = starts-seen (record { memory = targets_are_of_the_memory; own = own_words_are_no_targets; fields = plain_fields_stay })

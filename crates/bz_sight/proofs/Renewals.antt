@@ -13,12 +13,14 @@ use Rattle.bz_shape.specs.Walk.{form}
 use Rattle.bz_swap.specs.PlainFields.{PlainFieldsStay}
 use Rattle.bz_swap.specs.Power.{renewed}
 use Rattle.bz_swap.specs.SwapMemory.{SwapMemory}
+use Rattle.bz_swap.proofs.SettledWords.{same-settled}
 use Rattle.bz_task.specs.Good.{IsGood}
 use Rattle.bz_task.specs.Instant.{Instant, words, durable}
 use Rattle.bz_task.specs.Settled.{settled, SettledMemoriesAreGood}
 use Rattle.bz_sight.specs.Renewal.{IsRenewable, RenewedMemoriesAreSeen, renewed_instant}
 use Rattle.bz_sight.specs.Sight.{IsSeen, answer_at}
 use Rattle.bz_sight.proofs.Passings.{answer-private, node-at, node-past, fixed-place}
+use Rattle.bz_sight.proofs.ReadWords.{read-outside}
 
 -- the laws that these proofs stand on
 pub record Laws : Type 0 where
@@ -70,8 +72,10 @@ module _ (b : Laws) (c : Config) (m : SwapMemory) (h : IsRenewable c m) where
     fixed = λ a fix. h.may_renew.same a (inl (fixed-place a fix).0);
     image = refl;
     value = refl;
+    settled = refl;
     good = good;
     targets = λ a e. absurd (true≢false (sym e));
+    shown = λ a r e. same-settled (renewed m) a (h.may_renew.same a (read-outside c m.swaps y a h.swaps r));
   }
 
 pub renewed-seen : Laws → RenewedMemoriesAreSeen

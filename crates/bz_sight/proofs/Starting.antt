@@ -1,5 +1,5 @@
 -- What a task may ask for may be started, and a start leaves the memory that is seen.
-use Rattle.std.proofs.Common.{◌≡◌, ◌≢◌, ℕ, zero, suc, ◌+◌, ◌*◌, ◌^◌, ◌<◌, ◌≤◌, ◌||◌, Bool, true, false, List, [], ◌∷◌, ◌++◌, slice_index, arith, refl, sym, ap, subst, ◌∙◌, inl, inr}
+use Rattle.std.proofs.Common.{◌≡◌, ◌≢◌, ℕ, zero, suc, ◌+◌, ◌*◌, ◌^◌, ◌<◌, ◌≤◌, ◌||◌, Bool, true, false, List, [], ◌∷◌, ◌++◌, arith, refl, sym, ap, subst, ◌∙◌, inl, inr}
 use Rattle.std.specs.Prelude.{All, get_or}
 use Rattle.std.proofs.lemmas.Bool.{true≢false}
 use Rattle.bz_layout.specs.Addresses.{swap_address, node_address, words_of as size_of, IsOutsideSwaps}
@@ -9,26 +9,25 @@ use Rattle.bz_cells.specs.Store.{IsOutside, is_outside}
 use Rattle.bz_swap.specs.Held.{Holds, IsHeld}
 use Rattle.bz_swap.specs.PlainFields.{PlainFieldsStay}
 use Rattle.bz_swap.specs.Starts.{IsAddress, MayStore, MayFlush, MaySwap, IsEntry, IsPrivateStore, IsPrivateFlush, swapping, phase_of}
-use Rattle.bz_swap.specs.SwapMemory.{SwapMemory, is_named, is_among, is_target}
+use Rattle.bz_swap.specs.SwapMemory.{SwapMemory, is_named, is_among, is_settled_at, is_target}
+use Rattle.bz_swap.proofs.SettledWords.{settled-same}
 use Rattle.bz_swap.specs.declared.phase.Phase.TheVariants.{Recovering}
 use Rattle.bz_word.specs.declared.entry.Entry.{Entry}
-use Rattle.bz_content.specs.Resolving.{resolve}
-use Rattle.bz_sight.specs.Swapped.{HeldMemoriesLeaveTheirValues}
 use Rattle.bz_task.specs.Instant.{Instant, words}
-use Rattle.bz_task.specs.Requests.{IsTarget, IsNodeTarget, IsReadable, IsEntryToAsk}
+use Rattle.bz_task.specs.Requests.{IsTarget, IsReadable, IsEntryToAsk}
 use Rattle.bz_task.specs.Scene.{Scene, IsMine, here}
 use Rattle.bz_task.specs.Shown.{IsShown}
-use Rattle.bz_task.specs.Targets.{alone, IsTargetAt, TargetsAreOfTheMemory, OwnWordsAreNoTargets}
+use Rattle.bz_task.specs.Targets.{IsTargetAt, TargetsAreOfTheMemory, OwnWordsAreNoTargets}
 use Rattle.bz_sight.specs.Laws.{HiddenWordsAreValues}
 use Rattle.bz_sight.specs.Sight.{IsSeen, IsHidden, answer_at}
 use Rattle.bz_sight.specs.Starts.{Sees, StoresAreHidden, TasksMayStart, OwnWordsAreHidden, StartsAreSeen}
 use Rattle.bz_sight.proofs.Effecting.{targeted}
 use Rattle.bz_sight.proofs.Leavings.{own-private, inside-answers, outside-by}
-use Rattle.bz_sight.proofs.Passings.{held, node-at, answer-named, answer-private}
+use Rattle.bz_sight.proofs.Passings.{held, answer-named, answer-private}
+use Rattle.bz_sight.proofs.ReadWords.{target-read, hidden-unread}
 
 -- the laws that these proofs stand on
 pub record Laws : Type 0 where
-  pub values : HeldMemoriesLeaveTheirValues
   pub memory : TargetsAreOfTheMemory
   pub own : OwnWordsAreNoTargets
   pub fields : PlainFieldsStay
@@ -53,18 +52,9 @@ address c x m s a seen v r =
       within = omega (arith, before.memory.same, seen.size, subst (λ d. a < size_of d) v.config r.within);
     }
 
--- a word that swaps may name is read
-place-shown : (c : Config) (x : Instant) (a : ℕ) (t : IsNodeTarget (alone c x) a) → IsShown (words c x t.slot) t.place
-place-shown c x a t = elim t.kind [
-  | inl e ↦ inl (omega (arith, e))
-  | inr o ↦ elim o [ inl q ↦ inr (inl q.free) | inr q ↦ inr (inr (inl q.inner)) ]
-]
-
--- so it is no hidden one
+-- a word that swaps may name is no hidden one
 shown-target : (c : Config) (x : Instant) (a : ℕ) → IsTargetAt c x a → IsHidden c x a → ⊥
-shown-target c x a (inl e) h = omega (arith, e, h.in_slots)
-shown-target c x a (inr (inl e)) h = omega (arith, e, h.in_slots)
-shown-target c x a (inr (inr t)) h = h.unread t.slot t.place t.reached t.within t.address (place-shown c x a t)
+shown-target c x a t h = hidden-unread c x a h (target-read c x a t)
 
 -- it lies in the memory, outside the descriptors
 target-address : (c : Config) (x : Instant) (m : SwapMemory) (a : ℕ) → IsSeen c m x → IsTargetAt c x a → IsAddress m a
@@ -78,20 +68,9 @@ target-address c x m a seen (inr (inr t)) =
       within = omega (arith, t.address, t.within, slot, before.memory.same, seen.size);
     }
 
--- where it is private it stands in the memory itself as in the caches
-target-flushed : Laws → (c : Config) (x : Instant) (m : SwapMemory) (a : ℕ) → IsSeen c m x → IsTargetAt c x a → is_named m a ≡ false → slice_index m.cached a ≡ slice_index m.durable a
-target-flushed b c x m a seen t private =
-    let before : IsHeld m = held m seen.phase seen.holds in
-    let o : IsOutside m.swaps a = (target-address c x m a seen t).outside in
-    sym (answer-private m a o private) ∙ (ap (λ f. f a) (sym seen.value) ∙ (sym (settled t)
-    ∙ (ap (λ f. resolve f a) seen.image ∙ ((b.values m (record { holds = seen.holds; phase = seen.phase })).values a o ∙ (before.private a o private).1))))
-  where
-    settled : IsTargetAt c x a → resolve x.image a ≡ x.value a
-    settled (inl e) = subst (λ n. resolve x.image n ≡ x.value n) (sym e) seen.good.root
-    settled (inr (inl e)) = subst (λ n. resolve x.image n ≡ x.value n) (sym e) seen.good.root_status
-    settled (inr (inr u)) =
-        subst (λ n. resolve x.image n ≡ x.value n) (sym u.address)
-        (sym (node-at c (resolve x.image) u.slot u.place u.within) ∙ (seen.good.shown u.slot u.place u.reached (place-shown c x a u) ∙ node-at c x.value u.slot u.place u.within))
+-- where it is private it is settled
+target-settled : (c : Config) (x : Instant) (m : SwapMemory) (a : ℕ) → IsSeen c m x → IsTargetAt c x a → is_named m a ≡ false → is_settled_at m a ≡ true
+target-settled c x m a seen t private = ap (λ f. f a) (sym seen.settled) ∙ seen.shown a (target-read c x a t) private
 
 target-of : Laws → (c : Config) (x : Instant) (s : Scene) (a : ℕ) → Sees c x s → IsTarget s a → IsTargetAt c x a
 target-of b c x s a v t = subst (λ d. IsTargetAt d x a) v.config (subst (λ z. IsTargetAt s.past.config z a) v.here (b.memory s a t))
@@ -102,7 +81,7 @@ entry b c x m s e seen stores v ask =
       address = target-address c x m e.target seen t;
       expected = ask.expected;
       value = ask.new;
-      flushed = target-flushed b c x m e.target seen t;
+      settled = target-settled c x m e.target seen t;
       not_stored = λ w u d. shown-target c x e.target t (stores w e.target u d);
     }
 
@@ -176,7 +155,7 @@ module _ (b : Laws) (c : Config) (x : Instant) (m : SwapMemory) (w : ℕ) (entri
       inner o false e true q =
           let before : IsHeld m = held m seen.phase seen.holds in
           answer-named after a o (among-more m.begun entries a ∙ rw (e, q) refl)
-          ∙ ((before.private a o e).1 ∙ (sym (target-flushed b c x m a seen (target a q) e) ∙ sym (answer-private m a o e)))
+          ∙ ((before.private a o e).1 ∙ (sym (settled-same m a (target-settled c x m a seen (target a q) e)) ∙ sym (answer-private m a o e)))
       inner o false e false q = answer-private after a o (among-more m.begun entries a ∙ rw (e, q) refl) ∙ sym (answer-private m a o e)
 
       outer : (t : Bool) → is_outside m.swaps a ≡ t → answer_at after a ≡ answer_at m a
@@ -191,6 +170,9 @@ module _ (b : Laws) (c : Config) (x : Instant) (m : SwapMemory) (w : ℕ) (entri
       go false q true r = target a r
       go false q false r = absurd (true≢false (sym e ∙ (among-more m.begun entries a ∙ rw (q, r) refl)))
 
+  named-before : (a : ℕ) → is_named after a ≡ false → is_named m a ≡ false
+  named-before a e = (or-false (is_named m a) (is_target entries a) (sym (among-more m.begun entries a) ∙ e)).0
+
   swap-seen : IsSeen c after x
   swap-seen = record {
     config = seen.config;
@@ -202,8 +184,10 @@ module _ (b : Laws) (c : Config) (x : Instant) (m : SwapMemory) (w : ℕ) (entri
     fixed = seen.fixed;
     image = seen.image;
     value = seen.value ∙ (λ t a. sym (answers a) t);
+    settled = seen.settled;
     good = seen.good;
     targets = named-after;
+    shown = λ a r e. seen.shown a r (named-before a e);
   }
 
 pub starts-seen : Laws → StartsAreSeen
@@ -218,8 +202,10 @@ starts-seen b = record {
     fixed = seen.fixed;
     image = seen.image;
     value = seen.value;
+    settled = seen.settled;
     good = seen.good;
     targets = seen.targets;
+    shown = seen.shown;
   };
   swap = λ c x m w entries s seen v may asks holds. swap-seen b c x m w entries s seen v may asks holds;
 }

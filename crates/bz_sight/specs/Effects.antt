@@ -6,13 +6,13 @@ use Rattle.bz_cells.specs.Store.{IsOutside}
 use Rattle.bz_swap.specs.Effects.{TakesEffect}
 use Rattle.bz_swap.specs.Held.{Holds}
 use Rattle.bz_swap.specs.PlainFields.{HavePlainFields}
-use Rattle.bz_swap.specs.SwapMemory.{SwapMemory, entries_of, is_named}
+use Rattle.bz_swap.specs.SwapMemory.{SwapMemory, entries_of, is_named, is_settled_at}
 use Rattle.bz_content.specs.Content.{view_in}
 use Rattle.bz_task.specs.Good.{IsGood}
-use Rattle.bz_task.specs.Instant.{Instant}
+use Rattle.bz_task.specs.Instant.{Instant, IsDurableAt}
 use Rattle.bz_task.specs.Scene.{Scene, IsMine, IsScene, IsFlushed, here}
 use Rattle.bz_task.specs.Steps.{IsStep}
-use Rattle.bz_task.specs.Swaps.{Stand, SwapsTo}
+use Rattle.bz_task.specs.Swaps.{Stand, SwapsTo, ShowsSettled}
 use Rattle.bz_sight.specs.Passing.{SameRest}
 use Rattle.bz_sight.specs.Sight.{IsSeen, answer_at}
 
@@ -31,6 +31,7 @@ abbrev pub effect_instant : Config → SwapMemory → Instant → Instant
 effect_instant c m x = record {
   image = slice_index m.durable;
   value = answer_at m;
+  settled = is_settled_at m;
   reached = λ k. x.reached k || ((form (view_in c (slice_index m.durable))).inside k && nat_lt k c.nodes);
   effects = x.effects + 1;
 }
@@ -39,8 +40,8 @@ effect_instant c m x = record {
 pub record TookPlace (c : Config) (x : Instant) (old new : SwapMemory) (s : ℕ) : Type 0 where
   pub stand : Stand (entries_of old s) x
   pub swaps : x.effects + 1 < 2 ^ 32 → SwapsTo c (entries_of old s) x (effect_instant c new x)
-  -- where the swap was lawful, the memory is seen afterwards
-  pub seen : IsGood c (effect_instant c new x) → IsStep c x (effect_instant c new x) → IsSeen c new (effect_instant c new x)
+  -- where the swap was lawful, and shows nothing that was not settled, the memory is seen afterwards
+  pub seen : IsGood c (effect_instant c new x) → IsStep c x (effect_instant c new x) → ShowsSettled c x (effect_instant c new x) → IsSeen c new (effect_instant c new x)
 
 abbrev pub EffectsTakePlace : Type 0
 EffectsTakePlace = (c : Config) (x : Instant) (old new : SwapMemory) (s : ℕ) → IsSeen c old x → TakesPlace old new s → TookPlace c x old new s
@@ -48,7 +49,7 @@ EffectsTakePlace = (c : Config) (x : Instant) (old new : SwapMemory) (s : ℕ) �
 -- what one owns is none of the targets, so it stays
 pub record KeepsOwn (s : Scene) (y : Instant) : Type 0 where
   pub value : (a : ℕ) → IsMine s a → y.value a ≡ (here s).value a
-  pub flushed : (a : ℕ) → IsMine s a → IsFlushed s a → y.image a ≡ y.value a
+  pub flushed : (a : ℕ) → IsMine s a → IsFlushed s a → IsDurableAt y a
 
 abbrev pub EffectsKeepOwn : Type 0
 EffectsKeepOwn =

@@ -7,7 +7,7 @@ use Rattle.bz_swap.specs.Effects.{NoneTakesEffect}
 use Rattle.bz_swap.specs.Held.{Holds}
 use Rattle.bz_swap.specs.PlainFields.{HavePlainFields}
 use Rattle.bz_swap.specs.SwapMemory.{SwapMemory, is_named}
-use Rattle.bz_task.specs.Instant.{Instant}
+use Rattle.bz_task.specs.Instant.{Instant, IsDurableAt}
 use Rattle.bz_task.specs.Others.{LeavesAll, StoresTo}
 use Rattle.bz_task.specs.Resting.{HoldsTheSame, Rests}
 use Rattle.bz_task.specs.Scene.{Scene, IsMine, IsScene, here}
@@ -65,4 +65,4 @@ abbrev pub FlushesAreSeen : Type 0
 FlushesAreSeen =
     (c : Config) (x : Instant) (old new : SwapMemory) (line : ℕ) (v : Scene) → IsSeen c old x → Passes c x old new → AllStay old new → IsScene v → v.past.config ≡ c → here v ≡ x →
     ((a : ℕ) → line_of a ≡ line → slice_index new.durable a ≡ slice_index old.cached a) →
-    (a : ℕ) → line_of a ≡ line → IsMine v a → (next_instant new x).image a ≡ (next_instant new x).value a
+    (a : ℕ) → line_of a ≡ line → IsMine v a → IsDurableAt (next_instant new x) a

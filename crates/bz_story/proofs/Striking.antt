@@ -17,11 +17,12 @@ use Rattle.bz_sound.specs.Memory.Spent.{is_reached_in}
 use Rattle.bz_sound.specs.Power.Times.{image_at_on}
 use Rattle.bz_swap.specs.EntryLists.{AreRising}
 use Rattle.bz_swap.specs.SwapMemory.{SwapMemory, entries_of, is_target}
-use Rattle.bz_task.specs.Instant.{Instant, words, page_at}
+use Rattle.bz_task.specs.Instant.{Instant, IsDurableAt, words, page_at}
 use Rattle.bz_task.specs.Others.{AreApart, SharersOfNothingAreApart, Watches, EffectsAreLawful}
 use Rattle.bz_task.specs.Requests.{IsTarget}
 use Rattle.bz_task.specs.Scene.{Scene, IsMine, IsLawful, here}
-use Rattle.bz_task.specs.Swaps.{Change, SwapsTo, Takes, swapped, grows_over, reserves}
+use Rattle.bz_task.specs.Swaps.{Change, SwapsTo, ShowsSettled, Takes, swapped, grows_over, reserves}
+use Rattle.bz_task.proofs.Proved.{good_swaps_show_settled}
 use Rattle.bz_word.specs.Statuses.{status}
 use Rattle.bz_word.specs.declared.entry.Entry.{Entry}
 use Rattle.bz_story.specs.Laws.{HasBegun, ScenesAreSeen, Strikes, EffectsAreTold, strikes, opened_after}
@@ -159,7 +160,7 @@ module _ (b : Laws) (c : Config) (old new : SwapMemory) (log : Log) (story : Sto
     reserved = λ a. let t : (w == w) ≡ true = grind (arith, nat_tests) in rw t refl;
     filled = λ j. refl;
     keeps = λ a mine. ap (λ z. z.value a) (later-here w since (opened_after publishes moment opened)) ∙ keeps.value a mine;
-    flushed = λ a mine f. subst (λ z. z.image a ≡ z.value a) (sym (later-here w since (opened_after publishes moment opened))) (keeps.flushed a mine f);
+    flushed = λ a mine f. subst (λ z. IsDurableAt z a) (sym (later-here w since (opened_after publishes moment opened))) (keeps.flushed a mine f);
   }
     where
       same-effected : (p : Bool) → is_some (opened_after p moment opened).effect ≡ p || is_some opened.effect
@@ -254,7 +255,7 @@ module _ (b : Laws) (c : Config) (old new : SwapMemory) (log : Log) (story : Sto
   effect-living = record {
     from = omega (arith, g.living.from);
     begins = begins-more story.from log.past mark g.living.from g.living.begins;
-    seen = subst (IsSeen c new) (sym (now-is story.at (length log.past) (effect_instant c new (story.at (length log.past))))) (took.seen g.good.good (inr g.good.step));
+    seen = subst (IsSeen c new) (sym (now-is story.at (length log.past) (effect_instant c new (story.at (length log.past))))) (took.seen g.good.good (inr g.good.step) shows);
     history = history-on c story.at story.from (length log.past) (effect_instant c new (story.at (length log.past))) g.living.history g.good.good (inr g.good.step);
     words = g.marked;
     images = images-on log.start log.past mark story.at story.from (effect_instant c new (story.at (length log.past))) g.living.images (ap (λ z. slice_index z.durable) g.marked);
@@ -268,6 +269,9 @@ module _ (b : Laws) (c : Config) (old new : SwapMemory) (log : Log) (story : Sto
     stored = λ v j f. stored-since c log.past mark j g.powered (g.living.stored v j f);
   }
     where
+      shows : ShowsSettled c (story.at (length log.past)) (effect_instant c new (story.at (length log.past)))
+      shows = good_swaps_show_settled publishes change (entries_of old k) (scene c log.past story w since opened) (effect_instant c new (story.at (length log.past))) g.good
+
       -- an address that a worker has reserved afterwards it had reserved before, or the swap is its own and reserves it
       reserved-of : (v a : ℕ) → story.reserved v a || (v == w && reserves c (entries_of old k) a) ≡ true → (story.reserved v a ≡ true) ⊎ ((v ≡ w) × (reserves c (entries_of old k) a ≡ true))
       reserved-of v a o = go (story.reserved v a) refl o

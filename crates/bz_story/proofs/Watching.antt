@@ -11,11 +11,11 @@ use Rattle.bz_sight.specs.Sight.{next_instant}
 use Rattle.bz_sight.specs.Starts.{Sees}
 use Rattle.bz_sound.specs.Calls.{Open}
 use Rattle.bz_swap.specs.SwapMemory.{SwapMemory}
-use Rattle.bz_task.specs.Instant.{Instant, words}
+use Rattle.bz_task.specs.Instant.{Instant, IsDurableAt, words}
 use Rattle.bz_task.specs.Laws.{SameRecordsShowTheSame}
 use Rattle.bz_task.specs.Others.{AreApart, SharersOfNothingAreApart, Watches, LeavesAll, StoresTo, QuietActsAreLawful, StoresAreLawful}
 use Rattle.bz_task.specs.OwnActs.{Stores, Flushes}
-use Rattle.bz_task.specs.Scene.{Scene, IsOfTaken, IsMine, IsFlushed, Continues, IsLawful, here}
+use Rattle.bz_task.specs.Scene.{Scene, IsOfTaken, IsMine, Continues, IsLawful, here}
 use Rattle.bz_task.specs.Shown.{IsShown, SameShownNode, SameRecords}
 use Rattle.bz_task.specs.Steps.{IsQuiet}
 use Rattle.bz_word.specs.Statuses.{status}
@@ -129,15 +129,10 @@ module _ (b : Laws) (c : Config) (old new : SwapMemory) (log : Log) (story : Sto
     reserved = λ a. refl;
     filled = λ k. refl;
     value = λ a. ap (λ z. z.value a) (later-here story.filled w since opened) ∙ (leaves all w since opened begun).value a;
-    flushed = λ a in-line mine. subst (λ z. z.image a ≡ z.value a) (sym (later-here story.filled w since opened)) (b.flushed c (story.at (length log.past)) old new line (scene c log.past story w since opened) g.living.seen g.passes all (sees w since opened begun).scene refl refl copies a in-line mine);
-    stays = λ a mine f. subst (λ z. z.image a ≡ z.value a) (sym (later-here story.filled w since opened)) (still a mine f);
+    flushed = λ a in-line mine. subst (λ z. IsDurableAt z a) (sym (later-here story.filled w since opened)) (b.flushed c (story.at (length log.past)) old new line (scene c log.past story w since opened) g.living.seen g.passes all (sees w since opened begun).scene refl refl copies a in-line mine);
+    stays = λ a mine f. subst (λ z. IsDurableAt z a) (sym (later-here story.filled w since opened)) ((leaves all w since opened begun).flushed a mine f);
     mine = own-stays story.filled w since opened;
   }
-    where
-      still : (a : ℕ) → IsMine (scene c log.past story w since opened) a → IsFlushed (scene c log.past story w since opened) a → (next_instant new (story.at (length log.past))).image a ≡ (next_instant new (story.at (length log.past))).value a
-      still a mine f =
-          let l : LeavesAll (scene c log.past story w since opened) (next_instant new (story.at (length log.past))) = leaves all w since opened begun in
-          elim (l.image a mine) [ inl e ↦ e ∙ (f ∙ sym (l.value a)) | inr e ↦ e ∙ sym (l.value a) ]
 
   module _ (w a v since : ℕ) (opened : Open) (s : IsStore c old new log story w a v since opened) where
     to : StoresTo a v (story.at (length log.past)) (next_instant new (story.at (length log.past)))

@@ -13,6 +13,7 @@ use Rattle.bz_swap.specs.SwapMemory.{SwapMemory, Doing, is_target, is_named}
 use Rattle.bz_swap.specs.declared.phase.Phase.TheVariants.{Recovering}
 use Rattle.bz_swap.proofs.AtomicValues.{value-working, value-named, value-private, plain-value}
 use Rattle.bz_swap.proofs.Listed.{among-more}
+use Rattle.bz_swap.proofs.SettledWords.{settled-same}
 
 pub start-values : (m : SwapMemory) (w : ℕ) (doing : Doing) → m.phase ≢ Recovering → 0 < w → KeepsValues m (started m w doing)
 start-values m zero doing works some a out = absurd (omega (arith, some))
@@ -22,7 +23,7 @@ start-values m (suc w) doing works some a out = sym (value-working m a works)
 target-entry : (m : SwapMemory) (entries : List Entry) (a : ℕ) → All (IsEntry m) entries → is_target entries a ≡ true → is_named m a ≡ false → slice_index m.cached a ≡ slice_index m.durable a
 target-entry m [] a each is private = absurd cc
 target-entry m (e ∷ entries) a each is private = elim (cases_eq e.target a) [
-  | inl here ↦ rw here at ((each 0 e (omega arith)).flushed (rw here private))
+  | inl here ↦ rw here at (settled-same m e.target ((each 0 e (omega arith)).settled (rw here private)))
   | inr other ↦ (let test : (e.target == a) ≡ false = grind (arith, common_steps, other) in
       target-entry m entries a (λ k d below. each (suc k) d (omega (arith, below))) (rw test at is) private)
 ]

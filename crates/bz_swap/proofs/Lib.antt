@@ -41,6 +41,7 @@ pub mod SeenSwaps
 pub mod SeenVerdicts
 pub mod SeenWrites
 pub mod SettledStay
+pub mod SettledWords
 pub mod Shown
 pub mod Spellings
 pub mod Starting

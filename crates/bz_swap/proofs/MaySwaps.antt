@@ -15,16 +15,17 @@ use Rattle.bz_swap.specs.SwapMemory.{Storing, doing_of, is_target}
 use Rattle.bz_swap.specs.Inside.Parts.{Parts, worker_at, doing_at, seen}
 use Rattle.bz_swap.specs.Inside.Kept.{IsRunning, state_of}
 use Rattle.bz_swap.proofs.Doings.{worker-seen}
+use Rattle.bz_swap.proofs.SettledWords.{settled-same}
 use Rattle.bz_swap.proofs.Shown.{shows}
 use Rattle.bz_swap.proofs.SwapLists.{Lists, Targeted, entries_from, count-listed, apart-from, told-from, each-from, target-from}
 
--- a private target's word is the same in the caches and in the memory itself
+-- a private target's word is settled: the same in the caches and in the memory itself
 flushed-target : (p : Parts) (r : IsRunning p) (words : ℕ → ℕ) (a : ℕ) → p.phase ≢ Recovering → Targeted (IsEntry (seen p)) words a → r.beside.named a ≡ false
     → kind_at p.store.swaps p.store.cached a ≡ kind_at p.store.swaps p.store.durable a
 flushed-target p r words a phase t private =
     let own : IsEntry (seen p) (record { target = a; expected = words (2 + 3 * t.entry); new = words (3 + 3 * t.entry) }) =
     subst (λ b. IsEntry (seen p) (record { target = b; expected = words (2 + 3 * t.entry); new = words (3 + 3 * t.entry) })) t.target t.holds in
-    ap (λ v. if is_outside p.store.swaps a then kind v else Value 0) (own.flushed ((shows p r phase).named a ∙ private))
+    ap (λ v. if is_outside p.store.swaps a then kind v else Value 0) (settled-same (seen p) a (own.settled ((shows p r phase).named a ∙ private)))
 
 -- no private store of a target waits to be made
 stored-target : (p : Parts) (words : ℕ → ℕ) (a w v : ℕ) → Targeted (IsEntry (seen p)) words a → (worker_at p w).place ≡ place.StoreWord a v → ⊥

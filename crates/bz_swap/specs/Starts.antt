@@ -1,11 +1,11 @@
 -- When an operation may start, and what its start changes.
-use Rattle.std.specs.Prelude.{◌≡◌, ◌≢◌, ℕ, zero, suc, ◌+◌, ◌*◌, ◌^◌, ◌<◌, Bool, true, false, List, [], ◌∷◌, ◌++◌, length, All, slice_index, slice_set}
+use Rattle.std.specs.Prelude.{◌≡◌, ◌≢◌, ℕ, zero, suc, ◌+◌, ◌*◌, ◌^◌, ◌<◌, Bool, true, false, List, [], ◌∷◌, ◌++◌, length, All, slice_set}
 use Rattle.bz_word.specs.declared.entry.Entry.{Entry}
 use Rattle.bz_cells.specs.Store.{IsOutside}
 use Rattle.bz_swap.specs.declared.phase.Phase.{Phase}
 use Rattle.bz_swap.specs.declared.phase.Phase.TheVariants.{Running, Recovering}
 use Rattle.bz_swap.specs.Alone.{allowed_by_kind, left_to}
-use Rattle.bz_swap.specs.SwapMemory.{SwapMemory, Doing, Idle, Swapping, Storing, Flushing, is_named, doing_of}
+use Rattle.bz_swap.specs.SwapMemory.{SwapMemory, Doing, Idle, Swapping, Storing, Flushing, is_named, is_settled_at, doing_of}
 
 -- an address of the memory outside the descriptors
 pub record IsAddress (m : SwapMemory) (a : ℕ) : Type 0 where
@@ -61,12 +61,12 @@ abbrev pub MayFlush : SwapMemory → ℕ → ℕ → Type 0
 MayFlush m zero line = IsRawFlush m line
 MayFlush m (suc w) line = IsPrivateFlush m (suc w) line
 
--- an entry that a swap may have: no private store stands on its target unflushed, and none is started and not made
+-- an entry that a swap may have: a target that no swap has named is settled, and no private store of it is started and not made
 pub record IsEntry (m : SwapMemory) (e : Entry) : Type 0 where
   pub address : IsAddress m e.target
   pub expected : e.expected < 2 ^ 61
   pub value : e.new < 2 ^ 61
-  pub flushed : is_named m e.target ≡ false → slice_index m.cached e.target ≡ slice_index m.durable e.target
+  pub settled : is_named m e.target ≡ false → is_settled_at m e.target ≡ true
   pub not_stored : (w v : ℕ) → doing_of m w ≢ Storing e.target v
 
 pub record MaySwap (m : SwapMemory) (w : ℕ) (entries : List Entry) : Type 0 where

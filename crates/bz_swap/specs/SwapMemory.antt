@@ -1,6 +1,6 @@
 -- The atomic swap memory, as callers see it: the words, the swaps begun since the last renewal, and what each worker is
 -- doing.
-use Rattle.std.specs.Prelude.{◌||◌, ◌==◌, ℕ, Bool, false, List, [], ◌∷◌, get_or}
+use Rattle.std.specs.Prelude.{◌||◌, ◌==◌, ℕ, Bool, false, List, [], ◌∷◌, get_or, slice_index}
 use Rattle.bz_word.specs.declared.entry.Entry.{Entry}
 use Rattle.bz_cells.specs.FromPm.Words.{Words}
 use Rattle.bz_machine.specs.Machine.{is_succeeded}
@@ -71,6 +71,10 @@ is_among (entries ∷ begun) a = is_target entries a || is_among begun a
 -- a swap begun since the last renewal names the address; a word that none names is private
 abbrev pub is_named : SwapMemory → ℕ → Bool
 is_named m a = is_among m.begun a
+
+-- no private store stands unflushed at an address: the word in the caches is the one in the memory itself
+abbrev pub is_settled_at : SwapMemory → ℕ → Bool
+is_settled_at m a = slice_index m.cached a == slice_index m.durable a
 
 -- a worker that was never asked for anything
 abbrev pub idle : Working

@@ -201,7 +201,7 @@ module _ (b : Laws) (publishes : Bool) (change : Change) (entries : List Entry) 
     | inl same ↦ sym (node-at s.past.config (resolve (here s).image) k i l) ∙ (g.shown k i reached-k same ∙ node-at s.past.config (here s).value k i l)
     | inr own ↦ (
         let v : (here s).value (node_address s.past.config k + i) < 2 ^ 61 = (good.mine (node_address s.past.config k + i) own.mine).1.1 in
-        b.plain (here s).image (node_address s.past.config k + i) (subst (λ z. z < 2 ^ 61) (sym own.flushed) v) ∙ own.flushed)
+        b.plain (here s).image (node_address s.past.config k + i) (subst (λ z. z < 2 ^ 61) (sym own.flushed.image) v) ∙ own.flushed.image)
   ]
 
   k-shown : (i : ℕ) → IsShown (words s.past.config y k) i → durable s.past.config y k i ≡ words s.past.config y k i

@@ -1,5 +1,5 @@
 mod Walks
-mod Sames
+pub mod Sames
 mod Ages
 mod Frozen
 pub mod FrozenWords
@@ -12,6 +12,7 @@ mod LeafSwaps
 mod Others
 pub mod Guards
 mod SeenLeaves
+mod Showing
 mod Settled
 mod Separators
 mod Resting

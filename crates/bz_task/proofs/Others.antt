@@ -5,22 +5,22 @@ use Rattle.bz_layout.specs.Addresses.{node_address, SlotsApart}
 use Rattle.bz_layout.specs.declared.sizes.TheConstants.{NODE_WORDS}
 use Rattle.bz_swap.specs.SwapMemory.{is_target}
 use Rattle.bz_word.specs.declared.entry.Entry.{Entry}
-use Rattle.bz_task.specs.Instant.{Instant, words}
+use Rattle.bz_task.specs.Instant.{Instant, IsDurableAt, words}
 use Rattle.bz_task.specs.Others.{AreApart, IsOfReached, ShareNothing, SharersOfNothingAreApart, Watches, LeavesAll, StoresTo, QuietActsAreLawful, StoresAreLawful, EffectsAreLawful}
 use Rattle.bz_task.specs.Requests.{IsNodeTarget, IsTarget, IsOwnStore}
 use Rattle.bz_task.specs.Scene.{Scene, IsOfTaken, IsMine, IsFlushed, IsScene, IsLawful, here}
-use Rattle.bz_task.specs.Shown.{IsShown, SameShownNode}
+use Rattle.bz_task.specs.Shown.{IsShown, IsRead, SameShownNode}
 use Rattle.bz_task.specs.Steps.{IsQuiet, IsStep}
 use Rattle.bz_task.specs.Swaps.{Change, SwapsTo, IsGoodSwap}
 use Rattle.bz_task.proofs.LeafSwaps.{node-at, node-past, node-same, untouched}
 use Rattle.bz_task.proofs.Sames.{words-records, same-shown}
 
--- a word of a slot to which no link leads yet, or a reserved one, that stays hidden, keeps its value, and stays durable
+-- a word of a slot to which no link leads yet, or a reserved one, that stays hidden, keeps its value, and stays flushed
 pub record Kept (v : Scene) (y : Instant) (a : ℕ) : Type 0 where
   pub unreached : (o : IsOfTaken v a) → y.reached o.slot ≡ false
   pub hidden : (k i : ℕ) → y.reached k ≡ true → i < NODE_WORDS → a ≡ node_address v.past.config k + i → ¬ IsShown (words v.past.config y k) i
   pub value : y.value a ≡ (here v).value a
-  pub flushed : IsFlushed v a → y.image a ≡ y.value a
+  pub flushed : IsFlushed v a → IsDurableAt y a
 
 -- a step that keeps each of the words of one who watches is lawful for it
 pub watched : (v later : Scene) (y : Instant) → IsStep v.past.config (here v) y → ((a : ℕ) → IsMine v a → Kept v y a) → Watches v later y → IsLawful v later
@@ -39,7 +39,7 @@ watched v later y step kept w = record {
           (subst (λ c. IsShown (words c y j) i) w.continues.config (subst (λ z. IsShown (words later.past.config z j) i) w.here h));
     };
     value = ap (λ z. z.value a) w.here ∙ k.value;
-    flushed = λ f. ap (λ z. z.image a) w.here ∙ (k.flushed f ∙ ap (λ z. z.value a) (sym w.here));
+    flushed = λ f. subst (λ z. IsDurableAt z a) (sym w.here) (k.flushed f);
   };
 }
   where
@@ -75,7 +75,7 @@ module _ (v : Scene) (y : Instant) (q : LeavesAll v y) where
     unreached = λ o. q.reached o.slot ∙ o.unreached;
     hidden = same-hidden a m;
     value = q.value a;
-    flushed = λ f. elim (q.image a m) [ inl e ↦ e ∙ (f ∙ sym (q.value a)) | inr e ↦ e ∙ sym (q.value a) ];
+    flushed = q.flushed a m;
   }
 
 pub quiet-lawful : QuietActsAreLawful
@@ -113,11 +113,17 @@ module _ (s v : Scene) (a w : ℕ) (y : Instant) (good : IsScene s) (own : IsOwn
         (subst (λ c. IsShown (words c (here v) k) i) (sym apart.config) (subst (λ z. IsShown (words s.past.config z k) i) (sym apart.here)
         (shown-before k i was (subst (λ c. IsShown (words c y k) i) apart.config h))));
     value = other ∙ ap (λ z. z.value b) (sym apart.here);
-    flushed = λ f. st.image b ∙ (ap (λ z. z.image b) (sym apart.here) ∙ (f ∙ (ap (λ z. z.value b) apart.here ∙ sym other)));
+    flushed = λ f. record {
+      image = st.image b ∙ (ap (λ z. z.image b) (sym apart.here) ∙ (f.image ∙ (ap (λ z. z.value b) apart.here ∙ sym other)));
+      settled = st.settled b elsewhere ∙ (ap (λ z. z.settled b) (sym apart.here) ∙ f.settled);
+    };
   }
     where
+      elsewhere : b ≢ a
+      elsewhere e = apart.apart a own.mine (subst (IsMine v) e m)
+
       other : y.value b ≡ (here s).value b
-      other = st.others b (λ e. apart.apart a own.mine (subst (IsMine v) e m))
+      other = st.others b elsewhere
 
 -- the same step where the sizes and the memory are those of another scene
 step-for : (s v : Scene) (y : Instant) → AreApart s v → IsStep s.past.config (here s) y → IsStep v.past.config (here v) y
@@ -162,6 +168,11 @@ module _ (publishes : Bool) (change : Change) (entries : List Entry) (s v : Scen
       go true q = elim (g.shown k i q l h) [ inl was ↦ hidden-before b m k i q l e was | inr own ↦ theirs own.mine ]
       go false q = theirs (g.linked k i q r l)
 
+  unread : (b : ℕ) → IsMine v b → IsRead s.past.config (here s) b → ⊥
+  unread b m (inl e) = omega (arith, e, (good.mine b m).0)
+  unread b m (inr (inl e)) = omega (arith, e, (good.mine b m).0)
+  unread b m (inr (inr w)) = hidden-before b m w.slot w.place w.reached w.within w.address w.shown
+
   effect-unreached : (b : ℕ) → IsMine v b → (o : IsOfTaken v b) → y.reached o.slot ≡ false
   effect-unreached b m o = go (y.reached o.slot) refl
     where
@@ -177,7 +188,10 @@ module _ (publishes : Bool) (change : Change) (entries : List Entry) (s v : Scen
     unreached = effect-unreached b m;
     hidden = λ k i r l e h. effect-hidden b m k i r l (subst (λ c. b ≡ node_address c k + i) apart.config e) (subst (λ c. IsShown (words c y k) i) apart.config h);
     value = same ∙ ap (λ z. z.value b) (sym apart.here);
-    flushed = λ f. to.raw b (inr in-slots) ∙ (ap (λ z. z.image b) (sym apart.here) ∙ (f ∙ (ap (λ z. z.value b) apart.here ∙ sym same)));
+    flushed = λ f. record {
+      image = to.raw b (inr in-slots) ∙ (ap (λ z. z.image b) (sym apart.here) ∙ (f.image ∙ (ap (λ z. z.value b) apart.here ∙ sym same)));
+      settled = to.settled b (inr in-slots) (unread b m) (ap (λ z. z.settled b) (sym apart.here) ∙ f.settled);
+    };
   }
     where
       same : y.value b ≡ (here s).value b

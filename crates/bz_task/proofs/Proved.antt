@@ -15,6 +15,7 @@ use Rattle.bz_task.proofs.Sames.{same-shown}
 use Rattle.bz_task.proofs.SeenLeaves.{seen-whole}
 use Rattle.bz_task.proofs.Separators.{separators-stay}
 use Rattle.bz_task.proofs.Settled.{settled-good}
+use Rattle.bz_task.proofs.Showing.{good-shows-settled}
 use Rattle.bz_task.proofs.Stays.{key-views-stay, nothing-gained, paths-stay, views-stay}
 use Rattle.bz_task.proofs.Targeting.{not-mine, of-memory, targets-stay}
 use Rattle.bz_task.proofs.Thawed.{child-inside, in-tree, thawed-stay}
@@ -23,6 +24,7 @@ use Rattle.bz_task.specs.LeafSwaps.{LeafSwapsAreGood}
 use Rattle.bz_task.specs.Others.{EffectsAreLawful, QuietActsAreLawful, SharersOfNothingAreApart, StoresAreLawful}
 use Rattle.bz_task.specs.Resting.{RestingMemoriesAreGood}
 use Rattle.bz_task.specs.Settled.{SettledMemoriesAreGood}
+use Rattle.bz_task.specs.Swaps.{GoodSwapsShowSettled}
 use Rattle.bz_task.specs.Targets.{OwnWordsAreNoTargets, TargetsAreOfTheMemory, TargetsStay}
 
 -- while its status has the value that was read, a reached node is as it was
@@ -132,6 +134,10 @@ stores_are_lawful = stores-lawful
 -- the effect of a task's swap is lawful for every other worker
 pub effects_are_lawful : EffectsAreLawful
 effects_are_lawful = effects-lawful
+
+-- what readers read after a good swap they read before, or it was settled
+pub good_swaps_show_settled : GoodSwapsShowSettled
+good_swaps_show_settled = good-shows-settled
 
 -- a memory in which nothing goes on is good
 pub settled_memories_are_good : SettledMemoriesAreGood

@@ -1,5 +1,5 @@
 -- The memory at a moment, as tasks see it.
-use Rattle.std.specs.Prelude.{ℕ, Bool}
+use Rattle.std.specs.Prelude.{◌≡◌, ℕ, Bool, true}
 use Rattle.bz_layout.specs.declared.config.Config.{Config}
 use Rattle.bz_shape.specs.Form.{Form}
 use Rattle.bz_shape.specs.Walk.{form}
@@ -13,10 +13,17 @@ pub record Instant : Type 0 where
   pub image : ℕ → ℕ
   -- what a read of each address outside the descriptors answers
   pub value : ℕ → ℕ
+  -- no private store stands unflushed at the address
+  pub settled : ℕ → Bool
   -- the slots to which a link has led since power on
   pub reached : ℕ → Bool
   -- how many swaps took effect since power on
   pub effects : ℕ
+
+-- what reads answer of an address is durable, and it is settled
+pub record IsDurableAt (x : Instant) (a : ℕ) : Type 0 where
+  pub image : x.image a ≡ x.value a
+  pub settled : x.settled a ≡ true
 
 -- the words of a slot as reads answer them, and as the image has them
 abbrev pub words : Config → Instant → ℕ → ℕ → ℕ

@@ -1,11 +1,11 @@
 -- What the acts of one worker are to another: lawful steps, which leave everything that the other owns.
-use Rattle.std.specs.Prelude.{◌≡◌, ◌≢◌, ℕ, ◌+◌, ◌<◌, ◌⊎◌, Bool, true, List}
+use Rattle.std.specs.Prelude.{◌≡◌, ◌≢◌, ℕ, ◌+◌, ◌<◌, Bool, true, List}
 use Rattle.bz_layout.specs.Addresses.{node_address}
 use Rattle.bz_layout.specs.declared.sizes.TheConstants.{NODE_WORDS}
 use Rattle.bz_word.specs.declared.entry.Entry.{Entry}
-use Rattle.bz_task.specs.Instant.{Instant}
+use Rattle.bz_task.specs.Instant.{Instant, IsDurableAt}
 use Rattle.bz_task.specs.Requests.{IsOwnStore}
-use Rattle.bz_task.specs.Scene.{Scene, IsMine, IsScene, IsLawful, Continues, here}
+use Rattle.bz_task.specs.Scene.{Scene, IsMine, IsFlushed, IsScene, IsLawful, Continues, here}
 use Rattle.bz_task.specs.Swaps.{Change, SwapsTo, IsGoodSwap}
 
 -- the scenes of two workers of one memory: no word is both's own
@@ -40,19 +40,19 @@ pub record Watches (v later : Scene) (y : Instant) : Type 0 where
   pub took : (k : ℕ) → later.took k ≡ v.took k
   pub filled : (k : ℕ) → later.filled k ≡ v.filled k
 
--- a memory in which reads answer what they did and nothing else is reached; of a word of one's own at most its value became
--- durable
+-- a memory in which reads answer what they did and nothing else is reached, and what one flushed of one's own is durable still
 pub record LeavesAll (v : Scene) (y : Instant) : Type 0 where
   pub value : (a : ℕ) → y.value a ≡ (here v).value a
   pub reached : (k : ℕ) → y.reached k ≡ (here v).reached k
   pub effects : y.effects ≡ (here v).effects
-  pub image : (a : ℕ) → IsMine v a → (y.image a ≡ (here v).image a) ⊎ (y.image a ≡ (here v).value a)
+  pub flushed : (a : ℕ) → IsMine v a → IsFlushed v a → IsDurableAt y a
 
 -- a memory in which a private store was made
 pub record StoresTo (a v : ℕ) (x y : Instant) : Type 0 where
   pub value : y.value a ≡ v
   pub others : (b : ℕ) → b ≢ a → y.value b ≡ x.value b
   pub image : (b : ℕ) → y.image b ≡ x.image b
+  pub settled : (b : ℕ) → b ≢ a → y.settled b ≡ x.settled b
   pub reached : (k : ℕ) → y.reached k ≡ x.reached k
   pub effects : y.effects ≡ x.effects
 

@@ -5,7 +5,7 @@ use Rattle.bz_layout.specs.Addresses.{node_address, words_of}
 use Rattle.bz_layout.specs.Config.{IsConfig}
 use Rattle.bz_layout.specs.declared.config.Config.{Config}
 use Rattle.bz_layout.specs.declared.sizes.TheConstants.{NODE_WORDS}
-use Rattle.bz_task.specs.Instant.{Instant, words}
+use Rattle.bz_task.specs.Instant.{Instant, IsDurableAt, words}
 use Rattle.bz_task.specs.Shown.{IsShown}
 use Rattle.bz_task.specs.Steps.{IsStep, IsHistory}
 
@@ -55,9 +55,9 @@ pub record IsMine (s : Scene) (a : ℕ) : Type 0 where
   pub own : IsOfTaken s a ⊎ (s.reserved a ≡ true)
   pub hidden : (k i : ℕ) → (here s).reached k ≡ true → i < NODE_WORDS → a ≡ node_address s.past.config k + i → ¬ IsShown (words s.past.config (here s) k) i
 
--- what is stored there is durable
+-- what is stored there is durable, and settled
 abbrev pub IsFlushed : Scene → ℕ → Type 0
-IsFlushed s a = (here s).image a ≡ (here s).value a
+IsFlushed s a = IsDurableAt (here s) a
 
 -- what holds of every scene
 pub record IsScene (s : Scene) : Type 0 where

@@ -1,6 +1,6 @@
--- A memory in which nothing goes on: reads answer what the image has, and exactly the slots of its tree are reached. So it is
--- when a world opens, and when a recovery has ended.
-use Rattle.std.specs.Prelude.{◌≡◌, ℕ, ◌&&◌, nat_lt, None}
+-- A memory in which nothing goes on: reads answer what the image has, every word is settled, and exactly the slots of its tree
+-- are reached. So it is when a world opens, and when a recovery has ended.
+use Rattle.std.specs.Prelude.{◌≡◌, ℕ, ◌&&◌, true, nat_lt, None}
 use Rattle.bz_layout.specs.declared.config.Config.{Config}
 use Rattle.bz_shape.specs.Walk.{form}
 use Rattle.bz_content.specs.Content.{image_fault, view_in}
@@ -12,6 +12,7 @@ abbrev pub settled : Config → (ℕ → ℕ) → Instant
 settled c image = record {
   image = image;
   value = resolve image;
+  settled = λ a. true;
   reached = λ k. nat_lt k c.nodes && (form (view_in c image)).inside k;
   effects = 0;
 }

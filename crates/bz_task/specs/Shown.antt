@@ -1,5 +1,6 @@
 -- Which words of a node readers read, and when a node is the same to them.
 use Rattle.std.specs.Prelude.{◌≡◌, ◌≢◌, ℕ, ◌+◌, ◌<◌, ◌≤◌, ◌⊎◌, true}
+use Rattle.bz_layout.specs.Addresses.{node_address}
 use Rattle.bz_layout.specs.declared.config.Config.{Config}
 use Rattle.bz_layout.specs.declared.sizes.TheConstants.{NODE_WORDS, STATUS_AT, META_AT, ROOT_AT, ROOT_STATUS_AT}
 use Rattle.bz_content.specs.FromSlotted.Page.{visible, extent_of, page}
@@ -17,6 +18,19 @@ pub record IsOfRecord (n : ℕ → ℕ) (i j : ℕ) : Type 0 where
 -- one of a visible record
 abbrev pub IsShown : (ℕ → ℕ) → ℕ → Type 0
 IsShown n i = (i < META_AT + (page n).count) ⊎ ((i + (page n).block < NODE_WORDS) ⊎ ((0 < (page n).level) ⊎ ((j : ℕ) × IsOfRecord n i j)))
+
+-- a word of a node to which a link has led, which readers read
+pub record IsShownWord (c : Config) (x : Instant) (a : ℕ) : Type 0 where
+  pub slot : ℕ
+  pub place : ℕ
+  pub address : a ≡ node_address c slot + place
+  pub within : place < NODE_WORDS
+  pub reached : x.reached slot ≡ true
+  pub shown : IsShown (words c x slot) place
+
+-- an address whose value readers read: the root pointer, the root status, or such a word
+abbrev pub IsRead : Config → Instant → ℕ → Type 0
+IsRead c x a = (a ≡ ROOT_AT) ⊎ ((a ≡ ROOT_STATUS_AT) ⊎ IsShownWord c x a)
 
 -- the words that readers read are as they were
 abbrev pub SameWords : (n m : ℕ → ℕ) → Type 0

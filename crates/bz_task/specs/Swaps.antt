@@ -13,7 +13,7 @@ use Rattle.bz_task.specs.Good.{IsGood}
 use Rattle.bz_task.specs.Instant.{Instant, words, is_inside}
 use Rattle.bz_task.specs.Requests.{IsTarget}
 use Rattle.bz_task.specs.Scene.{Scene, IsMine, IsFlushed, Continues, here}
-use Rattle.bz_task.specs.Shown.{IsShown}
+use Rattle.bz_task.specs.Shown.{IsShown, IsRead}
 use Rattle.bz_task.specs.Steps.{IsEffect}
 
 -- every target holds its expected value
@@ -32,6 +32,8 @@ pub record SwapsTo (c : Config) (entries : List Entry) (x y : Instant) : Type 0 
   pub lawful : (a : ℕ) → a < words_of c → is_lawful c y.image a ≡ true
   pub resolved : (a : ℕ) → IsOutsideSwaps c a → resolve y.image a ≡ swapped entries (resolve x.image) a
   pub value : (a : ℕ) → y.value a ≡ swapped entries x.value a
+  -- what nobody reads stays settled
+  pub settled : (a : ℕ) → IsOutsideSwaps c a → ¬ IsRead c x a → x.settled a ≡ true → y.settled a ≡ true
   pub effects : y.effects ≡ x.effects + 1
   pub few : y.effects < 2 ^ 32
   pub reached : (k : ℕ) → y.reached k ≡ x.reached k || (is_inside c y k && nat_lt k c.nodes)
@@ -66,6 +68,15 @@ pub record IsGoodSwap (publishes : Bool) (change : Change) (entries : List Entry
   pub linked : (k i : ℕ) → (here s).reached k ≡ false → y.reached k ≡ true → i < NODE_WORDS → IsMine s (node_address s.past.config k + i)
   pub linked_durable : (k i : ℕ) → (here s).reached k ≡ false → y.reached k ≡ true → i < NODE_WORDS → IsShown (words s.past.config y k) i → IsFlushed s (node_address s.past.config k + i)
   pub shown : (k i : ℕ) → (here s).reached k ≡ true → i < NODE_WORDS → IsShown (words s.past.config y k) i → IsShown (words s.past.config (here s) k) i ⊎ IsMineAndDurable s (node_address s.past.config k + i)
+
+-- what readers read afterwards they read before, or it was settled
+abbrev pub ShowsSettled : Config → Instant → Instant → Type 0
+ShowsSettled c x y = (a : ℕ) → IsRead c y a → IsRead c x a ⊎ (x.settled a ≡ true)
+
+-- so it is after such a swap
+abbrev pub GoodSwapsShowSettled : Type 0
+GoodSwapsShowSettled =
+    (publishes : Bool) (change : Change) (entries : List Entry) (s : Scene) (y : Instant) → IsGoodSwap publishes change entries s y → ShowsSettled s.past.config (here s) y
 
 -- the words by which the block of the entry's node grows, where the entry is one of a node's status
 abbrev pub grows_over : Config → Entry → ℕ → Bool
