@@ -7,7 +7,7 @@ use Rattle.bz_layout.specs.Addresses.{node_address}
 use Rattle.bz_layout.specs.Config.{IsConfig}
 use Rattle.bz_layout.specs.Fresh.{fresh_words, SaysFresh, FreshWordsSay}
 use Rattle.bz_layout.specs.declared.config.Config.{Config}
-use Rattle.bz_layout.specs.declared.sizes.TheConstants.{NODE_WORDS}
+use Rattle.bz_layout.specs.declared.sizes.TheConstants.{FORMAT_AT, ROOT_AT, FORMAT, FIRST_ROOT, NODE_WORDS}
 use Rattle.bz_shape.specs.TreeLaws.{FormsFitTrees, LeavesTileTheKeys}
 use Rattle.bz_slotted.specs.Laws.{LeafRulesAreFacts, InnerRulesAreFacts}
 use Rattle.bz_slotted.specs.Page.{page}
@@ -32,7 +32,7 @@ use Rattle.bz_content.proofs.WellFormed.{well-formed}
 -- the words of fresh memory
 record IsFresh (c : Config) (raw : ℕ → ℕ) : Type 0 where
   pub config : IsConfig c
-  pub says : (raw 0 ≡ 1) × (raw 1 ≡ 1) × (raw 2 ≡ 0) × (raw 3 ≡ c.nodes) × (raw 4 ≡ c.swaps)
+  pub says : (raw FORMAT_AT ≡ FORMAT) × (raw ROOT_AT ≡ FIRST_ROOT) × (raw 2 ≡ 0) × (raw 3 ≡ c.nodes) × (raw 4 ≡ c.swaps)
   pub rest : (a : ℕ) → 5 ≤ a → raw a ≡ 0
 
 fresh-small : (c : Config) (raw : ℕ → ℕ) (a : ℕ) → IsFresh c raw → raw a < 2 ^ 61

@@ -8,7 +8,7 @@ use Rattle.bz_key.specs.Packing.{packed_len, unpacked_key}
 use Rattle.bz_layout.specs.Addresses.{node_address}
 use Rattle.bz_layout.specs.Slots.{FreeSlots}
 use Rattle.bz_layout.specs.declared.config.Config.{Config}
-use Rattle.bz_layout.specs.declared.sizes.TheConstants.{STATUS_AT, META_AT}
+use Rattle.bz_layout.specs.declared.sizes.TheConstants.{STATUS_AT, META_AT, FENCE_WORDS}
 use Rattle.bz_shape.specs.Order.{is_before}
 use Rattle.bz_slotted.specs.Page.{meta_of, extent_of, page}
 use Rattle.bz_slotted.specs.Readers.{key_of}
@@ -111,7 +111,7 @@ module _ (b : Laws) (key : List ℕ) (path : Path) (height : ℕ) (ws : List ℕ
           ),
         )
 
-    pub seen-word : (stage : Stage) (r : Sight) (e : Extent) (i v : ℕ) (phase : Way) → length ws ≡ 4 → (i + 1 < packed_len e.key → phase ≡ Word r e (i + 1))
+    pub seen-word : (stage : Stage) (r : Sight) (e : Extent) (i v : ℕ) (phase : Way) → length ws ≡ FENCE_WORDS → (i + 1 < packed_len e.key → phase ≡ Word r e (i + 1))
         → (packed_len e.key ≤ i + 1 → (separator : List ℕ) → unpacked_key e.key (take (packed_len e.key) (set ws i v)) ≡ Some separator → phase ≡ if is_before key separator then sight_in r.slot r.status r.count r.pointer r.part.low r.part.index else sight_in r.slot r.status r.count (e.offset + packed_len e.key) (r.part.index + 1) r.part.high)
         → seek_facts key path height ws (Word r e i) stage s → Tells (seek_asks c (Word r e i)) stage (Was v) s → HasFilled s × seek_learnt key path height (set ws i v) phase s.past
     seen-word Took r e i v phase full more done f t = absurd (f)

@@ -6,7 +6,7 @@ use Rattle.std.proofs.lemmas.List.{get_or-set_same, get_or-set_other}
 use Rattle.bz_key.specs.Packing.{packed_len, unpacked, unpacked_key}
 use Rattle.bz_key.specs.declared.limits.TheConstants.{KEY_BYTES}
 use Rattle.bz_layout.specs.Addresses.{node_address}
-use Rattle.bz_layout.specs.declared.sizes.TheConstants.{NODE_WORDS, META_AT}
+use Rattle.bz_layout.specs.declared.sizes.TheConstants.{NODE_WORDS, META_AT, FENCE_WORDS}
 use Rattle.bz_slotted.specs.Page.{meta_of, extent_of, page}
 use Rattle.bz_slotted.specs.Readers.{key_of}
 use Rattle.bz_slotted.specs.Records.{key_words}
@@ -43,7 +43,7 @@ module _ (b : Laws) (separators : SeparatorsStay) (key : List ℕ) (path : Path)
     short-key = subst (λ z. z.key ≤ KEY_BYTES) says (o.inner.lengths j c).short
 
     -- and one more than were read before
-    pub more-read : (ws : List ℕ) (i v : ℕ) → length ws ≡ 4 → i < packed_len e.key → Answers s (node_address s.past.config k + (e.offset + i)) v → ((t : ℕ) → t < i → slice_index ws t ≡ words s.past.config (s.past.at o.guarded) k (e.offset + t))
+    pub more-read : (ws : List ℕ) (i v : ℕ) → length ws ≡ FENCE_WORDS → i < packed_len e.key → Answers s (node_address s.past.config k + (e.offset + i)) v → ((t : ℕ) → t < i → slice_index ws t ≡ words s.past.config (s.past.at o.guarded) k (e.offset + t))
         → (t : ℕ) → t < i + 1 → slice_index (set ws i v) t ≡ words s.past.config (s.past.at o.guarded) k (e.offset + t)
     more-read ws i v full w told h t l = elim (cases_eq t i) [
       | inl same ↦ subst (λ z. slice_index (set ws i v) z ≡ words s.past.config (s.past.at o.guarded) k (e.offset + z)) (sym same) (get_or-set_same ws i v 0 (omega (arith, full, w, short-key)) ∙ key-word-at i v w told)
@@ -51,7 +51,7 @@ module _ (b : Laws) (separators : SeparatorsStay) (key : List ℕ) (path : Path)
     ]
 
     -- all words of its key, where it is not the first
-    pub all-read : (ws : List ℕ) → length ws ≡ 4 → 0 < j → ((t : ℕ) → t < packed_len e.key → slice_index ws t ≡ words s.past.config (s.past.at o.guarded) k (e.offset + t))
+    pub all-read : (ws : List ℕ) → length ws ≡ FENCE_WORDS → 0 < j → ((t : ℕ) → t < packed_len e.key → slice_index ws t ≡ words s.past.config (s.past.at o.guarded) k (e.offset + t))
         → unpacked_key e.key (take (packed_len e.key) ws) ≡ Some (key_of (words s.past.config (s.past.at o.guarded) k) j)
     all-read ws full later h =
         let n = words s.past.config (s.past.at o.guarded) k in

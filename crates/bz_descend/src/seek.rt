@@ -5,7 +5,7 @@ ghost use Rattle.bz_key.specs.Packing.{packed_len, unpacked_key};
 ghost use Rattle.bz_layout.specs.Addresses.{node_address};
 ghost use Rattle.bz_layout.specs.declared.config.Config.{Config as Sizes};
 ghost use Rattle.bz_layout.specs.Config.{IsConfig};
-ghost use Rattle.bz_layout.specs.declared.sizes.TheConstants.{NODE_WORDS, SHARED_WORDS, STATUS_AT, ROOT_STATUS_AT};
+ghost use Rattle.bz_layout.specs.declared.sizes.TheConstants.{NODE_WORDS, FENCE_WORDS, SHARED_WORDS, STATUS_AT, ROOT_STATUS_AT};
 ghost use Rattle.bz_search.specs.Probes.{middle};
 ghost use Rattle.bz_shape.specs.Order.{is_before as before};
 ghost use Rattle.bz_word.specs.Statuses.{status};
@@ -30,7 +30,9 @@ use crate::links::{to_root, with_link};
 use crate::separator::is_before;
 use crate::sight::{Probe, Sight, Way};
 use bz_key::Key;
-use bz_layout::{Config, HEADER_AT, META_AT, ROOT_AT, ROOT_STATUS_AT, STATUS_AT, Slots};
+use bz_layout::{
+    Config, FENCE_WORDS, HEADER_AT, META_AT, ROOT_AT, ROOT_STATUS_AT, STATUS_AT, Slots,
+};
 use bz_search::halved;
 use bz_task::{Link, Outcome, Path, Seen, Task, Todo, laws};
 use bz_word::Extent;
@@ -47,7 +49,7 @@ pub struct Seek {
     // the level of the root, once its header was read: a path with more links than that has come to a leaf
     height: u32,
     // the words of a record's key that were read so far
-    words: [u64; 4],
+    words: [u64; FENCE_WORDS as usize],
     // how many reads were asked for
     asked: u32,
 }
@@ -74,7 +76,7 @@ impl Seek {
             phase: Way::Fresh,
             path: to_root(0, 0),
             height: 0,
-            words: [0; 4],
+            words: [0; FENCE_WORDS as usize],
             asked: 0,
         }
     }
@@ -100,7 +102,7 @@ impl Seek {
             phase: Way::Guard,
             path: to_root(0, 0),
             height: 0,
-            words: [0; 4],
+            words: [0; FENCE_WORDS as usize],
             asked: 1,
         }
     }
@@ -276,9 +278,9 @@ impl Seek {
     }
 }
 
-// The words of a key are four. Does nothing.
-fn is_whole(words: &[u64; 4])
-    ensures { length words.now ≡ 4 }
+// Of a key all words have room. Does nothing.
+fn is_whole(words: &[u64; FENCE_WORDS as usize])
+    ensures { length words.now ≡ FENCE_WORDS }
 {}
 
 // The laws of trees and their nodes that a descent stands on. Does nothing.

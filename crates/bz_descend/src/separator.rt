@@ -7,6 +7,7 @@ ghost use Rattle.bz_shape.specs.Order.{is_before as before};
 
 use crate::front::words_for;
 use bz_key::Key;
+use bz_layout::FENCE_WORDS;
 use std::cmp::Ordering;
 
 // Whether one key is before another.
@@ -22,7 +23,7 @@ fn precedes(a: &Key, b: &Key) -> bool
 }
 
 /// Whether a key is before the one of this length that the words are the packing of.
-pub(crate) fn is_before(key: &Key, len: u32, words: &[u64; 4]) -> bool
+pub(crate) fn is_before(key: &Key, len: u32, words: &[u64; FENCE_WORDS as usize]) -> bool
     requires { len ≤ KEY_BYTES }
     ensures { (separator : List ℕ) → unpacked_key len (take (packed_len len) words.now) ≡ Some separator → result ≡ before key.now separator }
 {

@@ -3,7 +3,7 @@
 
 ghost use Rattle.std.specs.Prelude.{◌≡◌, ◌≢◌, ◌≤◌, ◌<◌, length, take, Some, None};
 ghost use Rattle.bz_key.specs.Packing.{packed_len, unpacked_key};
-ghost use Rattle.bz_layout.specs.declared.sizes.TheConstants.{NODE_WORDS, SHARED_WORDS as SHARED};
+ghost use Rattle.bz_layout.specs.declared.sizes.TheConstants.{NODE_WORDS, FENCE_WORDS, SHARED_WORDS as SHARED};
 ghost use Rattle.bz_node.specs.Reading.{payload_len};
 ghost use Rattle.bz_find.specs.Words.{lies};
 ghost use Rattle.bz_find.specs.Steps.{step_at, step_below, begun, place_of, passed, compared_with, finished, matched, ordered, key_word, payload_word, heard};
@@ -11,7 +11,7 @@ ghost use Rattle.bz_find.specs.Bounds.{IsStep, IsSized, IsSpot, IsLeafRecord};
 
 use crate::front::{extent_of, is_leaf_record, words_for};
 use bz_key::{Key, Payload};
-use bz_layout::META_AT;
+use bz_layout::{FENCE_WORDS, META_AT};
 use bz_search::{Probe, halved};
 use bz_task::Found;
 use std::cmp::Ordering;
@@ -49,7 +49,7 @@ pub(crate) struct Search {
     /// How many metadata words among those of the sorted records it has met that name no visible record.
     pub(crate) dead: u32,
     // the words of a key or a payload that were read so far
-    pub(crate) words: [u64; 4],
+    pub(crate) words: [u64; FENCE_WORDS as usize],
     /// The key's record, once it is found.
     pub(crate) found: Option<Found>,
 }
@@ -76,13 +76,13 @@ fn below(sorted: u32, index: u32) -> Step
     }
 }
 
-// The words of a key or a payload are four. Does nothing.
-fn is_whole(words: &[u64; 4])
-    ensures { length words.now ≡ 4 }
+// Of a key or a payload all words have room. Does nothing.
+fn is_whole(words: &[u64; FENCE_WORDS as usize])
+    ensures { length words.now ≡ FENCE_WORDS }
 {}
 
 // How a key compares with the one of this length that the words are; words that are none are taken for a later one.
-fn compare(key: &Key, word: u64, words: &[u64; 4]) -> Ordering
+fn compare(key: &Key, word: u64, words: &[u64; FENCE_WORDS as usize]) -> Ordering
     requires record { IsLeafRecord word }
     ensures { result ≡ compared_with key.now (unpacked_key (lies word).key (take (packed_len (lies word).key) words.now)) }
 {
@@ -107,7 +107,7 @@ impl Search {
             sorted,
             step: below(sorted, count),
             dead: 0,
-            words: [0; 4],
+            words: [0; FENCE_WORDS as usize],
             found: None,
         }
     }

@@ -3,6 +3,7 @@ use Rattle.std.proofs.Common.{◌≡◌, ◌≤◌, ℕ, ◌+◌, ◌-◌, List,
 use Rattle.std.specs.Fmt.{decimal}
 use Rattle.std.proofs.lemmas.List.{take_all, drop-set, length-drop, length-take}
 use Rattle.std.proofs.Math.ListN.{length-set}
+use Rattle.bz_key.specs.declared.limits.TheConstants.{PAYLOAD_BYTES}
 use Rattle.bz_gen.specs.Names.{five_digits, key_named, payload_named}
 
 -- a byte, and then five digits
@@ -32,12 +33,12 @@ from_zeros-decimal n skipped digits e some rest =
     let text = ap (drop (skipped + 1)) (byte_first 118 n digits e) ∙ drop_later n skipped ∙ rest in
     all ∙ put ∙ ap (λ digits. 118 ∷ digits) text
 
-fits : (digits : List ℕ) (skipped : ℕ) → length (from_zeros digits skipped) ≤ 28
+fits : (digits : List ℕ) (skipped : ℕ) → length (from_zeros digits skipped) ≤ PAYLOAD_BYTES
 fits digits skipped =
     simp (length-take, length-drop, length-set) (omega arith)
 
 pub payload_text : {E : Type 0} (made : Result (List ℕ) E) (payload digits : List ℕ) (n skipped : ℕ) → made ≡ Ok payload
-    → (length (from_zeros digits skipped) ≤ 28 → made ≡ Ok (from_zeros digits skipped))
+    → (length (from_zeros digits skipped) ≤ PAYLOAD_BYTES → made ≡ Ok (from_zeros digits skipped))
     → digits ≡ five_digits n → skipped ≤ 4 → drop skipped (five_digits n) ≡ decimal n → payload ≡ payload_named n
 unfolding payload_named
 payload_text made payload digits n skipped is made_of e some rest =

@@ -4,6 +4,7 @@ use Rattle.std.specs.Prelude.{All, Some, None, IsSome, slice_index_or}
 use Rattle.std.proofs.lemmas.List.{length-append}
 use Rattle.bz_key.specs.Packing.{packed}
 use Rattle.bz_key.proofs.PackingLaws.{length-packed}
+use Rattle.bz_key.specs.declared.limits.TheConstants.{KEY_BYTES}
 use Rattle.bz_layout.specs.declared.thresholds.TheConstants.{INNER_LIMIT}
 use Rattle.bz_node.specs.Layout.{block, needed}
 use Rattle.bz_node.specs.Records.{child_entry, IsChild, IsChildList}
@@ -31,7 +32,7 @@ child-list left right sep = record {
     others (suc zero) d l f = refl
     others (suc (suc i)) d l f = absurd (omega arith)
 
-pub root-room : (left right : ℕ) (sep : List ℕ) → length sep ≤ 28 → needed (map child_entry (root_children left right sep)) ≤ INNER_LIMIT
+pub root-room : (left right : ℕ) (sep : List ℕ) → length sep ≤ KEY_BYTES → needed (map child_entry (root_children left right sep)) ≤ INNER_LIMIT
 unfolding block
 root-room left right sep fits =
     omega (

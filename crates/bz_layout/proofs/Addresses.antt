@@ -2,7 +2,7 @@
 use Rattle.std.proofs.Common.{◌≡◌, ℕ, ◌+◌, ◌*◌, ◌<◌, ◌≤◌, ◌⊎◌, inl, inr, arith}
 use Rattle.std.proofs.lemmas.Bool.{cases_lt}
 use Rattle.bz_layout.specs.Addresses.{swap_address, node_address, IsOutsideSwaps, AddressesFit, DescriptorsApart, SlotsApart, AddressesArePlaced, DescriptorsStandApart, IsWholeLines, RegionsAreWholeLines}
-use Rattle.bz_layout.specs.declared.sizes.TheConstants.{LINE_WORDS, SUPERBLOCK_WORDS, SWAP_WORDS, NODE_WORDS}
+use Rattle.bz_layout.specs.declared.sizes.TheConstants.{LINE_WORDS, SUPERBLOCK_WORDS, SWAP_WORDS, NODE_WORDS, NODE_LINES}
 
 pub addresses_fit-holds : AddressesFit
 addresses_fit-holds c is_config = record {
@@ -56,5 +56,5 @@ pub regions_are_whole_lines-holds : RegionsAreWholeLines
 regions_are_whole_lines-holds = record {
   superblock = whole 0 SUPERBLOCK_WORDS 0 2 (omega arith) (omega arith);
   swap = λ number. whole (swap_address number) SWAP_WORDS (2 + 2 * number) 2 (omega arith) (omega arith);
-  node = λ c slot. whole (node_address c slot) NODE_WORDS (2 + 2 * c.swaps + 16 * slot) 16 (omega arith) (omega arith);
+  node = λ c slot. whole (node_address c slot) NODE_WORDS (2 + 2 * c.swaps + NODE_LINES * slot) NODE_LINES (omega arith) (omega arith);
 }

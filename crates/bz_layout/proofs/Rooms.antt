@@ -22,6 +22,7 @@ node_parts_follow-holds = record {
   high_fence = omega arith;
   metadata = omega arith;
   shared = omega arith;
+  width = omega arith;
   lines = omega arith;
 }
 

@@ -22,6 +22,8 @@ pub record NodePartsFollow : Type 0 where
   pub high_fence : LOW_FENCE_AT + FENCE_WORDS ≤ HIGH_FENCE_AT
   pub metadata : HIGH_FENCE_AT + FENCE_WORDS ≤ META_AT
   pub shared : META_AT + SHARED_WORDS ≡ NODE_WORDS
+  -- a fence, which is a key, and a payload are equally wide: one place of a look-up takes either
+  pub width : PAYLOAD_WORDS ≡ FENCE_WORDS
   pub lines : LINE_WORDS * NODE_LINES ≡ NODE_WORDS
 
 -- metadata and block do not meet, the block begins past the node's first word, and both fit their fields

@@ -5,7 +5,8 @@ use Rattle.std.proofs.lemmas.List.{length-append, append_assoc, length-replicate
 use Rattle.std.proofs.lemmas.List.Elements.{All-nil, All-cons}
 use Rattle.bz_key.specs.Packing.{packed}
 use Rattle.bz_key.proofs.PackingLaws.{length-packed}
-use Rattle.bz_layout.specs.declared.sizes.TheConstants.{NODE_WORDS, SHARED_WORDS, META_AT, FENCE_WORDS}
+use Rattle.bz_key.specs.declared.limits.TheConstants.{KEY_BYTES}
+use Rattle.bz_layout.specs.declared.sizes.TheConstants.{NODE_WORDS, SHARED_WORDS, META_AT, FENCE_WORDS, LOW_FENCE_AT, HIGH_FENCE_AT}
 use Rattle.bz_word.proofs.Lemmas.{metas, statuses, headers}
 use Rattle.bz_word.specs.Metas.{meta, IsMetaWord}
 use Rattle.bz_word.specs.Statuses.{status_word}
@@ -26,11 +27,11 @@ part_at P Q R at n p q =
     let width : at + n - at ≡ n = omega arith in
     rw (drop_at P (Q ++ R) at p, width) (take_at Q R n q)
 
-pub bound-fits : (bound : Option (List ℕ)) → IsBound bound → length (bound_of bound) ≤ 28
+pub bound-fits : (bound : Option (List ℕ)) → IsBound bound → length (bound_of bound) ≤ KEY_BYTES
 bound-fits None h = omega arith
 bound-fits (Some key) h = h.fits
 
-pub length-fence : (fence : Option (List ℕ)) → length (bound_of fence) ≤ 28 → length (fence_words fence) ≡ FENCE_WORDS
+pub length-fence : (fence : Option (List ℕ)) → length (bound_of fence) ≤ KEY_BYTES → length (fence_words fence) ≡ FENCE_WORDS
 length-fence fence fits =
     omega (arith, length-append (packed (bound_of fence)) (replicate (FENCE_WORDS - length (packed (bound_of fence))) 0), length-replicate {A = ℕ} (FENCE_WORDS - length (packed (bound_of fence))) 0, length-packed (bound_of fence))
 
@@ -45,16 +46,16 @@ length-shared entries fits =
     )
 
 -- the front of a node, over any two fences and shared words of their lengths
-front_read : (s h : ℕ) (L H S : List ℕ) → length L ≡ 4 → length H ≡ 4 → length S ≡ 118 →
-    (length ((s ∷ h ∷ (L ++ H)) ++ S) ≡ 128) × (part ((s ∷ h ∷ (L ++ H)) ++ S) 2 4 ≡ L) × (part ((s ∷ h ∷ (L ++ H)) ++ S) 6 4 ≡ H) × (drop 10 ((s ∷ h ∷ (L ++ H)) ++ S) ≡ S)
+front_read : (s h : ℕ) (L H S : List ℕ) → length L ≡ FENCE_WORDS → length H ≡ FENCE_WORDS → length S ≡ SHARED_WORDS →
+    (length ((s ∷ h ∷ (L ++ H)) ++ S) ≡ NODE_WORDS) × (part ((s ∷ h ∷ (L ++ H)) ++ S) LOW_FENCE_AT FENCE_WORDS ≡ L) × (part ((s ∷ h ∷ (L ++ H)) ++ S) HIGH_FENCE_AT FENCE_WORDS ≡ H) × (drop META_AT ((s ∷ h ∷ (L ++ H)) ++ S) ≡ S)
 front_read s h L H S l k n =
-    let front : length (s ∷ h ∷ (L ++ H)) ≡ 10 = omega (arith, length-append L H) in
+    let front : length (s ∷ h ∷ (L ++ H)) ≡ META_AT = omega (arith, length-append L H) in
     let first : (s ∷ h ∷ (L ++ H)) ++ S ≡ (s ∷ h ∷ []) ++ (L ++ (H ++ S)) = rw (append_assoc L H S) refl in
     let second : (s ∷ h ∷ (L ++ H)) ++ S ≡ (s ∷ h ∷ L) ++ (H ++ S) = rw (append_assoc L H S) refl in (
       omega (arith, length-append (s ∷ h ∷ (L ++ H)) S),
-      rw first (part_at (s ∷ h ∷ []) L (H ++ S) 2 4 refl l),
-      rw second (part_at (s ∷ h ∷ L) H S 6 4 (omega (arith, l)) k),
-      drop_at (s ∷ h ∷ (L ++ H)) S 10 front,
+      rw first (part_at (s ∷ h ∷ []) L (H ++ S) LOW_FENCE_AT FENCE_WORDS refl l),
+      rw second (part_at (s ∷ h ∷ L) H S HIGH_FENCE_AT FENCE_WORDS (omega (arith, l)) k),
+      drop_at (s ∷ h ∷ (L ++ H)) S META_AT front,
     )
 
 pub front_made : (level : ℕ) (low high : Option (List ℕ)) (entries : List Entry) → level < 2 ^ 8 → IsBound low → IsBound high → needed entries ≤ SHARED_WORDS →

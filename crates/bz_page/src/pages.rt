@@ -16,7 +16,7 @@ use bz_key::{Key, PageBuf};
 use bz_slotted::NodeImage;
 use bz_task::{LeafView, laws};
 
-// An image has its 128 words. Does nothing.
+// An image has all the words of a node. Does nothing.
 fn is_whole(image: &NodeImage)
     ensures { length image.now.0 ≡ NODE_WORDS }
 {

@@ -5,6 +5,7 @@ use Rattle.std.proofs.lemmas.Bool.{cases_lt}
 use Rattle.std.proofs.lemmas.List.{map-append, take-append-drop, take_all, get_or_default, length-append}
 use Rattle.bz_key.specs.Packing.{packed}
 use Rattle.bz_key.proofs.PackingLaws.{length-packed}
+use Rattle.bz_key.specs.declared.limits.TheConstants.{KEY_BYTES}
 use Rattle.bz_layout.specs.Rooms.{InnerSplitsInHalves, AreHalves}
 use Rattle.bz_layout.specs.declared.thresholds.TheConstants.{INNER_LIMIT, INNER_RECORD_WORDS}
 use Rattle.bz_node.specs.Layout.{block, bound_of, needed}
@@ -22,7 +23,7 @@ size_of c = 1 + length (child_entry c).words
 pub size-is : (c : Child) → size_of c ≡ 2 + length (packed (bound_of c.low))
 size-is c = omega (arith, length-append (packed (bound_of c.low)) ((c.slot + 1) ∷ []))
 
-bound-short : (low : Option (List ℕ)) → IsBound low → length (bound_of low) ≤ 28
+bound-short : (low : Option (List ℕ)) → IsBound low → length (bound_of low) ≤ KEY_BYTES
 bound-short None b = omega arith
 bound-short (Some key) b = b.fits
 

@@ -4,6 +4,7 @@ use Rattle.std.specs.Prelude.{length}
 use Rattle.std.proofs.lemmas.Bool.Decides.{nat_tests}
 use Rattle.bz_key.specs.Laws.{PackingIsSmall}
 use Rattle.bz_key.specs.Packing.{packed, packed_len}
+use Rattle.bz_key.specs.declared.limits.TheConstants.{KEY_BYTES, PAYLOAD_BYTES}
 use Rattle.bz_slotted.specs.FromNode.Reading.{extent_words}
 use Rattle.bz_slotted.specs.Page.{is_meta_word, meta_of, held, visible, used, extent_of}
 use Rattle.bz_slotted.specs.Whole.{IsLeafRecord}
@@ -122,7 +123,7 @@ visible-extent e = refl
 pub leaf-record : (r : NewRecord) (m : Meta) → Fits r → extent_of m ≡ place_of r → IsLeafRecord m
 leaf-record r m f e = record {
   some = subst (λ z. 0 < z.key) (sym e) f.key.some;
-  short = subst (λ z. z.key ≤ 28) (sym e) f.key.fits;
+  short = subst (λ z. z.key ≤ KEY_BYTES) (sym e) f.key.fits;
   more = subst (λ z. z.key ≤ z.total) (sym e) (omega arith);
-  payload = subst (λ z. z.total ≤ z.key + 28) (sym e) (omega (arith, f.payload.fits));
+  payload = subst (λ z. z.total ≤ z.key + PAYLOAD_BYTES) (sym e) (omega (arith, f.payload.fits));
 }

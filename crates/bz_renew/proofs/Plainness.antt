@@ -5,6 +5,7 @@ use Rattle.std.proofs.lemmas.List.Elements.{All-nil, All-cons, All-append, All-r
 use Rattle.bz_key.specs.Bytes.{AreBytes}
 use Rattle.bz_key.specs.Packing.{packed}
 use Rattle.bz_key.proofs.PackingLaws.{packed-small}
+use Rattle.bz_key.specs.declared.limits.TheConstants.{KEY_BYTES}
 use Rattle.bz_layout.specs.declared.sizes.TheConstants.{NODE_WORDS, SHARED_WORDS}
 use Rattle.bz_node.specs.Layout.{block, metas, needed, visible_word, bound_of, fence_words, made_status, made_header}
 use Rattle.bz_word.specs.Statuses.{status_word}
@@ -44,15 +45,15 @@ metas-plain end (r ∷ rs) l each =
     All-cons IsPlain _ (metas (end - length (pair_entry r).words) (map pair_entry rs)) word
     (metas-plain (end - length (pair_entry r).words) rs (omega (arith, l)) (λ i d l. each (suc i) d (omega arith)))
 
-short : (fence : Option (List ℕ)) → IsBound fence → length (bound_of fence) ≤ 28
+short : (fence : Option (List ℕ)) → IsBound fence → length (bound_of fence) ≤ KEY_BYTES
 short None b = omega arith
 short (Some key) b = b.fits
 
 pub leaf-plain : (rs : List (List ℕ × List ℕ)) (low high : Option (List ℕ)) → All IsPair rs → IsBound low → IsBound high → needed (map pair_entry rs) ≤ SHARED_WORDS → All IsPlain (leaf_words rs low high)
 leaf-plain rs low high each lo hi fits =
     let size : length (map pair_entry rs) + length (block (map pair_entry rs)) ≤ SHARED_WORDS = fits in
-    let low_len : length (bound_of low) ≤ 28 = short low lo in
-    let high_len : length (bound_of high) ≤ 28 = short high hi in
+    let low_len : length (bound_of low) ≤ KEY_BYTES = short low lo in
+    let high_len : length (bound_of high) ≤ KEY_BYTES = short high hi in
     let status_plain : IsPlain (status_word (made_status (map pair_entry rs))) = omega (arith, size) in
     let header_plain : IsPlain (header_word (made_header 0 low high (map pair_entry rs))) = omega (arith, size, low_len, high_len) in
     All-append IsPlain (status_word (made_status (map pair_entry rs)) ∷ header_word (made_header 0 low high (map pair_entry rs)) ∷ (fence_words low ++ fence_words high)) _
@@ -73,7 +74,7 @@ unfolding metas
 child-metas-plain end [] l each = All-nil IsPlain
 child-metas-plain end (c ∷ cs) l each =
     let child : IsChild c = each 0 c (omega arith) in
-    let bytes : length (bound_of c.low) ≤ 28 = short c.low child.low in
+    let bytes : length (bound_of c.low) ≤ KEY_BYTES = short c.low child.low in
     let word : IsPlain (visible_word (end - length (child_entry c).words) (child_entry c)) = omega (arith, bytes, l) in
     All-cons IsPlain _ (metas (end - length (child_entry c).words) (map child_entry cs)) word
     (child-metas-plain (end - length (child_entry c).words) cs (omega (arith, l)) (λ i d l. each (suc i) d (omega arith)))
@@ -81,8 +82,8 @@ child-metas-plain end (c ∷ cs) l each =
 pub inner-plain : (cs : List Child) (low high : Option (List ℕ)) (level : ℕ) → All IsChild cs → IsBound low → IsBound high → level < 2 ^ 8 → needed (map child_entry cs) ≤ SHARED_WORDS → All IsPlain (inner_words cs low high level)
 inner-plain cs low high level each lo hi level_fits fits =
     let size : length (map child_entry cs) + length (block (map child_entry cs)) ≤ SHARED_WORDS = fits in
-    let low_len : length (bound_of low) ≤ 28 = short low lo in
-    let high_len : length (bound_of high) ≤ 28 = short high hi in
+    let low_len : length (bound_of low) ≤ KEY_BYTES = short low lo in
+    let high_len : length (bound_of high) ≤ KEY_BYTES = short high hi in
     let status_plain : IsPlain (status_word (made_status (map child_entry cs))) = omega (arith, size) in
     let header_plain : IsPlain (header_word (made_header level low high (map child_entry cs))) = omega (arith, size, low_len, high_len, level_fits) in
     All-append IsPlain (status_word (made_status (map child_entry cs)) ∷ header_word (made_header level low high (map child_entry cs)) ∷ (fence_words low ++ fence_words high)) _

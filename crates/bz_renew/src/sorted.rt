@@ -22,7 +22,7 @@ pub struct Fences {
     pub high: Option<Key>,
 }
 
-/// An image has its 128 words. Does nothing.
+/// An image has all the words of a node. Does nothing.
 pub fn is_whole(image: &NodeImage)
     ensures { length image.now.0 ≡ NODE_WORDS }
 {

@@ -7,6 +7,7 @@ use Rattle.std.proofs.lemmas.List.{length-append, length-map, length-drop, get_o
 use Rattle.std.proofs.lemmas.List.FromFn.{get_or-map-range_with_len}
 use Rattle.bz_key.specs.Packing.{packed, packed_len, unpacked}
 use Rattle.bz_key.proofs.PackingLaws.{length-packed, length-unpacked}
+use Rattle.bz_key.specs.declared.limits.TheConstants.{KEY_BYTES}
 use Rattle.bz_node.specs.Laws.{ReadsAsInner, InnerNodesAreRead}
 use Rattle.bz_node.specs.Layout.{Entry, IsEntry, bound_of}
 use Rattle.bz_node.specs.Reading.{payload_at, key_part, low_in, child_in}
@@ -93,7 +94,7 @@ module _ (cs : List Child) (l : ℕ) (lo hi : Option (List ℕ)) (nodes : ℕ) (
   unfolding at
   later-some i li pos = let inside : i < length cs = omega (arith, count) in bound-there (get_or cs i none).low (each i none inside).low (list.others i none inside pos)
 
-  short : (i : ℕ) → i < (page inner).count → length (bound_of (at i).low) ≤ 28
+  short : (i : ℕ) → i < (page inner).count → length (bound_of (at i).low) ≤ KEY_BYTES
   unfolding at
   short i li = bound-short (get_or cs i none).low (each i none (omega (arith, count))).low
 

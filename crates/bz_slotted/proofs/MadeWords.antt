@@ -7,6 +7,7 @@ use Rattle.std.proofs.lemmas.List.Sums.{sum_by-cons}
 use Rattle.bz_key.specs.Packing.{packed, packed_len}
 use Rattle.bz_key.proofs.PackingLaws.{length-packed}
 use Rattle.bz_key.proofs.UnpackingLaws.{unpacked_key-complete}
+use Rattle.bz_key.specs.declared.limits.TheConstants.{KEY_BYTES}
 use Rattle.bz_layout.specs.declared.sizes.TheConstants.{NODE_WORDS, FENCE_WORDS, META_AT, SHARED_WORDS}
 use Rattle.bz_layout.specs.declared.thresholds.TheConstants.{MAX_LEVELS}
 use Rattle.bz_node.specs.Layout.{Entry, IsEntry, block, metas, visible_word, needed, shared_part, bound_of, fence_words, made_status, made_header, node_words}
@@ -21,7 +22,7 @@ use Rattle.bz_slotted.specs.Page.{words_at}
 use Rattle.bz_slotted.specs.ReadingLaws.{node_of}
 use Rattle.bz_slotted.specs.Whole.{IsFence}
 
-pub bound-short : (bound : Option (List ℕ)) → IsBound bound → length (bound_of bound) ≤ 28
+pub bound-short : (bound : Option (List ℕ)) → IsBound bound → length (bound_of bound) ≤ KEY_BYTES
 bound-short None h = omega arith
 bound-short (Some key) h = h.fits
 

@@ -1,9 +1,10 @@
 -- How many pointers may still come: each stands at the target of an entry that no other has.
-use Rattle.std.proofs.Common.{◌≡◌, ℕ, zero, suc, ◌+◌, ◌*◌, ◌<◌, ◌≤◌, Bool, true, false, arith, refl, sym, ap, ◌∙◌, inl, inr}
+use Rattle.std.proofs.Common.{◌≡◌, ℕ, zero, suc, ◌+◌, ◌-◌, ◌*◌, ◌<◌, ◌≤◌, Bool, true, false, arith, refl, sym, ap, ◌∙◌, inl, inr}
 use Rattle.std.specs.Prelude.{nat_le, if◌then◌else◌}
 use Rattle.std.proofs.lemmas.Bool.{cases_eq, cases_lt}
 use Rattle.std.proofs.lemmas.Bool.Decides.{nat_tests}
 use Rattle.bz_content.specs.Resolving.{target_in}
+use Rattle.bz_sweep.specs.Areas.{size_of}
 use Rattle.bz_sweep.specs.declared.area.Area.{Area}
 use Rattle.bz_layout.specs.declared.sizes.TheConstants.{MAX_ENTRIES}
 use Rattle.bz_word.specs.Kinds.{kind}
@@ -88,6 +89,20 @@ pointer-counts : (r : Area) (v : ℕ → ℕ) (m : Memory) (u a s : ℕ) → IsS
 pointer-counts r v m u a s shared h k =
     let p : Pointed r m.durable a s = pointer-found r v m u a s shared h k in
     omega (arith, all-here m.durable a s p.entry r.swaps p.has.begun.number (omega (arith, p.has.entry, p.has.begun.few)) p.has.target)
+
+-- where each word that comes is counted as one
+pub each-counts : (r : Area) (p : Phase) → IsPlaced r p → IsCounted (λ a. size_of r - a) p
+each-counts r (Target p q i) at = let l = at.place.0.shared.within in omega (arith, l)
+each-counts r Fresh at = tt
+each-counts r (Word p) at = tt
+each-counts r (Status p s) at = tt
+each-counts r (Value p a) at = tt
+each-counts r (Resolve p x) at = tt
+each-counts r (Flush p) at = tt
+each-counts r (SwapStatus s) at = tt
+each-counts r (Free s) at = tt
+each-counts r (FlushFree s) at = tt
+each-counts r Done at = tt
 
 pub is-counted : (r : Area) (v : ℕ → ℕ) (m : Memory) (p : Phase) → IsPlaced r p → knows_after r v m p → IsCounted (pointers_in r m.durable) p
 is-counted r v m (Target p q i) at k = pointer-counts r v m p.unflushed p.at q.swap at.place.0.shared k.0 k.1.pointer

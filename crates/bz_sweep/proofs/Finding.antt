@@ -1,5 +1,5 @@
 -- What a word that was loaded tells of its value, and which word of a descriptor holds it.
-use Rattle.std.proofs.Common.{◌≡◌, ◌⊎◌, ℕ, ◌+◌, ◌^◌, ◌<◌, ◌≤◌, ◌==◌, ◌%◌, Bool, true, false, arith, refl, sym, ap, ◌∙◌, inl, inr, subst}
+use Rattle.std.proofs.Common.{◌≡◌, ◌≢◌, ◌⊎◌, ℕ, ◌+◌, ◌^◌, ◌<◌, ◌≤◌, ◌==◌, ◌%◌, Bool, true, false, arith, refl, sym, ap, ◌∙◌, inl, inr, subst}
 use Rattle.std.specs.Prelude.{if◌then◌else◌}
 use Rattle.std.proofs.lemmas.Bool.{cases_lt, true≢false}
 use Rattle.bz_sweep.specs.Lawful.{is_named}
@@ -9,6 +9,7 @@ use Rattle.bz_sweep.specs.declared.area.Area.{Area}
 use Rattle.bz_layout.specs.declared.sizes.TheConstants.{MAX_ENTRIES, SWAP_STATUS_AT}
 use Rattle.bz_word.specs.Kinds.{kind, word, IsKind, IsWord}
 use Rattle.bz_word.proofs.Lemmas.{kinds}
+use Rattle.bz_word.proofs.Proved.{values}
 use Rattle.bz_word.specs.declared.kind.WordKind.{WordKind}
 use Rattle.bz_word.specs.declared.kind.WordKind.TheVariants.{Value, Swap, Tag}
 use Rattle.bz_sweep.proofs.Entries.{entry-least, entry-hits}
@@ -41,6 +42,13 @@ is-named r v m u a s h = named r m.durable a s (h.image.lawful a s.within)
 
 pub some-kind : (r : Area) (v : ℕ → ℕ) (m : Memory) (u a x : ℕ) → IsShared r a → IsSwept r v m u a → m.cached a ≡ x → IsWord x
 some-kind r v m u a x s h e = subst IsWord (loaded r v m u a x s h e) (told (m.durable a) (is-named r v m u a s h).word)
+
+-- a word of another kind than a value is none
+pub unresolved-found : (x : ℕ) (k : WordKind) → kind x ≡ k → ((y : ℕ) → k ≢ Value y) → 2 ^ 61 ≤ x
+unresolved-found x k e other = elim (cases_lt x (2 ^ 61)) [
+  | inl small ↦ absurd (other x (sym e ∙ (values x small).1))
+  | inr large ↦ large
+]
 
 -- a tag's value is the expected one of its entry
 pub tag-found : (r : Area) (v : ℕ → ℕ) (m : Memory) (u a s e w q at : ℕ) → IsShared r a → IsSwept r v m u a → kind (m.durable a) ≡ Tag s e w q → at ≡ entry_address s e 1 → IsValueAt r v m a at

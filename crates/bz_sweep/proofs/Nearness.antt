@@ -38,7 +38,7 @@ near-before r v m (Value p a) k = swept r v m _ _ k.0
 near-before r v m (Resolve p x) k = swept r v m _ _ k.0
 near-before r v m (Flush p) k = swept r v m _ _ k
 near-before r v m (SwapStatus s) k = freeing r v m _ _ k
-near-before r v m (Free s) k = freeing r v m _ _ k
+near-before r v m (Free s) k = freeing r v m _ _ k.0
 near-before r v m (FlushFree s) k = freeing r v m _ _ k
 near-before r v m Done k = freeing r v m _ _ k
 

@@ -1,5 +1,5 @@
 -- What each phase knows stays by evictions, goes on by its own act, and says of the memory what it should.
-use Rattle.std.proofs.Common.{◌≡◌, ℕ, ◌+◌, ◌*◌, ◌^◌, ◌<◌, ◌≤◌, Bool, true, false, arith, sym, ap, ◌∙◌, inl, inr, subst}
+use Rattle.std.proofs.Common.{◌≡◌, ◌≢◌, ℕ, ◌+◌, ◌*◌, ◌^◌, ◌<◌, ◌≤◌, Bool, true, false, arith, sym, ap, ◌∙◌, inl, inr, subst}
 use Rattle.std.specs.Prelude.{if◌then◌else◌, ◌==◌, ◌%◌, Option, Some, None}
 use Rattle.bz_content.specs.Resolving.{SUCCEEDED}
 use Rattle.bz_word.specs.Kinds.{kind}
@@ -14,7 +14,7 @@ use Rattle.bz_sweep.proofs.Finding.{pointer-found}
 use Rattle.bz_sweep.proofs.Named.{Pointed, of-swap, of-entry}
 use Rattle.bz_sweep.proofs.Freeings as freeing
 use Rattle.bz_sweep.proofs.Sweeps as sweep
-use Rattle.bz_sweep.specs.Duties.{Stage, Asked, Made, IsSought, IsValueAt, knows_before, knows_after, knows_in, asks_in}
+use Rattle.bz_sweep.specs.Duties.{Stage, Asked, Made, IsSought, IsValueAt, IsUnresolved, knows_before, knows_after, knows_in, asks_in}
 use Rattle.bz_sweep.specs.Laws.{IsAskable}
 use Rattle.bz_sweep.specs.Memory.{Memory, StoresWord, Copies, Flushes}
 use Rattle.bz_sweep.specs.Places.{IsPlaced, IsPlace}
@@ -34,7 +34,7 @@ image-before r v m (Value p a) k = k.0.image
 image-before r v m (Resolve p x) k = k.0.image
 image-before r v m (Flush p) k = k.image
 image-before r v m (SwapStatus s) k = k.image
-image-before r v m (Free s) k = k.image
+image-before r v m (Free s) k = k.0.image
 image-before r v m (FlushFree s) k = k.image
 image-before r v m Done k = k.image
 
@@ -131,6 +131,9 @@ sought r v m n f u a q i shared few h k t =
 value : (r : Area) (v : ℕ → ℕ) (m n : Memory) (f : ℕ → Bool) (u a b : ℕ) → IsSwept r v m u a → Copies m n f → IsValueAt r v m a b → IsValueAt r v n a b
 value r v m n f u a b h k t = record { place = t.place; value = alike (f b) _ _ _ (k.durable b) (h.swaps b t.place) ∙ t.value }
 
+unresolved : (r : Area) (v : ℕ → ℕ) (m n : Memory) (f : ℕ → Bool) (u a : ℕ) → IsShared r a → IsSwept r v m u a → Copies m n f → IsUnresolved m a → IsUnresolved n a
+unresolved r v m n f u a shared h k e = subst (λ x. 2 ^ 61 ≤ x) (sym (alike (f a) _ _ _ (k.durable a) (h.ahead a shared (omega arith)))) e
+
 pointer : (r : Area) (v : ℕ → ℕ) (m n : Memory) (f : ℕ → Bool) (u a s : ℕ) → IsShared r a → IsSwept r v m u a → Copies m n f → kind (m.durable a) ≡ Swap s → kind (n.durable a) ≡ Swap s
 pointer r v m n f u a s shared h k e = ap kind (alike (f a) _ _ _ (k.durable a) (h.ahead a shared (omega arith))) ∙ e
 
@@ -139,11 +142,11 @@ stable-before r v m n f Fresh at k h = powered-stays r v m n f h k
 stable-before r v m n f (Word p) at k h = sweep.copied r v m n f _ _ h k
 stable-before r v m n f (Status p s) at k h = (sweep.copied r v m n f _ _ h.0 k, pointer r v m n f _ _ s at.shared h.0 k h.1)
 stable-before r v m n f (Target p q i) at k h = (sweep.copied r v m n f _ _ h.0 k, sought r v m n f _ _ q i at.0.shared (omega (arith, at.1)) h.0 k h.1)
-stable-before r v m n f (Value p a) at k h = (sweep.copied r v m n f _ _ h.0 k, value r v m n f _ _ a h.0 k h.1)
-stable-before r v m n f (Resolve p x) at k h = (sweep.copied r v m n f _ _ h.0 k, h.1)
+stable-before r v m n f (Value p a) at k h = (sweep.copied r v m n f _ _ h.0 k, value r v m n f _ _ a h.0 k h.1, unresolved r v m n f _ _ at.shared h.0 k h.2)
+stable-before r v m n f (Resolve p x) at k h = (sweep.copied r v m n f _ _ h.0 k, h.1, unresolved r v m n f _ _ at.shared h.0 k h.2)
 stable-before r v m n f (Flush p) at k h = sweep.copied r v m n f _ _ h k
 stable-before r v m n f (SwapStatus s) at k h = freeing.copied r v m n f s s (omega arith) h k
-stable-before r v m n f (Free s) at k h = freeing.copied r v m n f s s (omega arith) h k
+stable-before r v m n f (Free s) at k h = (freeing.copied r v m n f s s (omega arith) h.0 k, λ free. h.1 (sym (k.cached (swap_address s)) ∙ free))
 stable-before r v m n f (FlushFree s) at k h = freeing.copied r v m n f s (s + 1) (omega arith) h k
 stable-before r v m n f Done at k h = freeing.copied r v m n f r.swaps r.swaps (omega arith) h k
 
@@ -152,7 +155,7 @@ stable-after r v m n f Fresh at k h = powered-stays r v m n f h k
 stable-after r v m n f (Word p) at k h = sweep.copied r v m n f _ _ h k
 stable-after r v m n f (Status p s) at k h = (sweep.copied r v m n f _ _ h.0 k, pointer r v m n f _ _ s at.shared h.0 k h.1)
 stable-after r v m n f (Target p q i) at k h = (sweep.copied r v m n f _ _ h.0 k, sought r v m n f _ _ q i at.0.shared (omega (arith, at.1)) h.0 k h.1)
-stable-after r v m n f (Value p a) at k h = (sweep.copied r v m n f _ _ h.0 k, value r v m n f _ _ a h.0 k h.1)
+stable-after r v m n f (Value p a) at k h = (sweep.copied r v m n f _ _ h.0 k, value r v m n f _ _ a h.0 k h.1, unresolved r v m n f _ _ at.shared h.0 k h.2)
 stable-after r v m n f (Resolve p x) at k h = sweep.copied r v m n f _ _ h k
 stable-after r v m n f (Flush p) at k h = sweep.copied r v m n f _ _ h k
 stable-after r v m n f (SwapStatus s) at k h = freeing.copied r v m n f s s (omega arith) h k
@@ -181,7 +184,7 @@ stored r v m n a x (SwapStatus s) at e k h = absurd (cc)
 stored r v m n a x (Free s) at e k h =
     let place : a ≡ swap_address s = cc in
     let word : x ≡ 0 = cc in
-    freeing.stored r v m n s s (first-of-swap r s at) h (subst (λ b. StoresWord m n b 0) place (subst (StoresWord m n a) word k))
+    freeing.stored r v m n s s (first-of-swap r s at) h.0 (subst (λ b. StoresWord m n b 0) place (subst (StoresWord m n a) word k))
 stored r v m n a x (FlushFree s) at e k h = absurd (cc)
 stored r v m n a x Done at e k h = absurd (cc)
 
@@ -228,3 +231,26 @@ told r v m Done at h = tt
 pub askable : (r : Area) (v : ℕ → ℕ) (m : Memory) (p : Phase) (ask : Ask) → IsPlace r p → knows_before r v m p → asks_in p ≡ Some ask → IsAskable r ask
 unfolding asked
 askable r v m p ask at h e = subst (asked r) e (told r v m p at h)
+
+-- what is stored is another word than the one that stands
+pub differs : (r : Area) (v : ℕ → ℕ) (m : Memory) (p : Phase) (a x : ℕ) → IsPlace r p → knows_before r v m p → asks_in p ≡ Some (Store a x) → m.cached a ≢ x
+differs r v m Fresh a x at h e = absurd (cc)
+differs r v m (Word p) a x at h e = absurd (cc)
+differs r v m (Status p s) a x at h e = absurd (cc)
+differs r v m (Target p q i) a x at h e = absurd (cc)
+differs r v m (Value p b) a x at h e = absurd (cc)
+differs r v m (Resolve p y) a x at h e = λ same.
+    let place : a ≡ p.at = cc in
+    let word : x ≡ y = cc in
+    let small : v p.at < 2 ^ 61 = plain-value r v m.durable h.0.image p.at at.shared in
+    let stands : m.cached p.at ≡ m.durable p.at = h.0.ahead p.at at.shared (omega arith) in
+    let is : m.cached p.at ≡ x = subst (λ b. m.cached b ≡ x) place same in
+    omega (arith, small, stands, is, word, h.1, h.2)
+differs r v m (Flush p) a x at h e = absurd (cc)
+differs r v m (SwapStatus s) a x at h e = absurd (cc)
+differs r v m (Free s) a x at h e = λ same.
+    let place : a ≡ swap_address s = cc in
+    let word : x ≡ 0 = cc in
+    h.1 (subst (λ b. m.cached b ≡ x) place same ∙ word)
+differs r v m (FlushFree s) a x at h e = absurd (cc)
+differs r v m Done a x at h e = absurd (cc)

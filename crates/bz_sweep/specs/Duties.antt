@@ -1,5 +1,5 @@
 -- What a sweep asks for and what it knows, phase by phase.
-use Rattle.std.specs.Prelude.{◌≡◌, ◌≢◌, ℕ, ◌+◌, ◌-◌, ◌^◌, ◌<◌, ◌==◌, Option, Some, None}
+use Rattle.std.specs.Prelude.{◌≡◌, ◌≢◌, ℕ, ◌+◌, ◌-◌, ◌^◌, ◌<◌, ◌≤◌, ◌==◌, nat_lt, if◌then◌else◌, Option, Some, None}
 use Rattle.bz_content.specs.Resolving.{status_in, target_in, SUCCEEDED}
 use Rattle.bz_layout.specs.Addresses.{swap_address, line_of}
 use Rattle.bz_layout.specs.declared.sizes.TheConstants.{SWAP_STATUS_AT}
@@ -17,6 +17,7 @@ use Rattle.bz_sweep.specs.declared.ask.Ask.TheVariants.{Load, Store, Flush as Fl
 use Rattle.bz_sweep.specs.declared.phase.Phase.{Phase}
 use Rattle.bz_sweep.specs.declared.phase.Phase.TheVariants.{Fresh, Word, Status, Target, Value, Resolve, Flush, SwapStatus, Free, FlushFree, Done}
 use Rattle.bz_sweep.specs.declared.phase.Pointer.{Pointer}
+use Rattle.bz_sweep.specs.declared.phase.Spot.{Spot}
 use Rattle.bz_sweep.specs.declared.sweep.Sweep.{Sweep}
 
 -- what a phase asks for
@@ -44,6 +45,10 @@ pub record IsValueAt (r : Area) (values : ℕ → ℕ) (m : Memory) (a at : ℕ)
   pub place : IsOfSwap r at
   pub value : m.durable at ≡ values a
 
+-- the word at an address is no plain value: its value is another word, which the sweep stores in its place
+abbrev pub IsUnresolved : Memory → ℕ → Type 0
+IsUnresolved m a = 2 ^ 61 ≤ m.durable a
+
 -- what has become of the act that a sweep asked for
 pub data Stage : Type 0 where
   -- it is still to be made
@@ -57,11 +62,11 @@ knows_before r v m Fresh = IsPoweredOn r v m
 knows_before r v m (Word p) = IsSwept r v m p.unflushed p.at
 knows_before r v m (Status p s) = IsSwept r v m p.unflushed p.at × (kind (m.durable p.at) ≡ Swap s)
 knows_before r v m (Target p q i) = IsSwept r v m p.unflushed p.at × IsSought m p.at q i
-knows_before r v m (Value p a) = IsSwept r v m p.unflushed p.at × IsValueAt r v m p.at a
-knows_before r v m (Resolve p x) = IsSwept r v m p.unflushed p.at × (x ≡ v p.at)
+knows_before r v m (Value p a) = IsSwept r v m p.unflushed p.at × IsValueAt r v m p.at a × IsUnresolved m p.at
+knows_before r v m (Resolve p x) = IsSwept r v m p.unflushed p.at × (x ≡ v p.at) × IsUnresolved m p.at
 knows_before r v m (Flush p) = IsSwept r v m p.unflushed (p.at + 1)
 knows_before r v m (SwapStatus s) = IsFreeing r v m s s
-knows_before r v m (Free s) = IsFreeing r v m s s
+knows_before r v m (Free s) = IsFreeing r v m s s × (m.cached (swap_address s) ≢ 0)
 knows_before r v m (FlushFree s) = IsFreeing r v m s (s + 1)
 knows_before r v m Done = IsFreeing r v m r.swaps r.swaps
 
@@ -90,11 +95,38 @@ abbrev pub tells_in : Option Ask → Answer → Memory → Type 0
 tells_in (Some (Load a)) (Read x) m = m.cached a ≡ x
 tells_in asks answer m = Unit {0}
 
+-- the line that has words which the sweep has stored and not flushed since, if there is one: there is never a second
+abbrev pub changed_at : Spot → Option ℕ
+changed_at p = if nat_lt p.unflushed p.at then Some (line_of p.at) else None
+
+abbrev pub changed_in : Phase → Option ℕ
+changed_in Fresh = None
+changed_in (Word p) = changed_at p
+changed_in (Status p s) = changed_at p
+changed_in (Target p q i) = changed_at p
+changed_in (Value p a) = changed_at p
+changed_in (Resolve p x) = changed_at p
+changed_in (Flush p) = Some (line_of p.at)
+changed_in (SwapStatus s) = None
+changed_in (Free s) = None
+changed_in (FlushFree s) = Some (line_of (swap_address s))
+changed_in Done = None
+
+-- after an act: a store changes its line, and a flush leaves none
+abbrev pub changed_after : Option Ask → Answer → Option ℕ → Option ℕ
+changed_after (Some (Store a x)) Stored line = Some (line_of a)
+changed_after (Some (FlushLine l)) Flushed line = None
+changed_after asks answer line = line
+
 abbrev pub area_in : Sweep → Area
 area_in t = t.area
 
 abbrev pub asks_of : Sweep → Option Ask
 asks_of t = asks_in t.phase
+
+-- the line that it has changed and not flushed since
+abbrev pub changed_line : Sweep → Option ℕ
+changed_line t = changed_in t.phase
 
 -- it asks for nothing more
 abbrev pub HasEnded : Sweep → Type 0

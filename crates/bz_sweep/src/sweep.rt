@@ -3,7 +3,7 @@
 ghost use Rattle.std.specs.Prelude.{◌≡◌, ◌≢◌, ◌+◌, ◌*◌, ◌<◌, ◌≤◌, ◌↔◌, ℕ, Some, None, IsTrue};
 ghost use Rattle.bz_layout.specs.Addresses.{swap_address};
 ghost use Rattle.bz_sweep.specs.Areas.{size_of, IsArea};
-ghost use Rattle.bz_sweep.specs.Duties.{Stage, Asked, Made, knows_before, area_in, asks_in, asks_of, left_with, left_of, acts_left, HasEnded, Knows, Hears, Tells, IsReady};
+ghost use Rattle.bz_sweep.specs.Duties.{Stage, Asked, Made, knows_before, area_in, asks_in, asks_of, changed_in, changed_after, changed_line, left_with, left_of, acts_left, HasEnded, Knows, Hears, Tells, IsReady};
 ghost use Rattle.bz_sweep.specs.Laws.{IsAskable};
 ghost use Rattle.bz_sweep.specs.Memory.{Memory, StoresWord, Flushes, Evicts};
 ghost use Rattle.bz_sweep.specs.Places.{IsPlaced, left_in, swaps_left, sweep_acts, MOST_ACTS, IsFalling, IsCounted};
@@ -37,6 +37,7 @@ impl Sweep {
         ensures ready { IsReady result }
         ensures area { area_in result ≡ area.now }
         ensures asks { asks_of result ≡ None }
+        ensures changed { changed_line result ≡ None }
         // fewer than four acts for each word
         ensures left { (m : Memory) → acts_left result m ≤ sweep_acts area.now }
         ensures few { sweep_acts area.now < MOST_ACTS * size_of area.now }
@@ -69,6 +70,9 @@ impl Sweep {
         // and over a memory that it knows
         ensures sooner { (values : ℕ → ℕ) (m : Memory) → Knows self.old values Made m → acts_left self.new m < acts_left self.old m }
         ensures area { area_in self.new ≡ area_in self.old }
+        // it flushes no line but the one that it has changed since that was flushed last
+        ensures changed { changed_line self.new ≡ changed_after (asks_of self.old) answer (changed_line self.old) }
+        ensures flushes { (line : ℕ) → result ≡ Flush line → changed_line self.new ≡ Some line }
         // a new one begins with the first word
         ensures first { asks_of self.old ≡ None → result ≡ Load 0 }
         // what it knows of every memory in which its act is made and the answer is true
@@ -88,6 +92,8 @@ impl Sweep {
         ensures image { (values : ℕ → ℕ) (stage : Stage) (m : Memory) → Knows self.now values stage m → IsImage (area_in self.now) values m.durable }
         // what is asked for may be asked for
         ensures askable { (values : ℕ → ℕ) (m : Memory) (ask : Ask) → Knows self.now values Asked m → asks_of self.now ≡ Some ask → IsAskable (area_in self.now) ask }
+        // what is stored is another word than the one that stands: a plain word stays, and so does a descriptor that is free
+        ensures differs { (values : ℕ → ℕ) (m : Memory) (a x : ℕ) → Knows self.now values Asked m → asks_of self.now ≡ Some (Store a x) → m.cached a ≢ x }
         // at the end all words are plain and durable, and all descriptors free
         ensures ends { (values : ℕ → ℕ) (stage : Stage) (m : Memory) → Knows self.now values stage m → HasEnded self.now → IsRecovered (area_in self.now) values m }
     {}
@@ -106,6 +112,7 @@ impl Sweep {
         ensures place { IsPlaced self.now.area result }
         ensures begun { result ≢ Phase.Fresh }
         ensures first { asks_of self.now ≡ None → asks_in result ≡ Some (Load 0) }
+        ensures changed { changed_in result ≡ changed_after (asks_of self.now) answer (changed_in self.now.phase) }
         ensures nearer { (pointers : ℕ → ℕ) → IsFalling pointers → IsCounted pointers self.now.phase → left_in self.now.area pointers result < left_with pointers self.now }
         ensures learns { (v : ℕ → ℕ) (m : Memory) → Knows self.now v Made m → Tells self.now answer m → knows_before self.now.area v m result }
     {
@@ -172,6 +179,7 @@ fn freed(area: &Area, swap: u32) -> Phase
     requires swap { swap < area.now.swaps }
     ensures place { IsPlaced area.now result }
     ensures begun { result ≢ Phase.Fresh }
+    ensures changed { changed_in result ≡ None }
     ensures nearer { (pointers : ℕ → ℕ) → left_in area.now pointers result < swaps_left area.now swap 2 }
     ensures learns { (v : ℕ → ℕ) (m : Memory) → IsFreeing area.now v m (swap + 1) (swap + 1) → knows_before area.now v m result }
 {

@@ -65,8 +65,7 @@ fence-is n m at len None (Some b) same f g = absurd (none-packed (words_at m at 
 fence-is n m at len (Some a) None same f g = absurd (none-packed (words_at n at (packed_len 0)) a (subst (λ z. unpacked_key z (words_at n at (packed_len z)) ≡ Some a) g.0 f))
 fence-is n m at len (Some a) (Some b) same f g =
     let u = unpacked_key-sound len (words_at n at (packed_len len)) a f in
-    let short : len ≤ 28 = omega (arith, u.0.fits, u.1) in
-    let e : words_at m at (packed_len len) ≡ words_at n at (packed_len len) = words_at-same m n at (packed_len len) (λ k p q. same k p (omega (arith, q, short))) in
+    let e : words_at m at (packed_len len) ≡ words_at n at (packed_len len) = words_at-same m n at (packed_len len) (λ k p q. same k p (omega (arith, q, u.0.fits, u.1))) in
     ap Some (some-same b a (sym g ∙ (ap (unpacked_key len) e ∙ f)))
 
 -- header and fences say one place

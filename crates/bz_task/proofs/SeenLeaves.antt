@@ -3,7 +3,7 @@ use Rattle.std.proofs.Common.{◌≡◌, ℕ, zero, suc, ◌+◌, ◌^◌, ◌<�
 use Rattle.std.specs.Prelude.{bytes_eq, Some, None, IsSome}
 use Rattle.bz_call.specs.FromKey.Packing.{packed_len, unpacked, unpacked_key, unpacked_payload}
 use Rattle.bz_call.proofs.FromKey.UnpackingLaws.{unpacked_key-sound}
-use Rattle.bz_layout.specs.declared.sizes.TheConstants.{STATUS_AT, HEADER_AT, LOW_FENCE_AT, HIGH_FENCE_AT, META_AT}
+use Rattle.bz_layout.specs.declared.sizes.TheConstants.{STATUS_AT, HEADER_AT, LOW_FENCE_AT, HIGH_FENCE_AT, META_AT, FENCE_WORDS}
 use Rattle.bz_content.specs.FromSlotted.Reading.{payload_at, payload_len}
 use Rattle.bz_content.specs.FromSlotted.Laws.{LeafRulesAreFacts}
 use Rattle.bz_content.specs.FromSlotted.Page.{words_at, visible, held, used, extent_of, page}
@@ -78,12 +78,11 @@ module _ (raw n m : ℕ → ℕ) (lo hi : Option (List ℕ)) (w : Whole raw (pag
   key-at : (j : ℕ) → j < (page m).count → visible ((page m).meta j) ≡ true → key_at (page m) j ≡ key_at (page n) j
   key-at j l v = ap (λ x. key_in m (extent_of x)) (metas j (here j l)) ∙ key-same j (here j l) (seen j l v)
 
-  fence : (at len : ℕ) (bound : Option (List ℕ)) → at + 4 ≤ META_AT → IsFence n at len bound → IsFence m at len bound
+  fence : (at len : ℕ) (bound : Option (List ℕ)) → at + FENCE_WORDS ≤ META_AT → IsFence n at len bound → IsFence m at len bound
   fence at len None short f = (f.0, λ i l. s (at + i) (front-shown n (at + i) (omega (arith, short, l))) ∙ f.1 i l)
   fence at len (Some key) short f =
       let u = unpacked_key-sound len (words_at n at (packed_len len)) key f in
-      let few : len ≤ 28 = omega (arith, u.0.fits, u.1) in
-      ap (unpacked_key len) (words_at-same m n at (packed_len len) (λ i a b. s i (front-shown n i (omega (arith, b, few, short))))) ∙ f
+      ap (unpacked_key len) (words_at-same m n at (packed_len len) (λ i a b. s i (front-shown n i (omega (arith, b, u.0.fits, u.1, short))))) ∙ f
 
   held-in : (j : ℕ) → j < (page n).count → held ((page n).meta j) ≡ true → IsInBlock (page m) ((page n).meta j)
   held-in j l h = let i = w.inside j l h in record { starts = omega (arith, i.starts, places.block); ends = i.ends }

@@ -86,7 +86,7 @@ act-avoids c m w made free lawful swaps own a v is from = elim (lawful.stores a 
 ]
 
 slot-at : (c : Config) (slot place d : ℕ) → d ≡ node_address c slot + place → place < NODE_WORDS → slot_of c d ≡ slot
-slot-at c slot place d at within = let inside : d - node_address c 0 ≡ 128 * slot + place = omega (arith, at) in ap (λ n. n / 128) inside ∙ omega (arith, within)
+slot-at c slot place d at within = let inside : d - node_address c 0 ≡ NODE_WORDS * slot + place = omega (arith, at) in ap (λ n. n / NODE_WORDS) inside ∙ omega (arith, within)
 
 -- and those are of no free slot: it took theirs, or a link has led there
 module _ (p : Parts) (k : IsAwake p) where

@@ -1,7 +1,8 @@
 use Rattle.std.proofs.Common.{◌≡◌, ◌≢◌, sym, ap, ◌∙◌, arith, inl, inr}
 use Rattle.std.proofs.lemmas.Bool.{cases_eq}
 use Rattle.bz_content.specs.Resolving.{target_in}
-use Rattle.bz_sweep.proofs.Finding.{of-descriptor, last-target, sought-value, IsChoice}
+use Rattle.bz_word.specs.declared.kind.WordKind.TheVariants.{Swap}
+use Rattle.bz_sweep.proofs.Finding.{of-descriptor, last-target, sought-value, unresolved-found, IsChoice}
 use Rattle.bz_sweep.proofs.words.sought.Goals.{then-target-from-via-then-target-from, then-target-from-via-else-target-from+then-entry-eq-MAX_ENTRIES, then-pointer, else-pointer}
 use Rattle.bz_sweep.proofs.words.sought.Goals as goal
 
@@ -13,7 +14,7 @@ returns-then-target-from-clause-learns c r v m spot h k e =
           of-descriptor r v m c.args.spot.unflushed c.args.spot.at c.args.pointer.swap c.args.entry 0 c.args.target spot.shared h k.pointer c.requires (omega arith) e ∙ (w.if-target-from.true ∙ c.from.ensures)
       | then-target-from-via-else-target-from+then-entry-eq-MAX_ENTRIES w ↦ last-target r v m c.args.spot.unflushed c.args.spot.at c.args.pointer c.args.entry spot.shared h k w.if-entry-eq-MAX_ENTRIES.true
     ] in
-    (h, sought-value r v m c.args.spot.unflushed c.args.spot.at c.args.pointer c.args.entry c.if-pointer.word c.address_in_entry.result spot.shared h k c.requires target choice c.address_in_entry.ensures)
+    (h, sought-value r v m c.args.spot.unflushed c.args.spot.at c.args.pointer c.args.entry c.if-pointer.word c.address_in_entry.result spot.shared h k c.requires target choice c.address_in_entry.ensures, unresolved-found (m.durable c.args.spot.at) (Swap c.args.pointer.swap) k.pointer (λ y is. cc))
 
 pub returns-clause-learns : goal.returns-clause-learns
 returns-clause-learns c r v m spot h k e =

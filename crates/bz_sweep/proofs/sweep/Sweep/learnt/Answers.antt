@@ -1,5 +1,5 @@
 use Rattle.std.proofs.Common.{◌==◌}
-use Rattle.bz_sweep.proofs.Standing.{stable, askable, ends, image, loaded}
+use Rattle.bz_sweep.proofs.Standing.{stable, askable, differs, ends, image, loaded}
 use Rattle.bz_sweep.proofs.sweep.Sweep.learnt.Goals as goal
 
 pub returns-clause-stable : goal.returns-clause-stable
@@ -7,6 +7,9 @@ returns-clause-stable c v stage old new a k e = stable c.args.self.now.area v ol
 
 pub returns-clause-askable : goal.returns-clause-askable
 returns-clause-askable c v m ask k e = askable c.args.self.now.area v m c.args.self.now.phase ask c.requires.place k e
+
+pub returns-clause-differs : goal.returns-clause-differs
+returns-clause-differs c v m a x k e = differs c.args.self.now.area v m c.args.self.now.phase a x c.requires.place k e
 
 pub returns-clause-ends : goal.returns-clause-ends
 returns-clause-ends c v stage m k e = ends c.args.self.now.area v m stage c.args.self.now.phase k e
