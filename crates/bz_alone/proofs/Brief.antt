@@ -23,7 +23,7 @@ use Rattle.bz_task.specs.declared.todo.Todo.{Todo}
 use Rattle.bz_task.specs.declared.todo.Todo.TheVariants.{Read, Load, Store, Flush, Swap, Finish}
 use Rattle.bz_alone.specs.Alone.{IsAlone}
 use Rattle.bz_alone.specs.Brief.{AllIdle, LooksFor, LookUpsAreBrief, WaysAreBrief, BriefLookUpsGoOn, GetsAreBrief}
-use Rattle.bz_running.specs.Duties.{made_of}
+use Rattle.bz_running.specs.Duties.{made_of, view_of}
 use Rattle.bz_alone.specs.Reads.{get_reads, PathsReadFew}
 use Rattle.bz_alone.specs.Tasks.{LonersGoOn}
 
@@ -107,7 +107,7 @@ ways-are-brief m w acts key path t u s h few facts e look none same last = recor
 
 -- a look-up makes no swap
 none-made : (t : AnyTask) → look_of t ≢ NoLook → made_of t ≡ 0
-unfolding made_of look_of
+unfolding view_of look_of
 none-made (Seeking t) l = refl
 none-made (Finding t) l = refl
 none-made (ReadsLeaf t) l = absurd (l refl)

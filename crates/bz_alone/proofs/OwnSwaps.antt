@@ -17,7 +17,7 @@ use Rattle.bz_record.specs.Leaves.{WasReserved}
 use Rattle.bz_record.specs.declared.new_record.NewRecord.{NewRecord}
 use Rattle.bz_task.specs.Scene.{Scene, Waiting, IsScene, here}
 use Rattle.bz_task.specs.declared.view.KeyView.{KeyView}
-use Rattle.bz_running.specs.Duties.{facts_of, made_of}
+use Rattle.bz_running.specs.Duties.{facts_of, made_of, view_of}
 use Rattle.bz_running.specs.declared.running.AnyTask.{AnyTask}
 use Rattle.bz_running.specs.declared.running.AnyTask.TheVariants as running
 use Rattle.bz_alone.specs.Counts.{OwnSwapsAreCounted}
@@ -72,7 +72,7 @@ module _ (b : FreezeLaws) (s : Scene) (good : IsScene s) where
   merge-counts r phase f = none
 
   counts : (t : AnyTask) → facts_of t Waiting s → (s.past.at s.past.since).effects + made_of t ≤ (here s).effects
-  unfolding facts_of made_of
+  unfolding view_of
   counts (running.Inserting t) f = insert-counts t.added t.phase f
   counts (running.Updating t) f = update-counts t.view t.added t.phase f
   counts (running.Merging t) f = merge-counts (merging_of t) t.phase f

@@ -38,7 +38,7 @@ use Rattle.bz_task.specs.declared.todo.Seen.{Seen}
 use Rattle.bz_task.specs.declared.todo.Seen.TheVariants.{Read as Was, Swapped}
 use Rattle.bz_task.specs.declared.todo.Todo.{Todo}
 use Rattle.bz_task.specs.declared.todo.Todo.TheVariants as todo
-use Rattle.bz_running.specs.Duties.{asks_of, facts_of, differs_of}
+use Rattle.bz_running.specs.Duties.{asks_of, facts_of, differs_of, view_of}
 use Rattle.bz_running.specs.declared.running.AnyTask.{AnyTask}
 use Rattle.bz_running.specs.declared.running.AnyTask.TheVariants as running
 use Rattle.bz_alone.specs.Restarts.{LoneRestartsAreRefusals}
@@ -104,7 +104,7 @@ of-merge r phase (Was v) d = tt
 of-merge r phase seen d = absurd d
 
 of-read : (t : AnyTask) (seen : Seen) → differs_of t seen → IsOfRead seen
-unfolding differs_of
+unfolding view_of
 of-read (running.Seeking t) seen d = of-seek t.phase seen d
 of-read (running.Finding t) seen d = of-find t t.phase seen d
 of-read (running.Reading t) seen d = of-leaf t.link t.image.0 t.phase seen d

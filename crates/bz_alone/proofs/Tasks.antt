@@ -1,5 +1,5 @@
 -- Whichever task it is, by the law of its own kind.
-use Rattle.bz_running.specs.Duties.{config_of, asks_of, made_of, facts_of, differs_of}
+use Rattle.bz_running.specs.Duties.{view_of}
 use Rattle.bz_running.specs.declared.running.AnyTask.TheVariants.{Seeking, Finding, Reading, Inserting, Updating, Deleting, Freezing, Consolidating, Splitting, SplittingBelow, SplittingInner, SplittingInnerRoot, Merging}
 use Rattle.bz_alone.specs.Changes.{InsertsGoOn, UpdatesGoOn, MergesGoOn}
 use Rattle.bz_alone.specs.Laws.{FreezesGoOn, DeletesGoOn, ConsolidationsGoOn, RootSplitsGoOn, SplitsBelowGoOn, InnerSplitsGoOn, InnerRootSplitsGoOn}
@@ -22,7 +22,7 @@ pub record Kinds : Type 0 where
   pub merges : MergesGoOn
 
 pub loners-go-on : Kinds → LonersGoOn
-unfolding config_of asks_of facts_of differs_of made_of
+unfolding view_of
 loners-go-on b (Seeking t) s same good f a = b.seeks t s same good f a
 loners-go-on b (Finding t) s same good f a = b.finds t s same good f a
 loners-go-on b (Reading t) s same good f a = b.readings t s same good f a

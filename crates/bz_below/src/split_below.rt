@@ -1,7 +1,7 @@
 //! The task that splits a frozen leaf below a parent.
 
-ghost use Rattle.std.specs.Prelude.{◌≡◌, ◌≢◌, ◌↔◌, ◌+◌, ◌-◌, ◌<◌, ◌≤◌, ◌^◌, ◌⊎◌, ℕ, List, Option, Some, None, IsTrue, IsSome, IfSome, true, false, slice_get, length};
-ghost use Rattle.bz_layout.specs.declared.sizes.TheConstants.{NODE_WORDS, NODE_LINES};
+ghost use Rattle.std.specs.Prelude.{◌≡◌, ◌≢◌, ◌↔◌, ◌+◌, ◌-◌, ◌<◌, ◌≤◌, ◌^◌, ◌⊎◌, ℕ, List, Some, None, IsTrue, IsSome, IfSome, true, false, slice_get, length};
+ghost use Rattle.bz_layout.specs.declared.sizes.TheConstants.{NODE_WORDS};
 ghost use Rattle.bz_layout.specs.Config.{IsConfig};
 ghost use Rattle.bz_layout.specs.declared.thresholds.TheConstants.{SPLIT_ABOVE, SPLIT_SLOTS, MAX_LEVELS};
 ghost use Rattle.bz_renew.specs.FromPage.Pages.{IsLeafByItself};
@@ -10,14 +10,15 @@ ghost use Rattle.bz_renew.specs.Nodes.{word_value};
 ghost use Rattle.bz_slotted.specs.Readers.{live_of};
 ghost use Rattle.bz_slotted.specs.ReadingLaws.{node_of};
 ghost use Rattle.bz_word.specs.Statuses.{status};
+ghost use Rattle.bz_task.specs.Contract.{IsBegun};
 ghost use Rattle.bz_task.specs.Outcomes.{IsPath, IsView};
 ghost use Rattle.bz_task.specs.OwnActs.{AreTakenFrom, AreUnreached, gained};
 ghost use Rattle.bz_task.specs.Requests.{Hears, Tells, IsKnown, swaps_in, effects_in};
 ghost use Rattle.bz_task.specs.Scene.{Scene, Stage, Waiting, IsScene};
 ghost use Rattle.bz_layout.specs.declared.swaps.TheConstants.{RENEWAL_SWAPS};
 ghost use Rattle.bz_task.specs.declared.todo.Seen.TheVariants.{Start, Read as Was, Swapped, NoSwap as NoneLeft};
-ghost use Rattle.bz_below.specs.Duties.{below_of, asks_below, end_below, left_below, swaps_below, made_below, needs_below, facts_below, differs_below, basis_below};
-ghost use Rattle.bz_below.specs.Facts.{IsEndOfSplitBelow, below_nodes, below_acts, below_end, below_left, below_steps, below_swaps, below_facts, below_means, HasRoom, HasParent, IsNewParent, HasBegunBelow, HasLookedBelow, HasOpened, HasTold, IsNotOvertaken, HasBegunOrWaits, IsReadyBelow, IsThawedAbove, WasPartedBelow, LackedPart, below_needs, word_after, store_after, flush_after};
+ghost use Rattle.bz_below.specs.Duties.{below_of, asks_below, end_below, left_below, swaps_below, needs_below, facts_below, differs_below, below_view};
+ghost use Rattle.bz_below.specs.Facts.{IsEndOfSplitBelow, below_nodes, below_acts, below_end, below_left, below_steps, below_swaps, below_facts, HasRoom, HasParent, IsNewParent, HasBegunBelow, HasLookedBelow, HasOpened, HasTold, IsNotOvertaken, HasBegunOrWaits, IsReadyBelow, IsThawedAbove, WasPartedBelow, LackedPart, below_needs, word_after, store_after, flush_after};
 ghost use Rattle.bz_split.specs.Facts.{split_change};
 ghost use Rattle.bz_split.specs.Parts.{ArePartsOf};
 
@@ -84,21 +85,16 @@ impl SplitBelow {
         requires frozen { (status view.status).frozen ≡ true }
         requires leads { LeadsTo path view.slot }
         requires thawed { IsThawedAbove path }
-        ensures config { ⟦<SplitBelow as Task>⟧.config result ≡ config.now }
-        ensures asks { ⟦<SplitBelow as Task>⟧.asks result ≡ None }
-        ensures left { ⟦<SplitBelow as Task>⟧.left result ≡ below_acts }
-        ensures swaps { ⟦<SplitBelow as Task>⟧.swaps result ≡ RENEWAL_SWAPS }
-        ensures made { ⟦<SplitBelow as Task>⟧.made result ≡ 0 }
-        ensures needs { ⟦<SplitBelow as Task>⟧.needs result ≡ SPLIT_SLOTS }
-        ensures change { ⟦<SplitBelow as Task>⟧.change result ≡ split_change }
-        ensures slot { (⟦<SplitBelow as Task>⟧.basis result).slot ≡ view.slot }
+        ensures begun { IsBegun (⟦<SplitBelow as Task>⟧.view result) config.now below_acts RENEWAL_SWAPS SPLIT_SLOTS }
+        ensures change { (⟦<SplitBelow as Task>⟧.view result).change ≡ split_change }
+        ensures slot { ((⟦<SplitBelow as Task>⟧.view result).basis).slot ≡ view.slot }
         ensures halves { ArePartsOf view.image.0 result.halves.left.0 result.halves.right.0 result.halves.separator }
-        ensures facts { (key : List ℕ) (s : Scene) → s.past.config ≡ config.now → IsScene s → IsPath key path s.past → IsView key view s.past → ⟦<SplitBelow as Task>⟧.facts result Waiting s }
-        ensures done { (upper lower : Link) (s : Scene) → slice_get path.links (path.depth - 2) ≡ Some upper → slice_get path.links (path.depth - 1) ≡ Some lower → ⟦<SplitBelow as Task>⟧.means result Outcome.Done s → WasPartedBelow upper lower view s.past }
-        ensures no_path { (other : Path) (s : Scene) → ⟦<SplitBelow as Task>⟧.means result (Outcome.Path other) s → ⊥ }
-        ensures no_view { (other : LeafView) (s : Scene) → ⟦<SplitBelow as Task>⟧.means result (Outcome.View other) s → ⊥ }
-        ensures no_room { (upper lower : Link) (s : Scene) → slice_get path.links (path.depth - 2) ≡ Some upper → slice_get path.links (path.depth - 1) ≡ Some lower → ⟦<SplitBelow as Task>⟧.means result Outcome.NeedsRoom s → LackedPart upper lower view s.past }
-        ensures only { (outcome : Outcome) (s : Scene) → ⟦<SplitBelow as Task>⟧.means result outcome s → IsEndOfSplitBelow outcome }
+        ensures facts { (key : List ℕ) (s : Scene) → s.past.config ≡ config.now → IsScene s → IsPath key path s.past → IsView key view s.past → (⟦<SplitBelow as Task>⟧.view result).facts Waiting s }
+        ensures done { (upper lower : Link) (s : Scene) → slice_get path.links (path.depth - 2) ≡ Some upper → slice_get path.links (path.depth - 1) ≡ Some lower → (⟦<SplitBelow as Task>⟧.view result).means Outcome.Done s → WasPartedBelow upper lower view s.past }
+        ensures no_path { (other : Path) (s : Scene) → (⟦<SplitBelow as Task>⟧.view result).means (Outcome.Path other) s → ⊥ }
+        ensures no_view { (other : LeafView) (s : Scene) → (⟦<SplitBelow as Task>⟧.view result).means (Outcome.View other) s → ⊥ }
+        ensures no_room { (upper lower : Link) (s : Scene) → slice_get path.links (path.depth - 2) ≡ Some upper → slice_get path.links (path.depth - 1) ≡ Some lower → (⟦<SplitBelow as Task>⟧.view result).means Outcome.NeedsRoom s → LackedPart upper lower view s.past }
+        ensures only { (outcome : Outcome) (s : Scene) → (⟦<SplitBelow as Task>⟧.view result).means outcome s → IsEndOfSplitBelow outcome }
     {
         bz_renew::laws::views_show_frozen_leaves();
         bz_layout::slots_apart();
@@ -473,31 +469,7 @@ fn named(word: u64) -> Phase
 }
 
 impl Task for SplitBelow {
-    ghost config = { λ t. t.config };
-
-    ghost asks = { asks_below };
-
-    ghost end = { end_below };
-
-    ghost left = { left_below };
-
-    ghost swaps = { swaps_below };
-
-    ghost made = { made_below };
-
-    ghost needs = { needs_below };
-
-    ghost change = { λ t. split_change };
-
-    ghost basis = { basis_below };
-
-    ghost publishing = { λ t. false };
-
-    ghost facts = { facts_below };
-
-    ghost means = { λ t. below_means t.upper t.lower t.halves.left.0 t.halves.right.0 t.halves.separator };
-
-    ghost differs = { differs_below };
+    ghost view = { below_view };
 
     fn publishes(&self) -> bool {
         false

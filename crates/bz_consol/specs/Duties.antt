@@ -1,11 +1,12 @@
 -- A consolidation as a task.
-use Rattle.std.specs.Prelude.{ℕ, [], ◌∷◌, Option}
+use Rattle.std.specs.Prelude.{ℕ, [], ◌∷◌, Option, false}
 use Rattle.bz_task.specs.Basis.{Basis}
 use Rattle.bz_task.specs.Scene.{Scene, Stage}
+use Rattle.bz_task.specs.TaskView.{TaskView}
 use Rattle.bz_task.specs.declared.todo.Outcome.{Outcome}
 use Rattle.bz_task.specs.declared.todo.Seen.{Seen}
 use Rattle.bz_task.specs.declared.todo.Todo.{Todo}
-use Rattle.bz_consol.specs.Facts.{Renewal, consol_asks, consol_end, consol_left, consol_swaps, consol_needs, consol_facts, consol_differs}
+use Rattle.bz_consol.specs.Facts.{Renewal, consol_asks, consol_end, consol_left, consol_swaps, consol_needs, consol_facts, consol_differs, consol_change, consol_means}
 use Rattle.bz_consol.specs.declared.consolidate.Consolidate.{Consolidate}
 
 abbrev pub renewal_of : Consolidate → Renewal
@@ -23,10 +24,6 @@ left_of t = consol_left t.phase
 abbrev pub swaps_of : Consolidate → ℕ
 swaps_of t = consol_swaps t.phase
 
--- its one swap is its last act where it takes effect: while it goes on it has made none
-abbrev pub made_of : Consolidate → ℕ
-made_of t = 0
-
 abbrev pub needs_of : Consolidate → ℕ
 needs_of t = consol_needs t.phase
 
@@ -39,3 +36,22 @@ differs_of t = consol_differs t.link t.phase
 -- the leaf to which the link leads, and the words of the copy
 abbrev pub basis_of : Consolidate → Basis
 basis_of t = record { slot = t.link.slot; nodes = t.image.0 ∷ [] }
+
+-- as its contract sees it
+abbrev pub consol_view : Consolidate → TaskView
+consol_view t = record {
+  config = t.config;
+  asks = asks_of t;
+  end = end_of t;
+  left = left_of t;
+  swaps = swaps_of t;
+  -- its one swap is its last act where it takes effect: while it goes on it has made none
+  made = 0;
+  needs = needs_of t;
+  change = consol_change;
+  basis = basis_of t;
+  publishing = false;
+  facts = facts_of t;
+  means = consol_means t.link t.image.0;
+  differs = differs_of t;
+}

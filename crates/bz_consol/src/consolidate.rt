@@ -1,19 +1,19 @@
 //! The task that consolidates a frozen leaf.
 
-ghost use Rattle.std.specs.Prelude.{◌≡◌, ◌≢◌, ◌↔◌, ◌-◌, ◌+◌, ◌<◌, ◌≤◌, ◌^◌, ◌⊎◌, ℕ, List, Some, None, IsTrue, true, false, slice_get, length};
+ghost use Rattle.std.specs.Prelude.{◌≡◌, ◌≢◌, ◌↔◌, ◌-◌, ◌+◌, ◌<◌, ◌≤◌, ℕ, List, Some, None, IsTrue, true, false, slice_get};
 ghost use Rattle.bz_layout.specs.Config.{IsConfig};
 ghost use Rattle.bz_layout.specs.declared.thresholds.TheConstants.{CONSOLIDATION_SLOTS, MAX_LEVELS};
 ghost use Rattle.bz_layout.specs.declared.sizes.TheConstants.{NODE_LINES};
 ghost use Rattle.bz_renew.specs.FromPage.Pages.{IsLeafByItself};
 ghost use Rattle.bz_word.specs.Statuses.{status};
+ghost use Rattle.bz_task.specs.Contract.{IsBegun, MayHear, GoesOn, Learns};
 ghost use Rattle.bz_task.specs.Outcomes.{IsPath, IsView};
-ghost use Rattle.bz_task.specs.OwnActs.{AreTakenFrom, AreUnreached, gained};
 ghost use Rattle.bz_task.specs.Requests.{Hears, Tells, IsKnown, swaps_in, effects_in};
 ghost use Rattle.bz_task.specs.Scene.{Scene, Stage, Waiting, IsScene};
 ghost use Rattle.bz_layout.specs.declared.swaps.TheConstants.{RENEWAL_SWAPS};
-ghost use Rattle.bz_task.specs.declared.todo.Seen.TheVariants.{Start, Read as Was, Swapped, NoSwap as NoneLeft};
-ghost use Rattle.bz_consol.specs.Duties.{renewal_of, asks_of, basis_of, end_of, left_of, swaps_of, made_of, needs_of, facts_of, differs_of};
-ghost use Rattle.bz_consol.specs.Facts.{IsEndOfConsolidation, HasBegun, HasLooked, IsMadeOf, consol_acts, consol_asks, consol_end, consol_left, consol_steps, consol_swaps, consol_facts, consol_means, consol_change, IsReady, LeadsTo, WasRenewed, next_store, next_flush};
+ghost use Rattle.bz_task.specs.declared.todo.Seen.TheVariants.{Read as Was, Swapped, NoSwap as NoneLeft};
+ghost use Rattle.bz_consol.specs.Duties.{renewal_of, asks_of, left_of, swaps_of, facts_of, consol_view};
+ghost use Rattle.bz_consol.specs.Facts.{IsEndOfConsolidation, HasBegun, HasLooked, IsMadeOf, consol_acts, consol_end, consol_left, consol_steps, consol_swaps, consol_facts, consol_change, IsReady, LeadsTo, WasRenewed, next_store, next_flush};
 
 use crate::copies::copy_of;
 use crate::laws::renewals_are_good;
@@ -48,21 +48,16 @@ impl Consolidate {
         requires leaf { IsLeafByItself view.image.0 }
         requires frozen { (status view.status).frozen ≡ true }
         requires leads { LeadsTo path view.slot }
-        ensures config { ⟦<Consolidate as Task>⟧.config result ≡ config.now }
-        ensures asks { ⟦<Consolidate as Task>⟧.asks result ≡ None }
-        ensures left { ⟦<Consolidate as Task>⟧.left result ≡ consol_acts }
-        ensures swaps { ⟦<Consolidate as Task>⟧.swaps result ≡ RENEWAL_SWAPS }
-        ensures made { ⟦<Consolidate as Task>⟧.made result ≡ 0 }
-        ensures needs { ⟦<Consolidate as Task>⟧.needs result ≡ CONSOLIDATION_SLOTS }
-        ensures change { ⟦<Consolidate as Task>⟧.change result ≡ consol_change }
-        ensures slot { (⟦<Consolidate as Task>⟧.basis result).slot ≡ view.slot }
+        ensures begun { IsBegun (⟦<Consolidate as Task>⟧.view result) config.now consol_acts RENEWAL_SWAPS CONSOLIDATION_SLOTS }
+        ensures change { (⟦<Consolidate as Task>⟧.view result).change ≡ consol_change }
+        ensures slot { ((⟦<Consolidate as Task>⟧.view result).basis).slot ≡ view.slot }
         ensures copy { IsMadeOf view.image.0 result.image.0 }
-        ensures facts { (key : List ℕ) (s : Scene) → s.past.config ≡ config.now → IsScene s → IsPath key path s.past → IsView key view s.past → ⟦<Consolidate as Task>⟧.facts result Waiting s }
-        ensures done { (link : Link) (s : Scene) → slice_get path.links (path.depth - 1) ≡ Some link → ⟦<Consolidate as Task>⟧.means result Outcome.Done s → WasRenewed link view s.past }
-        ensures no_path { (other : Path) (s : Scene) → ⟦<Consolidate as Task>⟧.means result (Outcome.Path other) s → ⊥ }
-        ensures no_view { (other : LeafView) (s : Scene) → ⟦<Consolidate as Task>⟧.means result (Outcome.View other) s → ⊥ }
-        ensures no_room { (s : Scene) → ⟦<Consolidate as Task>⟧.means result Outcome.NeedsRoom s → ⊥ }
-        ensures only { (outcome : Outcome) (s : Scene) → ⟦<Consolidate as Task>⟧.means result outcome s → IsEndOfConsolidation outcome }
+        ensures facts { (key : List ℕ) (s : Scene) → s.past.config ≡ config.now → IsScene s → IsPath key path s.past → IsView key view s.past → (⟦<Consolidate as Task>⟧.view result).facts Waiting s }
+        ensures done { (link : Link) (s : Scene) → slice_get path.links (path.depth - 1) ≡ Some link → (⟦<Consolidate as Task>⟧.view result).means Outcome.Done s → WasRenewed link view s.past }
+        ensures no_path { (other : Path) (s : Scene) → (⟦<Consolidate as Task>⟧.view result).means (Outcome.Path other) s → ⊥ }
+        ensures no_view { (other : LeafView) (s : Scene) → (⟦<Consolidate as Task>⟧.view result).means (Outcome.View other) s → ⊥ }
+        ensures no_room { (s : Scene) → (⟦<Consolidate as Task>⟧.view result).means Outcome.NeedsRoom s → ⊥ }
+        ensures only { (outcome : Outcome) (s : Scene) → (⟦<Consolidate as Task>⟧.view result).means outcome s → IsEndOfConsolidation outcome }
     {
         bz_renew::laws::views_show_frozen_leaves();
         let image = copy_of(&view, page);
@@ -141,28 +136,12 @@ impl Consolidate {
 
     // The next phase, whichever it is.
     fn step(&mut self, seen: Seen, slots: &mut Slots, moment: u32)
-        requires hears { Hears (asks_of self.old) seen }
-        requires known { IsKnown self.old.config (facts_of self.old) (asks_of self.old) seen moment }
-        requires memory { 0 < needs_of self.old → slots.old.nodes ≡ self.old.config.nodes }
-        ensures config { self.new.config ≡ self.old.config }
-        ensures link { self.new.link ≡ self.old.link }
-        ensures image { self.new.image ≡ self.old.image }
+        requires { MayHear (consol_view self.old) seen moment slots.old }
         ensures known { IsConfig self.new.config }
         ensures begun { self.new.phase ≢ Phase.Fresh }
         ensures ready { IsReady self.new.config (renewal_of self.new) self.new.phase }
-        ensures nearer { left_of self.new + consol_steps self.new.phase ≤ left_of self.old }
-        ensures fewer { swaps_of self.new + swaps_in (asks_of self.old) ≤ swaps_of self.old }
-        ensures counted { end_of self.new ≡ None → effects_in seen ≡ 0 }
-        ensures slots { AreTakenFrom (needs_of self.old) (needs_of self.new) slots.old slots.new }
-        ensures kept { (outcome : Outcome) → end_of self.new ≡ Some outcome → slots.new ≡ slots.old }
-        ensures begins { seen ≡ Start → end_of self.new ≡ None }
-        ensures done { end_of self.new ≡ Some Outcome.Done → seen ≡ Swapped true }
-        ensures last { seen ≡ Swapped true → end_of self.new ≡ Some Outcome.Done }
-        ensures restart { end_of self.new ≡ Some Outcome.Restart → (seen ≡ Swapped false) ⊎ differs_of self.old seen }
-        ensures no_swap { seen ≡ NoneLeft → end_of self.new ≡ Some (Outcome.Full Spent.Swaps) }
-        ensures full_swaps { end_of self.new ≡ Some (Outcome.Full Spent.Swaps) → seen ≡ NoneLeft }
-        ensures full_nodes { end_of self.new ≡ Some (Outcome.Full Spent.Nodes) → length slots.old.free < needs_of self.old }
-        ensures learns { (stage : Stage) (s : Scene) → s.past.config ≡ self.old.config → (0 < needs_of self.old → AreUnreached s slots.old) → facts_of self.old stage s → Tells (asks_of self.old) stage seen s → facts_of self.new Waiting (gained s slots.old slots.new) }
+        ensures goes { (todo : Todo) → asks_of self.new ≡ Some todo → GoesOn (consol_view self.old) (consol_view self.new) seen slots.old slots.new todo }
+        ensures learns { Learns (consol_view self.old) (consol_view self.new) seen moment slots.old slots.new }
     {
         laws::nothing_is_gained();
         bz_layout::slots_apart();
@@ -233,31 +212,7 @@ fn after_flush(n: u32) -> Phase
 }
 
 impl Task for Consolidate {
-    ghost config = { λ t. t.config };
-
-    ghost asks = { asks_of };
-
-    ghost end = { end_of };
-
-    ghost left = { left_of };
-
-    ghost swaps = { swaps_of };
-
-    ghost made = { made_of };
-
-    ghost needs = { needs_of };
-
-    ghost change = { λ t. consol_change };
-
-    ghost basis = { basis_of };
-
-    ghost publishing = { λ t. false };
-
-    ghost facts = { facts_of };
-
-    ghost means = { λ t. consol_means t.link t.image.0 };
-
-    ghost differs = { differs_of };
+    ghost view = { consol_view };
 
     fn publishes(&self) -> bool {
         false

@@ -28,7 +28,7 @@ use Rattle.bz_below.specs.FromSplit.Facts.{Split, split_asks, split_swaps}
 use Rattle.bz_task.specs.Requests.{swaps_in}
 use Rattle.bz_task.specs.declared.path.Link.{Link}
 use Rattle.bz_task.specs.declared.view.KeyView.{KeyView}
-use Rattle.bz_running.specs.Duties.{asks_of, swaps_of}
+use Rattle.bz_running.specs.Duties.{view_of}
 use Rattle.bz_running.specs.declared.running.AnyTask.TheVariants.{Seeking, Finding, Reading, Inserting, Updating, Deleting, Freezing, Consolidating, Splitting, SplittingBelow, SplittingInner, SplittingInnerRoot, Merging}
 use Rattle.bz_costs.specs.Laws.{AskedSwapsAreCounted}
 use Rattle.bz_descend.specs.declared.sight.Way.{Way as SeekPhase}
@@ -111,7 +111,7 @@ merge-counted c r merge.Fresh = omega arith
 merge-counted c r p = omega arith
 
 pub asked-counted : AskedSwapsAreCounted
-unfolding asks_of swaps_of
+unfolding view_of
 asked-counted (Seeking t) = seek-counted t.config t.phase
 asked-counted (Finding t) = find-counted t t.phase
 asked-counted (Reading t) = leaf-counted t.config t.link t.image t.phase

@@ -16,7 +16,7 @@ use Rattle.bz_running.specs.FromMerge.Facts.{merge_acts, merge_left, merge_needs
 use Rattle.bz_mutate.specs.DeleteFacts.{delete_left, delete_swaps}
 use Rattle.bz_mutate.specs.UpdateFacts.{update_acts, update_left, update_swaps}
 use Rattle.bz_below.specs.FromSplit.Facts.{split_acts, split_left, split_needs, split_swaps}
-use Rattle.bz_running.specs.Duties.{asks_of, left_of, needs_of, swaps_of}
+use Rattle.bz_running.specs.Duties.{view_of}
 use Rattle.bz_running.specs.declared.running.AnyTask.TheVariants.{Seeking, Finding, Reading, Inserting, Updating, Deleting, Freezing, Consolidating, Splitting, SplittingBelow, SplittingInner, SplittingInnerRoot, Merging}
 use Rattle.bz_costs.specs.Resources.{Resource, Marks, Descriptors, Slots}
 use Rattle.bz_costs.specs.Laws.{TasksWeighLittle}
@@ -173,7 +173,7 @@ lighter Descriptors left most swaps all now slots needs l s n = omega (arith, s)
 lighter Slots left most swaps all now slots needs l s n = n
 
 pub weigh-little : (r : Resource) → TasksWeighLittle r
-unfolding asks_of left_of swaps_of needs_of
+unfolding view_of
 weigh-little r (Seeking t) w = lighter r _ _ _ _ _ _ _ (omega (arith, seek-one t.phase)) none none
 weigh-little r (Finding t) w = lighter r _ _ _ _ _ _ _ (omega (arith, find-one t.phase)) none none
 weigh-little r (Reading t) w = lighter r _ _ _ _ _ _ _ (leaf-few t.phase) none none

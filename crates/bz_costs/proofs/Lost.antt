@@ -9,7 +9,7 @@ use Rattle.bz_running.specs.FromFork.Facts.{Fork, fork_asks, fork_end, fork_left
 use Rattle.bz_running.specs.FromFork.Phase.{Phase as ForkPhase}
 use Rattle.bz_running.specs.FromFork.Phase.TheVariants as fork
 use Rattle.bz_layout.specs.declared.config.Config.{Config}
-use Rattle.bz_running.specs.Duties.{asks_of, left_of, needs_of, swaps_of}
+use Rattle.bz_running.specs.Duties.{view_of}
 use Rattle.bz_task.specs.Requests.{swaps_in}
 use Rattle.bz_task.specs.declared.todo.Outcome.TheVariants.{NeedsRoom}
 use Rattle.bz_costs.specs.Failing.{cost_of_lost_below, cost_of_lost_inner}
@@ -38,7 +38,7 @@ node-lost r c x fork.NoRoom e = node-left r
 node-lost r c x p e = absurd (cc)
 
 pub lost-little : (r : Resource) → LostSplitsCostLittle r
-unfolding asks_of left_of needs_of swaps_of
+unfolding view_of
 lost-little r = record {
   below = λ t a e. leaf-lost r t.config (below_of t) t.waits t.phase e;
   inner = λ t a e. node-lost r t.config (fork_of t) t.phase e;

@@ -1,12 +1,14 @@
 -- The split of an inner root as a task.
-use Rattle.std.specs.Prelude.{ℕ, zero, suc, List, [], Option, slice_index}
+use Rattle.std.specs.Prelude.{ℕ, zero, suc, List, [], Option, slice_index, false}
 use Rattle.bz_task.specs.Basis.{Basis}
 use Rattle.bz_task.specs.Scene.{Scene, Stage}
+use Rattle.bz_task.specs.TaskView.{TaskView}
 use Rattle.bz_task.specs.declared.todo.Outcome.{Outcome}
 use Rattle.bz_task.specs.declared.todo.Seen.{Seen}
 use Rattle.bz_task.specs.declared.todo.Todo.{Todo}
-use Rattle.bz_crown.specs.Facts.{Crown, crown_asks, crown_end, crown_left, crown_swaps, crown_needs, crown_facts, crown_differs}
+use Rattle.bz_crown.specs.Facts.{Crown, crown_asks, crown_end, crown_left, crown_swaps, crown_needs, crown_facts, crown_differs, crown_means}
 use Rattle.bz_crown.specs.declared.split_inner_root.SplitInnerRoot.{SplitInnerRoot}
+use Rattle.bz_branch.specs.FromSplit.Facts.{split_change}
 
 -- the words of the new root, of the left half and of the right half
 abbrev pub three : List ℕ → List ℕ → List ℕ → ℕ → List ℕ
@@ -29,10 +31,6 @@ left_crown t = crown_left t.phase
 abbrev pub swaps_crown : SplitInnerRoot → ℕ
 swaps_crown t = crown_swaps t.phase
 
--- its one swap is its last act where it takes effect: while it goes on it has made none
-abbrev pub made_crown : SplitInnerRoot → ℕ
-made_crown t = 0
-
 abbrev pub needs_crown : SplitInnerRoot → ℕ
 needs_crown t = crown_needs t.phase
 
@@ -45,3 +43,22 @@ differs_crown t = crown_differs t.upper t.lower t.phase
 -- the root
 abbrev pub basis_crown : SplitInnerRoot → Basis
 basis_crown t = record { slot = t.upper.slot; nodes = [] }
+
+-- as its contract sees it
+abbrev pub crown_view : SplitInnerRoot → TaskView
+crown_view t = record {
+  config = t.config;
+  asks = asks_crown t;
+  end = end_crown t;
+  left = left_crown t;
+  swaps = swaps_crown t;
+  -- its one swap is its last act where it takes effect: while it goes on it has made none
+  made = 0;
+  needs = needs_crown t;
+  change = split_change;
+  basis = basis_crown t;
+  publishing = false;
+  facts = facts_crown t;
+  means = crown_means t.upper;
+  differs = differs_crown t;
+}

@@ -1,21 +1,21 @@
 //! The task that splits a root that is an inner node.
 
-ghost use Rattle.std.specs.Prelude.{◌≡◌, ◌≢◌, ◌↔◌, ◌+◌, ◌-◌, ◌<◌, ◌≤◌, ◌^◌, ◌⊎◌, ℕ, List, Option, Some, None, IsTrue, true, false, slice_get, slice_index, length};
+ghost use Rattle.std.specs.Prelude.{◌≡◌, ◌≢◌, ◌↔◌, ◌+◌, ◌<◌, ◌≤◌, ◌⊎◌, ℕ, List, Some, None, true, false, slice_get, slice_index, length};
 ghost use Rattle.bz_call.specs.declared.replies.Spent.TheVariants.{Height};
 ghost use Rattle.bz_layout.specs.Config.{IsConfig};
 ghost use Rattle.bz_layout.specs.declared.thresholds.TheConstants.{SPLIT_SLOTS, MAX_LEVELS};
-ghost use Rattle.bz_layout.specs.declared.sizes.TheConstants.{NODE_LINES};
 ghost use Rattle.bz_renew.specs.Nodes.{word_value};
+ghost use Rattle.bz_task.specs.Contract.{IsBegun};
 ghost use Rattle.bz_task.specs.Outcomes.{IsPath};
 ghost use Rattle.bz_task.specs.OwnActs.{AreTakenFrom, AreUnreached, gained};
 ghost use Rattle.bz_task.specs.Requests.{Hears, Tells, IsKnown, swaps_in, effects_in};
 ghost use Rattle.bz_task.specs.Scene.{Scene, Stage, Waiting, IsScene};
 ghost use Rattle.bz_layout.specs.declared.swaps.TheConstants.{RENEWAL_SWAPS};
-ghost use Rattle.bz_task.specs.declared.todo.Seen.TheVariants.{Start, Read as Was, Swapped, NoSwap as NoneLeft};
+ghost use Rattle.bz_task.specs.declared.todo.Seen.TheVariants.{Start, Swapped, NoSwap as NoneLeft};
 ghost use Rattle.bz_branch.specs.FromSplit.Facts.{split_change};
 ghost use Rattle.bz_crown.specs.Due.{IsDue};
-ghost use Rattle.bz_crown.specs.Duties.{crown_of, asks_crown, basis_crown, end_crown, left_crown, swaps_crown, made_crown, needs_crown, facts_crown, differs_crown};
-ghost use Rattle.bz_crown.specs.Facts.{crown_nodes, crown_acts, crown_end, crown_left, crown_steps, crown_swaps, crown_facts, crown_means, IsEndOfCrown, HasBegunCrown, HasLookedCrown, HasTold, AreMadeOf, IsReadyCrown, IsSplittable, WasSplitAtRoot, WasTooHigh, crown_needs, word_after, store_after, flush_after};
+ghost use Rattle.bz_crown.specs.Duties.{crown_of, asks_crown, end_crown, left_crown, swaps_crown, needs_crown, facts_crown, differs_crown, crown_view};
+ghost use Rattle.bz_crown.specs.Facts.{crown_nodes, crown_acts, crown_end, crown_left, crown_steps, crown_swaps, crown_facts, IsEndOfCrown, HasBegunCrown, HasLookedCrown, HasTold, AreMadeOf, IsReadyCrown, IsSplittable, WasSplitAtRoot, WasTooHigh, crown_needs, word_after, store_after, flush_after};
 
 use crate::phase::Phase;
 use bz_branch::laws::{inner_root_splits_are_good, read_nodes_were};
@@ -58,21 +58,16 @@ impl SplitInnerRoot {
     pub fn new(config: &Config, path: Path) -> SplitInnerRoot
         requires few { path.depth ≤ MAX_LEVELS }
         requires due { IsDue path }
-        ensures config { ⟦<SplitInnerRoot as Task>⟧.config result ≡ config.now }
-        ensures asks { ⟦<SplitInnerRoot as Task>⟧.asks result ≡ None }
-        ensures left { ⟦<SplitInnerRoot as Task>⟧.left result ≡ crown_acts }
-        ensures swaps { ⟦<SplitInnerRoot as Task>⟧.swaps result ≡ RENEWAL_SWAPS }
-        ensures made { ⟦<SplitInnerRoot as Task>⟧.made result ≡ 0 }
-        ensures needs { ⟦<SplitInnerRoot as Task>⟧.needs result ≡ SPLIT_SLOTS }
-        ensures change { ⟦<SplitInnerRoot as Task>⟧.change result ≡ split_change }
-        ensures node { (upper : Link) → slice_get path.links 0 ≡ Some upper → (⟦<SplitInnerRoot as Task>⟧.basis result).slot ≡ upper.slot }
-        ensures facts { (key : List ℕ) (s : Scene) → s.past.config ≡ config.now → IsScene s → IsPath key path s.past → ⟦<SplitInnerRoot as Task>⟧.facts result Waiting s }
-        ensures done { (upper : Link) (s : Scene) → slice_get path.links 0 ≡ Some upper → ⟦<SplitInnerRoot as Task>⟧.means result Outcome.Done s → WasSplitAtRoot upper s.past }
-        ensures too_high { (upper : Link) (s : Scene) → slice_get path.links 0 ≡ Some upper → ⟦<SplitInnerRoot as Task>⟧.means result (Outcome.Full Height) s → WasTooHigh upper s.past }
-        ensures only { (outcome : Outcome) (s : Scene) → ⟦<SplitInnerRoot as Task>⟧.means result outcome s → IsEndOfCrown outcome }
-        ensures no_path { (other : Path) (s : Scene) → ⟦<SplitInnerRoot as Task>⟧.means result (Outcome.Path other) s → ⊥ }
-        ensures no_view { (other : LeafView) (s : Scene) → ⟦<SplitInnerRoot as Task>⟧.means result (Outcome.View other) s → ⊥ }
-        ensures no_room { (s : Scene) → ⟦<SplitInnerRoot as Task>⟧.means result Outcome.NeedsRoom s → ⊥ }
+        ensures begun { IsBegun (⟦<SplitInnerRoot as Task>⟧.view result) config.now crown_acts RENEWAL_SWAPS SPLIT_SLOTS }
+        ensures change { (⟦<SplitInnerRoot as Task>⟧.view result).change ≡ split_change }
+        ensures node { (upper : Link) → slice_get path.links 0 ≡ Some upper → ((⟦<SplitInnerRoot as Task>⟧.view result).basis).slot ≡ upper.slot }
+        ensures facts { (key : List ℕ) (s : Scene) → s.past.config ≡ config.now → IsScene s → IsPath key path s.past → (⟦<SplitInnerRoot as Task>⟧.view result).facts Waiting s }
+        ensures done { (upper : Link) (s : Scene) → slice_get path.links 0 ≡ Some upper → (⟦<SplitInnerRoot as Task>⟧.view result).means Outcome.Done s → WasSplitAtRoot upper s.past }
+        ensures too_high { (upper : Link) (s : Scene) → slice_get path.links 0 ≡ Some upper → (⟦<SplitInnerRoot as Task>⟧.view result).means (Outcome.Full Height) s → WasTooHigh upper s.past }
+        ensures only { (outcome : Outcome) (s : Scene) → (⟦<SplitInnerRoot as Task>⟧.view result).means outcome s → IsEndOfCrown outcome }
+        ensures no_path { (other : Path) (s : Scene) → (⟦<SplitInnerRoot as Task>⟧.view result).means (Outcome.Path other) s → ⊥ }
+        ensures no_view { (other : LeafView) (s : Scene) → (⟦<SplitInnerRoot as Task>⟧.view result).means (Outcome.View other) s → ⊥ }
+        ensures no_room { (s : Scene) → (⟦<SplitInnerRoot as Task>⟧.view result).means Outcome.NeedsRoom s → ⊥ }
     {
         bz_layout::slots_apart();
         let lower = link_at(&path, 1);
@@ -323,31 +318,7 @@ fn after_flush(j: u32) -> Phase
 }
 
 impl Task for SplitInnerRoot {
-    ghost config = { λ t. t.config };
-
-    ghost asks = { asks_crown };
-
-    ghost end = { end_crown };
-
-    ghost left = { left_crown };
-
-    ghost swaps = { swaps_crown };
-
-    ghost made = { made_crown };
-
-    ghost needs = { needs_crown };
-
-    ghost change = { λ t. split_change };
-
-    ghost basis = { basis_crown };
-
-    ghost publishing = { λ t. false };
-
-    ghost facts = { facts_crown };
-
-    ghost means = { λ t. crown_means t.upper };
-
-    ghost differs = { differs_crown };
+    ghost view = { crown_view };
 
     fn publishes(&self) -> bool {
         false

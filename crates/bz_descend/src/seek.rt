@@ -1,28 +1,26 @@
 //! The task that finds the way to a leaf.
 
-ghost use Rattle.std.specs.Prelude.{◌≡◌, ◌≢◌, ◌+◌, ◌<◌, ◌≤◌, ◌^◌, if◌then◌else◌, ℕ, Bool, List, length, take, Some, None, true, false};
+ghost use Rattle.std.specs.Prelude.{◌≡◌, ◌≢◌, ◌+◌, ◌<◌, ◌≤◌, ◌^◌, if◌then◌else◌, ℕ, Bool, List, length, take, Some, true, false};
 ghost use Rattle.bz_key.specs.Packing.{packed_len, unpacked_key};
 ghost use Rattle.bz_layout.specs.Addresses.{node_address};
-ghost use Rattle.bz_layout.specs.declared.config.Config.{Config as Sizes};
 ghost use Rattle.bz_layout.specs.Config.{IsConfig};
 ghost use Rattle.bz_layout.specs.declared.sizes.TheConstants.{NODE_WORDS, FENCE_WORDS, SHARED_WORDS, STATUS_AT, ROOT_STATUS_AT};
-ghost use Rattle.bz_search.specs.Probes.{middle};
 ghost use Rattle.bz_shape.specs.Order.{is_before as before};
 ghost use Rattle.bz_word.specs.Statuses.{status};
-ghost use Rattle.bz_task.specs.Basis.{no_basis};
+ghost use Rattle.bz_task.specs.Contract.{IsBegun};
 ghost use Rattle.bz_task.specs.Outcomes.{IsPath};
 ghost use Rattle.bz_task.specs.Requests.{Hears, Tells, IsKnown};
 ghost use Rattle.bz_task.specs.Scene.{Scene, Stage, Waiting, IsScene, HasFilled};
 ghost use Rattle.bz_task.specs.declared.todo.Outcome.{Outcome as Ends};
 ghost use Rattle.bz_task.specs.declared.todo.Seen.TheVariants.{Start};
 ghost use Rattle.bz_task.specs.declared.todo.Todo.TheVariants.{Read};
-ghost use Rattle.bz_descend.specs.Facts.{descend_change, IsEndOfDescent, IsInNode};
+ghost use Rattle.bz_descend.specs.Facts.{IsEndOfDescent, IsInNode};
 ghost use Rattle.bz_descend.specs.Grounds.{Laws};
 ghost use Rattle.bz_layout.specs.declared.thresholds.TheConstants.{MAX_LEVELS};
 ghost use Rattle.bz_descend.specs.Halving.{sight_in, settled};
 ghost use Rattle.bz_descend.specs.Inners.{most_records};
-ghost use Rattle.bz_descend.specs.SeekDuties.{config_of, key_of, asked_of, asks_of, end_of, left_of, facts_of, means_of, differs_of};
-ghost use Rattle.bz_descend.specs.SeekFacts.{seek_reads, path_reads, AreCountsOfNodes, StopsAfter, reads_at, asks_one, arrived_at, seek_asks, seek_left, seek_learnt, seek_facts, seek_differs, seek_bounds, seek_heard, IsSight, IsPlace, IsCounted};
+ghost use Rattle.bz_descend.specs.SeekDuties.{key_of, asked_of, facts_of, seek_view};
+ghost use Rattle.bz_descend.specs.SeekFacts.{seek_reads, path_reads, AreCountsOfNodes, StopsAfter, reads_at, asks_one, arrived_at, seek_asks, seek_left, seek_learnt, seek_facts, seek_differs, seek_bounds, seek_heard, IsCounted};
 ghost use Rattle.bz_descend.specs.Ways.{AreThawed};
 
 use crate::front::{extent_of, level_of, status_of, words_for};
@@ -57,18 +55,13 @@ pub struct Seek {
 impl Seek {
     /// A descent that has asked for nothing yet.
     pub fn new(config: &Config, key: Key) -> Seek
-        ensures config { ⟦<Seek as Task>⟧.config result ≡ config.now }
-        ensures asks { ⟦<Seek as Task>⟧.asks result ≡ None }
-        ensures left { ⟦<Seek as Task>⟧.left result ≡ seek_reads + 1 }
-        ensures swaps { ⟦<Seek as Task>⟧.swaps result ≡ 0 }
-        ensures made { ⟦<Seek as Task>⟧.made result ≡ 0 }
-        ensures needs { ⟦<Seek as Task>⟧.needs result ≡ 0 }
+        ensures begun { IsBegun (⟦<Seek as Task>⟧.view result) config.now (seek_reads + 1) 0 0 }
         ensures key { key_of result ≡ key }
         ensures asked { asked_of result ≡ 0 }
-        ensures facts { (s : Scene) → ⟦<Seek as Task>⟧.facts result Waiting s }
-        ensures path { (path : Path) (s : Scene) → ⟦<Seek as Task>⟧.means result (Outcome.Path path) s → IsPath key path s.past }
-        ensures thawed { (path : Path) (s : Scene) → ⟦<Seek as Task>⟧.means result (Outcome.Path path) s → AreThawed path }
-        ensures only { (outcome : Ends) (s : Scene) → ⟦<Seek as Task>⟧.means result outcome s → IsEndOfDescent outcome }
+        ensures facts { (s : Scene) → (⟦<Seek as Task>⟧.view result).facts Waiting s }
+        ensures path { (path : Path) (s : Scene) → (⟦<Seek as Task>⟧.view result).means (Outcome.Path path) s → IsPath key path s.past }
+        ensures thawed { (path : Path) (s : Scene) → (⟦<Seek as Task>⟧.view result).means (Outcome.Path path) s → AreThawed path }
+        ensures only { (outcome : Ends) (s : Scene) → (⟦<Seek as Task>⟧.view result).means outcome s → IsEndOfDescent outcome }
     {
         Seek {
             config: *config,
@@ -83,18 +76,18 @@ impl Seek {
 
     /// A descent that asks for its first read, that of the root status.
     pub fn begun(config: &Config, key: Key) -> Seek
-        ensures config { ⟦<Seek as Task>⟧.config result ≡ config.now }
-        ensures asks { ⟦<Seek as Task>⟧.asks result ≡ Some (Read ROOT_STATUS_AT) }
-        ensures left { ⟦<Seek as Task>⟧.left result ≡ seek_reads }
-        ensures swaps { ⟦<Seek as Task>⟧.swaps result ≡ 0 }
-        ensures made { ⟦<Seek as Task>⟧.made result ≡ 0 }
-        ensures needs { ⟦<Seek as Task>⟧.needs result ≡ 0 }
+        ensures config { (⟦<Seek as Task>⟧.view result).config ≡ config.now }
+        ensures asks { (⟦<Seek as Task>⟧.view result).asks ≡ Some (Read ROOT_STATUS_AT) }
+        ensures left { (⟦<Seek as Task>⟧.view result).left ≡ seek_reads }
+        ensures swaps { (⟦<Seek as Task>⟧.view result).swaps ≡ 0 }
+        ensures made { (⟦<Seek as Task>⟧.view result).made ≡ 0 }
+        ensures needs { (⟦<Seek as Task>⟧.view result).needs ≡ 0 }
         ensures key { key_of result ≡ key }
         ensures asked { asked_of result ≡ 1 }
-        ensures facts { (s : Scene) → HasFilled s → ⟦<Seek as Task>⟧.facts result Waiting s }
-        ensures path { (path : Path) (s : Scene) → ⟦<Seek as Task>⟧.means result (Outcome.Path path) s → IsPath key path s.past }
-        ensures thawed { (path : Path) (s : Scene) → ⟦<Seek as Task>⟧.means result (Outcome.Path path) s → AreThawed path }
-        ensures only { (outcome : Ends) (s : Scene) → ⟦<Seek as Task>⟧.means result outcome s → IsEndOfDescent outcome }
+        ensures facts { (s : Scene) → HasFilled s → (⟦<Seek as Task>⟧.view result).facts Waiting s }
+        ensures path { (path : Path) (s : Scene) → (⟦<Seek as Task>⟧.view result).means (Outcome.Path path) s → IsPath key path s.past }
+        ensures thawed { (path : Path) (s : Scene) → (⟦<Seek as Task>⟧.view result).means (Outcome.Path path) s → AreThawed path }
+        ensures only { (outcome : Ends) (s : Scene) → (⟦<Seek as Task>⟧.view result).means outcome s → IsEndOfDescent outcome }
     {
         Seek {
             config: *config,
@@ -111,9 +104,9 @@ impl Seek {
     pub fn asked(&self) -> u32
         ensures asked { result ≡ asked_of self.now }
         // where it has ended with a path, by the nodes of the path; where a guard was frozen, by those before it and its status
-        ensures found { (path : Path) (s : Scene) → ⟦<Seek as Task>⟧.facts self.now Waiting s → ⟦<Seek as Task>⟧.end self.now ≡ Some (Outcome.Path path) → result ≤ path_reads path }
-        ensures counts { (path : Path) (s : Scene) → IsScene s → ⟦<Seek as Task>⟧.facts self.now Waiting s → ⟦<Seek as Task>⟧.end self.now ≡ Some (Outcome.Path path) → AreCountsOfNodes path s.past }
-        ensures stopped { (s : Scene) → IsScene s → ⟦<Seek as Task>⟧.facts self.now Waiting s → ⟦<Seek as Task>⟧.end self.now ≡ Some Outcome.Restart → StopsAfter (key_of self.now) result s.past }
+        ensures found { (path : Path) (s : Scene) → (⟦<Seek as Task>⟧.view self.now).facts Waiting s → (⟦<Seek as Task>⟧.view self.now).end ≡ Some (Outcome.Path path) → result ≤ path_reads path }
+        ensures counts { (path : Path) (s : Scene) → IsScene s → (⟦<Seek as Task>⟧.view self.now).facts Waiting s → (⟦<Seek as Task>⟧.view self.now).end ≡ Some (Outcome.Path path) → AreCountsOfNodes path s.past }
+        ensures stopped { (s : Scene) → IsScene s → (⟦<Seek as Task>⟧.view self.now).facts Waiting s → (⟦<Seek as Task>⟧.view self.now).end ≡ Some Outcome.Restart → StopsAfter (key_of self.now) result s.past }
     {
         self.asked
     }
@@ -352,31 +345,7 @@ fn first_sight(slot: u16, word: u64) -> Way
 }
 
 impl Task for Seek {
-    ghost config = { config_of };
-
-    ghost asks = { asks_of };
-
-    ghost end = { end_of };
-
-    ghost left = { left_of };
-
-    ghost swaps = { λ t. 0 };
-
-    ghost made = { λ t. 0 };
-
-    ghost needs = { λ t. 0 };
-
-    ghost change = { λ t. descend_change };
-
-    ghost basis = { λ t. no_basis };
-
-    ghost publishing = { λ t. false };
-
-    ghost facts = { facts_of };
-
-    ghost means = { means_of };
-
-    ghost differs = { differs_of };
+    ghost view = { seek_view };
 
     fn publishes(&self) -> bool {
         false

@@ -1,10 +1,10 @@
 -- A look-up of a key as a task.
-use Rattle.std.specs.Prelude.{ℕ, ◌+◌, ◌-◌, List, Option}
-use Rattle.bz_layout.specs.declared.config.Config.{Config}
+use Rattle.std.specs.Prelude.{ℕ, ◌+◌, ◌-◌, List, Option, false}
 use Rattle.bz_leaf.specs.Facts.{IsLastLink}
+use Rattle.bz_task.specs.Basis.{no_basis}
 use Rattle.bz_task.specs.Outcomes.{IsPath}
 use Rattle.bz_task.specs.Scene.{Scene, Stage}
-use Rattle.bz_task.specs.Swaps.{Change}
+use Rattle.bz_task.specs.TaskView.{TaskView}
 use Rattle.bz_task.specs.declared.path.Path.{Path}
 use Rattle.bz_task.specs.declared.todo.Outcome.{Outcome}
 use Rattle.bz_task.specs.declared.todo.Seen.{Seen}
@@ -13,9 +13,6 @@ use Rattle.bz_task.specs.declared.todo.Todo.TheVariants.{Read}
 use Rattle.bz_find.specs.Facts.{find_acts, find_change, IsBounded, find_counts, find_facts, find_means, find_differs}
 use Rattle.bz_find.specs.Phases.{find_asks, find_end, reads_of}
 use Rattle.bz_find.specs.declared.find.Find.{Find}
-
-abbrev pub config_of : Find → Config
-config_of t = t.config
 
 -- the key that is looked up
 abbrev pub key_of : Find → List ℕ
@@ -45,15 +42,27 @@ end_of t = find_end t t.phase
 abbrev pub left_of : Find → ℕ
 left_of t = find_acts - 1 + reads_of t.phase - asked_of t
 
--- it changes nothing at its key
-abbrev pub change_of : Find → Change
-change_of t = find_change t.key
-
 abbrev pub facts_of : Find → Stage → Scene → Type 0
 facts_of t stage s = find_facts t t.phase stage s × IsPath t.key t.path s.past × IsBounded t × IsLastLink t.path t.link × find_counts t t.phase s.past
 
-abbrev pub means_of : Find → Outcome → Scene → Type 0
-means_of t = find_means t.key t.path
-
 abbrev pub differs_of : Find → Seen → Type 0
 differs_of t = find_differs t t.phase
+
+-- as its contract sees it
+abbrev pub find_view : Find → TaskView
+find_view t = record {
+  config = t.config;
+  asks = asks_of t;
+  end = end_of t;
+  left = left_of t;
+  swaps = 0;
+  made = 0;
+  needs = 0;
+  -- it changes nothing at its key
+  change = find_change t.key;
+  basis = no_basis;
+  publishing = false;
+  facts = facts_of t;
+  means = find_means t.key t.path;
+  differs = differs_of t;
+}

@@ -1,17 +1,17 @@
 //! The task that looks a key up in a leaf.
 
-ghost use Rattle.std.specs.Prelude.{◌≡◌, ◌≢◌, ◌+◌, ◌-◌, ◌<◌, ◌≤◌, ◌^◌, ℕ, Some, None, false, slice_get};
+ghost use Rattle.std.specs.Prelude.{◌≡◌, ◌≢◌, ◌+◌, ◌-◌, ◌<◌, ◌≤◌, ◌^◌, Some, slice_get};
 ghost use Rattle.bz_layout.specs.Config.{IsConfig};
 ghost use Rattle.bz_layout.specs.declared.thresholds.TheConstants.{MAX_LEVELS};
 ghost use Rattle.bz_leaf.specs.Facts.{IsLastLink};
-ghost use Rattle.bz_task.specs.Basis.{no_basis};
+ghost use Rattle.bz_task.specs.Contract.{IsBegun};
 ghost use Rattle.bz_task.specs.Instant.{durable};
 ghost use Rattle.bz_task.specs.Outcomes.{IsPath, IsKeyView};
-ghost use Rattle.bz_task.specs.Requests.{Hears, Tells, IsKnown};
-ghost use Rattle.bz_task.specs.Scene.{Scene, Stage, Waiting, IsScene, HasFilled};
+ghost use Rattle.bz_task.specs.Requests.{Hears, IsKnown};
+ghost use Rattle.bz_task.specs.Scene.{Scene, Waiting, IsScene};
 ghost use Rattle.bz_task.specs.declared.path.Link.{Link as LastLink};
 ghost use Rattle.bz_task.specs.declared.todo.Outcome.{Outcome as Ends};
-ghost use Rattle.bz_find.specs.Duties.{config_of, key_of, path_of, asked_of, asked_by, asks_of, end_of, left_of, change_of, facts_of, means_of, differs_of};
+ghost use Rattle.bz_find.specs.Duties.{key_of, path_of, asked_of, asked_by, asks_of, facts_of, find_view};
 ghost use Rattle.bz_find.specs.Facts.{find_acts, find_change, find_reads, IsBounded, IsEndOfFind, StopsIn};
 ghost use Rattle.bz_find.specs.Grounds.{Grounds};
 ghost use Rattle.bz_find.specs.Phases.{find_asks, gone_on, told, counted, view_of, IsPlain};
@@ -46,22 +46,17 @@ impl Find {
     pub fn new(config: &Config, path: Path, key: Key) -> Find
         requires some { 1 ≤ path.depth }
         requires few { path.depth ≤ MAX_LEVELS }
-        ensures config { ⟦<Find as Task>⟧.config result ≡ config.now }
-        ensures asks { ⟦<Find as Task>⟧.asks result ≡ None }
-        ensures left { ⟦<Find as Task>⟧.left result ≡ find_acts }
-        ensures swaps { ⟦<Find as Task>⟧.swaps result ≡ 0 }
-        ensures made { ⟦<Find as Task>⟧.made result ≡ 0 }
-        ensures needs { ⟦<Find as Task>⟧.needs result ≡ 0 }
+        ensures begun { IsBegun (⟦<Find as Task>⟧.view result) config.now find_acts 0 0 }
         ensures asked { asked_of result ≡ 0 }
         ensures key { key_of result ≡ key }
         ensures path { path_of result ≡ path }
-        ensures change { ⟦<Find as Task>⟧.change result ≡ find_change key }
+        ensures change { (⟦<Find as Task>⟧.view result).change ≡ find_change key }
         ensures last { (link : LastLink) × IsLastLink path link }
-        ensures facts { (s : Scene) → IsScene s → IsPath key path s.past → ⟦<Find as Task>⟧.facts result Waiting s }
-        ensures view { (view : KeyView) (s : Scene) → ⟦<Find as Task>⟧.means result (Outcome.Key view) s → IsKeyView key view s.past }
-        ensures leads { (view : KeyView) (s : Scene) → ⟦<Find as Task>⟧.means result (Outcome.Key view) s → IsPath key path s.past }
-        ensures only { (outcome : Ends) (s : Scene) → ⟦<Find as Task>⟧.means result outcome s → IsEndOfFind outcome }
-        ensures none { (path : Path) (s : Scene) → ⟦<Find as Task>⟧.means result (Outcome.Path path) s → ⊥ }
+        ensures facts { (s : Scene) → IsScene s → IsPath key path s.past → (⟦<Find as Task>⟧.view result).facts Waiting s }
+        ensures view { (view : KeyView) (s : Scene) → (⟦<Find as Task>⟧.view result).means (Outcome.Key view) s → IsKeyView key view s.past }
+        ensures leads { (view : KeyView) (s : Scene) → (⟦<Find as Task>⟧.view result).means (Outcome.Key view) s → IsPath key path s.past }
+        ensures only { (outcome : Ends) (s : Scene) → (⟦<Find as Task>⟧.view result).means outcome s → IsEndOfFind outcome }
+        ensures none { (path : Path) (s : Scene) → (⟦<Find as Task>⟧.view result).means (Outcome.Path path) s → ⊥ }
     {
         laws::fronts_stay();
         laws::headers_say_the_level();
@@ -81,8 +76,8 @@ impl Find {
     pub fn asked(&self) -> u32
         ensures asked { result ≡ asked_of self.now }
         // where it has ended: with a view of the key, by the leaf as it was then; and without one, by what the leaf was at a moment
-        ensures found { (view : KeyView) (s : Scene) → ⟦<Find as Task>⟧.facts self.now Waiting s → ⟦<Find as Task>⟧.end self.now ≡ Some (Outcome.Key view) → result ≤ find_reads (durable s.past.config (s.past.at view.at) view.slot) (key_of self.now) }
-        ensures stopped { (s : Scene) (link : LastLink) → ⟦<Find as Task>⟧.facts self.now Waiting s → ⟦<Find as Task>⟧.end self.now ≡ Some Outcome.Restart → IsLastLink (path_of self.now) link → StopsIn link.slot result s.past }
+        ensures found { (view : KeyView) (s : Scene) → (⟦<Find as Task>⟧.view self.now).facts Waiting s → (⟦<Find as Task>⟧.view self.now).end ≡ Some (Outcome.Key view) → result ≤ find_reads (durable s.past.config (s.past.at view.at) view.slot) (key_of self.now) }
+        ensures stopped { (s : Scene) (link : LastLink) → (⟦<Find as Task>⟧.view self.now).facts Waiting s → (⟦<Find as Task>⟧.view self.now).end ≡ Some Outcome.Restart → IsLastLink (path_of self.now) link → StopsIn link.slot result s.past }
     {
         self.asked
     }
@@ -251,31 +246,7 @@ fn last_link(path: &Path) -> Link
 }
 
 impl Task for Find {
-    ghost config = { config_of };
-
-    ghost asks = { asks_of };
-
-    ghost end = { end_of };
-
-    ghost left = { left_of };
-
-    ghost swaps = { λ t. 0 };
-
-    ghost made = { λ t. 0 };
-
-    ghost needs = { λ t. 0 };
-
-    ghost change = { change_of };
-
-    ghost basis = { λ t. no_basis };
-
-    ghost publishing = { λ t. false };
-
-    ghost facts = { facts_of };
-
-    ghost means = { means_of };
-
-    ghost differs = { differs_of };
+    ghost view = { find_view };
 
     fn publishes(&self) -> bool {
         false

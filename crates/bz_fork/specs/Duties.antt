@@ -1,13 +1,15 @@
 -- The split of an inner node below a parent as a task.
-use Rattle.std.specs.Prelude.{◌≡◌, ◌≤◌, ◌+◌, ℕ, zero, suc, List, Option, Some, slice_index, []}
+use Rattle.std.specs.Prelude.{◌≡◌, ◌≤◌, ◌+◌, ℕ, zero, suc, List, Option, Some, slice_index, [], false}
 use Rattle.bz_task.specs.Basis.{Basis}
 use Rattle.bz_task.specs.Scene.{Scene, Stage}
+use Rattle.bz_task.specs.TaskView.{TaskView}
 use Rattle.bz_task.specs.declared.todo.Outcome.{Outcome}
 use Rattle.bz_task.specs.declared.todo.Outcome.TheVariants.{NeedsRoom}
 use Rattle.bz_task.specs.declared.todo.Seen.{Seen}
 use Rattle.bz_task.specs.declared.todo.Todo.{Todo}
-use Rattle.bz_fork.specs.Facts.{Fork, fork_acts, fork_fails, fork_asks, fork_end, fork_left, fork_swaps, fork_needs, fork_facts, fork_differs}
+use Rattle.bz_fork.specs.Facts.{Fork, fork_acts, fork_fails, fork_asks, fork_end, fork_left, fork_swaps, fork_needs, fork_facts, fork_differs, fork_means}
 use Rattle.bz_fork.specs.declared.split_inner.SplitInner.{SplitInner}
+use Rattle.bz_branch.specs.FromSplit.Facts.{split_change}
 
 -- the words of the new parent, of the left half and of the right half
 abbrev pub three : List ℕ → List ℕ → List ℕ → ℕ → List ℕ
@@ -30,10 +32,6 @@ left_fork t = fork_left t.phase
 abbrev pub swaps_fork : SplitInner → ℕ
 swaps_fork t = fork_swaps t.phase
 
--- its one swap is its last act where it takes effect: while it goes on it has made none
-abbrev pub made_fork : SplitInner → ℕ
-made_fork t = 0
-
 abbrev pub needs_fork : SplitInner → ℕ
 needs_fork t = fork_needs t.phase
 
@@ -50,3 +48,22 @@ WantOfRoomCostsLittle = (t : SplitInner) → end_fork t ≡ Some NeedsRoom → f
 -- the node
 abbrev pub basis_fork : SplitInner → Basis
 basis_fork t = record { slot = t.middle.slot; nodes = [] }
+
+-- as its contract sees it
+abbrev pub fork_view : SplitInner → TaskView
+fork_view t = record {
+  config = t.config;
+  asks = asks_fork t;
+  end = end_fork t;
+  left = left_fork t;
+  swaps = swaps_fork t;
+  -- its one swap is its last act where it takes effect: while it goes on it has made none
+  made = 0;
+  needs = needs_fork t;
+  change = split_change;
+  basis = basis_fork t;
+  publishing = false;
+  facts = facts_fork t;
+  means = fork_means t.upper t.middle;
+  differs = differs_fork t;
+}

@@ -1,10 +1,10 @@
 //! The task that splits an inner node below a parent.
 
-ghost use Rattle.std.specs.Prelude.{◌≡◌, ◌≢◌, ◌↔◌, ◌+◌, ◌-◌, ◌<◌, ◌≤◌, ◌^◌, ◌⊎◌, ℕ, List, Option, Some, None, IsTrue, true, false, slice_get, slice_index, length};
+ghost use Rattle.std.specs.Prelude.{◌≡◌, ◌≢◌, ◌↔◌, ◌+◌, ◌<◌, ◌≤◌, ◌^◌, ◌⊎◌, ℕ, List, Some, None, true, false, slice_get, slice_index, length};
 ghost use Rattle.bz_layout.specs.Config.{IsConfig};
 ghost use Rattle.bz_layout.specs.declared.thresholds.TheConstants.{SPLIT_SLOTS, MAX_LEVELS};
-ghost use Rattle.bz_layout.specs.declared.sizes.TheConstants.{NODE_LINES};
 ghost use Rattle.bz_renew.specs.Nodes.{word_value};
+ghost use Rattle.bz_task.specs.Contract.{IsBegun};
 ghost use Rattle.bz_task.specs.Outcomes.{IsPath};
 ghost use Rattle.bz_task.specs.OwnActs.{AreTakenFrom, AreUnreached, gained};
 ghost use Rattle.bz_task.specs.Requests.{Hears, Tells, IsKnown, swaps_in, effects_in};
@@ -14,8 +14,8 @@ ghost use Rattle.bz_task.specs.declared.todo.Seen.TheVariants.{Start, Read as Wa
 ghost use Rattle.bz_branch.specs.FromSplit.Facts.{split_change};
 ghost use Rattle.bz_branch.specs.Parts.{IsFullNode};
 ghost use Rattle.bz_fork.specs.Due.{IsDue};
-ghost use Rattle.bz_fork.specs.Duties.{fork_of, asks_fork, end_fork, left_fork, swaps_fork, made_fork, needs_fork, facts_fork, differs_fork, basis_fork};
-ghost use Rattle.bz_fork.specs.Facts.{fork_nodes, fork_acts, fork_end, fork_left, fork_steps, fork_swaps, fork_facts, fork_means, IsEndOfFork, HasBegunFork, HasLookedFork, HasRead, HasOpened, HasTold, AreMadeOf, HasPlace, IsReadyFork, WasSplitInner, LackedPart, fork_needs, IsFirst, HasPassed, HasRefused, word_after, above_after, store_after, flush_after, swap_after, HasNode};
+ghost use Rattle.bz_fork.specs.Duties.{fork_of, asks_fork, end_fork, left_fork, swaps_fork, needs_fork, facts_fork, differs_fork, fork_view};
+ghost use Rattle.bz_fork.specs.Facts.{fork_nodes, fork_acts, fork_end, fork_left, fork_steps, fork_swaps, fork_facts, IsEndOfFork, HasBegunFork, HasLookedFork, HasRead, HasOpened, HasTold, AreMadeOf, HasPlace, IsReadyFork, WasSplitInner, LackedPart, fork_needs, IsFirst, HasPassed, HasRefused, word_after, above_after, store_after, flush_after, swap_after};
 
 use crate::laws::full_nodes_have_halves;
 use crate::parent::parent_with;
@@ -65,20 +65,15 @@ impl SplitInner {
         requires few { path.depth ≤ MAX_LEVELS }
         requires within { place < MAX_LEVELS }
         requires due { IsDue path place }
-        ensures config { ⟦<SplitInner as Task>⟧.config result ≡ config.now }
-        ensures asks { ⟦<SplitInner as Task>⟧.asks result ≡ None }
-        ensures left { ⟦<SplitInner as Task>⟧.left result ≡ fork_acts }
-        ensures swaps { ⟦<SplitInner as Task>⟧.swaps result ≡ RENEWAL_SWAPS }
-        ensures made { ⟦<SplitInner as Task>⟧.made result ≡ 0 }
-        ensures needs { ⟦<SplitInner as Task>⟧.needs result ≡ SPLIT_SLOTS }
-        ensures change { ⟦<SplitInner as Task>⟧.change result ≡ split_change }
-        ensures node { (middle : Link) → slice_get path.links (place + 1) ≡ Some middle → (⟦<SplitInner as Task>⟧.basis result).slot ≡ middle.slot }
-        ensures facts { (key : List ℕ) (s : Scene) → s.past.config ≡ config.now → IsScene s → IsPath key path s.past → ⟦<SplitInner as Task>⟧.facts result Waiting s }
-        ensures done { (upper middle : Link) (s : Scene) → slice_get path.links place ≡ Some upper → slice_get path.links (place + 1) ≡ Some middle → ⟦<SplitInner as Task>⟧.means result Outcome.Done s → WasSplitInner upper middle s.past }
-        ensures no_room { (upper middle : Link) (s : Scene) → slice_get path.links place ≡ Some upper → slice_get path.links (place + 1) ≡ Some middle → ⟦<SplitInner as Task>⟧.means result Outcome.NeedsRoom s → LackedPart upper middle s.past }
-        ensures only { (outcome : Outcome) (s : Scene) → ⟦<SplitInner as Task>⟧.means result outcome s → IsEndOfFork outcome }
-        ensures no_path { (other : Path) (s : Scene) → ⟦<SplitInner as Task>⟧.means result (Outcome.Path other) s → ⊥ }
-        ensures no_view { (other : LeafView) (s : Scene) → ⟦<SplitInner as Task>⟧.means result (Outcome.View other) s → ⊥ }
+        ensures begun { IsBegun (⟦<SplitInner as Task>⟧.view result) config.now fork_acts RENEWAL_SWAPS SPLIT_SLOTS }
+        ensures change { (⟦<SplitInner as Task>⟧.view result).change ≡ split_change }
+        ensures node { (middle : Link) → slice_get path.links (place + 1) ≡ Some middle → ((⟦<SplitInner as Task>⟧.view result).basis).slot ≡ middle.slot }
+        ensures facts { (key : List ℕ) (s : Scene) → s.past.config ≡ config.now → IsScene s → IsPath key path s.past → (⟦<SplitInner as Task>⟧.view result).facts Waiting s }
+        ensures done { (upper middle : Link) (s : Scene) → slice_get path.links place ≡ Some upper → slice_get path.links (place + 1) ≡ Some middle → (⟦<SplitInner as Task>⟧.view result).means Outcome.Done s → WasSplitInner upper middle s.past }
+        ensures no_room { (upper middle : Link) (s : Scene) → slice_get path.links place ≡ Some upper → slice_get path.links (place + 1) ≡ Some middle → (⟦<SplitInner as Task>⟧.view result).means Outcome.NeedsRoom s → LackedPart upper middle s.past }
+        ensures only { (outcome : Outcome) (s : Scene) → (⟦<SplitInner as Task>⟧.view result).means outcome s → IsEndOfFork outcome }
+        ensures no_path { (other : Path) (s : Scene) → (⟦<SplitInner as Task>⟧.view result).means (Outcome.Path other) s → ⊥ }
+        ensures no_view { (other : LeafView) (s : Scene) → (⟦<SplitInner as Task>⟧.view result).means (Outcome.View other) s → ⊥ }
     {
         bz_layout::slots_apart();
         let middle = link_at(&path, place + 1);
@@ -444,31 +439,7 @@ fn after_swap(seen: Seen) -> Phase
 }
 
 impl Task for SplitInner {
-    ghost config = { λ t. t.config };
-
-    ghost asks = { asks_fork };
-
-    ghost end = { end_fork };
-
-    ghost left = { left_fork };
-
-    ghost swaps = { swaps_fork };
-
-    ghost made = { made_fork };
-
-    ghost needs = { needs_fork };
-
-    ghost change = { λ t. split_change };
-
-    ghost basis = { basis_fork };
-
-    ghost publishing = { λ t. false };
-
-    ghost facts = { facts_fork };
-
-    ghost means = { λ t. fork_means t.upper t.middle };
-
-    ghost differs = { differs_fork };
+    ghost view = { fork_view };
 
     fn publishes(&self) -> bool {
         false

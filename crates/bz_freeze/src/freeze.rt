@@ -2,15 +2,16 @@
 
 ghost use Rattle.std.specs.Prelude.{◌≡◌, ◌≢◌, ◌↔◌, ◌<◌, ◌≤◌, ◌+◌, ◌^◌, ℕ, List, [], ◌∷◌, Some, None, true, false};
 ghost use Rattle.bz_layout.specs.Config.{IsConfig};
-ghost use Rattle.bz_layout.specs.declared.config.Config.{Config};
 ghost use Rattle.bz_word.specs.Statuses.{status};
+ghost use Rattle.bz_task.specs.Contract.{IsBegun};
 ghost use Rattle.bz_task.specs.Outcomes.{IsView};
 ghost use Rattle.bz_task.specs.Requests.{Hears, Tells, IsKnown, swaps_in, effects_in};
 ghost use Rattle.bz_task.specs.Scene.{Scene, Stage, Waiting, IsScene};
 ghost use Rattle.bz_layout.specs.declared.swaps.TheConstants.{FREEZE_SWAPS};
 ghost use Rattle.bz_task.specs.declared.todo.Seen.TheVariants.{Start, Swapped, NoSwap};
 ghost use Rattle.bz_task.specs.Steps.{frozen_word};
-ghost use Rattle.bz_freeze.specs.Facts.{IsEndOfFreeze, WasFrozen, freeze_asks, freeze_basis, freeze_end, freeze_left, freeze_swaps, freeze_facts, freeze_means, freeze_change, entry_of};
+ghost use Rattle.bz_freeze.specs.Facts.{IsEndOfFreeze, WasFrozen, freeze_asks, freeze_basis, freeze_end, freeze_left, freeze_swaps, freeze_facts, entry_of};
+ghost use Rattle.bz_freeze.specs.Duties.{freeze_view};
 
 use crate::laws::freezes_are_good;
 use crate::phase::Phase;
@@ -33,16 +34,11 @@ impl Freeze {
     /// The freeze of a leaf that was not frozen when it was viewed.
     pub fn new(config: &Config, _path: Path, view: LeafView) -> Freeze
         requires thawed { (status view.status).frozen ≡ false }
-        ensures config { ⟦<Freeze as Task>⟧.config result ≡ config.now }
-        ensures asks { ⟦<Freeze as Task>⟧.asks result ≡ None }
-        ensures left { ⟦<Freeze as Task>⟧.left result ≡ 2 }
-        ensures swaps { ⟦<Freeze as Task>⟧.swaps result ≡ FREEZE_SWAPS }
-        ensures made { ⟦<Freeze as Task>⟧.made result ≡ 0 }
-        ensures needs { ⟦<Freeze as Task>⟧.needs result ≡ 0 }
-        ensures basis { ⟦<Freeze as Task>⟧.basis result ≡ freeze_basis view.slot }
-        ensures facts { (key : List ℕ) (s : Scene) → s.past.config ≡ config.now → IsScene s → IsView key view s.past → ⟦<Freeze as Task>⟧.facts result Waiting s }
-        ensures frozen { (s : Scene) → ⟦<Freeze as Task>⟧.means result Outcome.Done s → WasFrozen view.slot s.past }
-        ensures only { (outcome : Outcome) (s : Scene) → ⟦<Freeze as Task>⟧.means result outcome s → IsEndOfFreeze outcome }
+        ensures begun { IsBegun (⟦<Freeze as Task>⟧.view result) config.now 2 FREEZE_SWAPS 0 }
+        ensures basis { (⟦<Freeze as Task>⟧.view result).basis ≡ freeze_basis view.slot }
+        ensures facts { (key : List ℕ) (s : Scene) → s.past.config ≡ config.now → IsScene s → IsView key view s.past → (⟦<Freeze as Task>⟧.view result).facts Waiting s }
+        ensures frozen { (s : Scene) → (⟦<Freeze as Task>⟧.view result).means Outcome.Done s → WasFrozen view.slot s.past }
+        ensures only { (outcome : Outcome) (s : Scene) → (⟦<Freeze as Task>⟧.view result).means outcome s → IsEndOfFreeze outcome }
     {
         bz_shape::laws::leaves_tile_the_keys();
         bz_content::laws::well_formed_images_have_no_fault();
@@ -129,31 +125,7 @@ impl Freeze {
 }
 
 impl Task for Freeze {
-    ghost config = { λ t. t.config };
-
-    ghost asks = { λ t. freeze_asks t.config t.slot t.status t.phase };
-
-    ghost end = { λ t. freeze_end t.phase };
-
-    ghost left = { λ t. freeze_left t.phase };
-
-    ghost swaps = { λ t. freeze_swaps t.phase };
-
-    ghost made = { λ t. 0 };
-
-    ghost needs = { λ t. 0 };
-
-    ghost change = { λ t. freeze_change };
-
-    ghost basis = { λ t. freeze_basis t.slot };
-
-    ghost publishing = { λ t. false };
-
-    ghost facts = { λ t. freeze_facts t.slot t.status t.phase };
-
-    ghost means = { λ t. freeze_means t.slot };
-
-    ghost differs = { λ t seen. ⊥ };
+    ghost view = { freeze_view };
 
     fn publishes(&self) -> bool {
         false

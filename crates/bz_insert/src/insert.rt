@@ -1,18 +1,17 @@
 //! The task that inserts a record into a leaf.
 
-ghost use Rattle.std.specs.Prelude.{◌≡◌, ◌≢◌, ◌↔◌, ◌-◌, ◌+◌, ◌*◌, ◌<◌, ◌≤◌, ◌^◌, ◌⊎◌, ℕ, Some, None, true, false};
+ghost use Rattle.std.specs.Prelude.{◌≡◌, ◌≢◌, ◌↔◌, ◌-◌, ◌+◌, ◌*◌, ◌<◌, ◌≤◌, ◌^◌, ◌⊎◌, Some, None, true, false};
 ghost use Rattle.bz_layout.specs.Config.{IsConfig};
 ghost use Rattle.bz_layout.specs.declared.thresholds.TheConstants.{RECORD_WORDS, RECORD_LINES};
-ghost use Rattle.bz_task.specs.Basis.{no_basis};
+ghost use Rattle.bz_task.specs.Contract.{IsBegun};
 ghost use Rattle.bz_task.specs.Outcomes.{IsKeyView};
 ghost use Rattle.bz_task.specs.Requests.{Hears, Tells, IsKnown, swaps_in, effects_in};
 ghost use Rattle.bz_task.specs.Scene.{Scene, Stage, Waiting, IsScene};
 ghost use Rattle.bz_layout.specs.declared.swaps.TheConstants.{INSERT_SWAPS};
 ghost use Rattle.bz_task.specs.declared.todo.Seen.TheVariants.{Start, Swapped, NoSwap};
-ghost use Rattle.bz_record.specs.Laws.{inserts};
 ghost use Rattle.bz_record.specs.Records.{words_for, size_of, HasRoom, LacksRoom};
-ghost use Rattle.bz_insert.specs.Duties.{config_of, asks_of, end_of, left_of, swaps_of, made_of, change_of, publishing_of, facts_of, means_of};
-ghost use Rattle.bz_insert.specs.Facts.{IsEndOfInsert, insert_asks, insert_end, insert_acts, insert_left, insert_steps, insert_swaps, insert_made, insert_publishes, insert_facts, insert_means, IsReady, next_store, next_flush};
+ghost use Rattle.bz_insert.specs.Facts.{IsEndOfInsert, insert_asks, insert_end, insert_acts, insert_left, insert_steps, insert_swaps, insert_made, insert_publishes, insert_facts, IsReady, next_store, next_flush};
+ghost use Rattle.bz_insert.specs.Duties.{insert_view};
 
 use crate::phase::Phase;
 use bz_call::Spent;
@@ -35,21 +34,16 @@ impl Insert {
     /// The insert of a key that is absent from its leaf.
     pub fn new(config: &Config, _path: Path, view: KeyView, key: Key, payload: Payload) -> Insert
         requires absent { view.found ≡ None }
-        ensures config { ⟦<Insert as Task>⟧.config result ≡ config.now }
-        ensures asks { ⟦<Insert as Task>⟧.asks result ≡ None }
-        ensures left { ⟦<Insert as Task>⟧.left result ≡ insert_acts }
-        ensures swaps { ⟦<Insert as Task>⟧.swaps result ≡ INSERT_SWAPS }
-        ensures made { ⟦<Insert as Task>⟧.made result ≡ 0 }
-        ensures needs { ⟦<Insert as Task>⟧.needs result ≡ 0 }
-        ensures change { ⟦<Insert as Task>⟧.change result ≡ record { key = key; old = None; new = Some payload } }
-        ensures facts { (s : Scene) → s.past.config ≡ config.now → s.effected ≡ false → IsScene s → IsKeyView key view s.past → ⟦<Insert as Task>⟧.facts result Waiting s }
-        ensures done { (s : Scene) → ⟦<Insert as Task>⟧.means result Outcome.Done s → s.effected ≡ true }
-        ensures no_path { (path : Path) (s : Scene) → ⟦<Insert as Task>⟧.means result (Outcome.Path path) s → ⊥ }
-        ensures no_view { (other : LeafView) (s : Scene) → ⟦<Insert as Task>⟧.means result (Outcome.View other) s → ⊥ }
+        ensures begun { IsBegun (⟦<Insert as Task>⟧.view result) config.now insert_acts INSERT_SWAPS 0 }
+        ensures change { (⟦<Insert as Task>⟧.view result).change ≡ record { key = key; old = None; new = Some payload } }
+        ensures facts { (s : Scene) → s.past.config ≡ config.now → s.effected ≡ false → IsScene s → IsKeyView key view s.past → (⟦<Insert as Task>⟧.view result).facts Waiting s }
+        ensures done { (s : Scene) → (⟦<Insert as Task>⟧.view result).means Outcome.Done s → s.effected ≡ true }
+        ensures no_path { (path : Path) (s : Scene) → (⟦<Insert as Task>⟧.view result).means (Outcome.Path path) s → ⊥ }
+        ensures no_view { (other : LeafView) (s : Scene) → (⟦<Insert as Task>⟧.view result).means (Outcome.View other) s → ⊥ }
         // NeedsRoom comes exactly where the viewed leaf lacks room
-        ensures needs_room { (s : Scene) → ⟦<Insert as Task>⟧.means result Outcome.NeedsRoom s → LacksRoom view.status (words_for key payload) }
-        ensures room { (s : Scene) (outcome : Outcome) → ⟦<Insert as Task>⟧.means result outcome s → outcome ≢ Outcome.NeedsRoom → HasRoom view.status (words_for key payload) }
-        ensures only { (outcome : Outcome) (s : Scene) → ⟦<Insert as Task>⟧.means result outcome s → IsEndOfInsert outcome }
+        ensures needs_room { (s : Scene) → (⟦<Insert as Task>⟧.view result).means Outcome.NeedsRoom s → LacksRoom view.status (words_for key payload) }
+        ensures room { (s : Scene) (outcome : Outcome) → (⟦<Insert as Task>⟧.view result).means outcome s → outcome ≢ Outcome.NeedsRoom → HasRoom view.status (words_for key payload) }
+        ensures only { (outcome : Outcome) (s : Scene) → (⟦<Insert as Task>⟧.view result).means outcome s → IsEndOfInsert outcome }
     {
         bz_record::laws::key_views_show_leaves();
         bz_key::laws::packing_is_small();
@@ -170,31 +164,7 @@ impl Insert {
 }
 
 impl Task for Insert {
-    ghost config = { config_of };
-
-    ghost asks = { asks_of };
-
-    ghost end = { end_of };
-
-    ghost left = { left_of };
-
-    ghost swaps = { swaps_of };
-
-    ghost made = { made_of };
-
-    ghost needs = { λ t. 0 };
-
-    ghost change = { change_of };
-
-    ghost basis = { λ t. no_basis };
-
-    ghost publishing = { publishing_of };
-
-    ghost facts = { facts_of };
-
-    ghost means = { means_of };
-
-    ghost differs = { λ t seen. ⊥ };
+    ghost view = { insert_view };
 
     fn publishes(&self) -> bool {
         match self.phase {

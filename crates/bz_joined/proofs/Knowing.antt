@@ -21,7 +21,7 @@ use Rattle.bz_task.specs.declared.path.Link.{Link}
 use Rattle.bz_task.specs.declared.todo.Outcome.TheVariants.{NeedsRoom}
 use Rattle.bz_rounds.specs.FromAlone.AnyTask.{AnyTask}
 use Rattle.bz_rounds.specs.FromAlone.AnyTask.TheVariants.{Seeking, Finding, Reading, Inserting, Updating, Deleting, Freezing, Consolidating, Splitting, SplittingBelow, SplittingInner, SplittingInnerRoot, Merging}
-use Rattle.bz_rounds.specs.FromAlone.Duties.{end_of, facts_of, means_of}
+use Rattle.bz_rounds.specs.FromAlone.Duties.{end_of, facts_of, means_of, view_of}
 use Rattle.bz_rounds.specs.FromAlone.Kinds as kinds
 use Rattle.bz_rounds.specs.FromAlone.Kinds.{kind_of}
 use Rattle.bz_rounds.specs.FromAlone.MadeFor.{WasLeafOf, WasSmallLeafOf, IsSmallMerge}
@@ -65,7 +65,7 @@ was-leaf : (key : List ℕ) (slot : ℕ) (p : Past) → WasSmallLeafOf key slot 
 was-leaf key slot p w = record { moment = w.view.at; since = w.is.since; now = w.is.now; leaf = w.is.leaf ∙ w.at }
 
 knows-merge : (t : Merge) (key : List ℕ) (s : Scene) → IsScene s → facts_of (Merging t) Waiting s → end_of (Merging t) ≡ None → IsSmallMerge (Merging t) key s.past → KnowsItsLeaf (Merging t) key s.past
-unfolding facts_of end_of means_of IsSmallMerge
+unfolding view_of IsSmallMerge
 knows-merge t key s good f e m = record {
   upper = t.upper;
   lower = t.lower;
@@ -166,7 +166,7 @@ merges-try law t key s config good f e alone was r m = law key t.upper t.lower t
 
 -- so does whichever task
 means-merge : (t : Merge) (s : Scene) → facts_of (Merging t) Waiting s → end_of (Merging t) ≡ Some NeedsRoom → means_of (Merging t) NeedsRoom s
-unfolding facts_of end_of means_of
+unfolding view_of
 means-merge t s f e = none-fits (merging_of t) t.phase s (ends-so t.phase e) f
 
 means-so : (t : AnyTask) (s : Scene) → facts_of t Waiting s → kind_of t ≡ kinds.Merge → end_of t ≡ Some NeedsRoom → means_of t NeedsRoom s

@@ -28,7 +28,7 @@ use Rattle.bz_task.specs.Scene.{Scene, IsScene}
 use Rattle.bz_task.specs.Shown.{SameShownNode}
 use Rattle.bz_task.specs.declared.path.Link.{Link}
 use Rattle.bz_rounds.specs.FromAlone.AnyTask.TheVariants.{Seeking, Finding, Reading, Inserting, Updating, Deleting, Freezing, Consolidating, Splitting, SplittingBelow, SplittingInner, SplittingInnerRoot, Merging}
-use Rattle.bz_rounds.specs.FromAlone.Duties.{means_of}
+use Rattle.bz_rounds.specs.FromAlone.Duties.{view_of}
 use Rattle.bz_rounds.specs.FromAlone.MadeFor.{WasLeafOf, IsMergeFor}
 use Rattle.bz_joined.specs.Neighbours.{WasMergeable, MergesLackSlotsRightly}
 use Rattle.bz_joined.proofs.Alike.{live-alike, live-is}
@@ -172,7 +172,7 @@ module _ (b : Laws) (key : List ℕ) (lower : Link) (st : ℕ) (image : List ℕ
   was-mergeable = record { moment = m; since = f.beside.stood.since; now = f.beside.stood.now; frozen = frozen-y; may = may }
 
 pub merges-lack : Laws → MergesLackSlotsRightly
-unfolding IsMergeFor means_of
+unfolding IsMergeFor view_of
 merges-lack b (Merging t) key s good o means = was-mergeable b key t.lower t.status t.leaf.0 s good o.leaf o.frozen means
 merges-lack b (Seeking t) key s good o means = absurd (o)
 merges-lack b (Finding t) key s good o means = absurd (o)

@@ -1,15 +1,15 @@
 //! The task that reads a leaf.
 
-ghost use Rattle.std.specs.Prelude.{◌≡◌, ◌≢◌, ◌<◌, ◌≤◌, ◌^◌, ℕ, Some, None, true, false, ◌-◌, slice_index, slice_get, length};
+ghost use Rattle.std.specs.Prelude.{◌≡◌, ◌≢◌, ◌<◌, ◌≤◌, ◌^◌, Some, ◌-◌, slice_get, length};
 ghost use Rattle.bz_layout.specs.Config.{IsConfig};
 ghost use Rattle.bz_layout.specs.declared.thresholds.TheConstants.{MAX_LEVELS};
-ghost use Rattle.bz_task.specs.Basis.{no_basis};
+ghost use Rattle.bz_task.specs.Contract.{IsBegun};
 ghost use Rattle.bz_task.specs.Outcomes.{IsPath, IsView};
 ghost use Rattle.bz_task.specs.Requests.{Hears, Tells, IsKnown};
 ghost use Rattle.bz_task.specs.Scene.{Scene, Stage, Waiting, IsScene, HasFilled};
 ghost use Rattle.bz_task.specs.declared.todo.Seen.TheVariants.{Start};
-ghost use Rattle.bz_leaf.specs.Duties.{config_of, asks_of, end_of, left_of, facts_of, means_of, differs_of};
-ghost use Rattle.bz_leaf.specs.Facts.{IsEndOfReading, leaf_acts, leaf_asks, leaf_left, leaf_learnt, leaf_facts, leaf_means, leaf_differs, leaf_change, leaf_places, IsAfter, IsBlank, view_of};
+ghost use Rattle.bz_leaf.specs.Duties.{facts_of, leaf_view};
+ghost use Rattle.bz_leaf.specs.Facts.{IsEndOfReading, leaf_acts, leaf_asks, leaf_left, leaf_learnt, leaf_facts, leaf_differs, leaf_places, IsAfter, IsBlank, view_of};
 
 use crate::phase::Phase;
 use crate::place::{is_frozen, next_place};
@@ -38,17 +38,12 @@ impl ReadLeaf {
     pub fn new(config: &Config, path: Path, key: Key) -> ReadLeaf
         requires some { 1 ≤ path.depth }
         requires few { path.depth ≤ MAX_LEVELS }
-        ensures config { ⟦<ReadLeaf as Task>⟧.config result ≡ config.now }
-        ensures asks { ⟦<ReadLeaf as Task>⟧.asks result ≡ None }
-        ensures left { ⟦<ReadLeaf as Task>⟧.left result ≡ leaf_acts }
-        ensures swaps { ⟦<ReadLeaf as Task>⟧.swaps result ≡ 0 }
-        ensures made { ⟦<ReadLeaf as Task>⟧.made result ≡ 0 }
-        ensures needs { ⟦<ReadLeaf as Task>⟧.needs result ≡ 0 }
-        ensures facts { (s : Scene) → IsScene s → IsPath key path s.past → ⟦<ReadLeaf as Task>⟧.facts result Waiting s }
-        ensures view { (view : LeafView) (s : Scene) → ⟦<ReadLeaf as Task>⟧.means result (Outcome.View view) s → IsView key view s.past }
-        ensures leads { (view : LeafView) (s : Scene) → ⟦<ReadLeaf as Task>⟧.means result (Outcome.View view) s → IsPath key path s.past }
-        ensures none { (path : Path) (s : Scene) → ⟦<ReadLeaf as Task>⟧.means result (Outcome.Path path) s → ⊥ }
-        ensures only { (outcome : Outcome) (s : Scene) → ⟦<ReadLeaf as Task>⟧.means result outcome s → IsEndOfReading outcome }
+        ensures begun { IsBegun (⟦<ReadLeaf as Task>⟧.view result) config.now leaf_acts 0 0 }
+        ensures facts { (s : Scene) → IsScene s → IsPath key path s.past → (⟦<ReadLeaf as Task>⟧.view result).facts Waiting s }
+        ensures view { (view : LeafView) (s : Scene) → (⟦<ReadLeaf as Task>⟧.view result).means (Outcome.View view) s → IsView key view s.past }
+        ensures leads { (view : LeafView) (s : Scene) → (⟦<ReadLeaf as Task>⟧.view result).means (Outcome.View view) s → IsPath key path s.past }
+        ensures none { (path : Path) (s : Scene) → (⟦<ReadLeaf as Task>⟧.view result).means (Outcome.Path path) s → ⊥ }
+        ensures only { (outcome : Outcome) (s : Scene) → (⟦<ReadLeaf as Task>⟧.view result).means outcome s → IsEndOfReading outcome }
     {
         laws::fronts_stay();
         laws::headers_say_the_level();
@@ -200,31 +195,7 @@ fn after_word(status: u64, place: usize) -> Phase
 }
 
 impl Task for ReadLeaf {
-    ghost config = { config_of };
-
-    ghost asks = { asks_of };
-
-    ghost end = { end_of };
-
-    ghost left = { left_of };
-
-    ghost swaps = { λ t. 0 };
-
-    ghost made = { λ t. 0 };
-
-    ghost needs = { λ t. 0 };
-
-    ghost change = { λ t. leaf_change };
-
-    ghost basis = { λ t. no_basis };
-
-    ghost publishing = { λ t. false };
-
-    ghost facts = { facts_of };
-
-    ghost means = { means_of };
-
-    ghost differs = { differs_of };
+    ghost view = { leaf_view };
 
     fn publishes(&self) -> bool {
         false

@@ -10,7 +10,7 @@ use Rattle.bz_costs.specs.Most.{most_of, most_of_seek}
 use Rattle.bz_costs.specs.Weights.{start_takes, weigh}
 use Rattle.bz_costs.specs.FromDescend.SeekFacts.{seek_reads}
 use Rattle.bz_layout.specs.declared.config.Config.{Config}
-use Rattle.bz_costs.specs.FromRunning.Duties.{end_of, left_of, made_of, needs_of, swaps_of}
+use Rattle.bz_costs.specs.FromRunning.Duties.{end_of, left_of, made_of, needs_of, swaps_of, view_of}
 use Rattle.bz_costs.specs.FromRunning.Kinds as kinds
 use Rattle.bz_costs.specs.FromRunning.Kinds.{Kind, kind_of}
 use Rattle.bz_costs.specs.FromRunning.AnyTask.{AnyTask}
@@ -56,12 +56,12 @@ tasks-begin r little m w e t used by p goes none within look small s = record {
 
 -- a look-up swaps nothing, and takes no slot
 seek-swaps : (t : AnyTask) → kind_of t ≡ kinds.Seek → swaps_of t ≡ 0
-unfolding kind_of swaps_of
+unfolding kind_of view_of
 seek-swaps (Seeking t) k = refl
 seek-swaps t k = absurd (cc)
 
 seek-needs : (t : AnyTask) → kind_of t ≡ kinds.Seek → needs_of t ≡ 0
-unfolding kind_of needs_of
+unfolding kind_of view_of
 seek-needs (Seeking t) k = refl
 seek-needs t k = absurd (cc)
 
@@ -72,7 +72,7 @@ seek-paid Descriptors t a k few = omega (arith, seek-swaps t k)
 seek-paid Slots t a k few = omega (arith, seek-needs t k)
 
 seek-made : (t : AnyTask) → kind_of t ≡ kinds.Seek → made_of t ≡ 0
-unfolding kind_of made_of
+unfolding kind_of view_of
 seek-made (Seeking t) k = refl
 seek-made t k = absurd (cc)
 

@@ -15,7 +15,7 @@ use Rattle.bz_costs.specs.Splits.{cost_after_below, cost_after_inner, most_of_hi
 use Rattle.bz_costs.specs.Stretches.{cost_once_viewed, cost_from, top_stage}
 use Rattle.bz_costs.specs.Weights.{weigh}
 use Rattle.bz_layout.specs.declared.thresholds.TheConstants.{MAX_LEVELS}
-use Rattle.bz_costs.specs.FromRunning.Duties.{end_of}
+use Rattle.bz_costs.specs.FromRunning.Duties.{end_of, view_of}
 use Rattle.bz_costs.specs.FromRunning.Kinds as kinds
 use Rattle.bz_costs.specs.FromRunning.Kinds.{Kind, kind_of, level_of}
 use Rattle.bz_costs.specs.FromRunning.AnyTask.{AnyTask}
@@ -41,13 +41,13 @@ pub record Laws (r : Resource) : Type 0 where
 
 -- a split that found no room has its whole weight left but for little: that of a leaf
 left-below : (r : Resource) → LostSplitsCostLittle r → (t : AnyTask) (a : Ascent) → kind_of t ≡ kinds.SplitLeaf a → end_of t ≡ Some NeedsRoom → most_of_below r ≤ weigh r t + cost_of_lost_below r
-unfolding kind_of end_of
+unfolding kind_of view_of
 left-below r lost (SplittingBelow t b) a k ended = lost.below t b ended
 left-below r lost t a k ended = absurd (cc)
 
 -- and that of an inner node
 left-inner : (r : Resource) → LostSplitsCostLittle r → (t : AnyTask) (a : Ascent) → kind_of t ≡ kinds.SplitNode a → end_of t ≡ Some NeedsRoom → most_of_inner r ≤ weigh r t + cost_of_lost_inner r
-unfolding kind_of end_of
+unfolding kind_of view_of
 left-inner r lost (SplittingInner t b) a k ended = lost.inner t b ended
 left-inner r lost t a k ended = absurd (cc)
 

@@ -2,7 +2,7 @@
 use Rattle.std.proofs.Common.{◌≡◌, ℕ, ◌<◌, Bool, true, false, List, Option, Some, None, IsSome, arith, refl, sym, ap, subst, ◌∙◌, inl, inr}
 use Rattle.bz_call.specs.declared.calls.Call.{Call}
 use Rattle.bz_call.specs.declared.calls.Call.TheVariants as call
-use Rattle.bz_costs.specs.FromRunning.Duties.{asks_of, end_of, change_swaps, publishing_of, makes_no_change}
+use Rattle.bz_costs.specs.FromRunning.Duties.{asks_of, end_of, change_swaps, publishing_of, makes_no_change, view_of}
 use Rattle.bz_costs.specs.FromRunning.Kinds as kinds
 use Rattle.bz_costs.specs.FromRunning.Kinds.{Kind, kind_of, is_look, is_renewal}
 use Rattle.bz_costs.specs.FromRunning.Laws.{AreLaws}
@@ -64,7 +64,7 @@ change-after r q e k c = absurd (cc)
 
 -- the tasks that make a change
 pub publishing-change : (t : AnyTask) → publishing_of t ≡ true → is_change (kind_of t) ≡ true
-unfolding publishing_of kind_of
+unfolding view_of kind_of
 publishing-change (Inserting t) p = refl
 publishing-change (Updating t) p = refl
 publishing-change (Deleting t) p = refl

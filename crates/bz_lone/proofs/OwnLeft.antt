@@ -10,7 +10,7 @@ use Rattle.bz_joined.specs.Lone.{LoneFreezesFreezeTheLeaf}
 use Rattle.bz_layout.specs.declared.config.Config.{Config}
 use Rattle.bz_joined.specs.FromRounds.Left.{HasSplit, IsLeft}
 use Rattle.bz_joined.specs.FromRounds.Lone.{IsLoneSwap}
-use Rattle.bz_costs.specs.FromRunning.Duties.{config_of, asks_of, facts_of}
+use Rattle.bz_costs.specs.FromRunning.Duties.{config_of, asks_of, facts_of, view_of}
 use Rattle.bz_costs.specs.FromRunning.Kinds as kinds
 use Rattle.bz_costs.specs.FromRunning.Kinds.{Kind, kind_of, is_look, level_of}
 use Rattle.bz_costs.specs.FromRunning.MadeFor.{HasFoot, IsMadeFor}
@@ -39,7 +39,7 @@ has-foot t key words p made = tt
 -- a freeze has left the leaf frozen
 pub leaf-frozen : LoneFreezesFreezeTheLeaf → (t : AnyTask) (key : List ℕ) (words : ℕ) (entries : List Entry) (s : Scene) (y : Instant) → IsLoneSwap (config_of t) (asks_of t) (facts_of t) entries s y → IsMadeFor t key words s.past → kind_of t ≡ kinds.Freeze →
     (leaf_page s.past.config (image_of y.image) key).frozen ≡ true
-unfolding config_of asks_of facts_of IsMadeFor kind_of
+unfolding view_of IsMadeFor kind_of
 leaf-frozen law (Freezing u) key words entries s y l made is = law u key entries s y l made.was
 leaf-frozen law t key words entries s y l made is = absurd (cc)
 

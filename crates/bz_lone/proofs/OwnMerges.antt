@@ -13,7 +13,7 @@ use Rattle.bz_costs.specs.FromMerge.Facts.{merge_asks, merge_facts}
 use Rattle.bz_costs.specs.FromMerge.Plans.{Merging as Plan}
 use Rattle.bz_costs.specs.FromMerge.Phase.{Phase}
 use Rattle.bz_costs.specs.FromMerge.Phase.TheVariants.{Freeze, FreezeBeside, Swap}
-use Rattle.bz_costs.specs.FromRunning.Duties.{config_of, asks_of, facts_of, made_of, swaps_of, makes_no_change}
+use Rattle.bz_costs.specs.FromRunning.Duties.{config_of, asks_of, facts_of, made_of, swaps_of, makes_no_change, view_of}
 use Rattle.bz_costs.specs.FromRunning.Kinds.{Merge, kind_of}
 use Rattle.bz_costs.specs.FromRunning.MadeFor.{IsMergeFor}
 use Rattle.bz_costs.specs.FromRunning.AnyTask.{AnyTask}
@@ -68,7 +68,7 @@ true-false e = absurd (cc)
 
 pub merging : Laws → (t : AnyTask) (key : List ℕ) (words : ℕ) (entries : List Entry) (s : Scene) (y : Instant) → IsMergeFor t key s.past → s.past.config ≡ config_of t → IsScene s → facts_of t Waiting s → asks_of t ≡ Some (Swaps_for entries) → Stand entries (here s) →
     SwapsTo s.past.config entries (here s) y → IsAlone (made_of t) s.past → words ≤ LEAF_RECORD_WORDS + 1 → IsMerging t key words s y
-unfolding IsMergeFor config_of asks_of facts_of made_of swaps_of makes_no_change kind_of
+unfolding IsMergeFor view_of makes_no_change kind_of
 merging b (Merging t) key words entries s y made config good knows asks stand leads alone few =
     record { kind = refl; silent = refl; either = go (phase-of t.config (merging_of t) t.phase entries asks) }
   where

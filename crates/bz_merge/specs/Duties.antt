@@ -1,12 +1,13 @@
 -- A merge as a task.
-use Rattle.std.specs.Prelude.{ℕ, zero, suc, List, [], ◌∷◌, Option, slice_index}
+use Rattle.std.specs.Prelude.{ℕ, zero, suc, List, [], ◌∷◌, Option, slice_index, false}
 use Rattle.bz_task.specs.Basis.{Basis}
 use Rattle.bz_task.specs.Scene.{Scene, Stage}
+use Rattle.bz_task.specs.TaskView.{TaskView}
 use Rattle.bz_task.specs.declared.todo.Outcome.{Outcome}
 use Rattle.bz_task.specs.declared.todo.Seen.{Seen}
 use Rattle.bz_task.specs.declared.todo.Todo.{Todo}
 use Rattle.bz_merge.specs.Counts.{merge_swaps, merge_made}
-use Rattle.bz_merge.specs.Facts.{merge_asks, merge_end, merge_left, merge_needs, merge_facts, merge_differs}
+use Rattle.bz_merge.specs.Facts.{merge_asks, merge_end, merge_left, merge_needs, merge_facts, merge_differs, merge_change, merge_means}
 use Rattle.bz_merge.specs.Plans.{Merging}
 use Rattle.bz_merge.specs.declared.merge.Merge.{Merge}
 
@@ -57,3 +58,21 @@ facts_of t = merge_facts (merging_of t) t.phase
 
 abbrev pub differs_of : Merge → Seen → Type 0
 differs_of t = merge_differs (merging_of t) t.phase
+
+-- as its contract sees it
+abbrev pub merge_view : Merge → TaskView
+merge_view t = record {
+  config = t.config;
+  asks = asks_of t;
+  end = end_of t;
+  left = left_of t;
+  swaps = swaps_of t;
+  made = made_of t;
+  needs = needs_of t;
+  change = merge_change;
+  basis = basis_of t;
+  publishing = false;
+  facts = facts_of t;
+  means = merge_means t.upper t.lower t.status t.leaf.0;
+  differs = differs_of t;
+}

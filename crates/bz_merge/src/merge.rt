@@ -1,7 +1,7 @@
 //! The task that merges two sibling leaves.
 
-ghost use Rattle.std.specs.Prelude.{◌≡◌, ◌≢◌, ◌↔◌, ◌+◌, ◌-◌, ◌<◌, ◌≤◌, ◌^◌, ◌⊎◌, ℕ, List, Option, Some, None, IsTrue, true, false, slice_get, slice_index, slice_set, length};
-ghost use Rattle.bz_layout.specs.declared.sizes.TheConstants.{NODE_WORDS, NODE_LINES};
+ghost use Rattle.std.specs.Prelude.{◌≡◌, ◌≢◌, ◌↔◌, ◌+◌, ◌-◌, ◌<◌, ◌≤◌, ◌^◌, ◌⊎◌, ℕ, List, Some, None, IsTrue, true, false, slice_get, slice_index, slice_set, length};
+ghost use Rattle.bz_layout.specs.declared.sizes.TheConstants.{NODE_WORDS};
 ghost use Rattle.bz_layout.specs.Config.{IsConfig};
 ghost use Rattle.bz_layout.specs.declared.thresholds.TheConstants.{MERGE_SLOTS, MERGE_BELOW, SPLIT_ABOVE, MAX_LEVELS};
 ghost use Rattle.bz_page.specs.Pages.{IsLeafByItself};
@@ -10,6 +10,7 @@ ghost use Rattle.bz_renew.specs.Due.{LeadsTo};
 ghost use Rattle.bz_renew.specs.Nodes.{word_value};
 ghost use Rattle.bz_slotted.specs.Readers.{live_of};
 ghost use Rattle.bz_slotted.specs.ReadingLaws.{node_of};
+ghost use Rattle.bz_task.specs.Contract.{IsBegun};
 ghost use Rattle.bz_task.specs.Outcomes.{IsPath, IsView};
 ghost use Rattle.bz_task.specs.OwnActs.{AreTakenFrom, AreUnreached, gained};
 ghost use Rattle.bz_task.specs.Requests.{Hears, Tells, IsKnown, swaps_in, effects_in};
@@ -18,8 +19,8 @@ ghost use Rattle.bz_layout.specs.declared.swaps.TheConstants.{MERGE_SWAPS};
 ghost use Rattle.bz_task.specs.declared.todo.Seen.TheVariants.{Start, Read as Was, Swapped, NoSwap as NoneLeft};
 ghost use Rattle.bz_merge.specs.Counts.{merge_swaps, merge_made};
 ghost use Rattle.bz_merge.specs.Decisions.{IsParentOfLeaf, HasTold, IsWeighable, HasSettled, HasFrozen, HasFirst, HasWon, HasSwapped, MayMerge, HasBegun, HasLooked};
-ghost use Rattle.bz_merge.specs.Duties.{merging_of, asks_of, end_of, left_of, swaps_of, made_of, needs_of, basis_of, facts_of, differs_of};
-ghost use Rattle.bz_merge.specs.Facts.{merge_acts, merge_end, merge_left, merge_steps, merge_needs, merge_facts, merge_means, merge_change, IsEndOfMerge, WasMerged, NoneFitted, IsReady, WritesOrSwaps, IsSwapping, word_after, beside_after, store_after, flush_after};
+ghost use Rattle.bz_merge.specs.Duties.{merging_of, asks_of, end_of, left_of, swaps_of, made_of, needs_of, facts_of, differs_of, merge_view};
+ghost use Rattle.bz_merge.specs.Facts.{merge_acts, merge_end, merge_left, merge_steps, merge_needs, merge_facts, merge_change, IsEndOfMerge, WasMerged, NoneFitted, IsReady, WritesOrSwaps, IsSwapping, word_after, beside_after, store_after, flush_after};
 ghost use Rattle.bz_merge.specs.Plans.{merge_nodes, viewed_leaf, beside_leaf, first_of, second_of};
 ghost use Rattle.bz_merge.specs.Thawed.{IsThawedAbove};
 
@@ -82,21 +83,16 @@ impl Merge {
         requires small { live_of (node_of view.image.0) < MERGE_BELOW }
         requires leads { LeadsTo path view.slot }
         requires thawed { IsThawedAbove path }
-        ensures config { ⟦<Merge as Task>⟧.config result ≡ config.now }
-        ensures asks { ⟦<Merge as Task>⟧.asks result ≡ None }
-        ensures left { ⟦<Merge as Task>⟧.left result ≡ merge_acts }
-        ensures swaps { ⟦<Merge as Task>⟧.swaps result ≡ MERGE_SWAPS }
-        ensures made { ⟦<Merge as Task>⟧.made result ≡ 0 }
-        ensures needs { ⟦<Merge as Task>⟧.needs result ≡ MERGE_SLOTS }
-        ensures slot { (⟦<Merge as Task>⟧.basis result).slot ≡ view.slot }
+        ensures begun { IsBegun (⟦<Merge as Task>⟧.view result) config.now merge_acts MERGE_SWAPS MERGE_SLOTS }
+        ensures slot { ((⟦<Merge as Task>⟧.view result).basis).slot ≡ view.slot }
         ensures status { result.status ≡ view.status }
-        ensures change { ⟦<Merge as Task>⟧.change result ≡ merge_change }
-        ensures facts { (key : List ℕ) (s : Scene) → s.past.config ≡ config.now → IsScene s → IsPath key path s.past → IsView key view s.past → ⟦<Merge as Task>⟧.facts result Waiting s }
-        ensures done { (upper lower : Link) (s : Scene) → slice_get path.links (path.depth - 2) ≡ Some upper → slice_get path.links (path.depth - 1) ≡ Some lower → ⟦<Merge as Task>⟧.means result Outcome.Done s → WasMerged upper lower view.image.0 s.past }
-        ensures only { (outcome : Outcome) (s : Scene) → ⟦<Merge as Task>⟧.means result outcome s → IsEndOfMerge outcome }
-        ensures no_path { (other : Path) (s : Scene) → ⟦<Merge as Task>⟧.means result (Outcome.Path other) s → ⊥ }
-        ensures no_view { (other : LeafView) (s : Scene) → ⟦<Merge as Task>⟧.means result (Outcome.View other) s → ⊥ }
-        ensures no_room { (upper lower : Link) (s : Scene) → slice_get path.links (path.depth - 2) ≡ Some upper → slice_get path.links (path.depth - 1) ≡ Some lower → ⟦<Merge as Task>⟧.means result Outcome.NeedsRoom s → NoneFitted upper lower view.image.0 s.past }
+        ensures change { (⟦<Merge as Task>⟧.view result).change ≡ merge_change }
+        ensures facts { (key : List ℕ) (s : Scene) → s.past.config ≡ config.now → IsScene s → IsPath key path s.past → IsView key view s.past → (⟦<Merge as Task>⟧.view result).facts Waiting s }
+        ensures done { (upper lower : Link) (s : Scene) → slice_get path.links (path.depth - 2) ≡ Some upper → slice_get path.links (path.depth - 1) ≡ Some lower → (⟦<Merge as Task>⟧.view result).means Outcome.Done s → WasMerged upper lower view.image.0 s.past }
+        ensures only { (outcome : Outcome) (s : Scene) → (⟦<Merge as Task>⟧.view result).means outcome s → IsEndOfMerge outcome }
+        ensures no_path { (other : Path) (s : Scene) → (⟦<Merge as Task>⟧.view result).means (Outcome.Path other) s → ⊥ }
+        ensures no_view { (other : LeafView) (s : Scene) → (⟦<Merge as Task>⟧.view result).means (Outcome.View other) s → ⊥ }
+        ensures no_room { (upper lower : Link) (s : Scene) → slice_get path.links (path.depth - 2) ≡ Some upper → slice_get path.links (path.depth - 1) ≡ Some lower → (⟦<Merge as Task>⟧.view result).means Outcome.NeedsRoom s → NoneFitted upper lower view.image.0 s.past }
     {
         bz_page::laws::views_say_what_images_say();
         laws::leaves_are_in_trees();
@@ -546,31 +542,7 @@ fn after_flush(j: u32) -> Phase
 }
 
 impl Task for Merge {
-    ghost config = { λ t. t.config };
-
-    ghost asks = { asks_of };
-
-    ghost end = { end_of };
-
-    ghost left = { left_of };
-
-    ghost swaps = { swaps_of };
-
-    ghost made = { made_of };
-
-    ghost needs = { needs_of };
-
-    ghost change = { λ t. merge_change };
-
-    ghost basis = { basis_of };
-
-    ghost publishing = { λ t. false };
-
-    ghost facts = { facts_of };
-
-    ghost means = { λ t. merge_means t.upper t.lower t.status t.leaf.0 };
-
-    ghost differs = { differs_of };
+    ghost view = { merge_view };
 
     fn publishes(&self) -> bool {
         false

@@ -3,6 +3,7 @@
 ghost use Rattle.std.specs.Prelude.{◌≡◌, ◌≢◌, ◌↔◌, ◌+◌, ◌≤◌, ◌<◌, ◌^◌, Some, None, true, false};
 ghost use Rattle.bz_layout.specs.Config.{IsConfig};
 ghost use Rattle.bz_word.specs.Statuses.{status};
+ghost use Rattle.bz_task.specs.Contract.{IsBegun};
 ghost use Rattle.bz_task.specs.Outcomes.{IsKeyView, payload_of};
 ghost use Rattle.bz_task.specs.Requests.{Hears, Tells, IsKnown, swaps_in, effects_in};
 ghost use Rattle.bz_task.specs.Scene.{Scene, Stage, Waiting, IsScene};
@@ -10,7 +11,7 @@ ghost use Rattle.bz_layout.specs.declared.swaps.TheConstants.{DELETE_SWAPS};
 ghost use Rattle.bz_task.specs.declared.todo.Seen.TheVariants.{Start, Swapped, NoSwap};
 ghost use Rattle.bz_record.specs.declared.found_record.FoundRecord.{FoundRecord};
 ghost use Rattle.bz_mutate.specs.Viewed.{IsVisible, IsFound};
-ghost use Rattle.bz_mutate.specs.DeleteDuties.{config_of, asks_of, basis_of, end_of, left_of, swaps_of, change_of, publishing_of, facts_of, means_of, leaves_few_of};
+ghost use Rattle.bz_mutate.specs.DeleteDuties.{leaves_few_of, delete_view};
 ghost use Rattle.bz_mutate.specs.DeleteFacts.{IsEndOfDelete, delete_asks, delete_end, delete_left, delete_swaps, delete_publishes, delete_facts, IsFirst, IsReady};
 
 use crate::delete_phase::DeletePhase;
@@ -35,21 +36,16 @@ impl Delete {
     /// The delete of a key that its leaf has.
     pub fn new(config: &Config, _path: Path, view: KeyView, key: Key) -> Delete
         requires present { view.found ≢ None }
-        ensures config { ⟦<Delete as Task>⟧.config result ≡ config.now }
-        ensures asks { ⟦<Delete as Task>⟧.asks result ≡ None }
-        ensures left { ⟦<Delete as Task>⟧.left result ≡ 2 }
-        ensures swaps { ⟦<Delete as Task>⟧.swaps result ≡ DELETE_SWAPS }
-        ensures made { ⟦<Delete as Task>⟧.made result ≡ 0 }
-        ensures needs { ⟦<Delete as Task>⟧.needs result ≡ 0 }
-        ensures change { ⟦<Delete as Task>⟧.change result ≡ record { key = key; old = payload_of view.found; new = None } }
-        ensures facts { (s : Scene) → s.past.config ≡ config.now → s.effected ≡ false → IsScene s → IsKeyView key view s.past → ⟦<Delete as Task>⟧.facts result Waiting s }
-        ensures done { (s : Scene) → ⟦<Delete as Task>⟧.means result Outcome.Done s → s.effected ≡ true }
-        ensures no_path { (path : Path) (s : Scene) → ⟦<Delete as Task>⟧.means result (Outcome.Path path) s → ⊥ }
-        ensures no_view { (other : LeafView) (s : Scene) → ⟦<Delete as Task>⟧.means result (Outcome.View other) s → ⊥ }
+        ensures begun { IsBegun (⟦<Delete as Task>⟧.view result) config.now 2 DELETE_SWAPS 0 }
+        ensures change { (⟦<Delete as Task>⟧.view result).change ≡ record { key = key; old = payload_of view.found; new = None } }
+        ensures facts { (s : Scene) → s.past.config ≡ config.now → s.effected ≡ false → IsScene s → IsKeyView key view s.past → (⟦<Delete as Task>⟧.view result).facts Waiting s }
+        ensures done { (s : Scene) → (⟦<Delete as Task>⟧.view result).means Outcome.Done s → s.effected ≡ true }
+        ensures no_path { (path : Path) (s : Scene) → (⟦<Delete as Task>⟧.view result).means (Outcome.Path path) s → ⊥ }
+        ensures no_view { (other : LeafView) (s : Scene) → (⟦<Delete as Task>⟧.view result).means (Outcome.View other) s → ⊥ }
         // NeedsRoom comes exactly where the viewed leaf is frozen
-        ensures needs_room { (s : Scene) → ⟦<Delete as Task>⟧.means result Outcome.NeedsRoom s → (status view.status).frozen ≡ true }
-        ensures thawed { (s : Scene) (outcome : Outcome) → ⟦<Delete as Task>⟧.means result outcome s → outcome ≢ Outcome.NeedsRoom → (status view.status).frozen ≡ false }
-        ensures only { (outcome : Outcome) (s : Scene) → ⟦<Delete as Task>⟧.means result outcome s → IsEndOfDelete outcome }
+        ensures needs_room { (s : Scene) → (⟦<Delete as Task>⟧.view result).means Outcome.NeedsRoom s → (status view.status).frozen ≡ true }
+        ensures thawed { (s : Scene) (outcome : Outcome) → (⟦<Delete as Task>⟧.view result).means outcome s → outcome ≢ Outcome.NeedsRoom → (status view.status).frozen ≡ false }
+        ensures only { (outcome : Outcome) (s : Scene) → (⟦<Delete as Task>⟧.view result).means outcome s → IsEndOfDelete outcome }
     {
         Delete {
             config: *config,
@@ -167,31 +163,7 @@ fn is_frozen(word: u64) -> bool
 }
 
 impl Task for Delete {
-    ghost config = { config_of };
-
-    ghost asks = { asks_of };
-
-    ghost end = { end_of };
-
-    ghost left = { left_of };
-
-    ghost swaps = { swaps_of };
-
-    ghost made = { λ t. 0 };
-
-    ghost needs = { λ t. 0 };
-
-    ghost change = { change_of };
-
-    ghost basis = { basis_of };
-
-    ghost publishing = { publishing_of };
-
-    ghost facts = { facts_of };
-
-    ghost means = { means_of };
-
-    ghost differs = { λ t seen. ⊥ };
+    ghost view = { delete_view };
 
     fn publishes(&self) -> bool {
         match self.phase {

@@ -3,8 +3,7 @@
 ghost use Rattle.std.specs.Prelude.{◌≡◌, ◌≢◌, ◌↔◌, ◌-◌, ◌+◌, ◌*◌, ◌<◌, ◌≤◌, ◌^◌, ◌⊎◌, Some, None, true, false};
 ghost use Rattle.bz_layout.specs.Config.{IsConfig};
 ghost use Rattle.bz_layout.specs.declared.thresholds.TheConstants.{RECORD_WORDS, RECORD_LINES};
-ghost use Rattle.bz_word.specs.Statuses.{status};
-ghost use Rattle.bz_task.specs.Basis.{no_basis};
+ghost use Rattle.bz_task.specs.Contract.{IsBegun};
 ghost use Rattle.bz_task.specs.Outcomes.{IsKeyView, payload_of};
 ghost use Rattle.bz_task.specs.Requests.{Hears, Tells, IsKnown, swaps_in, effects_in};
 ghost use Rattle.bz_task.specs.Scene.{Scene, Stage, Waiting, IsScene};
@@ -13,8 +12,8 @@ ghost use Rattle.bz_task.specs.declared.todo.Seen.TheVariants.{Start, Swapped, N
 ghost use Rattle.bz_record.specs.Records.{words_for, size_of, HasRoom, LacksRoom};
 ghost use Rattle.bz_record.specs.declared.found_record.FoundRecord.{FoundRecord};
 ghost use Rattle.bz_mutate.specs.Viewed.{IsVisible, IsFound};
-ghost use Rattle.bz_mutate.specs.UpdateDuties.{config_of, asks_of, end_of, left_of, swaps_of, made_of, change_of, publishing_of, facts_of, means_of};
 ghost use Rattle.bz_mutate.specs.UpdateFacts.{IsEndOfUpdate, update_asks, update_end, update_acts, update_left, update_steps, update_swaps, update_made, update_publishes, update_facts, IsFirst, IsReady, next_store, next_flush};
+ghost use Rattle.bz_mutate.specs.UpdateDuties.{update_view};
 
 use crate::update_phase::UpdatePhase;
 use bz_call::Spent;
@@ -38,21 +37,16 @@ impl Update {
     /// The update of a key that its leaf has.
     pub fn new(config: &Config, _path: Path, view: KeyView, key: Key, payload: Payload) -> Update
         requires present { view.found ≢ None }
-        ensures config { ⟦<Update as Task>⟧.config result ≡ config.now }
-        ensures asks { ⟦<Update as Task>⟧.asks result ≡ None }
-        ensures left { ⟦<Update as Task>⟧.left result ≡ update_acts }
-        ensures swaps { ⟦<Update as Task>⟧.swaps result ≡ UPDATE_SWAPS }
-        ensures made { ⟦<Update as Task>⟧.made result ≡ 0 }
-        ensures needs { ⟦<Update as Task>⟧.needs result ≡ 0 }
-        ensures change { ⟦<Update as Task>⟧.change result ≡ record { key = key; old = payload_of view.found; new = Some payload } }
-        ensures facts { (s : Scene) → s.past.config ≡ config.now → s.effected ≡ false → IsScene s → IsKeyView key view s.past → ⟦<Update as Task>⟧.facts result Waiting s }
-        ensures done { (s : Scene) → ⟦<Update as Task>⟧.means result Outcome.Done s → s.effected ≡ true }
-        ensures no_path { (path : Path) (s : Scene) → ⟦<Update as Task>⟧.means result (Outcome.Path path) s → ⊥ }
-        ensures no_view { (other : LeafView) (s : Scene) → ⟦<Update as Task>⟧.means result (Outcome.View other) s → ⊥ }
+        ensures begun { IsBegun (⟦<Update as Task>⟧.view result) config.now update_acts UPDATE_SWAPS 0 }
+        ensures change { (⟦<Update as Task>⟧.view result).change ≡ record { key = key; old = payload_of view.found; new = Some payload } }
+        ensures facts { (s : Scene) → s.past.config ≡ config.now → s.effected ≡ false → IsScene s → IsKeyView key view s.past → (⟦<Update as Task>⟧.view result).facts Waiting s }
+        ensures done { (s : Scene) → (⟦<Update as Task>⟧.view result).means Outcome.Done s → s.effected ≡ true }
+        ensures no_path { (path : Path) (s : Scene) → (⟦<Update as Task>⟧.view result).means (Outcome.Path path) s → ⊥ }
+        ensures no_view { (other : LeafView) (s : Scene) → (⟦<Update as Task>⟧.view result).means (Outcome.View other) s → ⊥ }
         // NeedsRoom comes exactly where the viewed leaf lacks room
-        ensures needs_room { (s : Scene) → ⟦<Update as Task>⟧.means result Outcome.NeedsRoom s → LacksRoom view.status (words_for key payload) }
-        ensures room { (s : Scene) (outcome : Outcome) → ⟦<Update as Task>⟧.means result outcome s → outcome ≢ Outcome.NeedsRoom → HasRoom view.status (words_for key payload) }
-        ensures only { (outcome : Outcome) (s : Scene) → ⟦<Update as Task>⟧.means result outcome s → IsEndOfUpdate outcome }
+        ensures needs_room { (s : Scene) → (⟦<Update as Task>⟧.view result).means Outcome.NeedsRoom s → LacksRoom view.status (words_for key payload) }
+        ensures room { (s : Scene) (outcome : Outcome) → (⟦<Update as Task>⟧.view result).means outcome s → outcome ≢ Outcome.NeedsRoom → HasRoom view.status (words_for key payload) }
+        ensures only { (outcome : Outcome) (s : Scene) → (⟦<Update as Task>⟧.view result).means outcome s → IsEndOfUpdate outcome }
     {
         bz_key::laws::packing_is_small();
         let _key = key.bytes();
@@ -185,31 +179,7 @@ impl Update {
 }
 
 impl Task for Update {
-    ghost config = { config_of };
-
-    ghost asks = { asks_of };
-
-    ghost end = { end_of };
-
-    ghost left = { left_of };
-
-    ghost swaps = { swaps_of };
-
-    ghost made = { made_of };
-
-    ghost needs = { λ t. 0 };
-
-    ghost change = { change_of };
-
-    ghost basis = { λ t. no_basis };
-
-    ghost publishing = { publishing_of };
-
-    ghost facts = { facts_of };
-
-    ghost means = { means_of };
-
-    ghost differs = { λ t seen. ⊥ };
+    ghost view = { update_view };
 
     fn publishes(&self) -> bool {
         match self.phase {

@@ -8,7 +8,7 @@ use Rattle.bz_task.specs.Scene.{Scene, IsScene, here}
 use Rattle.bz_stage.specs.Laws.{LeavesALevel}
 use Rattle.bz_alone.specs.Alone.{IsAlone}
 use Rattle.bz_alone.specs.FromRunning.AnyTask.TheVariants.{Seeking, Finding, Reading, Inserting, Updating, Deleting, Freezing, Consolidating, Splitting, SplittingBelow, SplittingInner, SplittingInnerRoot, Merging}
-use Rattle.bz_alone.specs.FromRunning.Duties.{config_of, asks_of, facts_of}
+use Rattle.bz_alone.specs.FromRunning.Duties.{view_of}
 use Rattle.bz_alone.specs.FromRunning.Kinds.{kind_of}
 use Rattle.bz_alone.specs.FromRunning.MadeFor.{IsMadeFor}
 use Rattle.bz_rounds.specs.Falls.{Falls}
@@ -40,7 +40,7 @@ has-split levels a key words s y good alone up falls l = record {
 }
 
 pub lone-left : Laws → LoneSwapsLeave
-unfolding config_of asks_of facts_of kind_of IsMadeFor
+unfolding view_of kind_of IsMadeFor
 lone-left b (Seeking t) key words entries s y l m few = absurd m
 lone-left b (Finding t) key words entries s y l m few = absurd m
 lone-left b (Reading t) key words entries s y l m few = absurd m

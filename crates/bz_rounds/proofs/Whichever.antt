@@ -7,7 +7,7 @@ use Rattle.bz_task.specs.Outcomes.{IsView}
 use Rattle.bz_task.specs.Scene.{Past, Scene, Stage, here}
 use Rattle.bz_task.specs.declared.todo.Todo.{Todo}
 use Rattle.bz_task.specs.declared.view.LeafView.{LeafView}
-use Rattle.bz_alone.specs.FromRunning.Duties.{config_of, asks_of, facts_of}
+use Rattle.bz_alone.specs.FromRunning.Duties.{view_of}
 use Rattle.bz_alone.specs.FromRunning.MadeFor.{WasLeafOf, IsMadeFor}
 use Rattle.bz_alone.specs.FromRunning.AnyTask.TheVariants.{Seeking, Finding, Reading, Inserting, Updating, Deleting, Freezing, Consolidating, Splitting, SplittingBelow, SplittingInner, SplittingInnerRoot, Merging}
 use Rattle.bz_rounds.specs.Falls.{Falls, GivesRoom}
@@ -36,7 +36,7 @@ pub own : (c : Config) (asked : Option Todo) (facts more : Stage → Scene → T
 own c asked facts more entries s y l = record { config = l.config; good = l.good; knows = l.knows.0; asks = l.asks; alone = l.alone; leads = l.leads }
 
 pub lone-swaps : Laws → LoneSwapsLowerTheStage
-unfolding config_of asks_of facts_of IsMadeFor
+unfolding view_of IsMadeFor
 lone-swaps b (Seeking t) key words entries s y l m few = absurd m
 lone-swaps b (Finding t) key words entries s y l m few = absurd m
 lone-swaps b (Reading t) key words entries s y l m few = absurd m

@@ -20,21 +20,21 @@ use Rattle.bz_task.specs.declared.path.Path.{Path as Way}
 use Rattle.bz_task.specs.declared.todo.Outcome.{Outcome}
 use Rattle.bz_task.specs.declared.todo.Outcome.TheVariants.{Path, View, Key, Done, Restart, NeedsRoom, Full}
 use Rattle.bz_task.specs.declared.view.KeyView.{KeyView}
-use Rattle.bz_running.specs.Duties.{made_of, needs_of, swaps_of, wants_of, means_of}
+use Rattle.bz_running.specs.Duties.{wants_of, means_of, view_of}
 use Rattle.bz_running.specs.Ends.{TakesNothing, TakesOneSwap, EndsWithPath, EndsWithKey, EndsWithView, EndsInRoom, EndsOrNeedsRoom, IsEndOf}
 use Rattle.bz_running.specs.Kinds.{kind_of, is_look, is_renewal}
 use Rattle.bz_running.specs.declared.running.AnyTask.{AnyTask}
 use Rattle.bz_running.specs.declared.running.AnyTask.TheVariants.{Seeking, Finding, Reading, Inserting, Updating, Deleting, Freezing, Consolidating, Splitting, SplittingBelow, SplittingInner, SplittingInnerRoot, Merging}
 
 pub looks-take-nothing : (t : AnyTask) → is_look (kind_of t) ≡ true → TakesNothing t
-unfolding kind_of wants_of needs_of swaps_of made_of
+unfolding kind_of wants_of view_of
 looks-take-nothing (Seeking t) e = record { wants = refl; needs = refl; swaps = refl; made = refl }
 looks-take-nothing (Finding t) e = record { wants = refl; needs = refl; swaps = refl; made = refl }
 looks-take-nothing (Reading t) e = record { wants = refl; needs = refl; swaps = refl; made = refl }
 looks-take-nothing t e = absurd (cc)
 
 pub renewals-take-one-swap : (t : AnyTask) → is_renewal (kind_of t) ≡ true → TakesOneSwap t
-unfolding kind_of swaps_of made_of
+unfolding kind_of view_of
 renewals-take-one-swap (Freezing t) e = record { made = refl; swaps = grind arith }
 renewals-take-one-swap (Consolidating t) e = record { made = refl; swaps = grind arith }
 renewals-take-one-swap (Splitting t) e = record { made = refl; swaps = grind arith }
@@ -126,7 +126,7 @@ by-merge upper lower st leaf (Full spent) s m = tt
 by-merge upper lower st leaf o s m = absurd m
 
 pub ends-so : (t : AnyTask) (o : Outcome) (s : Scene) → means_of t o s → IsEndOf (kind_of t) o
-unfolding kind_of means_of
+unfolding kind_of view_of
 ends-so (Seeking t) o s m = by-seek t.key o s m
 ends-so (Finding t) o s m = by-find t.key t.path o s m
 ends-so (Reading t) o s m = by-reading t.key t.path o s m

@@ -19,7 +19,7 @@ use Rattle.bz_task.specs.declared.todo.Todo.TheVariants.{Swap, Finish}
 use Rattle.bz_task.specs.declared.view.KeyView.{KeyView}
 use Rattle.bz_word.specs.Statuses.{status}
 use Rattle.bz_word.specs.declared.entry.Entry.{Entry}
-use Rattle.bz_running.specs.Duties.{asks_of, swaps_of, publishing_of, facts_of, means_of, makes_no_change}
+use Rattle.bz_running.specs.Duties.{asks_of, swaps_of, publishing_of, facts_of, means_of, makes_no_change, view_of}
 use Rattle.bz_running.specs.declared.running.AnyTask.{AnyTask}
 use Rattle.bz_running.specs.declared.running.AnyTask.TheVariants.{Inserting, Updating, Deleting}
 
@@ -39,7 +39,7 @@ last-of-delete c v (delete.Remove f) es a = refl
 last-of-delete c v phase es a = absurd (cc)
 
 pub last-swap-publishes : (t : AnyTask) (es : List Entry) → makes_no_change t ≡ false → swaps_of t ≤ 1 → asks_of t ≡ Some (Swap es) → publishing_of t ≡ true
-unfolding makes_no_change swaps_of asks_of publishing_of
+unfolding makes_no_change view_of
 last-swap-publishes (Inserting t) es e few a = last-of-insert t.config t.added t.phase es few a
 last-swap-publishes (Updating t) es e few a = last-of-update t.config t.added t.phase es few a
 last-swap-publishes (Deleting t) es e few a = last-of-delete t.config t.view t.phase es a
@@ -87,7 +87,7 @@ room-or-none st words h (inl frozen) = thawed-or-frozen st h.thawed frozen
 room-or-none st words h (inr few) = omega (arith, h.fits, few)
 
 pub goes-on-in-room : (t : AnyTask) (todo : Todo) (stage : Stage) (s z : Scene) → makes_no_change t ≡ false → asks_of t ≡ Some todo → todo ≢ Finish → facts_of t stage s → means_of t NeedsRoom z → ⊥
-unfolding makes_no_change asks_of facts_of means_of
+unfolding makes_no_change view_of
 goes-on-in-room (Inserting t) todo stage s z e a n f m = room-or-none t.added.status (size_of t.added) (insert-has-room t.config t.added t.phase stage s todo a n f) m
 goes-on-in-room (Updating t) todo stage s z e a n f m = room-or-none t.added.status (size_of t.added) (update-has-room t.config t.view t.added t.phase stage s todo a n f) m
 goes-on-in-room (Deleting t) todo stage s z e a n f m = thawed-or-frozen t.view.status (delete-was-thawed t.config t.key t.view t.phase stage s todo a n f) m

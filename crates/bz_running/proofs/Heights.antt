@@ -5,14 +5,14 @@ use Rattle.bz_layout.specs.declared.thresholds.TheConstants.{SPLIT_SLOTS}
 use Rattle.bz_ascent.specs.Laws.{AscentsEnd}
 use Rattle.bz_task.specs.Scene.{Scene, Waiting, IsScene}
 use Rattle.bz_task.specs.declared.todo.Outcome.TheVariants.{Full}
-use Rattle.bz_running.specs.Duties.{end_of, wants_of, ascent_of, facts_of, means_of}
+use Rattle.bz_running.specs.Duties.{end_of, wants_of, ascent_of, facts_of, means_of, view_of}
 use Rattle.bz_running.specs.Laws.{HaveFilledUp}
 use Rattle.bz_running.specs.declared.running.AnyTask.{AnyTask}
 use Rattle.bz_running.specs.declared.running.AnyTask.TheVariants.{Seeking, Finding, Reading, Inserting, Updating, Deleting, Freezing, Consolidating, Splitting, SplittingBelow, SplittingInner, SplittingInnerRoot, Merging}
 use Rattle.bz_running.proofs.Statements.{Ends}
 
 by-end : AscentsEnd → (t : AnyTask) (s : Scene) → IsScene s → facts_of t Waiting s → means_of t (Full Height) s → (wants_of t ≡ SPLIT_SLOTS) × HaveFilledUp (ascent_of t) s.past
-unfolding wants_of ascent_of facts_of means_of
+unfolding wants_of ascent_of view_of
 by-end law (Seeking t) s good f m = absurd m
 by-end law (Finding t) s good f m = absurd m
 by-end law (Reading t) s good f m = absurd m

@@ -9,4 +9,3 @@ mod Beginning
 mod Lacking
 mod Ends
 mod Going
-mod Nexting

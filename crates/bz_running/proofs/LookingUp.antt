@@ -20,7 +20,7 @@ use Rattle.bz_task.specs.declared.todo.Outcome.TheVariants as outcome
 use Rattle.bz_task.specs.declared.todo.Todo.{Todo}
 use Rattle.bz_task.specs.declared.todo.Todo.TheVariants.{Read, Finish}
 use Rattle.bz_task.specs.declared.view.KeyView.{KeyView}
-use Rattle.bz_running.specs.Duties.{asks_of, end_of, change_of, facts_of}
+use Rattle.bz_running.specs.Duties.{view_of}
 use Rattle.bz_running.specs.LookingUp.{ForWay, ForKey, NoLook, look_of, reads_asked, IsReadOrEnd, EndsAs, LooksUpBriefly}
 use Rattle.bz_running.specs.declared.running.AnyTask.{AnyTask}
 use Rattle.bz_running.specs.declared.running.AnyTask.TheVariants.{Seeking, Finding, Reading, Inserting, Updating, Deleting, Freezing, Consolidating, Splitting, SplittingBelow, SplittingInner, SplittingInnerRoot, Merging}
@@ -63,7 +63,7 @@ NoKey : Outcome → Type 0
 NoKey o = (view : KeyView) → o ≡ outcome.Key view → ⊥
 
 pub seeks-briefly : (t : Seek) → ((path : Path) (s : Scene) → seek.facts_of t Waiting s → seek.end_of t ≡ Some (outcome.Path path) → seek.asked_of t ≤ path_reads path) → LooksUpBriefly (Seeking t)
-unfolding asks_of end_of change_of facts_of look_of reads_asked NoKey
+unfolding view_of look_of reads_asked NoKey
 seeks-briefly t few = record {
   asks = λ todo l e. seek-asks t.config t.phase todo e;
   ends = λ o e. seek-ends (EndsAs ForWay) t.path t.phase o e tt tt;
@@ -99,7 +99,7 @@ NoPath : Outcome → Type 0
 NoPath o = (path : Path) → o ≡ outcome.Path path → ⊥
 
 pub finds-briefly : (t : Find) → ((view : KeyView) (s : Scene) → find.facts_of t Waiting s → find.end_of t ≡ Some (outcome.Key view) → find.asked_of t ≤ find_reads (durable s.past.config (s.past.at view.at) view.slot) t.key) → LooksUpBriefly (Finding t)
-unfolding asks_of end_of change_of facts_of look_of reads_asked NoPath
+unfolding view_of look_of reads_asked NoPath
 finds-briefly t few = record {
   asks = λ todo l e. find-asks t t.phase todo e;
   ends = λ o e. find-ends (EndsAs ForKey) t t.phase o e (λ view. tt) tt;

@@ -9,7 +9,7 @@ use Rattle.bz_task.specs.Scene.{Scene, Waiting, IsScene}
 use Rattle.bz_task.specs.declared.todo.Outcome.TheVariants.{NeedsRoom}
 use Rattle.bz_layout.specs.declared.thresholds.TheConstants.{SPLIT_SLOTS}
 use Rattle.bz_running.specs.Ascending.{LooksUp}
-use Rattle.bz_running.specs.Duties.{config_of, end_of, wants_of, ascent_of, facts_of, means_of}
+use Rattle.bz_running.specs.Duties.{config_of, end_of, wants_of, ascent_of, facts_of, means_of, view_of}
 use Rattle.bz_running.specs.GoingUp.{MayBeSplit, IsSplitAt, GoesUp}
 use Rattle.bz_running.specs.Hearing.{IsLookup}
 use Rattle.bz_running.specs.MadeFor.{WasCrowded, IsMadeFor}
@@ -25,7 +25,7 @@ pub record IsRising (t : AnyTask) (a : Ascent) : Type 0 where
   pub knows : (s : Scene) → facts_of t Waiting s → IsAscent a s.past × LooksUp a (means_of t)
 
 pub is-rising : (t : AnyTask) (a : Ascent) → ascent_of t ≡ Some a → IsRising t a
-unfolding wants_of ascent_of facts_of means_of
+unfolding wants_of ascent_of view_of
 is-rising (Seeking t) a e = absurd (cc)
 is-rising (Finding t) a e = absurd (cc)
 is-rising (Reading t) a e = absurd (cc)

@@ -5,7 +5,8 @@ use Rattle.bz_ascent.specs.Ascents.{IsAscent, IsOneUp}
 use Rattle.bz_ascent.specs.declared.ascent.Ascent.{Ascent}
 use Rattle.bz_ascent.specs.FromBelow.Facts.{LackedRoom}
 use Rattle.bz_crown.specs.Facts.{WasTooHigh}
-use Rattle.bz_task.specs.Scene.{Past, Scene, Stage}
+use Rattle.bz_task.specs.Scene.{Past, Scene}
+use Rattle.bz_task.specs.TaskView.{TaskView}
 use Rattle.bz_task.specs.declared.path.Link.{Link}
 use Rattle.bz_task.specs.declared.todo.Outcome.{Outcome}
 use Rattle.bz_task.specs.declared.todo.Outcome.TheVariants.{Full, NeedsRoom}
@@ -21,6 +22,10 @@ pub record LooksUp (a : Ascent) (means : Outcome → Scene → Type 0) : Type 0 
   pub lacks : (next : Ascent) (s : Scene) → IsOneUp a next → means NeedsRoom s → LackedSome next.node a.node s.past
   pub high : (s : Scene) → means (Full Height) s → WasTooHigh a.node s.past
 
--- what it knows: its own, and that the nodes below were full
-abbrev pub on_ascent : Ascent → (Outcome → Scene → Type 0) → (Stage → Scene → Type 0) → Stage → Scene → Type 0
-on_ascent a means facts stage s = facts stage s × (IsAscent a s.past × LooksUp a means)
+-- a task that knows this of the past beside its own: all but the facts is as it was
+abbrev pub also : (Past → Type 0) → TaskView → TaskView
+also Known v = record v { facts = λ stage s. v.facts stage s × Known s.past }
+
+-- that the nodes below were full
+abbrev pub on_ascent : Ascent → TaskView → TaskView
+on_ascent a v = also (λ p. IsAscent a p × LooksUp a v.means) v

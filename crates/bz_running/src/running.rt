@@ -29,7 +29,7 @@ ghost use Rattle.bz_task.specs.declared.todo.Todo.TheVariants.{Read};
 ghost use Rattle.bz_running.specs.Hearing.{IsLookup, HasHeard};
 ghost use Rattle.bz_running.specs.Kinds as kind;
 ghost use Rattle.bz_running.specs.Kinds.{kind_of, IsLeafSplit};
-ghost use Rattle.bz_running.specs.Duties.{config_of, asks_of, basis_of, end_of, left_of, swaps_of, made_of, change_swaps, needs_of, wants_of, change_of, ascent_of, publishing_of, facts_of, means_of, differs_of, makes_no_change, leaves_few_of};
+ghost use Rattle.bz_running.specs.Duties.{config_of, asks_of, left_of, swaps_of, made_of, change_swaps, needs_of, wants_of, change_of, facts_of, means_of, makes_no_change, leaves_few_of, view_of};
 ghost use Rattle.bz_running.specs.Laws.{AreLaws};
 ghost use Rattle.bz_running.specs.MadeFor.{IsMadeFor, IsMergeFor, IsSmallMerge};
 ghost use Rattle.bz_running.specs.LookingUp.{ForWay, ForKey, look_of, reads_asked, HasCounted, LooksUpBriefly};
@@ -69,7 +69,7 @@ pub enum AnyTask {
 
 impl AnyTask {
     /// The way to the leaf of a key, by halving. It asks for the root status first.
-    #[tactic(auto, unfolding(crate::specs::Duties::config_of, crate::specs::Duties::asks_of, crate::specs::Duties::left_of, crate::specs::Duties::swaps_of, crate::specs::Duties::made_of, crate::specs::Duties::needs_of, crate::specs::Duties::wants_of, crate::specs::Duties::facts_of, crate::specs::Duties::means_of, crate::specs::Duties::ascent_of, crate::specs::Duties::makes_no_change, crate::specs::LookingUp::look_of, crate::specs::LookingUp::reads_asked, crate::specs::Kinds::kind_of))]
+    #[tactic(auto, unfolding(crate::specs::Duties::view_of, crate::specs::Duties::wants_of, crate::specs::Duties::ascent_of, crate::specs::Duties::makes_no_change, crate::specs::LookingUp::look_of, crate::specs::LookingUp::reads_asked, crate::specs::Kinds::kind_of))]
     pub fn seek(config: &Config, key: Key) -> AnyTask
         ensures config { config_of result ≡ config.now }
         ensures kind { kind_of result ≡ kind.Seek }
@@ -89,7 +89,7 @@ impl AnyTask {
     }
 
     /// A look-up of a key in the last leaf of a path.
-    #[tactic(auto, unfolding(crate::specs::Duties::config_of, crate::specs::Duties::asks_of, crate::specs::Duties::left_of, crate::specs::Duties::swaps_of, crate::specs::Duties::made_of, crate::specs::Duties::needs_of, crate::specs::Duties::wants_of, crate::specs::Duties::facts_of, crate::specs::Duties::means_of, crate::specs::Duties::ascent_of, crate::specs::Duties::makes_no_change, crate::specs::Duties::change_of, crate::specs::LookingUp::look_of, crate::specs::LookingUp::reads_asked, crate::specs::Kinds::kind_of))]
+    #[tactic(auto, unfolding(crate::specs::Duties::view_of, crate::specs::Duties::wants_of, crate::specs::Duties::ascent_of, crate::specs::Duties::makes_no_change, crate::specs::LookingUp::look_of, crate::specs::LookingUp::reads_asked, crate::specs::Kinds::kind_of))]
     pub fn find(config: &Config, path: Path, key: Key) -> AnyTask
         requires some { 1 ≤ path.depth }
         requires few { path.depth ≤ MAX_LEVELS }
@@ -113,7 +113,7 @@ impl AnyTask {
     }
 
     /// A reading of the last leaf of a path.
-    #[tactic(auto, unfolding(crate::specs::Duties::config_of, crate::specs::Duties::asks_of, crate::specs::Duties::left_of, crate::specs::Duties::swaps_of, crate::specs::Duties::made_of, crate::specs::Duties::needs_of, crate::specs::Duties::wants_of, crate::specs::Duties::facts_of, crate::specs::Duties::means_of, crate::specs::Duties::ascent_of, crate::specs::Duties::makes_no_change, crate::specs::Kinds::kind_of))]
+    #[tactic(auto, unfolding(crate::specs::Duties::view_of, crate::specs::Duties::wants_of, crate::specs::Duties::ascent_of, crate::specs::Duties::makes_no_change, crate::specs::Kinds::kind_of))]
     pub fn read_leaf(config: &Config, path: Path, key: Key) -> AnyTask
         requires some { 1 ≤ path.depth }
         requires few { path.depth ≤ MAX_LEVELS }
@@ -133,7 +133,7 @@ impl AnyTask {
     }
 
     /// The insert of a key that was not found in its leaf.
-    #[tactic(auto, unfolding(crate::specs::Duties::config_of, crate::specs::Duties::asks_of, crate::specs::Duties::left_of, crate::specs::Duties::swaps_of, crate::specs::Duties::made_of, crate::specs::Duties::change_swaps, crate::specs::Duties::needs_of, crate::specs::Duties::wants_of, crate::specs::Duties::change_of, crate::specs::Duties::facts_of, crate::specs::Duties::means_of, crate::specs::Duties::ascent_of, crate::specs::Kinds::kind_of))]
+    #[tactic(auto, unfolding(crate::specs::Duties::view_of, crate::specs::Duties::change_swaps, crate::specs::Duties::wants_of, crate::specs::Duties::ascent_of, crate::specs::Kinds::kind_of))]
     pub fn insert(config: &Config, path: Path, view: KeyView, key: Key, payload: Payload) -> AnyTask
         requires absent { view.found ≡ None }
         ensures config { config_of result ≡ config.now }
@@ -156,7 +156,7 @@ impl AnyTask {
     }
 
     /// The update of a key that was found in its leaf.
-    #[tactic(auto, unfolding(crate::specs::Duties::config_of, crate::specs::Duties::asks_of, crate::specs::Duties::left_of, crate::specs::Duties::swaps_of, crate::specs::Duties::made_of, crate::specs::Duties::change_swaps, crate::specs::Duties::needs_of, crate::specs::Duties::wants_of, crate::specs::Duties::change_of, crate::specs::Duties::facts_of, crate::specs::Duties::means_of, crate::specs::Duties::ascent_of, crate::specs::Kinds::kind_of))]
+    #[tactic(auto, unfolding(crate::specs::Duties::view_of, crate::specs::Duties::change_swaps, crate::specs::Duties::wants_of, crate::specs::Duties::ascent_of, crate::specs::Kinds::kind_of))]
     pub fn update(config: &Config, path: Path, view: KeyView, key: Key, payload: Payload) -> AnyTask
         requires present { view.found ≢ None }
         ensures config { config_of result ≡ config.now }
@@ -179,7 +179,7 @@ impl AnyTask {
     }
 
     /// The delete of a key that was found in its leaf.
-    #[tactic(auto, unfolding(crate::specs::Duties::config_of, crate::specs::Duties::asks_of, crate::specs::Duties::left_of, crate::specs::Duties::swaps_of, crate::specs::Duties::made_of, crate::specs::Duties::change_swaps, crate::specs::Duties::needs_of, crate::specs::Duties::wants_of, crate::specs::Duties::change_of, crate::specs::Duties::facts_of, crate::specs::Duties::means_of, crate::specs::Duties::ascent_of, crate::specs::Kinds::kind_of))]
+    #[tactic(auto, unfolding(crate::specs::Duties::view_of, crate::specs::Duties::change_swaps, crate::specs::Duties::wants_of, crate::specs::Duties::ascent_of, crate::specs::Kinds::kind_of))]
     pub fn delete(config: &Config, path: Path, view: KeyView, key: Key) -> AnyTask
         requires present { view.found ≢ None }
         ensures config { config_of result ≡ config.now }
@@ -202,7 +202,7 @@ impl AnyTask {
     }
 
     /// The freeze of a leaf that was not frozen when it was viewed.
-    #[tactic(auto, unfolding(crate::specs::Duties::config_of, crate::specs::Duties::asks_of, crate::specs::Duties::left_of, crate::specs::Duties::swaps_of, crate::specs::Duties::made_of, crate::specs::Duties::needs_of, crate::specs::Duties::wants_of, crate::specs::Duties::facts_of, crate::specs::Duties::means_of, crate::specs::Duties::ascent_of, crate::specs::Duties::makes_no_change, crate::specs::Kinds::kind_of))]
+    #[tactic(auto, unfolding(crate::specs::Duties::view_of, crate::specs::Duties::wants_of, crate::specs::Duties::ascent_of, crate::specs::Duties::makes_no_change, crate::specs::Kinds::kind_of))]
     pub fn freeze(config: &Config, path: Path, view: LeafView) -> AnyTask
         requires thawed { (status view.status).frozen ≡ false }
         ensures config { config_of result ≡ config.now }
@@ -223,7 +223,7 @@ impl AnyTask {
     }
 
     /// The consolidation of a frozen leaf, to which the path leads.
-    #[tactic(auto, unfolding(crate::specs::Duties::config_of, crate::specs::Duties::asks_of, crate::specs::Duties::left_of, crate::specs::Duties::swaps_of, crate::specs::Duties::made_of, crate::specs::Duties::needs_of, crate::specs::Duties::wants_of, crate::specs::Duties::facts_of, crate::specs::Duties::means_of, crate::specs::Duties::ascent_of, crate::specs::Duties::makes_no_change, crate::specs::Kinds::kind_of))]
+    #[tactic(auto, unfolding(crate::specs::Duties::view_of, crate::specs::Duties::wants_of, crate::specs::Duties::ascent_of, crate::specs::Duties::makes_no_change, crate::specs::Kinds::kind_of))]
     pub fn consolidate(config: &Config, path: Path, view: LeafView, page: &mut PageBuf) -> AnyTask
         requires some { 1 ≤ path.depth }
         requires few { path.depth ≤ MAX_LEVELS }
@@ -248,7 +248,7 @@ impl AnyTask {
     }
 
     /// The split of a frozen root leaf with more live words than it may keep, to which the path leads.
-    #[tactic(auto, unfolding(crate::specs::Duties::config_of, crate::specs::Duties::asks_of, crate::specs::Duties::left_of, crate::specs::Duties::swaps_of, crate::specs::Duties::made_of, crate::specs::Duties::needs_of, crate::specs::Duties::wants_of, crate::specs::Duties::facts_of, crate::specs::Duties::means_of, crate::specs::Duties::ascent_of, crate::specs::Duties::makes_no_change, crate::specs::Kinds::kind_of))]
+    #[tactic(auto, unfolding(crate::specs::Duties::view_of, crate::specs::Duties::wants_of, crate::specs::Duties::ascent_of, crate::specs::Duties::makes_no_change, crate::specs::Kinds::kind_of))]
     pub fn split_root(config: &Config, path: Path, view: LeafView, page: &mut PageBuf) -> AnyTask
         requires root { path.depth ≡ 1 }
         requires alone { IsLeafByItself view.image.0 }
@@ -272,7 +272,7 @@ impl AnyTask {
     }
 
     /// The split of a frozen leaf below a parent, with more live words than it may keep, to which the path leads.
-    #[tactic(auto, unfolding(crate::specs::Duties::config_of, crate::specs::Duties::asks_of, crate::specs::Duties::left_of, crate::specs::Duties::swaps_of, crate::specs::Duties::made_of, crate::specs::Duties::needs_of, crate::specs::Duties::wants_of, crate::specs::Duties::facts_of, crate::specs::Duties::means_of, crate::specs::Duties::ascent_of, crate::specs::Duties::makes_no_change, crate::specs::Kinds::kind_of))]
+    #[tactic(auto, unfolding(crate::specs::Duties::view_of, crate::specs::Duties::wants_of, crate::specs::Duties::ascent_of, crate::specs::Duties::makes_no_change, crate::specs::Kinds::kind_of))]
     pub fn split_below(
         config: &Config,
         path: Path,
@@ -309,7 +309,7 @@ impl AnyTask {
 
     /// The merge of a leaf below a parent, frozen or not, to which the path leads and which has too few live words to stand alone, with a
     /// neighbour.
-    #[tactic(auto, unfolding(crate::specs::Duties::config_of, crate::specs::Duties::asks_of, crate::specs::Duties::left_of, crate::specs::Duties::swaps_of, crate::specs::Duties::made_of, crate::specs::Duties::needs_of, crate::specs::Duties::wants_of, crate::specs::Duties::facts_of, crate::specs::Duties::means_of, crate::specs::Duties::ascent_of, crate::specs::Duties::makes_no_change, crate::specs::Kinds::kind_of))]
+    #[tactic(auto, unfolding(crate::specs::Duties::view_of, crate::specs::Duties::wants_of, crate::specs::Duties::ascent_of, crate::specs::Duties::makes_no_change, crate::specs::Kinds::kind_of))]
     pub fn merge(config: &Config, path: Path, view: LeafView) -> AnyTask
         requires deep { 2 ≤ path.depth }
         requires few { path.depth ≤ MAX_LEVELS }
@@ -336,7 +336,7 @@ impl AnyTask {
     }
 
     /// Tells the task what came of its last act, and answers what it asks for next: `next`, and that one which makes no change makes none later.
-    #[tactic(auto, unfolding(crate::specs::Duties::config_of, crate::specs::Duties::asks_of, crate::specs::Duties::end_of, crate::specs::Duties::left_of, crate::specs::Duties::swaps_of, crate::specs::Duties::made_of, crate::specs::Duties::change_swaps, crate::specs::Duties::needs_of, crate::specs::Duties::wants_of, crate::specs::Duties::change_of, crate::specs::Duties::facts_of, crate::specs::Duties::means_of, crate::specs::Duties::differs_of, crate::specs::Duties::ascent_of, crate::specs::Duties::makes_no_change, crate::specs::MadeFor::IsMadeFor, crate::specs::MadeFor::IsMergeFor, crate::specs::MadeFor::IsSmallMerge, crate::specs::Kinds::kind_of))]
+    #[tactic(auto, unfolding(crate::specs::Duties::view_of, crate::specs::Duties::change_swaps, crate::specs::Duties::wants_of, crate::specs::Duties::ascent_of, crate::specs::Duties::makes_no_change, crate::specs::MadeFor::IsMadeFor, crate::specs::MadeFor::IsMergeFor, crate::specs::MadeFor::IsSmallMerge, crate::specs::Kinds::kind_of))]
     pub fn hear(&mut self, seen: Seen, slots: &mut Slots, moment: u32) -> Todo
         requires hears { Hears (asks_of self.old) seen }
         requires known { IsKnown (config_of self.old) (facts_of self.old) (asks_of self.old) seen moment }
@@ -405,33 +405,9 @@ impl AnyTask {
 }
 
 impl Task for AnyTask {
-    ghost config = { config_of };
+    ghost view = { view_of };
 
-    ghost asks = { asks_of };
-
-    ghost end = { end_of };
-
-    ghost left = { left_of };
-
-    ghost swaps = { swaps_of };
-
-    ghost made = { made_of };
-
-    ghost needs = { needs_of };
-
-    ghost change = { change_of };
-
-    ghost basis = { basis_of };
-
-    ghost publishing = { publishing_of };
-
-    ghost facts = { facts_of };
-
-    ghost means = { means_of };
-
-    ghost differs = { differs_of };
-
-    #[tactic(auto, unfolding(crate::specs::Duties::publishing_of))]
+    #[tactic(auto, unfolding(crate::specs::Duties::view_of))]
     fn publishes(&self) -> bool {
         match self {
             AnyTask::Seeking(task) => task.publishes(),
@@ -450,7 +426,7 @@ impl Task for AnyTask {
         }
     }
 
-    #[tactic(auto, unfolding(crate::specs::Duties::asks_of, crate::specs::Duties::end_of))]
+    #[tactic(auto, unfolding(crate::specs::Duties::view_of))]
     fn ended(&self) -> Option<Outcome> {
         match self {
             AnyTask::Seeking(task) => task.ended(),
@@ -469,7 +445,7 @@ impl Task for AnyTask {
         }
     }
 
-    #[tactic(auto, unfolding(crate::specs::Duties::config_of, crate::specs::Duties::asks_of, crate::specs::Duties::end_of, crate::specs::Duties::left_of, crate::specs::Duties::swaps_of, crate::specs::Duties::made_of, crate::specs::Duties::needs_of, crate::specs::Duties::wants_of, crate::specs::Duties::change_of, crate::specs::Duties::basis_of, crate::specs::Duties::publishing_of, crate::specs::Duties::facts_of, crate::specs::Duties::means_of, crate::specs::Duties::differs_of))]
+    #[tactic(auto, unfolding(crate::specs::Duties::view_of, crate::specs::Duties::wants_of))]
     fn next(&mut self, seen: Seen, slots: &mut Slots, moment: u32) -> Todo {
         match self {
             AnyTask::Seeking(task) => task.next(seen, slots, moment),
@@ -488,7 +464,7 @@ impl Task for AnyTask {
         }
     }
 
-    #[tactic(auto, unfolding(crate::specs::Duties::config_of, crate::specs::Duties::needs_of, crate::specs::Duties::wants_of, crate::specs::Duties::asks_of, crate::specs::Duties::end_of, crate::specs::Duties::publishing_of, crate::specs::Duties::facts_of, crate::specs::Duties::means_of, crate::specs::Duties::differs_of))]
+    #[tactic(auto, unfolding(crate::specs::Duties::view_of, crate::specs::Duties::wants_of))]
     fn learnt(&self) {
         bz_ascent::laws::ascents_stay();
         match self {
@@ -508,7 +484,7 @@ impl Task for AnyTask {
         }
     }
 
-    #[tactic(auto, unfolding(crate::specs::Duties::config_of, crate::specs::Duties::asks_of, crate::specs::Duties::publishing_of, crate::specs::Duties::change_of, crate::specs::Duties::facts_of))]
+    #[tactic(auto, unfolding(crate::specs::Duties::view_of))]
     fn acted(&self) {
         bz_ascent::laws::ascents_stay();
         match self {

@@ -1,24 +1,24 @@
 //! The task that splits a frozen root leaf.
 
-ghost use Rattle.std.specs.Prelude.{◌≡◌, ◌≢◌, ◌↔◌, ◌-◌, ◌+◌, ◌<◌, ◌≤◌, ◌^◌, ◌⊎◌, ℕ, List, Some, None, IsTrue, true, false, slice_get, length};
+ghost use Rattle.std.specs.Prelude.{◌≡◌, ◌≢◌, ◌↔◌, ◌-◌, ◌+◌, ◌<◌, ◌≤◌, ◌⊎◌, ℕ, List, Some, None, IsTrue, true, false, slice_get, length};
 ghost use Rattle.bz_layout.specs.Config.{IsConfig};
 ghost use Rattle.bz_layout.specs.declared.thresholds.TheConstants.{SPLIT_ABOVE, SPLIT_SLOTS};
-ghost use Rattle.bz_layout.specs.declared.sizes.TheConstants.{NODE_LINES};
 ghost use Rattle.bz_renew.specs.FromPage.Pages.{IsLeafByItself};
 ghost use Rattle.bz_renew.specs.Due.{LeadsTo};
 ghost use Rattle.bz_renew.specs.Nodes.{word_value};
 ghost use Rattle.bz_slotted.specs.Readers.{live_of};
 ghost use Rattle.bz_slotted.specs.ReadingLaws.{node_of};
 ghost use Rattle.bz_word.specs.Statuses.{status};
+ghost use Rattle.bz_task.specs.Contract.{IsBegun};
 ghost use Rattle.bz_task.specs.Outcomes.{IsPath, IsView};
 ghost use Rattle.bz_task.specs.OwnActs.{AreTakenFrom, AreUnreached, gained};
 ghost use Rattle.bz_task.specs.Requests.{Hears, Tells, IsKnown, swaps_in, effects_in};
 ghost use Rattle.bz_task.specs.Scene.{Scene, Stage, Waiting, IsScene};
 ghost use Rattle.bz_layout.specs.declared.swaps.TheConstants.{RENEWAL_SWAPS};
 ghost use Rattle.bz_task.specs.declared.todo.Seen.TheVariants.{Start, Read as Was, Swapped, NoSwap as NoneLeft};
-ghost use Rattle.bz_split.specs.Duties.{split_of, asks_of, basis_of, end_of, left_of, swaps_of, made_of, needs_of, facts_of, differs_of};
+ghost use Rattle.bz_split.specs.Duties.{split_of, asks_of, end_of, left_of, swaps_of, needs_of, facts_of, differs_of, split_view};
 ghost use Rattle.bz_split.specs.Parts.{ArePartsOf};
-ghost use Rattle.bz_split.specs.Facts.{IsEndOfSplit, HasBegun, HasLooked, nodes_in, split_acts, split_end, split_left, split_steps, split_swaps, split_facts, split_means, split_change, IsReady, WasParted, next_store, next_flush};
+ghost use Rattle.bz_split.specs.Facts.{IsEndOfSplit, HasBegun, HasLooked, nodes_in, split_acts, split_end, split_left, split_steps, split_swaps, split_facts, split_change, IsReady, WasParted, next_store, next_flush};
 
 use crate::laws::root_leaf_splits_are_good;
 use crate::parts::parts_of;
@@ -62,21 +62,16 @@ impl SplitRoot {
         requires many { SPLIT_ABOVE < live_of (node_of view.image.0) }
         requires frozen { (status view.status).frozen ≡ true }
         requires leads { LeadsTo path view.slot }
-        ensures config { ⟦<SplitRoot as Task>⟧.config result ≡ config.now }
-        ensures asks { ⟦<SplitRoot as Task>⟧.asks result ≡ None }
-        ensures left { ⟦<SplitRoot as Task>⟧.left result ≡ split_acts }
-        ensures swaps { ⟦<SplitRoot as Task>⟧.swaps result ≡ RENEWAL_SWAPS }
-        ensures made { ⟦<SplitRoot as Task>⟧.made result ≡ 0 }
-        ensures needs { ⟦<SplitRoot as Task>⟧.needs result ≡ SPLIT_SLOTS }
-        ensures change { ⟦<SplitRoot as Task>⟧.change result ≡ split_change }
-        ensures slot { (⟦<SplitRoot as Task>⟧.basis result).slot ≡ view.slot }
+        ensures begun { IsBegun (⟦<SplitRoot as Task>⟧.view result) config.now split_acts RENEWAL_SWAPS SPLIT_SLOTS }
+        ensures change { (⟦<SplitRoot as Task>⟧.view result).change ≡ split_change }
+        ensures slot { ((⟦<SplitRoot as Task>⟧.view result).basis).slot ≡ view.slot }
         ensures halves { ArePartsOf view.image.0 result.halves.left.0 result.halves.right.0 result.halves.separator }
-        ensures facts { (key : List ℕ) (s : Scene) → s.past.config ≡ config.now → IsScene s → IsPath key path s.past → IsView key view s.past → ⟦<SplitRoot as Task>⟧.facts result Waiting s }
-        ensures done { (link : Link) (s : Scene) → slice_get path.links (path.depth - 1) ≡ Some link → ⟦<SplitRoot as Task>⟧.means result Outcome.Done s → WasParted link view s.past }
-        ensures no_path { (other : Path) (s : Scene) → ⟦<SplitRoot as Task>⟧.means result (Outcome.Path other) s → ⊥ }
-        ensures no_view { (other : LeafView) (s : Scene) → ⟦<SplitRoot as Task>⟧.means result (Outcome.View other) s → ⊥ }
-        ensures no_room { (s : Scene) → ⟦<SplitRoot as Task>⟧.means result Outcome.NeedsRoom s → ⊥ }
-        ensures only { (outcome : Outcome) (s : Scene) → ⟦<SplitRoot as Task>⟧.means result outcome s → IsEndOfSplit outcome }
+        ensures facts { (key : List ℕ) (s : Scene) → s.past.config ≡ config.now → IsScene s → IsPath key path s.past → IsView key view s.past → (⟦<SplitRoot as Task>⟧.view result).facts Waiting s }
+        ensures done { (link : Link) (s : Scene) → slice_get path.links (path.depth - 1) ≡ Some link → (⟦<SplitRoot as Task>⟧.view result).means Outcome.Done s → WasParted link view s.past }
+        ensures no_path { (other : Path) (s : Scene) → (⟦<SplitRoot as Task>⟧.view result).means (Outcome.Path other) s → ⊥ }
+        ensures no_view { (other : LeafView) (s : Scene) → (⟦<SplitRoot as Task>⟧.view result).means (Outcome.View other) s → ⊥ }
+        ensures no_room { (s : Scene) → (⟦<SplitRoot as Task>⟧.view result).means Outcome.NeedsRoom s → ⊥ }
+        ensures only { (outcome : Outcome) (s : Scene) → (⟦<SplitRoot as Task>⟧.view result).means outcome s → IsEndOfSplit outcome }
     {
         bz_renew::laws::views_show_frozen_leaves();
         let halves = parts_of(&view, page);
@@ -261,31 +256,7 @@ fn after_flush(j: u32) -> Phase
 }
 
 impl Task for SplitRoot {
-    ghost config = { λ t. t.config };
-
-    ghost asks = { asks_of };
-
-    ghost end = { end_of };
-
-    ghost left = { left_of };
-
-    ghost swaps = { swaps_of };
-
-    ghost made = { made_of };
-
-    ghost needs = { needs_of };
-
-    ghost change = { λ t. split_change };
-
-    ghost basis = { basis_of };
-
-    ghost publishing = { λ t. false };
-
-    ghost facts = { facts_of };
-
-    ghost means = { λ t. split_means t.link t.halves.left.0 t.halves.right.0 t.halves.separator };
-
-    ghost differs = { differs_of };
+    ghost view = { split_view };
 
     fn publishes(&self) -> bool {
         false

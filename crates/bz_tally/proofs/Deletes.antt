@@ -11,7 +11,7 @@ use Rattle.bz_node.specs.Reading.{extent_words}
 use Rattle.bz_record.specs.Records.{words_for}
 use Rattle.bz_record.specs.Replacing.{removal}
 use Rattle.bz_record.specs.Swaps.{entries_of}
-use Rattle.bz_running.specs.Duties.{config_of, asks_of, facts_of, change_of, leaves_few_of}
+use Rattle.bz_running.specs.Duties.{leaves_few_of, view_of}
 use Rattle.bz_running.specs.Kinds.{kind_of}
 use Rattle.bz_running.specs.declared.running.AnyTask.TheVariants.{Deleting}
 use Rattle.bz_word.specs.Statuses.{status}
@@ -40,7 +40,7 @@ delete-loses b c key v (Remove f) s y entries same facts good e stand swaps =
 delete-loses b c key v phase s y entries same facts good e stand swaps = absurd (cc)
 
 pub deletes-take-one : Laws → DeletesTakeOneRecord
-unfolding config_of asks_of facts_of change_of kind_of
+unfolding view_of kind_of
 deletes-take-one b (Deleting t) entries s y w e = delete-loses b t.config t.key t.view t.phase s y entries w.config w.knows w.good w.asks w.stand w.leads
 deletes-take-one b t entries s y w e = absurd (cc)
 
@@ -54,6 +54,6 @@ few-told b c key v (Remove f) s y entries same facts good e stand swaps few =
 few-told b c key v phase s y entries same facts good e stand swaps few = absurd (cc)
 
 pub deletes-tell-few : Laws → DeletesTellFew
-unfolding config_of asks_of facts_of change_of kind_of leaves_few_of
+unfolding view_of kind_of leaves_few_of
 deletes-tell-few b (Deleting t) entries s y w e few = few-told b t.config t.key t.view t.phase s y entries w.config w.knows w.good w.asks w.stand w.leads few
 deletes-tell-few b t entries s y w e few = absurd (cc)

@@ -8,7 +8,7 @@ use Rattle.bz_running.specs.FromMerge.Plans.{Merging as MergePlan}
 use Rattle.bz_running.specs.FromMerge.Merge.{Merge}
 use Rattle.bz_running.specs.FromMerge.Phase.{Phase}
 use Rattle.bz_running.specs.FromMerge.Phase.TheVariants.{Freeze, FreezeBeside, Swap}
-use Rattle.bz_running.specs.Duties.{config_of, asks_of, facts_of, swaps_of}
+use Rattle.bz_running.specs.Duties.{config_of, asks_of, facts_of, view_of}
 use Rattle.bz_running.specs.Kinds.{kind_of}
 use Rattle.bz_running.specs.Kinds as kinds
 use Rattle.bz_running.specs.declared.running.AnyTask.{AnyTask}
@@ -35,7 +35,7 @@ before t c r phase entries s y e h l = absurd (cc)
 
 -- of whichever task it is
 at-last : (t : AnyTask) (entries : List Entry) (s : Scene) (y : Instant) → IsOwnSwap (config_of t) (asks_of t) (facts_of t) entries s y → LeavesFollow t s y → kind_of t ≡ kinds.Merge → CountsAtLast t s y
-unfolding config_of asks_of facts_of kind_of swaps_of
+unfolding view_of kind_of
 at-last (Merging t) entries s y w h e = record { last = last t t.config (merging_of t) t.phase entries s y w.asks h; before = before t t.config (merging_of t) t.phase entries s y w.asks h }
 at-last t entries s y w h e = absurd (cc)
 

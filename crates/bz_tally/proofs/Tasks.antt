@@ -15,7 +15,7 @@ use Rattle.bz_running.specs.FromMerge.Merge.{Merge}
 use Rattle.bz_running.specs.FromMerge.Phase.{Phase}
 use Rattle.bz_running.specs.FromMerge.Phase.TheVariants.{Swap}
 use Rattle.bz_node.specs.declared.image.NodeImage.{NodeImage}
-use Rattle.bz_running.specs.Duties.{config_of, asks_of, facts_of}
+use Rattle.bz_running.specs.Duties.{view_of}
 use Rattle.bz_running.specs.declared.running.AnyTask.{AnyTask}
 use Rattle.bz_running.specs.declared.running.AnyTask.TheVariants.{Seeking, Finding, Reading, Inserting, Updating, Deleting, Freezing, Consolidating, Splitting, SplittingBelow, SplittingInner, SplittingInnerRoot, Merging}
 use Rattle.bz_word.specs.declared.entry.Entry.{Entry}
@@ -73,7 +73,7 @@ leaf-none c link image leaf.Changed entries e = absurd (cc)
 
 -- a task on the way up knows what it knows without that way
 pub swaps-count : Each → SwapsCount
-unfolding config_of asks_of facts_of
+unfolding view_of
 swaps-count b (Seeking t) entries s y w = absurd (seek-none t.config t.phase entries w.asks)
 swaps-count b (Finding t) entries s y w = absurd (find-none t t.phase entries w.asks)
 swaps-count b (Reading t) entries s y w = absurd (leaf-none t.config t.link t.image t.phase entries w.asks)

@@ -8,6 +8,8 @@ pub mod Swaps
 pub mod OwnActs
 pub mod Outcomes
 pub mod Basis
+pub mod TaskView
+pub mod Contract
 pub mod Laws
 pub mod LeafSwaps
 pub mod Others

@@ -13,7 +13,7 @@ use Rattle.bz_lone.specs.Prices.{coming}
 use Rattle.bz_lone.specs.Renewals.{IsAbove}
 use Rattle.bz_lone.specs.Rounds.{stage_now}
 use Rattle.bz_lone.specs.Sum.{Spares, IsClean}
-use Rattle.bz_running.specs.Duties.{ascent_of, wants_of, facts_of, makes_no_change}
+use Rattle.bz_running.specs.Duties.{ascent_of, wants_of, facts_of, makes_no_change, view_of}
 use Rattle.bz_running.specs.Ends.{IsEndOf}
 use Rattle.bz_running.specs.GoingUp.{HasOneUp}
 use Rattle.bz_running.specs.Kinds as kinds
@@ -58,7 +58,7 @@ pub record IsOnTheWay (t : AnyTask) (key : List ℕ) (p : Past) : Type 0 where
 
 -- what makes no change, and may end for want of room, is such a split, or a merge
 pub lacks-room : (called : Call) (t : AnyTask) (s : Scene) → makes_no_change t ≡ true → IsEndOf (kind_of t) NeedsRoom → IsMeantFor called t s.past → facts_of t Waiting s → (kind_of t ≡ kinds.Merge) ⊎ IsOnTheWay t (key_of called) s.past
-unfolding makes_no_change kind_of ascent_of wants_of facts_of IsMadeFor
+unfolding makes_no_change kind_of ascent_of wants_of view_of IsMadeFor
 lacks-room called (Seeking t) s none ends meant f = absurd ends
 lacks-room called (Finding t) s none ends meant f = absurd ends
 lacks-room called (Reading t) s none ends meant f = absurd ends

@@ -7,7 +7,7 @@ use Rattle.bz_call.specs.declared.calls.Call.TheVariants as call
 use Rattle.bz_layout.specs.Slots.{FreeSlots}
 use Rattle.bz_layout.specs.declared.thresholds.TheConstants.{MERGE_SLOTS, SPLIT_SLOTS}
 use Rattle.bz_record.specs.Records.{words_for, LacksRoom}
-use Rattle.bz_running.specs.Duties.{swaps_of, change_swaps, wants_of, publishing_of}
+use Rattle.bz_running.specs.Duties.{swaps_of, change_swaps, wants_of, publishing_of, view_of}
 use Rattle.bz_running.specs.Hearing.{HasHeard}
 use Rattle.bz_running.specs.Laws.{AreLaws}
 use Rattle.bz_lone.specs.Errands.{IsLookOf, may_swap_twice}
@@ -116,7 +116,7 @@ call-meant-told x p seen moment free todo y left h m = subst (λ (z : OpenCall).
 
 -- the swap of a change merges nothing
 pub publishing-no-merge : (t : AnyTask) → publishing_of t ≡ true → kind_of t ≡ kinds.Merge → ⊥
-unfolding publishing_of kind_of
+unfolding view_of kind_of
 publishing-no-merge (Inserting t) e merge = cc merge
 publishing-no-merge (Updating t) e merge = cc merge
 publishing-no-merge (Deleting t) e merge = cc merge
@@ -124,7 +124,7 @@ publishing-no-merge t e merge = true≢false (sym e)
 
 -- nor copies
 pub publishing-no-copy : (t : AnyTask) → publishing_of t ≡ true → kind_of t ≡ kinds.Copy → ⊥
-unfolding publishing_of kind_of
+unfolding view_of kind_of
 publishing-no-copy (Inserting t) e copy = cc copy
 publishing-no-copy (Updating t) e copy = cc copy
 publishing-no-copy (Deleting t) e copy = cc copy
@@ -133,7 +133,7 @@ publishing-no-copy t e copy = true≢false (sym e)
 
 -- and makes nothing anew
 pub publishing-kind : (t : AnyTask) → publishing_of t ≡ true → is_renewal (kind_of t) ≡ false
-unfolding publishing_of kind_of
+unfolding view_of kind_of
 publishing-kind (Seeking t) e = refl
 publishing-kind (Finding t) e = refl
 publishing-kind (Reading t) e = refl

@@ -19,7 +19,7 @@ use Rattle.bz_lone.specs.Steps.{IsNext}
 use Rattle.bz_lone.specs.Sum.{Affords, own_by, own_left}
 use Rattle.bz_mark.specs.declared.marks.Mark.{Mark}
 use Rattle.bz_mark.specs.declared.marks.Mark.TheVariants as mark
-use Rattle.bz_running.specs.Duties.{asks_of, left_of, swaps_of}
+use Rattle.bz_running.specs.Duties.{asks_of, left_of, swaps_of, view_of}
 use Rattle.bz_running.specs.Hearing.{HasHeard}
 use Rattle.bz_running.specs.Kinds as kinds
 use Rattle.bz_running.specs.Kinds.{Kind, is_look, kind_of}
@@ -171,7 +171,7 @@ none-of (Some at) e = absurd (true≢false e)
 
 -- what is known of the acts of the split of a leaf below a parent, by the kind of the task
 pub within-of : (t : AnyTask) → ((a : _) → kind_of t ≡ kinds.SplitLeaf a → left_of t ≤ below_acts) → IsWithinItsActs t
-unfolding kind_of left_of
+unfolding kind_of view_of
 within-of (Seeking t) few = tt
 within-of (Finding t) few = tt
 within-of (Reading t) few = tt
@@ -187,7 +187,7 @@ within-of (SplittingInnerRoot t a) few = tt
 within-of (Merging t) few = tt
 
 left-within : (t : AnyTask) (a : _) → kind_of t ≡ kinds.SplitLeaf a → IsWithinItsActs t → left_of t ≤ below_acts
-unfolding kind_of left_of
+unfolding kind_of view_of
 left-within (Seeking t) a e within = absurd (cc e)
 left-within (Finding t) a e within = absurd (cc e)
 left-within (Reading t) a e within = absurd (cc e)

@@ -10,7 +10,7 @@ use Rattle.bz_layout.specs.declared.config.Config.{Config}
 use Rattle.bz_layout.specs.declared.swaps.TheConstants.{DELETE_SWAPS}
 use Rattle.bz_layout.specs.declared.thresholds.TheConstants.{LEAF_RECORD_WORDS}
 use Rattle.bz_lone.specs.FromAlone.Counts.{HasOthers}
-use Rattle.bz_running.specs.Duties.{change_of, change_swaps, made_of, publishing_of}
+use Rattle.bz_running.specs.Duties.{change_of, change_swaps, made_of, publishing_of, view_of}
 use Rattle.bz_running.specs.Kinds as kinds
 use Rattle.bz_running.specs.Kinds.{kind_of}
 use Rattle.bz_running.specs.declared.running.AnyTask.{AnyTask}
@@ -42,7 +42,7 @@ takes-away called had new deletes is = absurd (true≢false (sym deletes))
 
 -- and what does is a delete, by one swap
 delete-kind : (t : AnyTask) → puts (kind_of t) ≡ true → (change_of t).new ≡ None → kind_of t ≡ kinds.Delete
-unfolding kind_of change_of
+unfolding kind_of view_of
 delete-kind (Inserting t) put none = absurd (cc none)
 delete-kind (Updating t) put none = absurd (cc none)
 delete-kind (Deleting t) put none = refl

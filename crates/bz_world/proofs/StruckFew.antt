@@ -9,7 +9,7 @@ use Rattle.bz_layout.specs.declared.config.Config.{Config}
 use Rattle.bz_lone.specs.FromAlone.Counts.{HasOthers}
 use Rattle.bz_lone.specs.FromRounds.Stands.{SameStage}
 use Rattle.bz_lone.specs.FromTally.Deletes.{LosesOneRecord}
-use Rattle.bz_running.specs.Duties.{change_of, leaves_few_of, makes_no_change, no-change-is-published, publishing_of}
+use Rattle.bz_running.specs.Duties.{change_of, leaves_few_of, makes_no_change, no-change-is-published, publishing_of, view_of}
 use Rattle.bz_running.specs.Kinds as kinds
 use Rattle.bz_running.specs.Kinds.{kind_of}
 use Rattle.bz_running.specs.declared.running.AnyTask.{AnyTask}
@@ -37,7 +37,7 @@ changes-record t publishes = by (makes_no_change t) refl
     by true e = absurd (true≢false (sym publishes ∙ no-change-is-published t e))
 
 pub changing-delete : (t : AnyTask) → makes_no_change t ≡ false → (change_of t).new ≡ None → kind_of t ≡ kinds.Delete
-unfolding kind_of change_of makes_no_change
+unfolding kind_of view_of makes_no_change
 changing-delete (Inserting t) some none = absurd (cc none)
 changing-delete (Updating t) some none = absurd (cc none)
 changing-delete (Deleting t) some none = refl

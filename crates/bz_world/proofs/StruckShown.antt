@@ -15,7 +15,7 @@ use Rattle.bz_mark.specs.declared.marks.Mark.TheVariants.{Fence, Effect}
 use Rattle.bz_mark.proofs.Steps.{levelled_or_left}
 use Rattle.bz_mark.proofs.WordLaws.{length-words_of}
 use Rattle.bz_pm.specs.Words.{Words}
-use Rattle.bz_running.specs.Duties.{asks_of, facts_of}
+use Rattle.bz_running.specs.Duties.{asks_of, facts_of, view_of}
 use Rattle.bz_running.specs.Kinds as kinds
 use Rattle.bz_running.specs.Kinds.{kind_of}
 use Rattle.bz_running.specs.declared.running.AnyTask.{AnyTask}
@@ -78,7 +78,7 @@ module _ (was is : SwapMemory) (start : List ℕ) (past : List Mark) (mark : Mar
 
 -- a delete that asks for its swap has stored into each slot that its worker took
 delete-filled : (t : AnyTask) (entries : List Entry) (u : Scene) → kind_of t ≡ kinds.Delete → asks_of t ≡ Some (todo.Swap entries) → facts_of t Waiting u → HasFilled u
-unfolding kind_of asks_of facts_of
+unfolding kind_of view_of
 delete-filled t entries u is asks facts j took = grind arith
 
 module _ (b : StrikeLaws) (p : Parts) (s : ℕ) (h : IsStriking p s) (lonely : IsLonely (w b p s h) (h.mark ∷ (old b p s h).journal.past)) (deletes : kind_of (x b p s h).task ≡ kinds.Delete) where

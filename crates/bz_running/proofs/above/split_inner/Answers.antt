@@ -1,21 +1,21 @@
 use Rattle.std.proofs.Common.{◌≡◌, ◌+◌, ◌-◌, arith, refl, sym, ap, subst, Some, inl}
 use Rattle.std.specs.Prelude.{slice_get}
 use Rattle.bz_ascent.specs.declared.ascent.Ascent.{Ascent}
-use Rattle.bz_running.specs.Duties.{config_of, asks_of, swaps_of, made_of, wants_of, ascent_of, facts_of, means_of, makes_no_change, left_of}
+use Rattle.bz_running.specs.Duties.{wants_of, ascent_of, makes_no_change, view_of}
 use Rattle.bz_running.specs.Kinds.{kind_of}
 use Rattle.bz_running.specs.MadeFor.{IsMadeFor}
 use Rattle.bz_running.proofs.Ascending.{same-ascent}
 use Rattle.bz_running.proofs.above.split_inner.Goals as goal
 
 pub returns-clause-split : goal.returns-clause-split
-unfolding config_of asks_of swaps_of made_of wants_of ascent_of facts_of means_of makes_no_change IsMadeFor left_of kind_of
+unfolding view_of wants_of ascent_of makes_no_change IsMadeFor kind_of
 returns-clause-split c = record {
-  config = c.new-task.ensures.config;
+  config = c.new-task.ensures.begun.config;
   kind = inl (refl, c.requires.below);
-  asks = c.new-task.ensures.asks;
-  left = omega (arith, c.new-task.ensures.left);
-  swaps = c.new-task.ensures.swaps;
-  made = c.new-task.ensures.made;
+  asks = c.new-task.ensures.begun.asks;
+  left = omega (arith, c.new-task.ensures.begun.left);
+  swaps = c.new-task.ensures.begun.swaps;
+  made = c.new-task.ensures.begun.made;
   wants = refl;
   silent = refl;
   facts = λ s same good a. (

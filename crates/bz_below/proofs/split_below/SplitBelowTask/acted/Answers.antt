@@ -2,16 +2,10 @@ use Rattle.bz_below.specs.Duties.{below_of}
 use Rattle.bz_below.proofs.Acting.{effect, took, stored, flushed}
 use Rattle.bz_below.proofs.split_below.SplitBelowTask.acted.Goals as goal
 
-pub returns-clause-effect : goal.returns-clause-effect
-returns-clause-effect c s y entries same f good e stand swaps =
-    let t = c.args.self.now in effect c.leaf_splits_below_are_good.ensures c.parents_of_halves_are_whole.ensures t.config (below_of t) t.phase s y entries same f good e stand swaps
-
-pub returns-clause-stored : goal.returns-clause-stored
-returns-clause-stored c s after a v same f good later e made = let t = c.args.self.now in stored c.slots_apart.ensures t.config (below_of t) t.phase s after a v same f e made
-
-pub returns-clause-flushed : goal.returns-clause-flushed
-returns-clause-flushed c s after line same f good later e made = let t = c.args.self.now in flushed t.config (below_of t) t.phase s after line same f e made
-
-pub returns-clause-took : goal.returns-clause-took
-returns-clause-took c s after entries same f good later e stand takes =
-    let t = c.args.self.now in took c.links_turn.ensures.asked c.parents_of_halves_are_whole.ensures t.config (below_of t) t.phase s after entries same f good e takes
+pub returns : goal.returns
+returns c = record {
+  effect = λ s y entries same f good e stand swaps. let t = c.args.self.now in effect c.leaf_splits_below_are_good.ensures c.parents_of_halves_are_whole.ensures t.config (below_of t) t.phase s y entries same f good e stand swaps;
+  took = λ s after entries same f good later e stand takes. let t = c.args.self.now in took c.links_turn.ensures.asked c.parents_of_halves_are_whole.ensures t.config (below_of t) t.phase s after entries same f good e takes;
+  stored = λ s after a v same f good later e made. let t = c.args.self.now in stored c.slots_apart.ensures t.config (below_of t) t.phase s after a v same f e made;
+  flushed = λ s after line same f good later e made. let t = c.args.self.now in flushed t.config (below_of t) t.phase s after line same f e made;
+}

@@ -1,18 +1,7 @@
-use Rattle.std.proofs.Common.{◌≡◌, sym, subst, ◌∙◌, arith, Some, None}
-use Rattle.bz_task.specs.Requests.{Hears}
-use Rattle.bz_consol.specs.Duties.{renewal_of}
-use Rattle.bz_consol.specs.Facts.{consol_asks}
-use Rattle.bz_consol.proofs.Beginning.{asked-steps, one-left}
 use Rattle.bz_consol.proofs.consolidate.ConsolidateTask.next.Goals as goal
 
+pub returns-clause-goes : goal.returns-clause-goes
+returns-clause-goes c = c.step.ensures.goes c.asked.result c.asked.ensures
+
 pub returns-clause-learns : goal.returns-clause-learns
-returns-clause-learns c stage s now same good free facts tells = c.step.ensures.learns stage s same free facts tells
-
-pub returns-clause-nearer : goal.returns-clause-nearer
-returns-clause-nearer c = let u = c.step.new.self in omega (arith, c.step.ensures.nearer, asked-steps u.config (renewal_of u) u.phase)
-
-pub returns-clause-begins : goal.returns-clause-begins
-returns-clause-begins c outcome s e = let q : None ≡ Some outcome = sym (c.step.ensures.begins s) ∙ e in absurd (cc)
-
-pub returns-clause-only_last : goal.returns-clause-only_last
-returns-clause-only_last c e = let t = c.args.self.now in one-left t.config (renewal_of t) t.phase (subst (Hears (consol_asks t.config (renewal_of t) t.phase)) (c.step.ensures.done e) c.requires.hears)
+returns-clause-learns c = c.step.ensures.learns

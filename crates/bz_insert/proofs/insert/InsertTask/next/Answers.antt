@@ -1,4 +1,4 @@
-use Rattle.std.proofs.Common.{◌≡◌, ◌⊎◌, arith, refl, sym, ap, subst, ◌∙◌, inl, inr, Some, None}
+use Rattle.std.proofs.Common.{◌≡◌, ◌⊎◌, arith, refl, sym, ap, subst, ◌∙◌, inl, inr, Some, None, rules}
 use Rattle.bz_layout.specs.declared.config.Config.{Config}
 use Rattle.bz_record.specs.declared.new_record.NewRecord.{NewRecord}
 use Rattle.bz_task.specs.Requests.{EndsAtOnce, steps_in}
@@ -19,9 +19,6 @@ asked-steps : (c : Config) (r : NewRecord) (p : Phase) → steps_in (insert_asks
 asked-steps c r Fresh = refl
 asked-steps c r p = refl
 
-pub returns-clause-nearer : goal.returns-clause-nearer
-returns-clause-nearer c = let t = c.args.self.now in omega (arith, c.after-self.ensures.nearer, asked-steps t.config t.added c.after-self.result)
-
 -- it may end as it begins for want of room alone
 first-ends : (p : Phase) (outcome : Outcome) → (p ≡ Reserve) ⊎ (p ≡ NeedsRoom) → insert_end p ≡ Some outcome → EndsAtOnce 0 outcome
 first-ends p outcome h e = elim h [ inl a ↦ goes-on (sym (ap insert_end a) ∙ e) | inr a ↦ subst (EndsAtOnce 0) (one (sym (ap insert_end a) ∙ e)) tt ]
@@ -32,5 +29,25 @@ first-ends p outcome h e = elim h [ inl a ↦ goes-on (sym (ap insert_end a) ∙
     one : Some Needs ≡ Some outcome → Needs ≡ outcome
     one e = cc
 
-pub returns-clause-begins : goal.returns-clause-begins
-returns-clause-begins c outcome s e = first-ends c.after-self.result outcome (c.after-self.ensures.begins s) e
+pub returns-clause-goes : goal.returns-clause-goes
+returns-clause-goes c = record {
+  asked = search rules;
+  nearer = let t = c.args.self.now in omega (arith, c.after-self.ensures.nearer, asked-steps t.config t.added c.after-self.result);
+  fewer = search rules;
+  counted = search rules;
+  config = search rules;
+  change = search rules;
+  basis = search rules;
+  meant = search rules;
+  slots = search rules;
+  kept = search rules;
+  begins = λ outcome s e. first-ends c.after-self.result outcome (c.after-self.ensures.begins s) e;
+  last = search rules;
+  only_last = search rules;
+  done = search rules;
+  published = search rules;
+  restart = search rules;
+  no_swap = search rules;
+  full_swaps = search rules;
+  full_nodes = search rules;
+}

@@ -1,4 +1,4 @@
-use Rattle.std.proofs.Common.{◌≡◌, arith, refl}
+use Rattle.std.proofs.Common.{◌≡◌, arith, refl, rules}
 use Rattle.bz_layout.specs.declared.config.Config.{Config}
 use Rattle.bz_node.specs.declared.image.NodeImage.{NodeImage}
 use Rattle.bz_task.specs.Requests.{steps_in}
@@ -14,10 +14,30 @@ one-step : (c : Config) (link : Link) (image : NodeImage) (p : Phase) → steps_
 one-step c link image Fresh = refl
 one-step c link image p = refl
 
-pub returns-clause-nearer : goal.returns-clause-nearer
-returns-clause-nearer c = let u = c.after-self.new.self in omega (arith, c.after-self.ensures.nearer, one-step u.config u.link u.image c.after-self.result)
-
 pub returns-clause-learns : goal.returns-clause-learns
 returns-clause-learns c stage s now same good free facts tells =
     let t = c.args.self.now in let a = c.after-self.ensures in
     rw (a.key, a.link, a.path) (no-slot c.nothing_is_gained.ensures t.key t.link c.after-self.new.self.image.0 s c.args.slots.now c.after-self.result a.begun (a.learns stage s now same good facts.0 tells), facts.1, facts.2)
+
+pub returns-clause-goes : goal.returns-clause-goes
+returns-clause-goes c = record {
+  asked = search rules;
+  nearer = let u = c.after-self.new.self in omega (arith, c.after-self.ensures.nearer, one-step u.config u.link u.image c.after-self.result);
+  fewer = search rules;
+  counted = search rules;
+  config = search rules;
+  change = search rules;
+  basis = search rules;
+  meant = search rules;
+  slots = search rules;
+  kept = search rules;
+  begins = search rules;
+  last = search rules;
+  only_last = search rules;
+  done = search rules;
+  published = search rules;
+  restart = search rules;
+  no_swap = search rules;
+  full_swaps = search rules;
+  full_nodes = search rules;
+}

@@ -2,18 +2,10 @@ use Rattle.bz_mutate.proofs.UpdateActing.{effect}
 use Rattle.bz_mutate.proofs.UpdateTaking.{took, stored, flushed}
 use Rattle.bz_mutate.proofs.update.UpdateTask.acted.Goals as goal
 
-pub returns-clause-effect : goal.returns-clause-effect
-returns-clause-effect c s y entries same facts good asks stand swaps =
-    let t = c.args.self.now in effect c.growths_are_good.ensures c.replacements_are_good.ensures t.config t.view t.added t.phase s y entries same facts good asks stand swaps
-
-pub returns-clause-took : goal.returns-clause-took
-returns-clause-took c s after entries same facts good later asks stand takes =
-    let t = c.args.self.now in took c.growths_take_words.ensures t.config t.view t.added t.phase s after entries same facts good later asks stand takes
-
-pub returns-clause-stored : goal.returns-clause-stored
-returns-clause-stored c s after a v same facts good later asks stores =
-    let t = c.args.self.now in stored c.records_were.ensures c.records_are_written.ensures t.config t.view t.added t.phase s after a v same facts asks stores
-
-pub returns-clause-flushed : goal.returns-clause-flushed
-returns-clause-flushed c s after line same facts good later asks flushes =
-    let t = c.args.self.now in flushed c.records_were.ensures c.records_are_written.ensures t.config t.view t.added t.phase s after line same facts asks flushes
+pub returns : goal.returns
+returns c = record {
+  effect = λ s y entries same facts good asks stand swaps. let t = c.args.self.now in effect c.growths_are_good.ensures c.replacements_are_good.ensures t.config t.view t.added t.phase s y entries same facts good asks stand swaps;
+  took = λ s after entries same facts good later asks stand takes. let t = c.args.self.now in took c.growths_take_words.ensures t.config t.view t.added t.phase s after entries same facts good later asks stand takes;
+  stored = λ s after a v same facts good later asks stores. let t = c.args.self.now in stored c.records_were.ensures c.records_are_written.ensures t.config t.view t.added t.phase s after a v same facts asks stores;
+  flushed = λ s after line same facts good later asks flushes. let t = c.args.self.now in flushed c.records_were.ensures c.records_are_written.ensures t.config t.view t.added t.phase s after line same facts asks flushes;
+}

@@ -2,14 +2,14 @@ use Rattle.std.proofs.Common.{◌≡◌, ◌-◌, arith, refl, sym, ap, subst, �
 use Rattle.std.specs.Prelude.{slice_get}
 use Rattle.bz_ascent.specs.declared.ascent.Ascent.{Ascent}
 use Rattle.bz_task.specs.declared.path.Path.{Path}
-use Rattle.bz_running.specs.Duties.{facts_of, means_of, ascent_of}
+use Rattle.bz_running.specs.Duties.{ascent_of, view_of}
 use Rattle.bz_running.specs.Kinds.{kind_of}
 use Rattle.bz_running.specs.MadeFor.{IsMadeFor}
 use Rattle.bz_running.proofs.Ascending.{same-ascent, lower-link, upper-link}
 use Rattle.bz_running.proofs.running.AnyTask.split_below.Goals as goal
 
 pub returns-clause-ends : goal.returns-clause-ends
-unfolding means_of ascent_of
+unfolding view_of ascent_of
 returns-clause-ends c way = record {
   path = λ path s means. absurd (c.new-task.ensures.no_path path s means);
   view = λ view s means. absurd (c.new-task.ensures.no_view view s means);
@@ -20,7 +20,7 @@ returns-clause-ends c way = record {
 }
 
 pub returns-clause-facts : goal.returns-clause-facts
-unfolding facts_of
+unfolding view_of
 returns-clause-facts c s same good path view = (
   c.new-task.ensures.facts c.args.key s same good path view,
   (

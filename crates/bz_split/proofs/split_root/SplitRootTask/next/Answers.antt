@@ -1,4 +1,4 @@
-use Rattle.std.proofs.Common.{◌≡◌, sym, subst, ◌∙◌, arith, Some, None}
+use Rattle.std.proofs.Common.{◌≡◌, sym, subst, ◌∙◌, arith, Some, None, rules}
 use Rattle.bz_task.specs.Requests.{Hears}
 use Rattle.bz_split.specs.Duties.{split_of}
 use Rattle.bz_split.specs.Facts.{split_asks}
@@ -8,11 +8,25 @@ use Rattle.bz_split.proofs.split_root.SplitRootTask.next.Goals as goal
 pub returns-clause-learns : goal.returns-clause-learns
 returns-clause-learns c stage s now same good free facts tells = c.step.ensures.learns stage s same good free facts tells
 
-pub returns-clause-nearer : goal.returns-clause-nearer
-returns-clause-nearer c = let u = c.step.new.self in omega (arith, c.step.ensures.nearer, asked-steps u.config (split_of u) u.phase)
-
-pub returns-clause-begins : goal.returns-clause-begins
-returns-clause-begins c outcome s e = let q : None ≡ Some outcome = sym (c.step.ensures.begins s) ∙ e in absurd (cc)
-
-pub returns-clause-only_last : goal.returns-clause-only_last
-returns-clause-only_last c e = let t = c.args.self.now in one-left t.config (split_of t) t.phase (subst (Hears (split_asks t.config (split_of t) t.phase)) (c.step.ensures.done e) c.requires.hears)
+pub returns-clause-goes : goal.returns-clause-goes
+returns-clause-goes c = record {
+  asked = search rules;
+  nearer = let u = c.step.new.self in omega (arith, c.step.ensures.nearer, asked-steps u.config (split_of u) u.phase);
+  fewer = search rules;
+  counted = search rules;
+  config = search rules;
+  change = search rules;
+  basis = search rules;
+  meant = search rules;
+  slots = search rules;
+  kept = search rules;
+  begins = λ outcome s e. let q : None ≡ Some outcome = sym (c.step.ensures.begins s) ∙ e in absurd (cc);
+  last = search rules;
+  only_last = λ e. let t = c.args.self.now in one-left t.config (split_of t) t.phase (subst (Hears (split_asks t.config (split_of t) t.phase)) (c.step.ensures.done e) c.requires.hears);
+  done = search rules;
+  published = search rules;
+  restart = search rules;
+  no_swap = search rules;
+  full_swaps = search rules;
+  full_nodes = search rules;
+}
