@@ -11,7 +11,7 @@ use Rattle.bz_machine.specs.Changes.{put, with_status, with_field, with_durable_
 use Rattle.bz_cells.specs.Store.{Store, Beside, typed, status_word, status_of, IsOutside, field_address, field_count}
 use Rattle.bz_cells.proofs.Readers.{AreChosen, status_in, field_in, kind-stays, status-chosen, status-stays, field-chosen, field-stays}
 use Rattle.bz_cells.proofs.Places.{differ, told-outside, status-not_outside, field-not_outside, status-not_in_line}
-use Rattle.bz_cells.proofs.Typed.{same_memory}
+use Rattle.bz_cells.proofs.Typed.{same_memory, none-copied, none-fields}
 
 same : (a : ℕ) → (a == a) ≡ true
 same a = grind (arith, common_steps)
@@ -83,7 +83,7 @@ typed-status st b s v into lt h =
     (λ t ne. status-stays st.swaps p from (slice_index st.cached) (slice_index into) h t (λ less. differ _ _ (status-status t s ne))))
     (λ t. refl)
     (λ t k. field-stays st.swaps p from (slice_index st.cached) (slice_index into) h t k (λ less fewer. differ _ _ (field-status t k s fewer)))
-    (λ t k. refl) refl refl refl refl refl refl refl
+    (λ t k. refl) refl (λ a. refl) (λ t. refl) (λ t k. refl) refl refl refl refl refl refl refl
   where
     p : ℕ → Bool
     p c = c == swap_address s
@@ -111,7 +111,7 @@ typed-field st b s k x into lt less h =
     (put-one (field_in st.swaps old s) k x (field_in st.swaps new s) here
     (λ j ne. field-stays st.swaps p from old new h s j (λ below fewer. differ _ _ (number-number s j k ne))))
     (λ t j ne. field-stays st.swaps p from old new h t j (λ below fewer. differ _ _ (field-field t j s k fewer less ne))))
-    (λ t j. refl) refl refl refl refl refl refl refl
+    (λ t j. refl) refl (λ a. refl) (λ t. refl) (λ t j. refl) refl refl refl refl refl refl refl
   where
     p : ℕ → Bool
     p c = c == field_address s k
@@ -145,7 +145,7 @@ typed-head st b s into lt h =
     (put-row (field_in st.swaps old) s (λ k. if in_head k then field_in st.swaps from s k else field_in st.swaps old s k) (field_in st.swaps new)
     (λ k. row-told st.swaps s k p in_head from old new h (λ less. inside k))
     (λ t k ne. field-stays st.swaps p from old new h t k (λ below fewer. differ _ _ (far t k ne fewer))))
-    refl refl refl refl refl refl refl
+    refl (λ a. refl) (λ t. none-copied (t == s)) (λ t k. none-fields (t == s) (in_head k)) refl refl refl refl refl refl refl
   where
     p : ℕ → Bool
     p c = c / 8 == swap_address s / 8
@@ -187,7 +187,7 @@ typed-tail st b s into lt h =
     (put-row (field_in st.swaps old) s (λ k. if in_tail k then field_in st.swaps from s k else field_in st.swaps old s k) (field_in st.swaps new)
     (λ k. row-told st.swaps s k p in_tail from old new h (λ less. inside k less))
     (λ t k ne. field-stays st.swaps p from old new h t k (λ below fewer. differ _ _ (far t k ne fewer))))
-    refl refl refl refl refl refl refl
+    refl (λ a. refl) (λ t. refl) (λ t k. none-fields (t == s) (in_tail k)) refl refl refl refl refl refl refl
   where
     p : ℕ → Bool
     p c = c / 8 == swap_address s / 8 + 1
@@ -229,7 +229,7 @@ typed-status_alone st b s into lt h =
     (λ t ne. status-stays st.swaps p from old new h t (λ below. differ _ _ (status-status t s ne))))
     (λ t k. refl)
     (λ t k. field-stays st.swaps p from old new h t k (λ below fewer. differ _ _ (field-status t k s fewer)))
-    refl refl refl refl refl refl refl
+    refl (λ a. refl) (λ t. none-copied (t == s)) (λ t k. refl) refl refl refl refl refl refl refl
   where
     p : ℕ → Bool
     p c = c == swap_address s
@@ -259,7 +259,7 @@ typed-field_alone st b s k into lt less h =
     (put-row (field_in st.swaps old) s (λ j. if j == k then field_in st.swaps from s j else field_in st.swaps old s j) (field_in st.swaps new)
     (λ j. row-told st.swaps s j p (λ i. i == k) from old new h (λ fewer. inside j))
     (λ t j ne. field-stays st.swaps p from old new h t j (λ below fewer. differ _ _ (field-field t j s k fewer less ne))))
-    refl refl refl refl refl refl refl
+    refl (λ a. refl) (λ t. refl) (λ t j. none-fields (t == s) (j == k)) refl refl refl refl refl refl refl
   where
     p : ℕ → Bool
     p c = c == field_address s k

@@ -1,5 +1,5 @@
 -- What the words mean after a change of some of them.
-use Rattle.std.specs.Prelude.{◌≡◌, ◌==◌, ℕ, ◌<◌, Bool, false, List, slice_index}
+use Rattle.std.specs.Prelude.{◌≡◌, ◌==◌, if◌then◌else◌, ℕ, ◌<◌, Bool, true, false, List, slice_index, None}
 use Rattle.std.proofs.Common.{arith, refl, inl, inr}
 use Rattle.std.proofs.lemmas.Grind.{common_steps}
 use Rattle.std.proofs.lemmas.Bool.{cases_eq}
@@ -8,20 +8,26 @@ use Rattle.bz_word.proofs.Lemmas.KindWords.{kind-word}
 use Rattle.bz_word.specs.declared.kind.WordKind.{WordKind}
 use Rattle.bz_layout.specs.Addresses.{swap_address}
 use Rattle.bz_machine.specs.Machine.{Memory}
+use Rattle.bz_machine.specs.Pending.{no_asks}
 use Rattle.bz_machine.specs.Changes.{put, with_word, with_copies, in_line}
 use Rattle.bz_cells.specs.Store.{Store, Beside, typed, kind_at, IsOutside, field_address, field_count}
 use Rattle.bz_cells.proofs.Readers.{AreChosen, kind-chosen, kind-stays, status-stays, field-stays}
 use Rattle.bz_cells.proofs.Places.{differ, outside-told, status-not_outside, field-not_outside, status-not_in_line, field-not_in_line}
 
 -- two memories that agree everywhere, with the same beside the words, are one
-pub same_memory : (m n : Memory) → ((a : ℕ) → m.cached a ≡ n.cached a) → ((a : ℕ) → m.durable a ≡ n.durable a) → ((s : ℕ) → m.status s ≡ n.status s) → ((s : ℕ) → m.durable_status s ≡ n.durable_status s) → ((s k : ℕ) → m.words s k ≡ n.words s k) → ((s k : ℕ) → m.durable_words s k ≡ n.durable_words s k) → m.next_tag ≡ n.next_tag → m.missed ≡ n.missed → m.taken ≡ n.taken → m.owner ≡ n.owner → m.named ≡ n.named → m.published ≡ n.published → m.answer ≡ n.answer → m ≡ n
-same_memory m n c d s r w v tag missed taken owner named published answer = λ i. record {
+pub same_memory : (m n : Memory) → ((a : ℕ) → m.cached a ≡ n.cached a) → ((a : ℕ) → m.durable a ≡ n.durable a) → ((s : ℕ) → m.status s ≡ n.status s) → ((s : ℕ) → m.durable_status s ≡ n.durable_status s) → ((s k : ℕ) → m.words s k ≡ n.words s k) → ((s k : ℕ) → m.durable_words s k ≡ n.durable_words s k)
+    → m.now ≡ n.now → ((a : ℕ) → m.pending a ≡ n.pending a) → ((s : ℕ) → m.status_pending s ≡ n.status_pending s) → ((s k : ℕ) → m.words_pending s k ≡ n.words_pending s k) → m.next_tag ≡ n.next_tag → m.missed ≡ n.missed → m.taken ≡ n.taken → m.owner ≡ n.owner → m.named ≡ n.named → m.published ≡ n.published → m.answer ≡ n.answer → m ≡ n
+same_memory m n c d s r w v now asks status_asks word_asks tag missed taken owner named published answer = λ i. record {
   cached = λ a. c a i;
   durable = λ a. d a i;
   status = λ t. s t i;
   durable_status = λ t. r t i;
   words = λ t k. w t k i;
   durable_words = λ t k. v t k i;
+  now = now i;
+  pending = λ a. asks a i;
+  status_pending = λ t. status_asks t i;
+  words_pending = λ t k. word_asks t k i;
   next_tag = tag i;
   missed = missed i;
   taken = taken i;
@@ -30,6 +36,16 @@ same_memory m n c d s r w v tag missed taken owner named published answer = λ i
   published = published i;
   answer = answer i;
 }
+
+-- what becomes durable where nobody asks dates from the same moment as all else
+pub none-copied : {A : Type 0} (b : Bool) → no_asks {A = A} ≡ record { since = if b then 0 else 0; asked = λ w. None }
+none-copied true = refl
+none-copied false = refl
+
+-- the same of some words of one descriptor
+pub none-fields : (b c : Bool) → no_asks {A = ℕ} ≡ record { since = if b then if c then 0 else 0 else 0; asked = λ w. None }
+none-fields true c = none-copied c
+none-fields false c = refl
 
 -- a word outside the descriptors is another
 pub typed-stored : (st : Store) (b : Beside) (a : ℕ) (k : WordKind) (into : List ℕ) → IsOutside st.swaps a → IsKind k
@@ -40,7 +56,7 @@ typed-stored st b a k into out is_kind h =
     (λ s. status-stays st.swaps (λ c. c == a) (λ c. word k) (slice_index st.cached) (slice_index into) h s (λ lt. differ _ _ (status-not_outside st.swaps a s out lt)))
     (λ s. refl)
     (λ s j. field-stays st.swaps (λ c. c == a) (λ c. word k) (slice_index st.cached) (slice_index into) h s j (λ lt less. differ _ _ (field-not_outside st.swaps a s j out lt less)))
-    (λ s j. refl) refl refl refl refl refl refl refl
+    (λ s j. refl) refl (λ c. refl) (λ s. refl) (λ s j. refl) refl refl refl refl refl refl refl
   where
     here : kind_at st.swaps into a ≡ k
     here = rw (outside-told st.swaps a out, h a) (grind (arith, common_steps, kind-word k is_kind))
@@ -63,7 +79,7 @@ typed-copied st b p into h no_status no_field =
     (λ s. status-stays st.swaps p (slice_index st.cached) (slice_index st.durable) (slice_index into) h s (no_status s))
     (λ s j. refl)
     (λ s j. field-stays st.swaps p (slice_index st.cached) (slice_index st.durable) (slice_index into) h s j (no_field s j))
-    refl refl refl refl refl refl refl
+    refl (λ c. none-copied (p c)) (λ s. refl) (λ s j. refl) refl refl refl refl refl refl refl
 
 -- the line of a word outside the descriptors becomes durable
 pub typed-flushed : (st : Store) (b : Beside) (a : ℕ) (into : List ℕ) → IsOutside st.swaps a

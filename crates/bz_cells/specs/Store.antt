@@ -12,6 +12,7 @@ use Rattle.bz_machine.specs.declared.status.SwapStatus.TheVariants.{Free, Undeci
 use Rattle.bz_machine.specs.declared.status.Verdict.{Verdict}
 use Rattle.bz_machine.specs.declared.status.Verdict.TheVariants.{Succeeded, Failed}
 use Rattle.bz_machine.specs.Machine.{Memory}
+use Rattle.bz_machine.specs.Pending.{no_asks}
 use Rattle.bz_machine.specs.Ranges.{IsTagger}
 
 -- the words in the caches and in the memory itself, and the number of descriptors among them; beside them, for each
@@ -91,7 +92,7 @@ pub record Beside : Type 0 where
   pub published : ℕ → Bool
   pub answer : ℕ → Option Verdict
 
--- the machine's memory that the words mean
+-- the machine's memory that the words mean: nobody asks for lines yet
 abbrev pub typed : Store → Beside → Memory
 typed st b = record {
   cached = kind_at st.swaps st.cached;
@@ -100,6 +101,10 @@ typed st b = record {
   durable_status = status_at st.swaps st.durable;
   words = descriptor_word_at st.swaps st.cached;
   durable_words = descriptor_word_at st.swaps st.durable;
+  now = 0;
+  pending = λ a. no_asks;
+  status_pending = λ s. no_asks;
+  words_pending = λ s k. no_asks;
   next_tag = slice_index st.next_tags;
   missed = λ s. get_or st.missed s false;
   taken = st.taken;

@@ -35,6 +35,7 @@ use Rattle.bz_machine.proofs.Words.{change-store}
 use Rattle.bz_machine.proofs.Copies.{change-copies}
 use Rattle.bz_machine.proofs.Values.{change-cleared}
 use Rattle.bz_machine.proofs.KeptKnowledge.{back-keeps, owns-keeps}
+use Rattle.bz_machine.proofs.Lasting.{lasts-durable}
 
 begun-published : (e : ℕ → Entries) (m : Memory) (s : ℕ) → m.published s ≡ true → Sound e m → 0 < (e s).count
 begun-published e m s p g = grind (arith, g.begun s, g.not_begun s)
@@ -53,7 +54,7 @@ own-read m o a h = rw h tt
 -- the load of the word that is read
 good-read : (e : ℕ → Entries) (m : Memory) (w : ℕ) (l : Local) (a : ℕ) (found : WordKind) → m.cached a ≡ found → l.operation ≡ Reading a → Owns m w l.operation → BackPublished m l.back → Sound e m → Good e m w l (read_act m l a found)
 good-read e m w l a (Value v) h o owns back g =
-    good-answers e m m w l (Read v) (change-same e m l.current g) back (rw o (h, λ nm. grind (arith, common_steps, g.same a (m.durable a) refl nm))) refl
+    good-answers e m m w l (Read v) (change-same e m l.current g) back (rw o (h, λ nm. grind (arith, common_steps, g.same a (m.durable a) (lasts-durable _ _) nm))) refl
 good-read e m w l a (Dirty v) h o owns back g = good-same e m w l (record l { place = FlushRead a v }) g (record { place = o; owns = owns; back = back })
 good-read e m w l a (Swap t) h o owns back g = good-same e m w l (helping l t None) g (knows-helping e m w l t None (g.pointer a t h).standing (own-read m l.operation a o) owns tt)
 good-read e m w l a (Tag t i v q) h o owns back g = good-same e m w l (helping l t None) g (knows-helping e m w l t None (g.tag a t i v q h).standing (own-read m l.operation a o) owns tt)

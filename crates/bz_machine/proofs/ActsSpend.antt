@@ -36,6 +36,7 @@ use Rattle.bz_machine.proofs.SpendReads.{spends-clear_read}
 use Rattle.bz_machine.proofs.SpendStale.{spends-remove_tag, spends-stale_sweep, spends-stale_pointer, spends-stale_tag}
 use Rattle.bz_machine.proofs.SpendStores.{spends-store}
 use Rattle.bz_machine.proofs.Spends.{Spends, spends-learn, spends-look, spends-under, spends-flush_dirty, spends-flush_target, spends-flush_status, spends-flush_final, spends-write_word, spends-flush_head, spends-flush_read, spends-flush_line}
+use Rattle.bz_machine.proofs.Lasting.{lasts-durable}
 
 -- the status of a published swap is not free
 not-free : (c k : SwapStatus) → Follows c k → c ≡ Free → ⊥
@@ -87,7 +88,7 @@ few-words k c f g = omega (arith, f, g)
 -- on the own descriptor
 prepares : (x : State) (w n : ℕ) (step : PrepareStep) → IsBounded x n → AtPlace x.entries x.memory w (x.local w) (Prepare step) → Spends x.entries x.local x.memory w n (x.local w) (Prepare step)
 prepares x w n (WriteWord k) bounded known = spends-write_word x.entries x.local x.memory w n (x.local w) k (few-words k _ known.3.0 (bounded.short (x.local w).current))
-prepares x w n WriteStatus bounded known = spends-write_status x.entries x.local x.memory w n (x.local w) (bounded.state.sound.unset (x.local w).current known.1).0
+prepares x w n WriteStatus bounded known = spends-write_status x.entries x.local x.memory w n (x.local w) (bounded.state.sound.unset (x.local w).current known.1)
 prepares x w n FlushHead bounded known = spends-flush_head x.entries x.local x.memory w n (x.local w)
 prepares x w n FlushTail bounded known = spends-flush_tail x.entries x.local x.memory w n (x.local w) known.0 known.3.1
 
@@ -101,7 +102,7 @@ helps x w n (InstallTag i) bounded at known = by_fresh (is_fresh_at (scene_of x)
     by_fresh false told =
         spends-stale_tag x.entries x.local x.memory w n (x.local w) i bounded.few bounded.short (small i _ known.3.0 (bounded.short (x.local w).current)) ((agree-spell (x.entries (x.local w).current) (x.local w).list known.2).target i known.3.0) told
 helps x w n (LookUnderTag i v q) bounded at known =
-    spends-under x.entries x.local x.memory w n (x.local w) i v q (not-free (x.memory.status (x.local w).current) (x.memory.durable_status (x.local w).current) (bounded.state.sound.follows (x.local w).current known.0))
+    spends-under x.entries x.local x.memory w n (x.local w) i v q (not-free (x.memory.status (x.local w).current) (x.memory.durable_status (x.local w).current) (bounded.state.sound.follows (x.local w).current (x.memory.durable_status (x.local w).current) (lasts-durable _ _) known.0))
 helps x w n (InstallPointer i v q) bounded at known = by_fresh (is_fresh_at (scene_of x) (x.local w).current (Help (InstallPointer i v q))) refl
   where
     by_fresh : (b : Bool) → is_fresh_at (scene_of x) (x.local w).current (Help (InstallPointer i v q)) ≡ b → Spends x.entries x.local x.memory w n (x.local w) (Help (InstallPointer i v q))
@@ -116,7 +117,7 @@ helps x w n (ClearDirty i v) bounded at known =
     (home-of x w n ((x.entries (x.local w).current).target i) v (Help (ClearDirty i v)) bounded at (λ j d final. final)) (small i _ known.3.0 (bounded.short (x.local w).current))
 helps x w n (FlushTarget i) bounded at known = spends-flush_target x.entries x.local x.memory w n (x.local w) i (small i _ known.3.0 (bounded.short (x.local w).current))
 helps x w n (Decide d) bounded at known =
-    spends-decide x.entries x.local x.memory w n (x.local w) d bounded.few bounded.short (not-free (x.memory.status (x.local w).current) (x.memory.durable_status (x.local w).current) (bounded.state.sound.follows (x.local w).current known.0))
+    spends-decide x.entries x.local x.memory w n (x.local w) d bounded.few bounded.short (not-free (x.memory.status (x.local w).current) (x.memory.durable_status (x.local w).current) (bounded.state.sound.follows (x.local w).current (x.memory.durable_status (x.local w).current) (lasts-durable _ _) known.0))
 helps x w n (FlushStatus d) bounded at known = spends-flush_status x.entries x.local x.memory w n (x.local w) d
 helps x w n (ClearStatus d) bounded at known = spends-clear_status x w n d bounded known.0
 helps x w n (PutFinal i d) bounded at known = spends-put_final x w n i d bounded at known (small i _ known.3.0 (bounded.short (x.local w).current))

@@ -1,33 +1,28 @@
 -- Words outside the descriptors become durable: a flush of a line, or an eviction.
-use Rattle.std.proofs.Common.{◌≡◌, ℕ, Bool, arith, refl, inl}
-use Rattle.std.proofs.lemmas.Grind.{common_steps}
+use Rattle.std.proofs.Common.{◌⊎◌, ◌≡◌, ℕ, Bool, true, false, refl, inl, inr}
 use Rattle.bz_word.specs.declared.kind.WordKind.{WordKind}
-use Rattle.bz_word.specs.declared.kind.WordKind.TheVariants.{Swap, Tag}
 use Rattle.bz_machine.specs.Machine.{Entries, Memory, MayLast}
 use Rattle.bz_machine.specs.Changes.{with_copies}
-use Rattle.bz_machine.specs.Sound.{IsTarget, IsEntry, Sound}
-use Rattle.bz_machine.specs.Content.{Quiet}
-use Rattle.bz_machine.proofs.Change.{Change, no_miss}
+use Rattle.bz_machine.specs.Sound.{Sound}
+use Rattle.bz_machine.proofs.Change.{Change}
+use Rattle.bz_machine.proofs.Lasting.{lasts-copied, past-copied}
+use Rattle.bz_machine.proofs.Settles.{Settles, onward-same, change-quietly}
 
-sound-copies : (e : ℕ → Entries) (m : Memory) (p : ℕ → Bool) → Sound e m → Sound e (with_copies m p)
-sound-copies e m p g =
-    let n : Memory = with_copies m p in
-    let pointer : (a s : ℕ) (x : WordKind) → MayLast n a x → x ≡ Swap s → IsTarget e m.published s a = λ a s x l h. grind (arith, common_steps, g.pointer_durable a s (m.durable a) refl, g.pointer a s, l, h) in
-    let tag : (a s i w q : ℕ) (x : WordKind) → MayLast n a x → x ≡ Tag s i w q → IsEntry e m.published s i a = λ a s i w q x l h. grind (arith, common_steps, g.tag_durable a s i w q (m.durable a) refl, g.tag a s i w q, l, h) in
-    grind (arith, common_steps, pointer, tag, g)
+-- of a word that became durable the cached one alone may last
+pub lasts-copies : (e : ℕ → Entries) (m : Memory) (p : ℕ → Bool) (a : ℕ) (x : WordKind) → Sound e m → MayLast (with_copies m p) a x → ((p a ≡ true) × (x ≡ m.cached a)) ⊎ ((p a ≡ false) × MayLast m a x)
+lasts-copies e m p a x g may = lasts-copied (p a) (m.cached a) (m.durable a) m.now (m.pending a) x (g.past a) may
 
--- every address keeps what it holds, since its cached word stands for the same
-pub quiet-copies : (e : ℕ → Entries) (m : Memory) (p : ℕ → Bool) → Sound e m → Quiet e m (with_copies m p)
-quiet-copies e m p g = record {
-  content = λ a nm. grind (arith, common_steps, g.same a (m.durable a) refl nm);
-  swaps = λ s. refl;
+settles-copies : (e : ℕ → Entries) (m : Memory) (p : ℕ → Bool) → Sound e m → Settles m (with_copies m p)
+settles-copies e m p g = record {
+  words = λ a x may. elim (lasts-copies e m p a x g may) [ inl copied ↦ inl copied.1 | inr was ↦ inr was.1 ];
+  fields = λ s k v may. inr may;
+  statuses = λ s k may. inr may;
+  order = g.order;
+  onward = onward-same e m g;
+  past = λ a. past-copied (p a) m.now (m.pending a) (g.past a);
+  status_past = g.status_past;
+  words_past = g.words_past;
 }
 
 pub change-copies : (e : ℕ → Entries) (m : Memory) (p : ℕ → Bool) (s : ℕ) → Sound e m → Change e m (with_copies m p) s
-change-copies e m p s g = record {
-  sound = sound-copies e m p g;
-  keeps = grind (arith, common_steps);
-  descriptors = λ t. grind (arith, common_steps);
-  effect = inl (quiet-copies e m p g);
-  misses = no_miss e m (with_copies m p) refl;
-}
+change-copies e m p s g = change-quietly e m (with_copies m p) (settles-copies e m p g) g s (λ t. refl)

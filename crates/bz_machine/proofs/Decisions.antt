@@ -7,7 +7,7 @@ use Rattle.bz_machine.specs.declared.status.SwapStatus.{SwapStatus}
 use Rattle.bz_machine.specs.declared.status.SwapStatus.TheVariants.{Undecided}
 use Rattle.bz_machine.specs.declared.status.Verdict.{Verdict}
 use Rattle.bz_machine.specs.declared.status.Verdict.TheVariants.{Failed}
-use Rattle.bz_machine.specs.Machine.{Entries, Memory, is_verdict, is_succeeded, MayLast}
+use Rattle.bz_machine.specs.Machine.{Entries, Memory, is_verdict, is_succeeded, MayLast, StatusMayLast}
 use Rattle.bz_machine.specs.Changes.{with_status}
 use Rattle.bz_machine.specs.Sound.{Follows, Sound}
 use Rattle.bz_machine.specs.Keeps.{Keeps}
@@ -17,7 +17,7 @@ use Rattle.bz_machine.proofs.Change.{Change, quiet-change}
 -- that stands in the cache alone but where all targets hold the pointer
 pub record MayBecome (e : ℕ → Entries) (m : Memory) (s : ℕ) (c : SwapStatus) : Type 0 where
   pub published : m.published s ≡ true
-  pub follows : Follows c (m.durable_status s)
+  pub follows : (k : SwapStatus) → StatusMayLast m s k → Follows c k
   pub standing : (i : ℕ) → i < (e s).count → is_succeeded c ≡ true → m.durable_status s ≡ Undecided → m.cached ((e s).target i) ≡ Swap s
   pub standing_durable : (i : ℕ) (x : WordKind) → i < (e s).count → is_succeeded c ≡ true → m.durable_status s ≡ Undecided → MayLast m ((e s).target i) x → x ≡ Swap s
   pub missed : is_verdict c Failed ≡ true → m.missed s ≡ true

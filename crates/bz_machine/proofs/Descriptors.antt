@@ -1,14 +1,10 @@
--- Words of a descriptor become durable, or are stored before the swap is published.
-use Rattle.std.proofs.Common.{◌≡◌, ◌≢◌, ℕ, Bool, false, arith, refl}
+-- Words of a descriptor are stored before the swap is published.
+use Rattle.std.proofs.Common.{◌≡◌, ◌≢◌, ℕ, false, arith}
 use Rattle.std.proofs.lemmas.Grind.{common_steps}
 use Rattle.bz_machine.specs.Machine.{Entries, Memory}
-use Rattle.bz_machine.specs.Changes.{with_field, with_durable_fields}
+use Rattle.bz_machine.specs.Changes.{with_field}
 use Rattle.bz_machine.specs.Sound.{Sound}
-use Rattle.bz_machine.proofs.Change.{Change, quiet-change}
 use Rattle.bz_machine.specs.Keeps.{Keeps, KeepsDescriptor}
-
-pub sound-durable_fields : (e : ℕ → Entries) (m : Memory) (s : ℕ) (p : ℕ → Bool) → Sound e m → Sound e (with_durable_fields m s p)
-sound-durable_fields e m s p g = grind (arith, common_steps, g)
 
 -- a word of a descriptor is stored before its swap is published
 pub sound-field : (e : ℕ → Entries) (m : Memory) (s k v : ℕ) → m.published s ≡ false → Sound e m → Sound e (with_field m s k v)
@@ -19,6 +15,3 @@ keeps-field e m s k v = grind (arith, common_steps)
 
 pub descriptor-field : (m : Memory) (s k v t : ℕ) → t ≢ s → KeepsDescriptor m (with_field m s k v) t
 descriptor-field m s k v t ne = grind (arith, common_steps)
-
-pub change-durable_fields : (e : ℕ → Entries) (m : Memory) (s : ℕ) (p : ℕ → Bool) (t : ℕ) → Sound e m → Change e m (with_durable_fields m s p) t
-change-durable_fields e m s p t g = quiet-change e m (with_durable_fields m s p) t (sound-durable_fields e m s p g) (grind (arith, common_steps)) (λ u. grind (arith, common_steps)) refl refl refl

@@ -12,7 +12,7 @@ use Rattle.bz_machine.specs.Changes.{put}
 use Rattle.bz_machine.specs.DirtyHomes.{IsAtFinal, Cleans, IsCleaned, DirtyAreHome, DirtyStayHome}
 use Rattle.bz_machine.specs.HelpActs.{final_value, finished, cleared_word}
 use Rattle.bz_machine.specs.Machine.{Memory, entries_in}
-use Rattle.bz_machine.specs.State.{State, StartRead, StartStore, StartFlush, StartSwap, Act, Evict, EvictStatus, EvictField, stepped, happens}
+use Rattle.bz_machine.specs.State.{State, StartRead, StartStore, StartFlush, StartSwap, Act, Evict, EvictStatus, EvictField, Ask, Fence, stepped, happens}
 use Rattle.bz_machine.specs.Steps.{Local, Stepped, after_help, act}
 use Rattle.bz_machine.proofs.TagHomes.{cached-help}
 use Rattle.bz_machine.proofs.WordChanges.{Written, Stays, PutsPlain, PutsTag, PutsPointer, PutsFinal, written}
@@ -116,3 +116,5 @@ dirty_stay_home x (Act w) may home a v is = act-home x w home a v is
 dirty_stay_home x (Evict b) may home a v is = home a v is
 dirty_stay_home x (EvictStatus t) may home a v is = home a v is
 dirty_stay_home x (EvictField t k) may home a v is = home a v is
+dirty_stay_home x (Ask w p) may home a v is = home a v is
+dirty_stay_home x (Fence w s) may home a v is = home a v is

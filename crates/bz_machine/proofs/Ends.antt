@@ -123,7 +123,7 @@ clean-read m l a s (Tag t j v q) clean = clean
 pub clean-act : (e : ℕ → Entries) (m : Memory) (w : ℕ) (l : Local) (place : Place) (s : ℕ) → Sound e m → AtPlace e m w l place → IsClean (m.status s) → IsClean ((act m w l place).memory.status s)
 clean-act e m w l Idle s sound at clean = clean
 clean-act e m w l (Prepare (WriteWord k)) s sound at clean = clean
-clean-act e m w l (Prepare WriteStatus) s sound at clean = clean-put m.status l.current s Undecided (λ same k. absurd (unset-clean (m.status s) (sound.unset s (ap m.published same ∙ at.1)).0 k)) clean
+clean-act e m w l (Prepare WriteStatus) s sound at clean = clean-put m.status l.current s Undecided (λ same k. absurd (unset-clean (m.status s) (sound.unset s (ap m.published same ∙ at.1)) k)) clean
 clean-act e m w l (Prepare FlushHead) s sound at clean = clean
 clean-act e m w l (Prepare FlushTail) s sound at clean = clean
 clean-act e m w l (Learn k) s sound at clean = clean

@@ -24,7 +24,7 @@ use Rattle.bz_machine.specs.HelpActs.{After, final_value, finished, passed, afte
 use Rattle.bz_machine.specs.Knows.{AtPlace}
 use Rattle.bz_machine.specs.Machine.{Entries, Memory, entries_in, is_verdict}
 use Rattle.bz_machine.specs.Sound.{Sound}
-use Rattle.bz_machine.specs.State.{State, StartRead, StartStore, StartFlush, StartSwap, Act, Evict, EvictStatus, EvictField, stepped, swapping, happens, IsState}
+use Rattle.bz_machine.specs.State.{State, StartRead, StartStore, StartFlush, StartSwap, Act, Evict, EvictStatus, EvictField, Ask, Fence, stepped, swapping, happens, IsState}
 use Rattle.bz_machine.specs.Steps.{Local, Stepped, after_help, read_act, act}
 use Rattle.bz_machine.proofs.Ends.{clean-act}
 use Rattle.bz_machine.proofs.NextEnds.{NextEnds, OwnEnds, own-next, IsBefore, before-ends, behind-in_last, status-follows, passed-follows, install-follows, under-follows, untag-follows, decide-follows, final-follows, finished-ends}
@@ -332,3 +332,5 @@ ends_stay_whole x (Act w) may state whole = act-whole x w state whole (own-acted
 ends_stay_whole x (Evict b) may state whole = assumption whole
 ends_stay_whole x (EvictStatus t) may state whole = assumption whole
 ends_stay_whole x (EvictField t k) may state whole = assumption whole
+ends_stay_whole x (Ask w p) may state whole = assumption whole
+ends_stay_whole x (Fence w s) may state whole = assumption whole

@@ -2,13 +2,13 @@
 use Rattle.std.proofs.Common.{◌≡◌, ◌≢◌, ℕ, ◌==◌, if◌then◌else◌, ◌<◌, Bool, true, false, arith, refl, sym, subst, ◌∙◌}
 use Rattle.std.proofs.lemmas.Grind.{common_steps}
 use Rattle.bz_machine.specs.Machine.{Entries, Memory}
-use Rattle.bz_machine.specs.Changes.{put, with_copies, with_durable_status, with_durable_fields}
+use Rattle.bz_machine.specs.Changes.{put, with_copies, with_durable_status, with_durable_fields, with_ask, fenced}
 use Rattle.bz_machine.specs.Sound.{AreApart}
 use Rattle.bz_machine.specs.Steps.{Local}
 use Rattle.bz_machine.specs.Knows.{Knows}
 use Rattle.std.proofs.Common.{List, [], ◌∷◌}
 use Rattle.bz_machine.specs.Changes.{with_taken}
-use Rattle.bz_machine.specs.State.{State, Event, StartRead, StartStore, StartFlush, StartSwap, Act, Evict, EvictStatus, EvictField, with_local, with_memory, stepped, swapping, happens, MaySwap, MayHappen, IsState, AllMayHappen, after_all}
+use Rattle.bz_machine.specs.State.{State, Event, StartRead, StartStore, StartFlush, StartSwap, Act, Evict, EvictStatus, EvictField, Ask, Fence, with_local, with_memory, stepped, swapping, happens, MaySwap, MayHappen, IsState, AllMayHappen, after_all}
 use Rattle.bz_machine.proofs.Change.{Change}
 use Rattle.bz_machine.proofs.Good.{Good}
 use Rattle.bz_machine.proofs.Acts.{good-act}
@@ -16,15 +16,15 @@ use Rattle.bz_machine.proofs.KeptKnowledge.{knows-keeps}
 use Rattle.bz_machine.proofs.TakenKnowledge.{knows-taken, knows-swapping}
 use Rattle.bz_machine.proofs.Takes.{sound-taken}
 use Rattle.bz_machine.proofs.Copies.{change-copies}
-use Rattle.bz_machine.proofs.Effects.{change-durable_status}
-use Rattle.bz_machine.proofs.Descriptors.{change-durable_fields}
+use Rattle.bz_machine.proofs.Fences.{change-ask, change-fence}
+use Rattle.bz_machine.proofs.DurableStatuses.{change-durable_status, change-durable_fields}
 
 -- one worker is put, and the others know what they must
 knows-put : (e : ℕ → Entries) (m : Memory) (w : ℕ) (l : Local) (local : ℕ → Local) → Knows e m w l → ((v : ℕ) → v ≢ w → Knows e m v (local v)) → (v : ℕ) (b : Bool) → (v == w) ≡ b → Knows e m v (if b then l else local v)
 knows-put e m w l local own others v true h = let same : v ≡ w = grind (arith, common_steps, h) in subst (λ u. Knows e m u l) (sym same) own
 knows-put e m w l local own others v false h = others v (λ same. grind (arith, common_steps, h, same))
 
--- an eviction
+-- an eviction, an ask or a fence
 state-evicted : (x : State) (n : Memory) (s : ℕ) → Change x.entries x.memory n s → IsState x → IsState (with_memory x n)
 state-evicted x n s c i = record {
   apart = i.apart;
@@ -70,6 +70,8 @@ state-happens x (Act w) may i = state-acted x w i
 state-happens x (Evict a) may i = state-evicted x (with_copies x.memory (λ b. b == a)) 0 (change-copies x.entries x.memory (λ b. b == a) 0 i.sound) i
 state-happens x (EvictStatus s) may i = state-evicted x (with_durable_status x.memory s) s (change-durable_status x.entries x.memory s i.apart i.sound) i
 state-happens x (EvictField s k) may i = state-evicted x (with_durable_fields x.memory s (λ j. j == k)) 0 (change-durable_fields x.entries x.memory s (λ j. j == k) 0 i.sound) i
+state-happens x (Ask w p) may i = state-evicted x (with_ask x.memory w p) 0 (change-ask x.entries x.memory w p 0 i.sound) i
+state-happens x (Fence w s) may i = state-evicted x (fenced x.memory w) s (change-fence x.entries x.memory w s may i.apart i.sound) i
 
 pub state-after_all : (x : State) (vs : List Event) → AllMayHappen x vs → IsState x → IsState (after_all x vs)
 state-after_all x [] may i = i

@@ -13,6 +13,7 @@ use Rattle.bz_machine.specs.declared.place.HelpStep.{HelpStep}
 use Rattle.bz_machine.specs.declared.place.Next.{Next}
 use Rattle.bz_machine.specs.HelpActs.{After, passed, finished, by_status}
 use Rattle.bz_machine.proofs.Change.{Change, change-same}
+use Rattle.bz_machine.proofs.Lasting.{lasts-durable}
 
 -- what an act of worker w on swap s gives: a lawful change, and what the worker knows next
 pub record Fine (e : ℕ → Entries) (m : Memory) (w s : ℕ) (a : After) : Type 0 where
@@ -59,4 +60,4 @@ pub fact-by_status : (e : ℕ → Entries) (m : Memory) (w s : ℕ) (found : Swa
 fact-by_status e m w s Free h p n g = (n, λ u j below. grind arith)
 fact-by_status e m w s Undecided h p n g = (n, λ u j below. grind arith)
 fact-by_status e m w s (Deciding d) h p n g = rw h (deciding-verdict d)
-fact-by_status e m w s (Decided d) h p n g = let follows = g.follows s p in (n, decided-durable (m.durable_status s) d (rw h at follows))
+fact-by_status e m w s (Decided d) h p n g = let follows = g.follows s (m.durable_status s) (lasts-durable _ _) p in (n, decided-durable (m.durable_status s) d (rw h at follows))

@@ -1,43 +1,23 @@
 -- The acts that make the verdict durable and clear its dirty bit.
-use Rattle.std.proofs.Common.{◌≡◌, ℕ, ◌<◌, true, arith, refl, inl, inr}
+use Rattle.std.proofs.Common.{◌≡◌, ℕ, ◌<◌, true, arith, refl, subst}
 use Rattle.std.proofs.lemmas.Grind.{common_steps}
 use Rattle.bz_machine.specs.declared.status.SwapStatus.{SwapStatus}
 use Rattle.bz_machine.specs.declared.status.SwapStatus.TheVariants.{Free, Undecided, Deciding, Decided}
 use Rattle.bz_machine.specs.declared.status.Verdict.{Verdict}
 use Rattle.bz_machine.specs.declared.status.Verdict.TheVariants.{Succeeded, Failed}
-use Rattle.bz_machine.specs.Machine.{Entries, Memory, is_verdict}
-use Rattle.bz_machine.specs.Changes.{with_durable_status, with_durable_fields, in_head, with_durable_head}
-use Rattle.bz_machine.specs.Sound.{AreApart, Sound}
+use Rattle.bz_machine.specs.Machine.{Entries, Memory, is_verdict, StatusMayLast}
+use Rattle.bz_machine.specs.Changes.{with_durable_head}
+use Rattle.bz_machine.specs.Sound.{Follows, AreApart, Sound}
 use Rattle.bz_machine.specs.Facts.{Fact}
 use Rattle.bz_machine.specs.declared.place.HelpStep.TheVariants.{FlushStatus, ClearStatus, PutFinal}
 use Rattle.bz_machine.specs.declared.place.Next.TheVariants.{Step}
 use Rattle.bz_machine.specs.HelpActs.{cleared_status}
 use Rattle.bz_machine.proofs.Fine.{Fine}
-use Rattle.bz_machine.proofs.Change.{Change, change-same, no_miss}
-use Rattle.bz_machine.proofs.Effects.{effect-durable_status}
-use Rattle.bz_machine.specs.Content.{QuietOrEffect}
-use Rattle.bz_machine.proofs.DurableStatuses.{sound-durable_status, keeps-durable_status}
-use Rattle.bz_machine.proofs.Descriptors.{sound-durable_fields}
+use Rattle.bz_machine.proofs.Change.{Change, change-same}
+use Rattle.bz_machine.proofs.DurableStatuses.{change-durable_head}
 use Rattle.bz_machine.proofs.Decisions.{MayBecome, change-status}
-
--- the first line of a descriptor becomes durable, and with it the status
-pub sound-durable_head : (e : ℕ → Entries) (m : Memory) (s : ℕ) → AreApart e → Sound e m → Sound e (with_durable_head m s)
-sound-durable_head e m s o g = sound-durable_status e (with_durable_fields m s in_head) s o (sound-durable_fields e m s in_head g)
-
-quiet-durable_head : (e : ℕ → Entries) (m : Memory) (s : ℕ) → QuietOrEffect e m (with_durable_status m s) s → QuietOrEffect e m (with_durable_head m s) s
-quiet-durable_head e m s q = elim q [
-  | inl quiet ↦ inl (assumption quiet)
-  | inr effect ↦ inr (assumption effect)
-]
-
-pub change-durable_head : (e : ℕ → Entries) (m : Memory) (s : ℕ) → AreApart e → Sound e m → Change e m (with_durable_head m s) s
-change-durable_head e m s o g = record {
-  sound = sound-durable_head e m s o g;
-  keeps = assumption (keeps-durable_status e m s g);
-  descriptors = λ t. grind (arith, common_steps);
-  effect = quiet-durable_head e m s (effect-durable_status e m s o g);
-  misses = no_miss e m (with_durable_head m s) refl;
-}
+use Rattle.bz_machine.proofs.Settles.{lasts-onward, onward-same}
+use Rattle.bz_machine.proofs.Lasting.{lasts-durable}
 
 pub fine-flush_status : (e : ℕ → Entries) (m : Memory) (w s : ℕ) (d : Verdict) → AreApart e → Fact e m w s (FlushStatus d) → Sound e m → Fine e m w s (record { memory = with_durable_head m s; next = Step (ClearStatus d) })
 fine-flush_status e m w s d o f g = record {
@@ -45,9 +25,16 @@ fine-flush_status e m w s d o f g = record {
   fact = grind (arith, common_steps, f);
 }
 
+-- where the verdict is durable each status that may last is a decided one
+goes-clear : (d : Verdict) (k durable : SwapStatus) → Follows (Deciding d) k → Follows k durable → is_verdict durable d ≡ true → Follows (Decided d) k
+goes-clear d k durable f onward h = grind arith
+
 -- the dirty bit of a durable verdict is cleared
 may_clear : (e : ℕ → Entries) (m : Memory) (s : ℕ) (d : Verdict) → m.status s ≡ Deciding d → m.published s ≡ true → is_verdict (m.durable_status s) d ≡ true → Sound e m → MayBecome e m s (Decided d)
-may_clear e m s d u p h g = grind (arith, common_steps, g.follows s p, g.missed s)
+may_clear e m s d u p h g =
+    let may : (k : SwapStatus) → StatusMayLast m s k → Follows (Decided d) k = λ k l.
+    goes-clear d k (m.durable_status s) (subst (λ c. Follows c k) u (g.follows s k l p)) (lasts-onward (m.durable_status s) (m.status_pending s) k (onward-same e m g s p) (g.order s p) l) h in
+    grind (arith, common_steps, may, g.follows s (m.durable_status s) (lasts-durable _ _) p, g.missed s)
 
 cleared : (e : ℕ → Entries) (m : Memory) (s : ℕ) (d : Verdict) (found : SwapStatus) → m.status s ≡ found → m.published s ≡ true → is_verdict (m.durable_status s) d ≡ true → Sound e m → Change e m (cleared_status m s d found) s
 cleared e m s d Free h p f g = change-same e m s g

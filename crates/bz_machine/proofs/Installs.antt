@@ -18,13 +18,14 @@ use Rattle.bz_machine.proofs.Misses.{change-miss}
 use Rattle.bz_machine.proofs.Words.{change-tag}
 use Rattle.bz_machine.proofs.KeptFacts.{points-keeps}
 use Rattle.bz_machine.proofs.Fine.{Fine, fine-same, fine-if, fact-if, fact-passed}
+use Rattle.bz_machine.proofs.Lasting.{lasts-durable}
 
 -- a success in durable memory is one in the cache
 not-undecided : (c k : SwapStatus) → Follows c k → is_succeeded k ≡ true → c ≢ Undecided
 not-undecided c k f h = grind arith
 
 noted : (e : ℕ → Entries) (m : Memory) (w s : ℕ) → m.published s ≡ true → Sound e m → Fact e (with_miss m s) w s (Decide Failed)
-noted e m w s p g = λ u. grind (arith, common_steps, not-undecided (m.status s) (m.durable_status s) (g.follows s p))
+noted e m w s p g = λ u. grind (arith, common_steps, not-undecided (m.status s) (m.durable_status s) (g.follows s (m.durable_status s) (lasts-durable _ _) p))
 
 pub fine-install_tag : (e : ℕ → Entries) (m : Memory) (w s i : ℕ) (found : WordKind) → m.cached ((e s).target i) ≡ found → m.published s ≡ true → Fact e m w s (InstallTag i) → Sound e m
     → Fine e m w s (after_install_tag (e s) m w s i found)

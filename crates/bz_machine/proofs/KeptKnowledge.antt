@@ -33,7 +33,7 @@ prepared-keeps e m n w s (WriteWord k) d p f = (f.0, λ j lt le. d.words j ∙ f
 prepared-keeps e m n w s WriteStatus d p f = λ j le. d.words j ∙ f j le
 prepared-keeps e m n w s FlushHead d p f = ((λ j le. d.words j ∙ f.0 j le), d.status p ∙ f.1)
 prepared-keeps e m n w s FlushTail d p f =
-    ((λ j le. d.words j ∙ f.0 j le), d.status p ∙ f.1, d.durable_status p (f.2 ∙ sym f.1) ∙ f.1, λ j h le. d.durable_words j (f.3 j h le ∙ sym (f.0 j le)) ∙ f.0 j le)
+    ((λ j le. d.words j ∙ f.0 j le), d.status p ∙ f.1, (λ k may. d.durable_status p (λ c was. f.2 c was ∙ sym f.1) k may ∙ f.1), λ j v may h le. d.durable_words j (λ u was. f.3 j u was h le ∙ sym (f.0 j le)) v may ∙ f.0 j le)
 
 place-keeps : (e : ℕ → Entries) (m n : Memory) (w : ℕ) (l : Local) (place : Place) → Keeps e m n → ((s : ℕ) → m.owner s ≡ w → KeepsDescriptor m n s) → Owns m w l.operation → AtPlace e m w l place → AtPlace e n w l place
 place-keeps e m n w l Idle k d o f = tt

@@ -3,6 +3,8 @@ pub mod ActsSpend
 pub mod AgreeActs
 pub mod Alone
 pub mod Answered
+pub mod AskRuns
+pub mod AskedFor
 pub mod Asleep
 pub mod Bounded
 pub mod BudgetBounds
@@ -17,12 +19,13 @@ pub mod Descriptors
 pub mod DirtyDrops
 pub mod DirtyHome
 pub mod DurableStatuses
-pub mod Effects
 pub mod Endings
 pub mod Ends
 pub mod EndsStay
 pub mod EventLaws
 pub mod Events
+pub mod Fences
+pub mod FencesKept
 pub mod Fine
 pub mod Finishing
 pub mod Flushes
@@ -31,8 +34,10 @@ pub mod Good
 pub mod HelpActs
 pub mod Helps
 pub mod Installs
+pub mod KeepsAsked
 pub mod KeptFacts
 pub mod KeptKnowledge
+pub mod Lasting
 pub mod Learns
 pub mod LoneRuns
 pub mod Meets
@@ -49,6 +54,7 @@ pub mod RangeEvents
 pub mod Ranges
 pub mod Runs
 pub mod Scenes
+pub mod Settles
 pub mod SpendClears
 pub mod SpendCloses
 pub mod SpendDecides

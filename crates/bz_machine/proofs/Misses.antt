@@ -8,6 +8,7 @@ use Rattle.std.proofs.Common.{◌≢◌, ◌<◌, false}
 use Rattle.bz_word.specs.declared.kind.WordKind.TheVariants.{Value}
 use Rattle.bz_machine.specs.Content.{has_effect, NotesMiss, TargetDiffers}
 use Rattle.bz_machine.proofs.Change.{Change, unchanged}
+use Rattle.bz_machine.proofs.Lasting.{lasts-durable}
 
 noted-only : (m : Memory) (s t : ℕ) → m.missed t ≡ false → (with_miss m s).missed t ≡ true → (t ≡ s) × (has_effect m s ≡ false)
 noted-only m s t old new = grind (arith, common_steps)
@@ -17,7 +18,7 @@ target-differs : (e : ℕ → Entries) (m : Memory) (s i v : ℕ) → i < (e s).
 target-differs e m s i v lt h ne g = record {
   entry = i;
   below = lt;
-  differs = grind (arith, common_steps, g.same ((e s).target i) (m.durable ((e s).target i)) refl (g.targets s i lt));
+  differs = grind (arith, common_steps, g.same ((e s).target i) (m.durable ((e s).target i)) (lasts-durable _ _) (g.targets s i lt));
 }
 
 notes-miss : (e : ℕ → Entries) (m : Memory) (s : ℕ) → TargetDiffers e m s → NotesMiss e m (with_miss m s)

@@ -20,7 +20,7 @@ use Rattle.bz_machine.specs.Keeps.{Keeps}
 use Rattle.bz_machine.specs.Knows.{AtPlace}
 use Rattle.bz_machine.specs.Machine.{Entries, Memory, entries_in}
 use Rattle.bz_machine.specs.Owners.{IsBusy, RestsAt, AreOwned, OwnersStay}
-use Rattle.bz_machine.specs.State.{State, StartRead, StartStore, StartFlush, StartSwap, Act, Evict, EvictStatus, EvictField, stepped, swapping, happens, IsState}
+use Rattle.bz_machine.specs.State.{State, StartRead, StartStore, StartFlush, StartSwap, Act, Evict, EvictStatus, EvictField, Ask, Fence, stepped, swapping, happens, IsState}
 use Rattle.bz_machine.specs.Steps.{Local, Stepped, is_own, is_success, answers, resumed, completed, after_help, read_act, act}
 use Rattle.bz_machine.proofs.EndsStay.{answer-help, answer-cleared}
 use Rattle.bz_machine.proofs.Events.{good-stepped}
@@ -193,3 +193,5 @@ owners_stay x (Act w) may state own = act-owned x w state own (own-act x.entries
 owners_stay x (Evict b) may state own = assumption own
 owners_stay x (EvictStatus t) may state own = assumption own
 owners_stay x (EvictField t k) may state own = assumption own
+owners_stay x (Ask w p) may state own = assumption own
+owners_stay x (Fence w s) may state own = assumption own

@@ -13,12 +13,13 @@ use Rattle.bz_machine.specs.Changes.{after_cut, no_entries, renewed}
 use Rattle.bz_machine.specs.Promise.{since, EffectsLast, FailuresLast, PlainIsHeld, CutsKeep}
 use Rattle.bz_machine.specs.Recovery.{IsReadable, IsRecoverable}
 use Rattle.bz_machine.proofs.Events.{state-after_all}
+use Rattle.bz_machine.proofs.Lasting.{lasts-durable, lasts-alone}
 use Rattle.bz_machine.proofs.Published.{one_verdict}
 use Rattle.bz_machine.proofs.Runs.{atomic-happens, verdict-after_all}
 
 -- plain words, the same in cache and in durable memory, and free descriptors are a sound start
 sound-renewed : (m : Memory) → IsRenewable m → Sound no_entries (renewed m)
-sound-renewed m r = grind (arith, common_steps, r)
+sound-renewed m r = grind (arith, common_steps, lasts-alone, r)
 
 pub state-power_on : (m : Memory) → IsRenewable m → IsState (power_on m)
 state-power_on m r = record {
@@ -45,21 +46,21 @@ failures_last m r before later may may_later s h =
 pub plain_is_held : PlainIsHeld
 plain_is_held m r before may a v nm h =
     let g : Sound (since m before).entries (since m before).memory = (state-since m before r may).sound in
-    grind (arith, common_steps, h, g.same a ((since m before).memory.durable a) refl nm)
+    grind (arith, common_steps, h, g.same a ((since m before).memory.durable a) (lasts-durable _ _) nm)
 
 follows-taken : (c k : SwapStatus) → Follows c k → k ≢ Free
 follows-taken c k f = λ h. grind arith
 
 -- what a cut leaves of a published swap
 readable-cut : (e : ℕ → Entries) (m : Memory) (s : ℕ) → m.published s ≡ true → Sound e m → IsReadable e (after_cut m) s
-readable-cut e m s p g = record { words = λ k le. g.durable_words s k p le; status = follows-taken (m.status s) (m.durable_status s) (g.follows s p) }
+readable-cut e m s p g = record { words = λ k le. g.durable_words s k (m.durable_words s k) (lasts-durable _ _) p le; status = follows-taken (m.status s) (m.durable_status s) (g.follows s (m.durable_status s) (lasts-durable _ _) p) }
 
 pub recoverable-cut : (e : ℕ → Entries) (m : Memory) → Sound e m → IsRecoverable e m (after_cut m)
 recoverable-cut e m g = record {
   content = λ a. refl;
   swaps = λ s. refl;
-  pointer = λ a s h. (g.pointer_durable a s (m.durable a) refl h, readable-cut e m s (g.pointer_durable a s (m.durable a) refl h).standing g);
-  tag = λ a s i w q h. (g.tag_durable a s i w q (m.durable a) refl h, readable-cut e m s (g.tag_durable a s i w q (m.durable a) refl h).standing g);
+  pointer = λ a s h. (g.pointer_durable a s (m.durable a) (lasts-durable _ _) h, readable-cut e m s (g.pointer_durable a s (m.durable a) (lasts-durable _ _) h).standing g);
+  tag = λ a s i w q h. (g.tag_durable a s i w q (m.durable a) (lasts-durable _ _) h, readable-cut e m s (g.tag_durable a s i w q (m.durable a) (lasts-durable _ _) h).standing g);
 }
 
 pub cuts_keep : CutsKeep

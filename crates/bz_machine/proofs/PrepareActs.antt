@@ -1,8 +1,9 @@
 -- Every step on the own descriptor keeps the invariant, and the last one publishes it.
-use Rattle.std.proofs.Common.{inl, ◌≡◌, ℕ, ◌+◌, ◌*◌, ◌==◌, if◌then◌else◌, ◌<◌, ◌≤◌, Bool, true, false, arith, refl, ap, ◌∙◌}
+use Rattle.std.proofs.Common.{◌⊎◌, inr, inl, ◌≡◌, ℕ, ◌+◌, ◌*◌, ◌==◌, if◌then◌else◌, ◌<◌, ◌≤◌, Bool, true, false, arith, refl, ap, ◌∙◌}
 use Rattle.std.proofs.lemmas.Grind.{common_steps}
 use Rattle.bz_machine.specs.declared.status.SwapStatus.TheVariants.{Undecided}
-use Rattle.bz_machine.specs.Machine.{Entries, Memory, spelled}
+use Rattle.bz_machine.specs.declared.status.SwapStatus.{SwapStatus}
+use Rattle.bz_machine.specs.Machine.{Entries, Memory, spelled, StatusMayLast, FieldMayLast}
 use Rattle.bz_machine.specs.Changes.{put, with_status, with_field, in_head, with_durable_head, with_published}
 use Rattle.bz_machine.specs.Sound.{AreApart, Sound}
 use Rattle.bz_machine.specs.declared.place.HelpStep.TheVariants.{InstallTag}
@@ -12,18 +13,15 @@ use Rattle.bz_machine.specs.declared.place.PrepareStep.TheVariants.{WriteWord, W
 use Rattle.bz_machine.specs.declared.worker.Operation.{Operation}
 use Rattle.bz_machine.specs.declared.worker.Operation.TheVariants.{Swapping}
 use Rattle.bz_machine.specs.Steps.{Local, goes_on, prepare_act}
-use Rattle.bz_machine.specs.Knows.{SpellBelow, SpellHead, Prepared, OwnPublished, Owns}
+use Rattle.bz_machine.specs.Knows.{SpellBelow, Spell, HeadLasts, Prepared, OwnPublished, Owns}
 use Rattle.bz_machine.proofs.Change.{Change}
 use Rattle.bz_machine.proofs.Good.{Good, good}
 use Rattle.bz_machine.proofs.Descriptors.{sound-field, keeps-field, descriptor-field}
-use Rattle.bz_machine.proofs.Flushes.{change-durable_head}
+use Rattle.bz_machine.proofs.DurableStatuses.{self-true, lasts-status, lasts-own_fields, change-durable_head}
 use Rattle.bz_machine.proofs.Learns.{spell-more}
 use Rattle.bz_machine.proofs.KeptKnowledge.{back-keeps, owns-keeps}
 use Rattle.bz_machine.proofs.Publishes.{sound-published, keeps-published, descriptor-published}
 use Rattle.bz_machine.proofs.Prepares.{OnOwn, good-prepared, sound-undecided, keeps-undecided, descriptor-undecided}
-
-self-true : (s : ℕ) → (s == s) ≡ true
-self-true s = grind (arith, common_steps)
 
 -- what was put is there
 pub put-at : {A : Type 0} (f : ℕ → A) (s : ℕ) (v : A) → put f s v s ≡ v
@@ -65,8 +63,13 @@ good-write_status e m w l o f g =
     refl refl refl o.unanswered
     (o.operation, o.unpublished, o.spell, (f, put-at m.status s Undecided))
 
-head-durable : (f words durable : ℕ → ℕ) (c j : ℕ) → ((k : ℕ) → k ≤ c → words k ≡ f k) → in_head j ≡ true → j ≤ c → (if in_head j then words j else durable j) ≡ f j
-head-durable f words durable c j h b le = rw b (h j le)
+head-lasts : (e : ℕ → Entries) (m : Memory) (s j v : ℕ) → Spell (e s) (m.words s) → ((in_head j ≡ true) × (v ≡ m.words s j)) ⊎ ((in_head j ≡ false) × FieldMayLast m s j v) → in_head j ≡ true → j ≤ 3 * (e s).count → v ≡ spelled (e s) j
+head-lasts e m s j v spell (inl copied) h le = copied.1 ∙ spell j le
+head-lasts e m s j v spell (inr was) h le = absurd (grind (arith, h, was.0))
+
+undecided-lasts : (m : Memory) (s : ℕ) (k : SwapStatus) → m.status s ≡ Undecided → ((s ≡ s) × (k ≡ m.status s)) ⊎ (((s == s) ≡ false) × StatusMayLast m s k) → k ≡ Undecided
+undecided-lasts m s k u (inl copied) = copied.1 ∙ u
+undecided-lasts m s k u (inr was) = absurd (grind (arith, was.0, self-true s))
 
 -- the first line of the descriptor is flushed
 good-flush_head : (e : ℕ → Entries) (m : Memory) (w : ℕ) (l : Local) → AreApart e → OnOwn e m w l → Prepared e m w l.current FlushHead → Sound e m → Good e m w l (prepare_act m l FlushHead)
@@ -74,10 +77,10 @@ good-flush_head e m w l a o f g =
     let s : ℕ = l.current in
     let n : Memory = with_durable_head m s in
     let c : Change e m n s = change-durable_head e m s a g in
-    let durable : SpellHead (e s) (n.durable_words s) = rw (put-at m.durable_words s (λ k. if in_head k then m.words s k else m.durable_words s k)) (λ j h le. head-durable (spelled (e s)) (m.words s) (m.durable_words s) (3 * (e s).count) j f.0 h le) in
+    let head : HeadLasts e n s = λ j v may h le. head-lasts e m s j v f.0 (lasts-own_fields e m s in_head j v g may) h le in
     good e m w l (goes_on n l (Prepare FlushTail)) c
     (record {
-      place = (o.operation, o.unpublished, o.spell, (f.0, f.1, put-at m.durable_status s (m.status s) ∙ f.1, durable));
+      place = (o.operation, o.unpublished, o.spell, (f.0, f.1, (λ k may. undecided-lasts m s k f.1 (lasts-status e m s s k g may)), head));
       owns = owns-keeps e m n w l.operation c.keeps (λ t h. c.descriptors t) (owns-own e m w l o);
       back = back-keeps e m n l.back c.keeps o.back;
     })

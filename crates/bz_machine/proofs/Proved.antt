@@ -1,13 +1,14 @@
 -- What this crate proves, as lemmas that other crates cite by these names.
 use Rattle.bz_machine.proofs.ActsSpend.{acts_spend as acts_spend-holds}
 use Rattle.bz_machine.proofs.Alone.{swaps_alone as swaps_alone-holds}
+use Rattle.bz_machine.proofs.AskRuns.{asks_are_kept as asks_are_kept-holds}
 use Rattle.bz_machine.proofs.Asleep.{sleeper_is_harmless as sleeper_is_harmless-holds}
 use Rattle.bz_machine.proofs.Bounded.{bounded-happens, bounded-power_on}
 use Rattle.bz_machine.proofs.BudgetBounds.{budgets_are_allowed as budgets_are_allowed-holds}
 use Rattle.bz_machine.proofs.BudgetStarts.{evictions_keep_budgets as evictions_keep_budgets-holds, starts_add_allowed as starts_add_allowed-holds, starts_add_by_kind as starts_add_by_kind-holds}
 use Rattle.bz_machine.proofs.DirtyHome.{dirty_stay_home as dirty_stay_home-holds}
 use Rattle.bz_machine.proofs.EndsStay.{ends_stay_whole as ends_stay_whole-holds}
-use Rattle.bz_machine.proofs.EventLaws.{acts_atomically as acts_atomically-holds, begins_as_state as begins_as_state-holds, begins_in_range as begins_in_range-holds, cut_recovers as cut_recovers-holds, keeps_range as keeps_range-holds, keeps_state as keeps_state-holds}
+use Rattle.bz_machine.proofs.EventLaws.{acts_atomically as acts_atomically-holds, begins_as_state as begins_as_state-holds, begins_in_range as begins_in_range-holds, cut_recovers as cut_recovers-holds, keeps_fences as keeps_fences-holds, keeps_range as keeps_range-holds, keeps_state as keeps_state-holds}
 use Rattle.bz_machine.proofs.FrontsStay.{all_stay_rising as all_stay_rising-holds, fronts_stay as fronts_stay-holds}
 use Rattle.bz_machine.proofs.LoneRuns.{lone_steps_are_allowed as lone_steps_are_allowed-holds, lone_steps_are_allowed_by_kind as lone_steps_are_allowed_by_kind-holds}
 use Rattle.bz_machine.proofs.OwnersStay.{owners_stay as owners_stay-holds}
@@ -16,13 +17,14 @@ use Rattle.bz_machine.proofs.RangeEvents.{stay_in_range as stay_in_range-holds}
 use Rattle.bz_machine.proofs.SwapStarts.{swaps_add_allowed as swaps_add_allowed-holds}
 use Rattle.bz_machine.proofs.Tables.{budgets_are_spent as budgets_are_spent-holds, places_count as places_count-holds}
 use Rattle.bz_machine.proofs.TagsHome.{tags_stay_home as tags_stay_home-holds}
+use Rattle.bz_machine.specs.AskExamples.{AsksAreKept}
 use Rattle.bz_machine.specs.BudgetTable.{BudgetsAreSpent, PlacesCount}
 use Rattle.bz_machine.specs.Budgets.{ActsSpend, BeginsBounded, BudgetsAreAllowed, EvictionsKeepBudgets, StartsAddAllowed, StartsAddByKind, StaysBounded, SwapsAddAllowed}
 use Rattle.bz_machine.specs.DirtyHomes.{DirtyStayHome}
 use Rattle.bz_machine.specs.Ends.{EndsStayWhole}
 use Rattle.bz_machine.specs.Examples.{SwapsAlone}
 use Rattle.bz_machine.specs.Fronts.{AllStayRising, FrontsStay}
-use Rattle.bz_machine.specs.Invariance.{ActsAtomically, BeginsAsState, BeginsInRange, CutRecovers, KeepsRange, KeepsState}
+use Rattle.bz_machine.specs.Invariance.{ActsAtomically, BeginsAsState, BeginsInRange, CutRecovers, KeepsFences, KeepsRange, KeepsState}
 use Rattle.bz_machine.specs.Lawful.{StayInRange}
 use Rattle.bz_machine.specs.LoneRuns.{LoneStepsAreAllowed, LoneStepsAreAllowedByKind}
 use Rattle.bz_machine.specs.Owners.{OwnersStay}
@@ -54,6 +56,10 @@ cuts_keep = cuts_keep-holds
 pub swaps_alone : SwapsAlone
 swaps_alone = swaps_alone-holds
 
+-- worked asks and fences of one word
+pub asks_are_kept : AsksAreKept
+asks_are_kept = asks_are_kept-holds
+
 -- at every moment each word outside the descriptors is one of a kind
 pub stay_in_range : StayInRange
 stay_in_range = stay_in_range-holds
@@ -81,6 +87,10 @@ begins_in_range = begins_in_range-holds
 -- no event takes a number out of range
 pub keeps_range : KeepsRange
 keeps_range = keeps_range-holds
+
+-- under the invariant, what is known of the memory after a worker's own fence stays under the events of others
+pub keeps_fences : KeepsFences
+keeps_fences = keeps_fences-holds
 
 -- under the invariant, a power cut leaves what every address holds, and what is needed to resolve it
 pub cut_recovers : CutRecovers
@@ -130,7 +140,7 @@ starts_add_allowed = starts_add_allowed-holds
 pub starts_add_by_kind : StartsAddByKind
 starts_add_by_kind = starts_add_by_kind-holds
 
--- no eviction changes a budget
+-- no eviction, ask or fence changes a budget
 pub evictions_keep_budgets : EvictionsKeepBudgets
 evictions_keep_budgets = evictions_keep_budgets-holds
 

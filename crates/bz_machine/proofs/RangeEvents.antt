@@ -20,12 +20,12 @@ use Rattle.bz_machine.specs.Machine.{entries_in}
 use Rattle.bz_machine.specs.Steps.{Local, Stepped, is_own, resumed, after_help, prepare_act, read_act, act}
 use Rattle.bz_machine.specs.Knows.{AtPlace}
 use Rattle.std.proofs.Common.{List, [], ◌∷◌}
-use Rattle.bz_machine.specs.State.{State, Event, StartRead, StartStore, StartFlush, StartSwap, Act, Evict, EvictStatus, EvictField, stepped, swapping, happens, IsState, AllMayHappen, after_all, power_on}
+use Rattle.bz_machine.specs.State.{State, Event, StartRead, StartStore, StartFlush, StartSwap, Act, Evict, EvictStatus, EvictField, Ask, Fence, stepped, swapping, happens, IsState, AllMayHappen, after_all, power_on}
 use Rattle.std.proofs.Common.{◌^◌}
 use Rattle.bz_word.specs.Kinds.{IsKind}
 use Rattle.bz_machine.specs.Ranges.{IsTagger, AreValues, HoldsKinds, NextInRange, PlaceInRange}
 use Rattle.bz_machine.specs.Lawful.{AreInRange, MayHold, AllMayHold, StayInRange}
-use Rattle.bz_machine.proofs.Ranges.{InRange, holds-word, holds-copies, holds-cleared, range-help_act}
+use Rattle.bz_machine.proofs.Ranges.{InRange, holds-word, holds-copies, holds-cleared, holds-ask, holds-fenced, range-help_act}
 use Rattle.bz_machine.specs.Agrees.{agree-spell}
 use Rattle.bz_machine.proofs.AgreeActs.{help_act-agrees}
 use Rattle.bz_machine.proofs.Events.{state-happens}
@@ -101,7 +101,7 @@ range-happens x (StartRead w a) may i r = record { kinds = r.kinds; values = r.v
 range-happens x (StartStore w a u) may i r = record { kinds = r.kinds; values = r.values; places = λ v. places-put w _ x.local may r.places v (v == w) }
 range-happens x (StartFlush w line) may i r = record { kinds = r.kinds; values = r.values; places = λ v. places-put w _ x.local tt r.places v (v == w) }
 range-happens x (StartSwap w new targets) may i r = record {
-  kinds = record { cached = r.kinds.cached; durable = r.kinds.durable; taken = omega (arith, may.1) };
+  kinds = record { cached = r.kinds.cached; durable = r.kinds.durable; asked = r.kinds.asked; taken = omega (arith, may.1) };
   values = λ t. values-put x.entries x.memory.taken new may.0 r.values t (t == x.memory.taken);
   places = λ v. places-put w (swapping (x.local w) x.memory.taken new) x.local tt r.places v (v == w);
 }
@@ -112,6 +112,8 @@ range-happens x (Act w) may i r =
 range-happens x (Evict a) may i r = record { kinds = holds-copies x.memory (λ b. b == a) r.kinds; values = r.values; places = r.places }
 range-happens x (EvictStatus s) may i r = record { kinds = assumption r.kinds; values = r.values; places = r.places }
 range-happens x (EvictField s k) may i r = record { kinds = assumption r.kinds; values = r.values; places = r.places }
+range-happens x (Ask w p) may i r = record { kinds = holds-ask x.memory w p r.kinds; values = r.values; places = r.places }
+range-happens x (Fence w s) may i r = record { kinds = holds-fenced x.memory w r.kinds; values = r.values; places = r.places }
 
 range-after_all : (x : State) (vs : List Event) → AllMayHappen x vs → AllMayHold x vs → IsState x → AreInRange x → AreInRange (after_all x vs)
 range-after_all x [] may hold i r = r
@@ -119,7 +121,7 @@ range-after_all x (v ∷ vs) may hold i r = range-after_all (happens x v) vs may
 
 pub range-power_on : (m : Memory) → ((a : ℕ) → IsKind (m.cached a) × IsKind (m.durable a)) → AreInRange (power_on m)
 range-power_on m kinds = record {
-  kinds = record { cached = λ a. (kinds a).0; durable = λ a. (kinds a).1; taken = omega arith };
+  kinds = record { cached = λ a. (kinds a).0; durable = λ a. (kinds a).1; asked = λ a w q asked. absurd cc; taken = omega arith };
   values = λ s. record { count = omega arith; expected = λ i lt. absurd (omega arith); value = λ i lt. absurd (omega arith) };
   places = λ w. tt;
 }

@@ -1,5 +1,5 @@
 -- Every act keeps the numbers in the ranges that words can hold.
-use Rattle.std.proofs.Common.{◌≡◌, ℕ, ◌+◌, ◌==◌, ◌&&◌, if◌then◌else◌, ◌<◌, Bool, true, false, arith, refl, subst}
+use Rattle.std.proofs.Common.{◌≡◌, ℕ, ◌+◌, ◌==◌, ◌&&◌, if◌then◌else◌, ◌<◌, Bool, nat_lt, true, false, arith, refl, subst, inl, inr, Some, None}
 use Rattle.bz_word.specs.declared.kind.WordKind.{WordKind}
 use Rattle.bz_word.specs.declared.kind.WordKind.TheVariants.{Value, Dirty, Swap, Tag}
 use Rattle.bz_machine.specs.declared.status.SwapStatus.{SwapStatus}
@@ -17,6 +17,10 @@ use Rattle.bz_machine.specs.HelpActs.{After, passed, finished, by_status, final_
 use Rattle.std.proofs.Common.{◌^◌}
 use Rattle.bz_word.specs.Kinds.{IsKind}
 use Rattle.bz_machine.specs.Ranges.{IsTagger, AreValues, HoldsKinds, StepInRange, NextInRange}
+use Rattle.std.specs.declared.option.Option.{Option}
+use Rattle.bz_machine.specs.Pending.{Saved, Pending, with_saved, fenced_value}
+use Rattle.bz_machine.specs.Changes.{Lines, with_ask, fenced}
+use Rattle.bz_machine.proofs.Lasting.{saved-cases, left-fenced}
 
 -- what an act leaves
 pub record InRange (a : After) : Type 0 where
@@ -40,13 +44,42 @@ range-if true x y p q = p
 range-if false x y p q = q
 
 pub holds-word : (m : Memory) (a : ℕ) (x : WordKind) → IsKind x → HoldsKinds m → HoldsKinds (with_word m a x)
-holds-word m a x p h = record { cached = λ b. kind-if (b == a) x (m.cached b) p (h.cached b); durable = h.durable; taken = h.taken }
+holds-word m a x p h = record { cached = λ b. kind-if (b == a) x (m.cached b) p (h.cached b); durable = h.durable; taken = h.taken; asked = h.asked }
 
 pub holds-copies : (m : Memory) (p : ℕ → Bool) → HoldsKinds m → HoldsKinds (with_copies m p)
-holds-copies m p h = record { cached = h.cached; durable = λ b. kind-if (p b) (m.cached b) (m.durable b) (h.cached b) (h.durable b); taken = h.taken }
+holds-copies m p h = record { cached = h.cached; durable = λ b. kind-if (p b) (m.cached b) (m.durable b) (h.cached b) (h.durable b); taken = h.taken; asked = h.asked }
+
+-- what an ask saves is of a kind
+holds-saved : (p : Pending WordKind) (w moment : ℕ) (c : WordKind) (b : Bool) → IsKind c → ((v : ℕ) (q : Saved WordKind) → p.asked v ≡ Some q → IsKind q.value)
+    → (v : ℕ) (q : Saved WordKind) → (if b then with_saved p w moment c else p).asked v ≡ Some q → IsKind q.value
+holds-saved p w moment c true k h v q asked = elim (saved-cases (v == w) (record { moment = moment; value = c }) (p.asked v) q asked) [
+  | inl new ↦ subst (λ (r : Saved WordKind). IsKind r.value) new.1 k
+  | inr old ↦ h v q old
+]
+holds-saved p w moment c false k h v q asked = h v q asked
+
+pub holds-ask : (m : Memory) (w : ℕ) (p : Lines) → HoldsKinds m → HoldsKinds (with_ask m w p)
+holds-ask m w p h = record {
+  cached = h.cached;
+  durable = h.durable;
+  asked = λ a v q asked. holds-saved (m.pending a) w (m.now + 1) (m.cached a) (p.words a) (h.cached a) (h.asked a) v q asked;
+  taken = h.taken;
+}
+
+kind-fenced : (d : WordKind) (since : ℕ) (o : Option (Saved WordKind)) → IsKind d → ((q : Saved WordKind) → o ≡ Some q → IsKind q.value) → IsKind (fenced_value d since o)
+kind-fenced d since None k h = k
+kind-fenced d since (Some q) k h = kind-if (nat_lt since q.moment) q.value d (h q refl) k
+
+pub holds-fenced : (m : Memory) (w : ℕ) → HoldsKinds m → HoldsKinds (fenced m w)
+holds-fenced m w h = record {
+  cached = h.cached;
+  durable = λ a. kind-fenced (m.durable a) (m.pending a).since ((m.pending a).asked w) (h.durable a) (λ q asked. h.asked a w q asked);
+  asked = λ a v q asked. h.asked a v q (left-fenced (v == w) ((m.pending a).asked v) q asked);
+  taken = h.taken;
+}
 
 holds-tag : (m : Memory) (a s i w : ℕ) → s < 2 ^ 16 → i < 4 → IsTagger w (m.next_tag w) → HoldsKinds m → HoldsKinds (with_tag m a s i w)
-holds-tag m a s i w sm lt t h = record { cached = λ b. kind-if (b == a) (Tag s i w (m.next_tag w)) (m.cached b) (sm, lt, t.0, t.1, t.2) (h.cached b); durable = h.durable; taken = h.taken }
+holds-tag m a s i w sm lt t h = record { cached = λ b. kind-if (b == a) (Tag s i w (m.next_tag w)) (m.cached b) (sm, lt, t.0, t.1, t.2) (h.cached b); durable = h.durable; taken = h.taken; asked = h.asked }
 
 -- a change that leaves the words outside the descriptors
 holds-miss : (m : Memory) (s : ℕ) → HoldsKinds m → HoldsKinds (with_miss m s)

@@ -27,6 +27,7 @@ use Rattle.bz_machine.proofs.SpendTags.{spends-try_value}
 use Rattle.bz_machine.proofs.SpendTries.{Tried, Follows, spends-try_pointer, spends-try_miss, spends-try_dirty, spends-try_tag}
 use Rattle.bz_machine.proofs.Spends.{Spends, spends-read_value}
 use Rattle.bz_machine.proofs.Truths.{differ}
+use Rattle.bz_machine.proofs.Lasting.{lasts-durable}
 
 not-true : (b : Bool) → not b ≡ true → b ≡ false
 not-true false is = refl
@@ -38,7 +39,7 @@ meet-at : (x : State) (w n i t a j v q : ℕ) (k : WordKind) → IsBounded x n �
     → (is_through (scene_of x) t ≡ true → x.memory.cached a ≡ Tag t j v q) → Follows x.entries x.local x.memory w n (x.local w) i (Meet t)
 meet-at x w n i t a j v q k bounded at known small fresh found stands apart tagged =
     let unset : is_decided (x.memory.status (x.local w).current) ≡ false = not-true (is_decided (x.memory.status (x.local w).current)) fresh in
-    let undecided : x.memory.status (x.local w).current ≡ Undecided = undecided-told (x.memory.status (x.local w).current) (x.memory.durable_status (x.local w).current) (bounded.state.sound.follows (x.local w).current known.0) unset in
+    let undecided : x.memory.status (x.local w).current ≡ Undecided = undecided-told (x.memory.status (x.local w).current) (x.memory.durable_status (x.local w).current) (bounded.state.sound.follows (x.local w).current (x.memory.durable_status (x.local w).current) (lasts-durable _ _) known.0) unset in
     falls-to (scene_of x) (scene_of x) w n (x.local w) (meeting (x.local w) t) (Help (InstallTag i)) (Learn 0) fresh refl
     (meet-falls x w n i t bounded at small unset apart (meets-higher x n (x.local w).current i t bounded undecided known.3.0 (ap (λ j. stands_for j t) found ∙ stands) apart)
     (met-published x n t ((x.entries (x.local w).current).target i) bounded k found stands) a j v q tagged)

@@ -19,7 +19,7 @@ use Rattle.bz_machine.specs.Knows.{AtPlace}
 use Rattle.bz_machine.specs.Machine.{Entries, Memory, entries_in}
 use Rattle.bz_machine.specs.Progress.{GoesOnWith, IsAtTag, IsHome, TagsAreHome, TagsStayHome}
 use Rattle.bz_machine.specs.Sound.{Sound}
-use Rattle.bz_machine.specs.State.{State, StartRead, StartStore, StartFlush, StartSwap, Act, Evict, EvictStatus, EvictField, stepped, happens, IsState}
+use Rattle.bz_machine.specs.State.{State, StartRead, StartStore, StartFlush, StartSwap, Act, Evict, EvictStatus, EvictField, Ask, Fence, stepped, happens, IsState}
 use Rattle.bz_machine.specs.Steps.{Local, Stepped, after_help, read_act, act}
 use Rattle.bz_machine.proofs.TagHomes.{NoTagComes, IsNoTag, comes-word, comes-cleared, comes-help, cached-help, no-tag}
 
@@ -167,3 +167,5 @@ tags_stay_home x (Act w) may state home a s i v q is = act-home x w state home a
 tags_stay_home x (Evict b) may state home a s i v q is = home a s i v q is
 tags_stay_home x (EvictStatus t) may state home a s i v q is = home a s i v q is
 tags_stay_home x (EvictField t k) may state home a s i v q is = home a s i v q is
+tags_stay_home x (Ask w p) may state home a s i v q is = home a s i v q is
+tags_stay_home x (Fence w t) may state home a s i v q is = home a s i v q is

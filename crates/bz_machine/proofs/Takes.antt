@@ -1,14 +1,15 @@
 -- A swap is begun: its entries are known from now on, and its targets are named.
-use Rattle.std.proofs.Common.{◌≡◌, ◌≢◌, ℕ, ◌*◌, if◌then◌else◌, ◌<◌, ◌≤◌, Bool, true, false, arith, refl, sym, ap, subst, ◌∙◌}
+use Rattle.std.proofs.Common.{◌≡◌, ◌≢◌, ℕ, ◌*◌, if◌then◌else◌, ◌<◌, ◌≤◌, Bool, true, false, arith, refl, sym, ap, subst}
 use Rattle.std.proofs.lemmas.Grind.{common_steps}
 use Rattle.bz_word.specs.declared.kind.WordKind.{WordKind}
 use Rattle.bz_word.specs.declared.kind.WordKind.TheVariants.{Value, Dirty, Swap, Tag}
 use Rattle.bz_machine.specs.declared.status.SwapStatus.{SwapStatus}
-use Rattle.bz_machine.specs.Machine.{Entries, Memory, spelled, is_succeeded, resolve, MayLast}
+use Rattle.bz_machine.specs.Machine.{Entries, Memory, spelled, is_succeeded, resolve, MayLast, FieldMayLast}
 use Rattle.bz_machine.specs.Changes.{put}
 use Rattle.bz_machine.specs.Sound.{IsUnset, IsTarget, IsEntry, Sound}
 use Rattle.bz_machine.specs.Changes.{with_taken}
 use Rattle.bz_machine.specs.Content.{content}
+use Rattle.bz_machine.proofs.Lasting.{lasts-durable}
 
 pub put-other : {A : Type 0} (f : ℕ → A) (s : ℕ) (v : A) (t : ℕ) → t ≢ s → put f s v t ≡ f t
 put-other f s v t ne = grind (arith, common_steps)
@@ -33,12 +34,12 @@ lasting-taken e m new a x may g = resolve-taken e m.durable_status m.taken new a
     (λ h. published-begun e m m.taken g (g.pointer_durable a m.taken x may h).standing refl) (λ i w q h. published-begun e m m.taken g (g.tag_durable a m.taken i w q x may h).standing refl)
 
 pub content-taken : (e : ℕ → Entries) (m : Memory) (new : Entries) (a : ℕ) → Sound e m → content (put e m.taken new) m a ≡ content e m a
-content-taken e m new a g = lasting-taken e m new a (m.durable a) refl g
+content-taken e m new a g = lasting-taken e m new a (m.durable a) (lasts-durable _ _) g
 
 same-taken : (e : ℕ → Entries) (m : Memory) (new : Entries) (targets : ℕ → Bool) (a : ℕ) (x : WordKind) (old now : Bool) → m.named a ≡ old → targets a ≡ now → MayLast m a x → (if now then true else old) ≡ true
-    → ((b : ℕ) → targets b ≡ true → m.named b ≡ false → m.cached b ≡ m.durable b) → Sound e m → resolve (put e m.taken new) m.durable_status a (m.cached a) ≡ resolve (put e m.taken new) m.durable_status a x
+    → ((b : ℕ) (y : WordKind) → targets b ≡ true → m.named b ≡ false → MayLast m b y → y ≡ m.cached b) → Sound e m → resolve (put e m.taken new) m.durable_status a (m.cached a) ≡ resolve (put e m.taken new) m.durable_status a x
 same-taken e m new targets a x true now h h' may nm flushed g = rw (cached-taken e m new a g, lasting-taken e m new a x may g) (g.same a x may h)
-same-taken e m new targets a x false true h h' may nm flushed g = ap (resolve (put e m.taken new) m.durable_status a) (flushed a h' h ∙ sym may)
+same-taken e m new targets a x false true h h' may nm flushed g = ap (resolve (put e m.taken new) m.durable_status a) (sym (flushed a x h' h may))
 same-taken e m new targets a x false false h h' may nm flushed g = absurd (grind (arith, nm))
 
 target-taken : (e : ℕ → Entries) (m : Memory) (new : Entries) (t a : ℕ) → Sound e m → IsTarget e m.published t a → IsTarget (put e m.taken new) m.published t a
@@ -57,11 +58,16 @@ spelled-taken e m new t p g words h =
     let same : put e m.taken new t ≡ e t = put-other e m.taken new t (published-begun e m t g p) in
     subst (λ x. (k : ℕ) → k ≤ 3 * x.count → words k ≡ spelled x k) (sym same) h
 
+field-taken : (e : ℕ → Entries) (m : Memory) (new : Entries) (t k v : ℕ) → m.published t ≡ true → Sound e m → (k ≤ 3 * (e t).count → v ≡ spelled (e t) k) → k ≤ 3 * (put e m.taken new t).count → v ≡ spelled (put e m.taken new t) k
+field-taken e m new t k v p g h =
+    let same : put e m.taken new t ≡ e t = put-other e m.taken new t (published-begun e m t g p) in
+    rw same h
+
 unset-success : (k : SwapStatus) → IsUnset k → is_succeeded k ≡ false
 unset-success k u = grind arith
 
 pub sound-taken : (e : ℕ → Entries) (m : Memory) (w : ℕ) (new : Entries) (targets : ℕ → Bool) → 0 < new.count → ((i : ℕ) → i < new.count → targets (new.target i) ≡ true)
-    → ((b : ℕ) → targets b ≡ true → m.named b ≡ false → m.cached b ≡ m.durable b) → Sound e m → Sound (put e m.taken new) (with_taken m w targets)
+    → ((b : ℕ) (y : WordKind) → targets b ≡ true → m.named b ≡ false → MayLast m b y → y ≡ m.cached b) → Sound e m → Sound (put e m.taken new) (with_taken m w targets)
 sound-taken e m w new targets some told flushed g =
     let n : Memory = with_taken m w targets in
     let f : ℕ → Entries = put e m.taken new in
@@ -71,5 +77,5 @@ sound-taken e m w new targets some told flushed g =
     let tag : (b t i v q : ℕ) → m.cached b ≡ Tag t i v q → IsEntry f m.published t i b = λ b t i v q h. entry-taken e m new t i b g (g.tag b t i v q h) in
     let tag_durable : (b t i v q : ℕ) (x : WordKind) → MayLast m b x → x ≡ Tag t i v q → IsEntry f m.published t i b = λ b t i v q x may h. entry-taken e m new t i b g (g.tag_durable b t i v q x may h) in
     let words : (t k : ℕ) → m.published t ≡ true → k ≤ 3 * (f t).count → m.words t k ≡ spelled (f t) k = λ t k p le. spelled-taken e m new t p g (m.words t) (λ j below. g.words t j p below) k le in
-    let durable_words : (t k : ℕ) → m.published t ≡ true → k ≤ 3 * (f t).count → m.durable_words t k ≡ spelled (f t) k = λ t k p le. spelled-taken e m new t p g (m.durable_words t) (λ j below. g.durable_words t j p below) k le in
+    let durable_words : (t k v : ℕ) → FieldMayLast m t k v → m.published t ≡ true → k ≤ 3 * (f t).count → v ≡ spelled (f t) k = λ t k v may p le. field-taken e m new t k v p g (λ below. g.durable_words t k v may p below) le in
     grind (arith, common_steps, same, pointer, pointer_durable, tag, tag_durable, words, durable_words, told, unset-success, g)

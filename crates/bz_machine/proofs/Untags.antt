@@ -17,6 +17,7 @@ use Rattle.bz_machine.proofs.Fine.{Fine, fine-same, fine-if, fact-passed}
 use Rattle.bz_machine.proofs.DurableStatuses.{not_succeeded}
 use Rattle.bz_machine.proofs.Words.{Lawful, change-word}
 use Rattle.bz_machine.proofs.Change.{Change}
+use Rattle.bz_machine.proofs.Lasting.{lasts-durable}
 
 -- a tag of the swap is changed to a word, which is lawful
 pub fine-untag : (e : ℕ → Entries) (m : Memory) (w s i u q : ℕ) (new : WordKind) (changed unchanged : Next) (found : WordKind) → m.cached ((e s).target i) ≡ found → Sound e m → FactNext e m w s unchanged
@@ -34,7 +35,7 @@ fine-untag e m w s i u q new changed unchanged (Tag t j v p) h g f k = fine-if e
 -- the tag becomes the pointer: both stand for the expected value, since the swap has not succeeded
 pub lawful-pointer : (e : ℕ → Entries) (m : Memory) (w s i u q : ℕ) → AreApart e → m.published s ≡ true → Fact e m w s (InstallPointer i u q) → Sound e m → m.cached ((e s).target i) ≡ Tag s i u q
     → Lawful e m ((e s).target i) (Swap s) m.next_tag
-lawful-pointer e m w s i u q o p f g h = grind (arith, common_steps, g.targets s i f.0, not_succeeded (m.status s) (m.durable_status s) (g.follows s p) (f.3 h), o s i f.0)
+lawful-pointer e m w s i u q o p f g h = grind (arith, common_steps, g.targets s i f.0, not_succeeded (m.status s) (m.durable_status s) (g.follows s (m.durable_status s) (lasts-durable _ _) p) (f.3 h), o s i f.0)
 
 -- the tag becomes the expected value
 pub lawful-expected : (e : ℕ → Entries) (m : Memory) (s i u q : ℕ) → m.named ((e s).target i) ≡ true → m.cached ((e s).target i) ≡ Tag s i u q → Lawful e m ((e s).target i) (Value ((e s).expected i)) m.next_tag

@@ -1,26 +1,47 @@
 -- The acts on the way to the verdict: the flush of the targets, and the decision.
-use Rattle.std.proofs.Common.{◌≡◌, ℕ, ◌+◌, ◌==◌, if◌then◌else◌, ◌<◌, true, arith, refl}
+use Rattle.std.proofs.Common.{◌⊎◌, ◌≡◌, ℕ, ◌+◌, ◌==◌, if◌then◌else◌, ◌<◌, true, false, arith, refl, subst, ◌∙◌, inl, inr}
 use Rattle.std.proofs.lemmas.Grind.{common_steps}
+use Rattle.std.proofs.lemmas.Bool.{cases_eq}
+use Rattle.bz_word.specs.declared.kind.WordKind.{WordKind}
+use Rattle.bz_word.specs.declared.kind.WordKind.TheVariants.{Swap}
 use Rattle.bz_machine.specs.declared.status.SwapStatus.{SwapStatus}
 use Rattle.bz_machine.specs.declared.status.SwapStatus.TheVariants.{Free, Undecided, Deciding, Decided}
 use Rattle.bz_machine.specs.declared.status.Verdict.{Verdict}
 use Rattle.bz_machine.specs.declared.status.Verdict.TheVariants.{Succeeded, Failed}
-use Rattle.bz_machine.specs.Machine.{Entries, Memory, is_verdict}
+use Rattle.bz_machine.specs.Machine.{Entries, Memory, is_verdict, MayLast, StatusMayLast}
 use Rattle.bz_machine.specs.Changes.{with_copies, in_line}
-use Rattle.bz_machine.specs.Sound.{Sound}
-use Rattle.bz_machine.specs.Facts.{PointsDurably, Fact}
+use Rattle.bz_machine.specs.Sound.{Follows, Sound}
+use Rattle.bz_machine.specs.Facts.{Points, PointsDurably, Fact}
 use Rattle.bz_machine.specs.declared.place.HelpStep.TheVariants.{FlushTarget, Decide}
 use Rattle.bz_machine.specs.declared.place.Next.TheVariants.{Step}
 use Rattle.bz_machine.specs.HelpActs.{after_decide}
 use Rattle.bz_machine.proofs.Fine.{Fine, fine-same, fact-by_status, step-if}
-use Rattle.bz_machine.proofs.Copies.{change-copies}
+use Rattle.bz_machine.proofs.Copies.{lasts-copies, change-copies}
 use Rattle.bz_machine.proofs.Decisions.{MayBecome, change-status}
+
+line-own : (a : ℕ) → in_line a a ≡ true
+line-own a = grind (arith, common_steps)
+
+-- a target that is not in the line is another one
+before-target : (x : Entries) (i j : ℕ) → j < i + 1 → in_line (x.target i) (x.target j) ≡ false → j < i
+before-target x i j below out = elim (cases_eq j i) [
+  | inl same ↦ absurd (grind (arith, subst (λ k. in_line (x.target i) (x.target k) ≡ false) same out, line-own (x.target i)))
+  | inr ne ↦ omega (arith, below, ne)
+]
+
+-- the flush of the line of target i makes its pointer durable, and the targets before it stay
+points-more : (e : ℕ → Entries) (m : Memory) (s i j : ℕ) (x : WordKind) → Points e m s (e s).count → PointsDurably e m s i → m.status s ≡ Undecided → j < i + 1
+    → ((in_line ((e s).target i) ((e s).target j) ≡ true) × (x ≡ m.cached ((e s).target j))) ⊎ ((in_line ((e s).target i) ((e s).target j) ≡ false) × MayLast m ((e s).target j) x) → j < (e s).count → x ≡ Swap s
+points-more e m s i j x points durably u below cases within = elim cases [
+  | inl copied ↦ copied.1 ∙ points u j within
+  | inr was ↦ durably u j x (before-target (e s) i j below was.0) was.1
+]
 
 pub fine-flush_target : (e : ℕ → Entries) (m : Memory) (w s i : ℕ) → Fact e m w s (FlushTarget i) → Sound e m
     → Fine e m w s (record { memory = with_copies m (in_line ((e s).target i)); next = Step (if i + 1 == (e s).count then Decide Succeeded else FlushTarget (i + 1)) })
 fine-flush_target e m w s i f g =
     let n : Memory = with_copies m (in_line ((e s).target i)) in
-    let more : PointsDurably e n s (i + 1) = λ u j x below may. grind (arith, common_steps, f.1 u j, f.2 u j (m.durable ((e s).target j)), may) in
+    let more : PointsDurably e n s (i + 1) = λ u j x below may. points-more e m s i j x f.1 f.2 u below (lasts-copies e m (in_line ((e s).target i)) ((e s).target j) x g may) (omega (arith, below, f.0)) in
     record {
       change = change-copies e m _ s g;
       fact = step-if e n w s (i + 1 == (e s).count) (Decide Succeeded) (FlushTarget (i + 1))
@@ -32,13 +53,20 @@ deciding-verdict : (d : Verdict) → is_verdict (Deciding d) d ≡ true
 deciding-verdict Succeeded = refl
 deciding-verdict Failed = refl
 
+undecided-goes : (c k : SwapStatus) (d : Verdict) → c ≡ Undecided → Follows c k → Follows (Deciding d) k
+undecided-goes c k d u f = grind arith
+
+-- a verdict goes on from all that may last while the swap is undecided
+goes-decided : (e : ℕ → Entries) (m : Memory) (s : ℕ) (d : Verdict) → m.status s ≡ Undecided → m.published s ≡ true → Sound e m → (k : SwapStatus) → StatusMayLast m s k → Follows (Deciding d) k
+goes-decided e m s d u p g k may = undecided-goes (m.status s) k d u (g.follows s k may p)
+
 -- success is decided where all targets hold the pointer, in cache and in durable memory
 may_succeed : (e : ℕ → Entries) (m : Memory) (w s : ℕ) → m.status s ≡ Undecided → m.published s ≡ true → Fact e m w s (Decide Succeeded) → Sound e m → MayBecome e m s (Deciding Succeeded)
-may_succeed e m w s u p f g = grind (arith, common_steps, g.follows s p, f.0 u, f.1 u)
+may_succeed e m w s u p f g = let may : (k : SwapStatus) → StatusMayLast m s k → Follows (Deciding Succeeded) k = goes-decided e m s Succeeded u p g in grind (arith, common_steps, may, f.0 u, f.1 u)
 
 -- failure is decided where the miss is noted
 may_fail : (e : ℕ → Entries) (m : Memory) (w s : ℕ) → m.status s ≡ Undecided → m.published s ≡ true → Fact e m w s (Decide Failed) → Sound e m → MayBecome e m s (Deciding Failed)
-may_fail e m w s u p f g = grind (arith, common_steps, g.follows s p, f u)
+may_fail e m w s u p f g = let may : (k : SwapStatus) → StatusMayLast m s k → Follows (Deciding Failed) k = goes-decided e m s Failed u p g in grind (arith, common_steps, may, f u)
 
 may_decide : (e : ℕ → Entries) (m : Memory) (w s : ℕ) (d : Verdict) → m.status s ≡ Undecided → m.published s ≡ true → Fact e m w s (Decide d) → Sound e m → MayBecome e m s (Deciding d)
 may_decide e m w s Succeeded u p f g = may_succeed e m w s u p f g

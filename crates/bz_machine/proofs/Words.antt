@@ -9,6 +9,7 @@ use Rattle.bz_machine.specs.Changes.{put, with_word, with_tag}
 use Rattle.bz_machine.specs.Sound.{IsPlain, IsTarget, IsEntry, Sound}
 use Rattle.bz_machine.specs.Keeps.{Keeps}
 use Rattle.bz_machine.proofs.Change.{Change, quiet-change}
+use Rattle.bz_machine.proofs.Published.{durable_verdict-cached}
 
 -- what makes the change of the word at a lawful, with the numbers of the next tags after it: a named address keeps its
 -- value and a private word stays plain, a pointer that goes belongs to a decided swap, a new pointer or tag is at its
@@ -33,7 +34,7 @@ sound-numbered e m a x numbers l g =
     grind (arith, common_steps, pointer, tag, g, l)
 
 keeps-numbered : (e : ℕ → Entries) (m : Memory) (a : ℕ) (x : WordKind) (numbers : ℕ → ℕ) → Lawful e m a x numbers → Sound e m → Keeps e m (with_numbered m a x numbers)
-keeps-numbered e m a x numbers l g = grind (arith, common_steps, g, l)
+keeps-numbered e m a x numbers l g = grind (arith, common_steps, durable_verdict-cached e m, g, l)
 
 change-numbered : (e : ℕ → Entries) (m : Memory) (a : ℕ) (x : WordKind) (numbers : ℕ → ℕ) (s : ℕ) → Lawful e m a x numbers → Sound e m → Change e m (with_numbered m a x numbers) s
 change-numbered e m a x numbers s l g = quiet-change e m (with_numbered m a x numbers) s (sound-numbered e m a x numbers l g) (keeps-numbered e m a x numbers l g) (λ t. grind (arith, common_steps)) refl refl refl

@@ -36,6 +36,6 @@ pub record NotesMiss (e : ℕ → Entries) (m n : Memory) : Type 0 where
   pub lawful : (s : ℕ) → m.missed s ≡ false → n.missed s ≡ true → (has_effect m s ≡ false) × TargetDiffers e m s
   pub kept : (s : ℕ) → m.missed s ≡ true → n.missed s ≡ true
 
--- an act or eviction that touches the status of swap s alone leaves every content, or is the effect of s
+-- an act, eviction or fence that touches the status of swap s alone leaves every content, or is the effect of s
 abbrev pub QuietOrEffect : (ℕ → Entries) → Memory → Memory → ℕ → Type 0
 QuietOrEffect e m n s = Quiet e m n ⊎ TakesEffect e m n s

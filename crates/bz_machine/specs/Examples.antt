@@ -5,6 +5,7 @@ use Rattle.bz_machine.specs.declared.status.SwapStatus.TheVariants.{Free}
 use Rattle.bz_machine.specs.declared.done.Done.TheVariants.{Swapped}
 use Rattle.bz_machine.specs.Machine.{Entries, Memory}
 use Rattle.bz_machine.specs.Content.{content}
+use Rattle.bz_machine.specs.Pending.{no_asks}
 use Rattle.bz_machine.specs.State.{State, Event, StartSwap, Act, IsRenewable, AllMayHappen, power_on, stepped}
 use Rattle.bz_machine.specs.Promise.{since, effect_at}
 
@@ -17,6 +18,10 @@ zeros = record {
   durable_status = λ s. Free;
   words = λ s k. 0;
   durable_words = λ s k. 0;
+  now = 0;
+  pending = λ a. no_asks;
+  status_pending = λ s. no_asks;
+  words_pending = λ s k. no_asks;
   next_tag = λ w. 0;
   missed = λ s. false;
   taken = 0;

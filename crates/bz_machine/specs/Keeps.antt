@@ -2,9 +2,10 @@
 use Rattle.std.specs.Prelude.{◌≡◌, ℕ, ◌<◌, ◌≤◌, true, false}
 use Rattle.bz_word.specs.declared.kind.WordKind.{WordKind}
 use Rattle.bz_word.specs.declared.kind.WordKind.TheVariants.{Swap, Tag}
+use Rattle.bz_machine.specs.declared.status.SwapStatus.{SwapStatus}
 use Rattle.bz_machine.specs.declared.status.SwapStatus.TheVariants.{Undecided}
 use Rattle.bz_machine.specs.declared.status.Verdict.{Verdict}
-use Rattle.bz_machine.specs.Machine.{Entries, Memory, is_verdict, is_succeeded, MayLast}
+use Rattle.bz_machine.specs.Machine.{Entries, Memory, is_verdict, is_succeeded, MayLast, StatusMayLast, FieldMayLast}
 
 -- what no act of a worker changes for the facts about published swaps
 pub record Keeps (e : ℕ → Entries) (m n : Memory) : Type 0 where
@@ -31,8 +32,8 @@ pub record Keeps (e : ℕ → Entries) (m n : Memory) : Type 0 where
 pub record KeepsDescriptor (m n : Memory) (s : ℕ) : Type 0 where
   pub published : n.published s ≡ m.published s
   pub answer : n.answer s ≡ m.answer s
-  -- while it is not published: its words in the cache, and what is durable as it is in the cache
+  -- while it is not published: its words in the cache, and what may last alone as it is in the cache
   pub words : (k : ℕ) → n.words s k ≡ m.words s k
-  pub durable_words : (k : ℕ) → m.durable_words s k ≡ m.words s k → n.durable_words s k ≡ m.words s k
+  pub durable_words : (k : ℕ) → ((v : ℕ) → FieldMayLast m s k v → v ≡ m.words s k) → (v : ℕ) → FieldMayLast n s k v → v ≡ m.words s k
   pub status : m.published s ≡ false → n.status s ≡ m.status s
-  pub durable_status : m.published s ≡ false → m.durable_status s ≡ m.status s → n.durable_status s ≡ m.status s
+  pub durable_status : m.published s ≡ false → ((k : SwapStatus) → StatusMayLast m s k → k ≡ m.status s) → (k : SwapStatus) → StatusMayLast n s k → k ≡ m.status s

@@ -1,6 +1,7 @@
 -- What is known of one worker: the facts of its place, its list, and the swaps that it names.
 use Rattle.std.specs.Prelude.{◌≡◌, ℕ, ◌*◌, ◌<◌, ◌≤◌, true, false, Some, None}
 use Rattle.std.specs.declared.option.Option.{Option}
+use Rattle.bz_machine.specs.declared.status.SwapStatus.{SwapStatus}
 use Rattle.bz_machine.specs.declared.status.SwapStatus.TheVariants.{Undecided}
 use Rattle.bz_machine.specs.declared.place.Place.{Place}
 use Rattle.bz_machine.specs.declared.place.Place.TheVariants.{Idle, Prepare, Learn, Help, ReadWord, FlushRead, ClearRead, LoadWord, StoreWord, FlushLine}
@@ -8,7 +9,7 @@ use Rattle.bz_machine.specs.declared.place.PrepareStep.{PrepareStep}
 use Rattle.bz_machine.specs.declared.place.PrepareStep.TheVariants.{WriteWord, WriteStatus, FlushHead, FlushTail}
 use Rattle.bz_machine.specs.declared.worker.Operation.{Operation}
 use Rattle.bz_machine.specs.declared.worker.Operation.TheVariants.{Nothing, Reading, Swapping}
-use Rattle.bz_machine.specs.Machine.{Entries, Memory, spelled}
+use Rattle.bz_machine.specs.Machine.{Entries, Memory, spelled, StatusMayLast, FieldMayLast}
 use Rattle.bz_machine.specs.Changes.{in_head}
 use Rattle.bz_machine.specs.Facts.{Fact}
 use Rattle.bz_machine.specs.Steps.{Local}
@@ -21,16 +22,16 @@ SpellBelow x words k = (j : ℕ) → j < k → j ≤ 3 * x.count → words j ≡
 abbrev pub Spell : Entries → (ℕ → ℕ) → Type 0
 Spell x words = (j : ℕ) → j ≤ 3 * x.count → words j ≡ spelled x j
 
--- those of the descriptor's first line are
-abbrev pub SpellHead : Entries → (ℕ → ℕ) → Type 0
-SpellHead x words = (j : ℕ) → in_head j ≡ true → j ≤ 3 * x.count → words j ≡ spelled x j
+-- those of the descriptor's first line will be after a power cut
+abbrev pub HeadLasts : (ℕ → Entries) → Memory → ℕ → Type 0
+HeadLasts e m s = (j v : ℕ) → FieldMayLast m s j v → in_head j ≡ true → j ≤ 3 * (e s).count → v ≡ spelled (e s) j
 
 -- what worker w has stored and flushed so far of the descriptor of its swap s
 abbrev pub Prepared : (ℕ → Entries) → Memory → ℕ → ℕ → PrepareStep → Type 0
 Prepared e m w s (WriteWord k) = (k ≤ 3 * (e s).count) × SpellBelow (e s) (m.words s) k
 Prepared e m w s WriteStatus = Spell (e s) (m.words s)
 Prepared e m w s FlushHead = Spell (e s) (m.words s) × (m.status s ≡ Undecided)
-Prepared e m w s FlushTail = Spell (e s) (m.words s) × (m.status s ≡ Undecided) × (m.durable_status s ≡ Undecided) × SpellHead (e s) (m.durable_words s)
+Prepared e m w s FlushTail = Spell (e s) (m.words s) × (m.status s ≡ Undecided) × ((k : SwapStatus) → StatusMayLast m s k → k ≡ Undecided) × HeadLasts e m s
 
 -- the own swap, if there is one, is published
 abbrev pub OwnPublished : Memory → Operation → Type 0

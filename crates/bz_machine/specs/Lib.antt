@@ -1,5 +1,6 @@
 pub mod Agrees
 pub mod Allowed
+pub mod AskExamples
 pub mod Budget
 pub mod BudgetTable
 pub mod Budgets
@@ -19,6 +20,7 @@ pub mod Lawful
 pub mod LoneRuns
 pub mod Machine
 pub mod Owners
+pub mod Pending
 pub mod Progress
 pub mod Promise
 pub mod Ranges

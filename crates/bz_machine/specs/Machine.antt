@@ -1,5 +1,5 @@
 -- The memory that swaps work on, as functions from addresses and numbers, and what each word resolves to.
-use Rattle.std.specs.Prelude.{◌≡◌, if◌then◌else◌, ℕ, ◌+◌, ◌-◌, ◌*◌, ◌/◌, ◌%◌, ◌==◌, Bool, true, false}
+use Rattle.std.specs.Prelude.{if◌then◌else◌, ℕ, ◌+◌, ◌-◌, ◌*◌, ◌/◌, ◌%◌, ◌==◌, Bool, true, false}
 use Rattle.std.specs.declared.option.Option.{Option}
 use Rattle.bz_word.specs.declared.kind.WordKind.{WordKind}
 use Rattle.bz_word.specs.declared.kind.WordKind.TheVariants.{Value, Dirty, Swap, Tag}
@@ -7,6 +7,7 @@ use Rattle.bz_machine.specs.declared.status.SwapStatus.{SwapStatus}
 use Rattle.bz_machine.specs.declared.status.SwapStatus.TheVariants.{Free, Undecided, Deciding, Decided}
 use Rattle.bz_machine.specs.declared.status.Verdict.{Verdict}
 use Rattle.bz_machine.specs.declared.status.Verdict.TheVariants.{Succeeded, Failed}
+use Rattle.bz_machine.specs.Pending.{Pending, Lasts}
 
 -- what a swap is to do: its entries, and which of them an address has
 pub record Entries : Type 0 where
@@ -34,8 +35,8 @@ entries_in words = record {
   index = λ a. 0;
 }
 
--- all words, and what is kept beside them. The first eight fields and the number of swaps begun are real; the
--- others tell of the past, and no act asks them
+-- all words, and what is kept beside them. The words, what is kept of asks, the numbers of tags, the misses and the number
+-- of swaps begun are real; the others tell of the past, and no act asks them
 pub record Memory : Type 0 where
   -- the words outside the descriptors
   pub cached : ℕ → WordKind
@@ -45,6 +46,11 @@ pub record Memory : Type 0 where
   pub durable_status : ℕ → SwapStatus
   pub words : ℕ → ℕ → ℕ
   pub durable_words : ℕ → ℕ → ℕ
+  -- how many asks were made since power on, and what is kept of them for each of these words
+  pub now : ℕ
+  pub pending : ℕ → Pending WordKind
+  pub status_pending : ℕ → Pending SwapStatus
+  pub words_pending : ℕ → ℕ → Pending ℕ
   -- the number of each worker's next tag
   pub next_tag : ℕ → ℕ
   -- which swaps are noted as missed
@@ -81,7 +87,14 @@ resolve e durable_status a (Dirty v) = v
 resolve e durable_status a (Swap s) = if is_succeeded (durable_status s) then (e s).value ((e s).index a) else (e s).expected ((e s).index a)
 resolve e durable_status a (Tag s i w q) = (e s).expected i
 
--- a word that can be the durable one at an address with no further act: while a flush is one act, the durable word
--- alone; when it is an ask and a fence, also each word that was asked for and is not fenced
+-- a word that can be the durable one at an address with no further act but fences: the durable word, or one that was asked
+-- for after it and is not fenced
 abbrev pub MayLast : Memory → ℕ → WordKind → Type 0
-MayLast m a x = x ≡ m.durable a
+MayLast m a x = Lasts (m.durable a) (m.pending a) x
+
+-- the same of a descriptor's status, and of its words after that
+abbrev pub StatusMayLast : Memory → ℕ → SwapStatus → Type 0
+StatusMayLast m s k = Lasts (m.durable_status s) (m.status_pending s) k
+
+abbrev pub FieldMayLast : Memory → ℕ → ℕ → ℕ → Type 0
+FieldMayLast m s k v = Lasts (m.durable_words s k) (m.words_pending s k) v

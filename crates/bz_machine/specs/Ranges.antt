@@ -1,12 +1,14 @@
 -- Numbers that the memory's words and a worker's fields can hold.
-use Rattle.std.specs.Prelude.{ℕ, ◌^◌, ◌<◌, ◌≤◌}
+use Rattle.std.specs.Prelude.{◌≡◌, ℕ, Some, ◌^◌, ◌<◌, ◌≤◌}
 use Rattle.bz_word.specs.Kinds.{IsKind}
+use Rattle.bz_word.specs.declared.kind.WordKind.{WordKind}
 use Rattle.bz_machine.specs.declared.place.Place.{Place}
 use Rattle.bz_machine.specs.declared.place.Place.TheVariants.{Idle, Prepare, Learn, Help, ReadWord, FlushRead, ClearRead, LoadWord, StoreWord, FlushLine}
 use Rattle.bz_machine.specs.declared.place.HelpStep.{HelpStep}
 use Rattle.bz_machine.specs.declared.place.HelpStep.TheVariants.{Look, InstallTag, LookUnderTag, InstallPointer, RemoveTag, FlushDirty, ClearDirty, FlushTarget, Decide, FlushStatus, ClearStatus, PutFinal, FlushFinal, ClearFinal, SweepTag}
 use Rattle.bz_machine.specs.declared.place.Next.{Next}
 use Rattle.bz_machine.specs.declared.place.Next.TheVariants.{Step, Meet, Complete}
+use Rattle.bz_machine.specs.Pending.{Saved}
 use Rattle.bz_machine.specs.Machine.{Entries, Memory}
 
 -- a worker that uses tags, and a number for its next one
@@ -23,6 +25,7 @@ pub record AreValues (x : Entries) : Type 0 where
 pub record HoldsKinds (m : Memory) : Type 0 where
   pub cached : (a : ℕ) → IsKind (m.cached a)
   pub durable : (a : ℕ) → IsKind (m.durable a)
+  pub asked : (a w : ℕ) (q : Saved WordKind) → (m.pending a).asked w ≡ Some q → IsKind q.value
   pub taken : m.taken ≤ 2 ^ 16
 
 -- what a step remembers of a word that it found

@@ -6,9 +6,10 @@ use Rattle.bz_machine.specs.declared.status.SwapStatus.{SwapStatus}
 use Rattle.bz_machine.specs.declared.status.SwapStatus.TheVariants.{Free, Undecided, Deciding, Decided}
 use Rattle.bz_machine.specs.declared.status.Verdict.{Verdict}
 use Rattle.bz_machine.specs.declared.status.Verdict.TheVariants.{Failed}
-use Rattle.bz_machine.specs.Machine.{Entries, Memory, spelled, is_verdict, is_succeeded, resolve, MayLast}
+use Rattle.bz_machine.specs.Pending.{Saved, Pending, IsPast}
+use Rattle.bz_machine.specs.Machine.{Entries, Memory, spelled, is_verdict, is_succeeded, resolve, MayLast, StatusMayLast, FieldMayLast}
 
--- a durable status is the cached one or one before it: undecided, decided with the dirty bit, decided
+-- the second status is the first or one before it: undecided, decided with the dirty bit, decided
 abbrev pub Follows : SwapStatus → SwapStatus → Type 0
 Follows Free d = ⊥
 Follows Undecided Free = ⊥
@@ -23,6 +24,11 @@ Follows (Decided c) Free = ⊥
 Follows (Decided c) Undecided = ⊥
 Follows (Decided c) (Deciding d) = c ≡ d
 Follows (Decided c) (Decided d) = c ≡ d
+
+-- of two statuses that may last, the one saved later is not before the other; the durable one is the first
+pub record InOrder (durable : SwapStatus) (p : Pending SwapStatus) : Type 0 where
+  pub first : (w : ℕ) (q : Saved SwapStatus) → p.asked w ≡ Some q → p.since < q.moment → Follows q.value durable
+  pub later : (v w : ℕ) (q r : Saved SwapStatus) → p.asked v ≡ Some q → p.asked w ≡ Some r → p.since < q.moment → q.moment ≤ r.moment → Follows r.value q.value
 
 -- free or undecided
 abbrev pub IsUnset : SwapStatus → Type 0
@@ -72,11 +78,13 @@ pub record Sound (e : ℕ → Entries) (m : Memory) : Type 0 where
   pub not_begun : (s : ℕ) → m.taken ≤ s → ((e s).count ≡ 0) × (m.published s ≡ false)
   -- the descriptor of a published swap spells its entries, in cache and in durable memory
   pub words : (s k : ℕ) → m.published s ≡ true → k ≤ 3 * (e s).count → m.words s k ≡ spelled (e s) k
-  pub durable_words : (s k : ℕ) → m.published s ≡ true → k ≤ 3 * (e s).count → m.durable_words s k ≡ spelled (e s) k
+  pub durable_words : (s k v : ℕ) → FieldMayLast m s k v → m.published s ≡ true → k ≤ 3 * (e s).count → v ≡ spelled (e s) k
   -- the status of a published swap changes once
-  pub follows : (s : ℕ) → m.published s ≡ true → Follows (m.status s) (m.durable_status s)
+  pub follows : (s : ℕ) (k : SwapStatus) → StatusMayLast m s k → m.published s ≡ true → Follows (m.status s) k
+  pub order : (s : ℕ) → m.published s ≡ true → InOrder (m.durable_status s) (m.status_pending s)
   -- before that it is free or undecided, not missed and not answered
-  pub unset : (s : ℕ) → m.published s ≡ false → IsUnset (m.status s) × IsUnset (m.durable_status s)
+  pub unset : (s : ℕ) → m.published s ≡ false → IsUnset (m.status s)
+  pub unset_durable : (s : ℕ) (k : SwapStatus) → StatusMayLast m s k → m.published s ≡ false → IsUnset k
   pub unmissed : (s : ℕ) → m.published s ≡ false → m.missed s ≡ false
   pub unanswered : (s : ℕ) → m.published s ≡ false → m.answer s ≡ None
   -- while success stands in the cache alone, all targets hold the pointer, in cache and in durable memory
@@ -85,3 +93,7 @@ pub record Sound (e : ℕ → Entries) (m : Memory) : Type 0 where
   -- a swap that failed was missed; what was answered is the durable verdict
   pub missed : (s : ℕ) → is_verdict (m.status s) Failed ≡ true → m.missed s ≡ true
   pub answered : (s : ℕ) (d : Verdict) → m.answer s ≡ Some d → is_verdict (m.durable_status s) d ≡ true
+  -- every ask was made by now
+  pub past : (a : ℕ) → IsPast m.now (m.pending a)
+  pub status_past : (s : ℕ) → IsPast m.now (m.status_pending s)
+  pub words_past : (s k : ℕ) → IsPast m.now (m.words_pending s k)

@@ -118,6 +118,6 @@ act m w l (LoadWord a) = answers m l (Read (word (m.cached a)))
 act m w l (StoreWord a v) = answers (with_word m a (Value v)) l Stored
 act m w l (FlushLine line) = answers (with_copies m (λ b. b / 8 == line)) l Flushed
 
--- the swap that took effect at an act or eviction that can have made the status of s durable
+-- the swap that took effect at an act, eviction or fence that can have made the status of s durable
 abbrev pub effect_of : Memory → Memory → ℕ → Option ℕ
 effect_of m n s = if is_succeeded (n.durable_status s) && not (is_succeeded (m.durable_status s)) then Some s else None

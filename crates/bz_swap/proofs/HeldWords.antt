@@ -26,6 +26,7 @@ use Rattle.bz_swap.proofs.Readable.{agree-published, index-target, value_is}
 use Rattle.bz_swap.proofs.Readies.{published-begun, begun-descriptor}
 use Rattle.bz_swap.proofs.Shown.{shows, begun-running}
 use Rattle.bz_swap.proofs.Values.{all-listed, listed-past}
+use Rattle.bz_machine.proofs.Lasting.{lasts-durable}
 
 not-free : (c d : SwapStatus) → Follows c d → d ≢ Free
 not-free c Free f is = no_free c f
@@ -46,7 +47,7 @@ readable p r s published =
     let values = r.range.values s in
     record {
       number = begun-descriptor p r s begun;
-      status = not-free _ _ (r.state.sound.follows s published);
+      status = not-free _ _ (r.state.sound.follows s _ (lasts-durable _ _) published);
       some = rw agree.count (r.state.sound.begun s begun);
       count = rw agree.count values.count;
       expected = λ i below. (let within : i < (r.entries s).count = omega (arith, below, agree.count) in rw (agree.expected i within) (values.expected i within));
@@ -62,10 +63,10 @@ lawful-kind : (p : Parts) (r : IsRunning p) (a : ℕ) (x : WordKind) → x ≡ k
 lawful-kind p r a (Value v) is = tt
 lawful-kind p r a (Dirty v) is = tt
 lawful-kind p r a (Swap s) is =
-    let t = r.state.sound.pointer_durable a s (Swap s) is refl in
+    let t = r.state.sound.pointer_durable a s _ (lasts-durable _ _) (sym is) in
     (readable p r s t.standing, rw (index-target p r s a t) (has-entry p r s ((r.entries s).index a) a t.standing t.entry t.target))
 lawful-kind p r a (Tag s i w q) is =
-    let t = r.state.sound.tag_durable a s i w q (Tag s i w q) is refl in
+    let t = r.state.sound.tag_durable a s i w q _ (lasts-durable _ _) (sym is) in
     (readable p r s t.standing, has-entry p r s i a t.standing t.entry t.target)
 
 pub outside_told : (swaps a : ℕ) → IsOutside swaps a → is_outside swaps a ≡ true
@@ -104,12 +105,12 @@ held p r phase =
       lawful = λ a out. record { word = r.words.durable.kinds a out; kind = lawful-kind p r a _ refl };
       status = λ s below. (let told : nat_lt s p.store.swaps ≡ true = grind (arith, common_steps) in rw told (sym (r.words.durable.statuses s below)));
       cached_status = λ s below. (let told : nat_lt s p.store.swaps ≡ true = grind (arith, common_steps) in rw told (sym (r.words.cached.statuses s below)));
-      plain = λ a v named is. value_is p r a ∙ sym (sound.same a _ refl (sym (f.named a) ∙ named)) ∙ ap (λ x. resolved r.entries (status_at p.store.swaps p.store.durable) a x) is;
+      plain = λ a v named is. value_is p r a ∙ sym (sound.same a _ (lasts-durable _ _) (sym (f.named a) ∙ named)) ∙ ap (λ x. resolved r.entries (status_at p.store.swaps p.store.durable) a x) is;
       targets = λ s. targets-lie p r s phase (cases_lt s p.store.taken);
       private = λ a out private.
           (let unnamed = sym (f.named a) ∙ private in
           let cached = plain-raw p.store.swaps p.store.cached a out (r.words.cached.kinds a out) _ refl (sound.private a unnamed) in
-          let durable = plain-raw p.store.swaps p.store.durable a out (r.words.durable.kinds a out) _ refl (sound.private_durable a _ refl unnamed) in
+          let durable = plain-raw p.store.swaps p.store.durable a out (r.words.durable.kinds a out) _ refl (sound.private_durable a _ (lasts-durable _ _) unnamed) in
           (cached.0, value_is p r a ∙ ap (λ x. resolved r.entries (status_at p.store.swaps p.store.durable) a x) durable.1));
     }
 

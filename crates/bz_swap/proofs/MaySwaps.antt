@@ -18,8 +18,9 @@ use Rattle.bz_swap.proofs.Doings.{worker-seen}
 use Rattle.bz_swap.proofs.SettledWords.{settled-same}
 use Rattle.bz_swap.proofs.Shown.{shows}
 use Rattle.bz_swap.proofs.SwapLists.{Lists, Targeted, entries_from, count-listed, apart-from, told-from, each-from, target-from}
+use Rattle.bz_machine.proofs.Lasting.{lasts-alone}
 
--- a private target's word is settled: the same in the caches and in the memory itself
+-- nobody asks for lines, so what may last is durable; a private target's word is settled: the same in the caches and in the memory itself
 flushed-target : (p : Parts) (r : IsRunning p) (words : ℕ → ℕ) (a : ℕ) → p.phase ≢ Recovering → Targeted (IsEntry (seen p)) words a → r.beside.named a ≡ false
     → kind_at p.store.swaps p.store.cached a ≡ kind_at p.store.swaps p.store.durable a
 flushed-target p r words a phase t private =
@@ -44,7 +45,7 @@ may-begin p r w words entries may h = record {
   some = omega (arith, count-listed words entries h, h.some);
   apart = apart-from words entries h;
   told = told-from words entries h;
-  flushed = λ a is private. flushed-target p r words a may.work.phase (target-from (IsEntry (seen p)) words entries a h may.each is) private;
+  flushed = λ a y is private lasts. lasts-alone _ y lasts ∙ sym (flushed-target p r words a may.work.phase (target-from (IsEntry (seen p)) words entries a h may.each is) private);
   not_stored = λ u a v at. not-target p words entries a u v _ (target-from (IsEntry (seen p)) words entries a h may.each) at refl;
 }
 

@@ -15,6 +15,7 @@ use Rattle.bz_swap.specs.Inside.Parts.{Parts, worker_at, seen, doing_operation}
 use Rattle.bz_swap.specs.Inside.Kept.{IsRunning, IsOwned, IsBusy}
 use Rattle.bz_swap.proofs.StepLies.{going-busy}
 use Rattle.bz_swap.proofs.Doings.{worker-seen, doing-going}
+use Rattle.bz_machine.proofs.Lasting.{lasts-durable}
 
 unset-undecided : (status : SwapStatus) → IsUnset status → is_succeeded status ≡ true → ⊥
 unset-undecided Free u is = absurd cc
@@ -34,7 +35,7 @@ one-verdict (Decided Failed) a b = absurd cc
 pub effect-begun : (p : Parts) (r : IsRunning p) (s : ℕ) → is_succeeded ((typed p.store r.beside).durable_status s) ≡ true → s < p.store.taken
 effect-begun p r s is = elim (cases_lt s p.store.taken) [
   | inl below ↦ below
-  | inr past ↦ absurd (unset-undecided _ (r.state.sound.unset s (r.state.sound.not_begun s past).1).1 is)
+  | inr past ↦ absurd (unset-undecided _ (r.state.sound.unset_durable s _ (lasts-durable _ _) (r.state.sound.not_begun s past).1) is)
 ]
 
 -- a swap without an answer is its owner's operation

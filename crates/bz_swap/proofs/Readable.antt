@@ -14,6 +14,7 @@ use Rattle.bz_cells.specs.Store.{typed, kind_at}
 use Rattle.bz_swap.specs.Resolve.{first_entry, entries_at, resolve}
 use Rattle.bz_swap.specs.Inside.Parts.{Parts}
 use Rattle.bz_swap.specs.Inside.Kept.{IsRunning}
+use Rattle.bz_machine.proofs.Lasting.{lasts-durable}
 
 -- the first entry with a target is found where it is
 pub first-found : (x : Entries) (a j n i : ℕ) → i ≤ j → j < i + n → x.target j ≡ a → ((k : ℕ) → k < j → x.target k ≢ a) → first_entry x a n i ≡ j
@@ -27,7 +28,7 @@ first-found x a j (suc n) i from below here before = elim (cases_eq i j) [
 -- an image's descriptor of a published swap has its entries
 pub agree-published : (p : Parts) (r : IsRunning p) (s : ℕ) → r.beside.published s ≡ true → Agree (entries_at p.store.swaps p.store.durable s) (r.entries s)
 agree-published p r s published =
-    let a = agree-spell (r.entries s) _ (λ j le. r.state.sound.durable_words s j published le) in
+    let a = agree-spell (r.entries s) _ (λ j le. r.state.sound.durable_words s j _ (lasts-durable _ _) published le) in
     record { count = a.count; target = a.target; expected = a.expected; value = a.value }
 
 -- and the same entry for each target
@@ -55,8 +56,8 @@ resolved-same e f status a (Tag s i w q) pointer tag = tag s i w q refl
 -- the value of an address, read from the image, is what the machine's address holds
 pub value_is : (p : Parts) (r : IsRunning p) (a : ℕ) → resolve p.store.swaps p.store.durable a ≡ content r.entries (typed p.store r.beside) a
 value_is p r a = resolved-same r.entries (entries_at p.store.swaps p.store.durable) _ a (kind_at p.store.swaps p.store.durable a)
-    (λ s is. pointer s (r.state.sound.pointer_durable a s _ refl is))
-    (λ s i w q is. tag s i (r.state.sound.tag_durable a s i w q _ refl is))
+    (λ s is. pointer s (r.state.sound.pointer_durable a s _ (lasts-durable _ _) is))
+    (λ s i w q is. tag s i (r.state.sound.tag_durable a s i w q _ (lasts-durable _ _) is))
   where
     pointer : (s : ℕ) → IsTarget r.entries r.beside.published s a →
         ((entries_at p.store.swaps p.store.durable s).expected ((entries_at p.store.swaps p.store.durable s).index a) ≡ (r.entries s).expected ((r.entries s).index a))

@@ -31,6 +31,7 @@ use Rattle.bz_swap.proofs.Doings.{worker-seen}
 use Rattle.bz_swap.proofs.Readies.{published-begun, begun-descriptor}
 use Rattle.bz_swap.proofs.Stepped.{Acts, MayStep, after_step}
 use Rattle.bz_swap.proofs.StepRuns.{step-running}
+use Rattle.bz_machine.proofs.Lasting.{lasts-durable}
 
 abbrev verdict_of : Bool → Verdict
 verdict_of true = Succeeded
@@ -102,7 +103,7 @@ decided-seen p r w store l done may a s won own ends =
     let begun = published-begun q on.running s published in
     let number = begun-descriptor q on.running s begun in
     let durable = sound.answered s (verdict_of won) told in
-    let cached = cached-verdict (n.status s) (n.durable_status s) (verdict_of won) (sound.follows s published) durable in
+    let cached = cached-verdict (n.status s) (n.durable_status s) (verdict_of won) (sound.follows s (n.durable_status s) (lasts-durable _ _) published) durable in
     record {
       begun = begun;
       number = number;

@@ -29,6 +29,7 @@ use Rattle.bz_swap.specs.Inside.Kept.{IsRunning, PlaceLies}
 use Rattle.bz_swap.proofs.Doings.{worker-seen}
 use Rattle.bz_swap.proofs.Readies.{published-begun, begun-descriptor}
 use Rattle.bz_swap.proofs.Shown.{shows}
+use Rattle.bz_machine.proofs.Lasting.{lasts-durable}
 
 -- an act outside the descriptors
 outside-writes : (old : SwapMemory) (w : ℕ) (made : Act) → StaysOutside old.swaps made → WritesLawfully old w made
@@ -97,7 +98,7 @@ own p r w a v is unpublished doing word =
       doing = doing ∙ ap doing_operation is;
       begun = mine.1;
       number = begun-descriptor p r s mine.1;
-      unset = r.state.sound.unset s unpublished;
+      unset = (r.state.sound.unset s unpublished, r.state.sound.unset_durable s _ (lasts-durable _ _) unpublished);
       word = word;
     }
 
