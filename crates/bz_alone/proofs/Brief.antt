@@ -133,7 +133,7 @@ no-swap (Some (Swap entries)) s h t = h (Swap entries) refl
 no-swap (Some Finish) s h t = t
 
 pub brief-look-ups-go-on : LonersGoOn → BriefLookUpsGoOn
-brief-look-ups-go-on loners t u seen moment free left todo s config good facts alone look few tells heard e = elim (heard.restart e) [
+brief-look-ups-go-on loners t u seen moment free left todo s config good facts alone look few tells heard e = elim (heard.goes.restart e) [
   | inl q ↦ no-swap (asks_of t) s (λ x a. few.asks x look a) (subst (λ x. Tells (asks_of t) Waiting x s) q tells)
   | inr d ↦ (loners t s config good facts (subst (λ n. IsAlone n s.past) (sym (none-made t look)) alone)).same seen tells d
 ]

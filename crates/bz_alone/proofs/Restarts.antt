@@ -139,7 +139,7 @@ refuses Took (Some (todo.Swap entries)) s t = absurd (cc t)
 refuses stage asked s t = absurd t
 
 pub lone-restarts : LonersGoOn → LoneRestartsAreRefusals
-lone-restarts law old new seen moment free left todo stage s heard ends config good facts tells alone = elim (heard.restart ends) [
+lone-restarts law old new seen moment free left todo stage s heard ends config good facts tells alone = elim (heard.goes.restart ends) [
   | inl lost ↦ (
       let r : Refuses (asks_of old) stage = refuses stage (asks_of old) s (subst (λ z. Tells (asks_of old) stage z s) lost tells) in
       record { entries = r.entries; asked = r.is; answer = lost; stands = (law old s config good (subst (λ z. facts_of old z s) r.waiting facts) alone).stands r.entries r.is })

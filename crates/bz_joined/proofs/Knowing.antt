@@ -193,4 +193,4 @@ pub do-not-lack : LoneTasksTryTheirNeighbours → NeighboursStand → KnownLeave
 do-not-lack try stand stay lonely old new seen moment free left todo key i s h kind good facts alone knows then-it may lacks =
     let first : IsAlone 0 s.past = subst (λ n. IsAlone n s.past) (h.no_neighbour kind lacks) alone in
     let now : IsIn s.past.since s.past s.past.now = record { from = good.begun; to = omega arith } in
-    try new key s good facts (h.kind ∙ kind) lacks first (stay.heard old new key s.past knows h.meant) (stand s s.past.since i s.past.now key good (lonely.whole s good first) then-it now may)
+    try new key s good facts (h.kind ∙ kind) lacks first (stay.heard old new key s.past knows h.goes.meant) (stand s s.past.since i s.past.now key good (lonely.whole s good first) then-it now may)

@@ -75,10 +75,10 @@ module _ (r : Resource) (b : Laws r) (m : SwapMemory) (w : ℕ) (e : Errand) (ol
   cleanly c = record {
     made = c.made;
     alone = c.alone;
-    counts = λ n. c.counts goes-on ∙ (sym (h.counted n) ∙ plus-none (made_of new));
+    counts = λ n. c.counts goes-on ∙ (sym (h.goes.counted n) ∙ plus-none (made_of new));
     none = λ f. c.none (ap may_swap_twice (sym h.kind) ∙ f);
     before = λ f l. refl;
-    goes = λ f d. no-end (c.before f (omega (arith, h.only_last d))) (one-effect seen (h.done d));
+    goes = λ f d. no-end (c.before f (omega (arith, h.goes.only_last d))) (one-effect seen (h.goes.done d));
     stands = stands (subst (λ n. IsAlone n p) (c.counts goes-on) c.alone);
     small = λ f k. c.small f (sym h.kind ∙ k);
   }
@@ -91,13 +91,13 @@ module _ (r : Resource) (b : Laws r) (m : SwapMemory) (w : ℕ) (e : Errand) (ol
 
   -- and where its last swap has taken effect it ends
   ended : IsMade e old (effects_in seen) → IsMade e new 0
-  ended c = record { quiet = c.quiet; write = c.write; silent = h.silent ∙ c.silent; last = omega (arith, h.fewer, c.last); told = inr (done c.told) }
+  ended c = record { quiet = c.quiet; write = c.write; silent = h.silent ∙ c.silent; last = omega (arith, h.goes.fewer, c.last); told = inr (done c.told) }
     where
       done : (effects_in seen ≡ 1) ⊎ (end_of old ≡ Some Done) → end_of new ≡ Some Done
       done (inl o) =
           let won : seen ≡ Swapped true = told-one seen o in
           let one : swaps_in (asks_of old) ≡ 1 = won-asked (asks_of old) (subst (λ z. Hears (asks_of old) z) won hears_it) in
-          h.last won (omega (arith, one, b.asked old, c.last))
+          h.goes.last won (omega (arith, one, b.asked old, c.last))
       done (inr d) = absurd (cc (goes-on, d))
 
   abbrev kept : ℕ

@@ -6,17 +6,13 @@ use Rattle.bz_ascent.specs.declared.ascent.Ascent.{Ascent}
 use Rattle.bz_call.specs.declared.replies.Spent.TheVariants.{Height}
 use Rattle.bz_layout.specs.declared.thresholds.TheConstants.{SPLIT_SLOTS}
 use Rattle.bz_word.specs.declared.entry.Entry.{Entry}
-use Rattle.bz_task.specs.Instant.{Instant}
-use Rattle.bz_task.specs.OwnActs.{Stores, Flushes}
-use Rattle.bz_task.specs.Requests.{IsAskable, IsCause}
-use Rattle.bz_task.specs.Scene.{Past, Scene, Continues, Stage, Waiting, Took, IsScene, IsLawful, HasFilled, here}
-use Rattle.bz_task.specs.Swaps.{Stand, SwapsTo, IsGoodSwap, Takes}
+use Rattle.bz_task.specs.Contract.{IsSound, ActsWell}
+use Rattle.bz_task.specs.Scene.{Past, Scene, Continues, Stage, Waiting, IsScene}
 use Rattle.bz_task.specs.declared.todo.Outcome.{Outcome}
 use Rattle.bz_task.specs.declared.todo.Outcome.TheVariants.{Full, NeedsRoom}
-use Rattle.bz_task.specs.declared.todo.Seen.{Seen}
 use Rattle.bz_task.specs.declared.todo.Todo.{Todo}
-use Rattle.bz_task.specs.declared.todo.Todo.TheVariants.{Store, Flush, Swap, Finish}
-use Rattle.bz_running.specs.Duties.{config_of, asks_of, end_of, swaps_of, made_of, change_swaps, needs_of, wants_of, ascent_of, change_of, publishing_of, facts_of, means_of, differs_of, makes_no_change}
+use Rattle.bz_task.specs.declared.todo.Todo.TheVariants.{Swap, Finish}
+use Rattle.bz_running.specs.Duties.{config_of, asks_of, end_of, swaps_of, made_of, change_swaps, needs_of, wants_of, ascent_of, publishing_of, facts_of, means_of, makes_no_change, view_of}
 use Rattle.bz_running.specs.Ends.{IsEndOf, TakesNothing, TakesOneSwap}
 use Rattle.bz_running.specs.Kinds.{kind_of, is_look, is_renewal}
 use Rattle.bz_running.specs.MadeFor.{IsMadeFor, IsMergeFor, IsSmallMerge}
@@ -28,18 +24,16 @@ HaveFilledUp None p = ⊥
 HaveFilledUp (Some a) p = AreAllFull a.key p
 
 pub record AreLaws (t : AnyTask) : Type 0 where
-  -- what it knows stays
-  pub stable : (stage : Stage) (s after : Scene) → s.past.config ≡ config_of t → facts_of t stage s → IsScene after → IsLawful s after → facts_of t stage after
-  -- so does what it was made for
+  -- what it knows is sound, and its own acts are as they should be
+  pub sound : IsSound (view_of t)
+  pub acts : ActsWell (view_of t)
+  -- what it was made for stays
   pub made_for : (key : List ℕ) (words : ℕ) (p q : Past) → IsMadeFor t key words p → Continues p q → IsMadeFor t key words q
   pub merge_for : (key : List ℕ) (p q : Past) → IsMergeFor t key p → Continues p q → IsMergeFor t key q
   pub small_for : (key : List ℕ) (p q : Past) → IsSmallMerge t key p → Continues p q → IsSmallMerge t key q
-  pub askable : (s : Scene) (todo : Todo) → s.past.config ≡ config_of t → facts_of t Waiting s → IsScene s → asks_of t ≡ Some todo → IsAskable s todo
-  pub cause : (s : Scene) (seen : Seen) → s.past.config ≡ config_of t → facts_of t Waiting s → differs_of t seen → IsCause (asks_of t) seen s
   -- what it still is to take is no more than what it takes in all, and that no more than a split takes
   pub few : needs_of t ≤ wants_of t
   pub most : wants_of t ≤ SPLIT_SLOTS
-  pub once : (s : Scene) → facts_of t Waiting s → publishing_of t ≡ true → s.effected ≡ false
   -- the swap that makes the change is the last one of those that the change takes
   pub last : publishing_of t ≡ true → made_of t + 1 ≡ change_swaps t
   -- so is the one that a change asks for where no more than one is left
@@ -53,14 +47,7 @@ pub record AreLaws (t : AnyTask) : Type 0 where
   -- it has ended exactly where it asks for nothing more
   pub finish : asks_of t ≡ Some Finish → IsSome (end_of t)
   pub only : IsSome (end_of t) → asks_of t ≡ Some Finish
-  pub ends : (s : Scene) (outcome : Outcome) → facts_of t Waiting s → end_of t ≡ Some outcome → means_of t outcome s × HasFilled s
   -- where a split found no room in the node above, its ascent goes on there
   pub rises : (a up : Ascent) (s : Scene) → ascent_of t ≡ Some a → IsOneUp a up → s.past.config ≡ config_of t → IsScene s → facts_of t Waiting s → end_of t ≡ Some NeedsRoom → IsAscent up s.past
   -- the tree is too high only where an inner node of each level above the leaf of its key was full
   pub height : (s : Scene) → IsScene s → facts_of t Waiting s → end_of t ≡ Some (Full Height) → (wants_of t ≡ SPLIT_SLOTS) × HaveFilledUp (ascent_of t) s.past
-  pub effect : (s : Scene) (y : Instant) (entries : List Entry) → s.past.config ≡ config_of t → facts_of t Waiting s → IsScene s → asks_of t ≡ Some (Swap entries) → Stand entries (here s)
-      → SwapsTo s.past.config entries (here s) y → IsGoodSwap (publishing_of t) (change_of t) entries s y
-  pub took : (s after : Scene) (entries : List Entry) → s.past.config ≡ config_of t → facts_of t Waiting s → IsScene s → IsScene after → asks_of t ≡ Some (Swap entries) → Stand entries (here s)
-      → Takes (publishing_of t) entries s after → facts_of t Took after
-  pub stored : (s after : Scene) (a v : ℕ) → s.past.config ≡ config_of t → facts_of t Waiting s → IsScene s → IsScene after → asks_of t ≡ Some (Store a v) → Stores a v s after → facts_of t Took after
-  pub flushed : (s after : Scene) (line : ℕ) → s.past.config ≡ config_of t → facts_of t Waiting s → IsScene s → IsScene after → asks_of t ≡ Some (Flush line) → Flushes line s after → facts_of t Took after

@@ -130,7 +130,7 @@ module _ (b : StepLaws) (old new : Parts) (w : ℕ) (x : OpenCall) (made : Act) 
 
   -- what it knows stays
   pub knows : facts_of x.task (stage_in old.access (doing_of old.access w)) later
-  knows = its.tasked.laws.stable (stage_in old.access (doing_of old.access w)) before later (sym its.tasked.config) its.facts later-seen.scene (lawful w its.call_open.look.since its.opened (begun-in k.living its.call_open))
+  knows = its.tasked.laws.sound.stable (stage_in old.access (doing_of old.access w)) before later (sym its.tasked.config) its.facts later-seen.scene (lawful w its.call_open.look.since its.opened (begun-in k.living its.call_open))
 
   -- and it is to be told
   pub be-told : (stage : Stage) (what : Seen) → answer ≢ done.Busy → facts_of x.task stage later → MayGoOn x ⊎ HasWon x what → Hears (asks_of x.task) what → Tells (asks_of x.task) stage what later → WhereLonely old.journal.past w x.call (λ key. stage ≡ Waiting)
@@ -202,7 +202,7 @@ module _ (b : StepLaws) (old new : Parts) (w : ℕ) (x : OpenCall) (made : Act) 
     unmade : won ≡ false → publishing_of x.task ≡ true → x.effect ≡ None
     unmade lost publishing =
         let waits : stage_in old.access (doing_of old.access w) ≡ Waiting = stage-is ∙ ap (λ z. if z then Took else Waiting) (sym (a.step.effect.swaps t) ∙ (effect ∙ lost)) in
-        let none : is_some its.opened.effect ≡ false = its.tasked.laws.once before (subst (λ z. facts_of x.task z before) waits its.facts) publishing in
+        let none : is_some its.opened.effect ≡ false = its.tasked.laws.sound.once before (subst (λ z. facts_of x.task z before) waits its.facts) publishing in
         sym its.call_open.effect ∙ none-of its.opened.effect none
 
     finishes : (z : Bool) → won ≡ z → MayGoOn x ⊎ IsFinishing old.access w x → MayGoOn x ⊎ HasWon x (seen.Swapped won)
@@ -232,7 +232,7 @@ module _ (b : StepLaws) (old new : Parts) (w : ℕ) (x : OpenCall) (made : Act) 
     flushed = b.flushes old.config old.access new.access old.journal k.story (mark_of w made) w line its.call_open.look.since its.opened (goes b old new w x made answer k is-worker a) all-stay (begun-in k.living its.call_open) is-flushing.copies
 
     took : facts_of x.task Took later
-    took = its.tasked.laws.flushed before later line (sym its.tasked.config) (subst (λ z. facts_of x.task z before) (ap (stage_in old.access) flushes) its.facts) (sees b old new w x made answer k is-worker a w x its).scene later-seen.scene (its.asks ∙ ap Some asked) flushed
+    took = its.tasked.laws.acts.flushed before later line (sym its.tasked.config) (subst (λ z. facts_of x.task z before) (ap (stage_in old.access) flushes) its.facts) (sees b old new w x made answer k is-worker a w x its).scene later-seen.scene (its.asks ∙ ap Some asked) flushed
 
     pub told-flush : IsTold new w x seen.Flushed
     told-flush = be-told Took seen.Flushed (λ f. absurd (cc (is-flushing.answer, f))) took

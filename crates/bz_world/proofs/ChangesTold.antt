@@ -83,22 +83,22 @@ module _ (b : AloneLaws) (p : Parts) (w : ℕ) (had : Option (List ℕ)) (task :
 
   -- it makes its swap only where it is told so, and has read nothing yet that might differ
   not-done : end_of asks.serving.task ≢ Some Done
-  not-done e = cc (h.done e)
+  not-done e = cc (h.goes.done e)
 
   not-again : end_of asks.serving.task ≢ Some Restart
-  not-again e = elim (h.restart e) [
+  not-again e = elim (h.goes.restart e) [
     | inl lost ↦ cc lost
-    | inr differs ↦ subst (λ o. IsCause o Start (known p w m.reads.on)) m.asks (m.tasked.laws.cause (known p w m.reads.on) Start (sym m.tasked.config) m.facts differs)
+    | inr differs ↦ subst (λ o. IsCause o Start (known p w m.reads.on)) m.asks (m.tasked.laws.sound.cause (known p w m.reads.on) Start (sym m.tasked.config) m.facts differs)
   ]
 
   -- it takes no slot, and was not told that no descriptor is left
   not-full : (spent : Spent) → end_of asks.serving.task ≢ Some (Full spent)
-  not-full Nodes e = omega (arith, h.full_nodes e, m.tasked.laws.few, m.wants)
-  not-full Swaps e = cc (h.full_swaps e)
+  not-full Nodes e = omega (arith, h.goes.full_nodes e, m.tasked.laws.few, m.wants)
+  not-full Swaps e = cc (h.goes.full_swaps e)
   not-full Height e = omega (arith, (asks.asking.tasked.laws.height here seen-here asks.asking.facts e).0, h.wants, m.wants)
 
   only-crowded : (o : Outcome) → end_of asks.serving.task ≡ Some o → o ≡ NeedsRoom
-  only-crowded o e = change-needs-room (kind_of task) o m.kind (subst (λ k. IsEndOf k o) h.kind (asks.asking.tasked.laws.ends_of o here (asks.asking.tasked.laws.ends here o asks.asking.facts e).0))
+  only-crowded o e = change-needs-room (kind_of task) o m.kind (subst (λ k. IsEndOf k o) h.kind (asks.asking.tasked.laws.ends_of o here (asks.asking.tasked.laws.sound.ends here o asks.asking.facts e).0))
       (λ done. not-done (e ∙ ap Some done)) (λ again. not-again (e ∙ ap Some again)) (λ spent full. not-full spent (e ∙ ap Some full))
 
   crowded-by : (o : Option Outcome) → end_of asks.serving.task ≡ o → IsSome o → end_of asks.serving.task ≡ Some NeedsRoom
@@ -131,7 +131,7 @@ must-read-crowded b p w todo m ended other = record {
     here = scene p.config p.journal.past m.must.asking.between.story w m.must.asking.between.call_open.look.since m.must.asking.between.opened
 
     means : means_of m.must.serving.task NeedsRoom here
-    means = (m.must.asking.tasked.laws.ends here NeedsRoom m.must.asking.facts ended).0
+    means = (m.must.asking.tasked.laws.sound.ends here NeedsRoom m.must.asking.facts ended).0
 
     -- no look-up ends so
     writes : is_read m.must.serving.call ≡ false

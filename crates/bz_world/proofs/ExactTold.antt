@@ -79,7 +79,7 @@ module _ (opened : Open) (p : Past) (taken : ℕ) (stock : Stock) (tells : ℕ) 
   left-same none same = ap (λ (f : FreeSlots). length f.free) (slotless none) ∙ (sym held ∙ same)
 
   fewer : answered_in what + swaps_of next ≤ swaps_of x.task
-  fewer = omega (arith, h.fewer, told-swaps (asks_of x.task) what hears)
+  fewer = omega (arith, h.goes.fewer, told-swaps (asks_of x.task) what hears)
 
   module _ (ch : IsChanging opened p (reach taken (effects_in what) (answered_in what)) stock tells x) where
     change-left : length left.free ≡ stock.begun.left
@@ -90,9 +90,9 @@ module _ (opened : Open) (p : Past) (taken : ℕ) (stock : Stock) (tells : ℕ) 
 
     ends-full : (o : Outcome) → end_of next ≡ Some o → IsFull o
     ends-full o e = full-end o (puts-ends (kind_of next) o (ap puts h.kind ∙ ch.kind) (later.ends_of o (means o e).0 (means o e).1))
-        (λ done. let last : end_of next ≡ Some Done = e ∙ ap Some done in absurd (omega (arith, ap effects_in (h.done last), ch.before (omega (arith, h.only_last last)))))
+        (λ done. let last : end_of next ≡ Some Done = e ∙ ap Some done in absurd (omega (arith, ap effects_in (h.goes.done last), ch.before (omega (arith, h.goes.only_last last)))))
         (λ again. not-again alone (e ∙ ap Some again))
-        (λ room. let m = means o e in ch.roomy m.0 (h.meant NeedsRoom m.0 (subst (λ z. means_of next z m.0) room m.1)))
+        (λ room. let m = means o e in ch.roomy m.0 (h.goes.meant NeedsRoom m.0 (subst (λ z. means_of next z m.0) room m.1)))
 
     still-changing : IsChanging opened p (reach taken 0 0) stock-then tells (record x { task = next })
     still-changing = record {
@@ -102,13 +102,13 @@ module _ (opened : Open) (p : Past) (taken : ℕ) (stock : Stock) (tells : ℕ) 
       wants = h.wants ∙ ch.wants;
       tells_swaps = h.swaps ∙ ch.tells_swaps;
       same_left = change-left;
-      alone = λ on. let sum : made_of x.task + effects_in what ≡ made_of next + 0 = omega (arith, h.counted on) in subst (λ k. HasOthers 0 k p) sum (ch.alone goes);
+      alone = λ on. let sum : made_of x.task + effects_in what ≡ made_of next + 0 = omega (arith, h.goes.counted on) in subst (λ k. HasOthers 0 k p) sum (ch.alone goes);
       before = λ few. refl;
-      least = λ on. omega (arith, h.counted on, ch.least goes, few-effects what);
+      least = λ on. omega (arith, h.goes.counted on, ch.least goes, few-effects what);
       most = omega (arith, ch.most, fewer, h.swaps);
-      short = λ none. let lacked = h.full_swaps none in omega (arith, ch.most, h.fewer, h.swaps, none-left (asks_of x.task) what hears lacked, ap answered_in lacked);
+      short = λ none. let lacked = h.goes.full_swaps none in omega (arith, ch.most, h.goes.fewer, h.swaps, none-left (asks_of x.task) what hears lacked, ap answered_in lacked);
       ends = ends-full;
-      roomy = λ z room. ch.roomy z (h.meant NeedsRoom z room);
+      roomy = λ z room. ch.roomy z (h.goes.meant NeedsRoom z room);
     }
 
   pub exact-told : IsExact opened p (reach taken (effects_in what) (answered_in what)) stock tells x → IsExact opened p (reach taken 0 0) stock-then tells (record x { task = next })

@@ -89,7 +89,7 @@ module _ (lone : AloneLaws) (p : Parts) (w : ℕ) (e : HasEnded p w NeedsRoom) w
   good = known-scene lone.scenes p w e.on
 
   lacked : (kind_of e.on.serving.task ≡ kinds.Merge) ⊎ IsOnTheWay e.on.serving.task (key_of e.on.serving.call) here.past
-  lacked = lacks-room e.on.serving.call e.on.serving.task here (e.silent refl) (e.tasked.laws.ends_of NeedsRoom here (e.tasked.laws.ends here NeedsRoom e.facts e.end).0) (e.meant.meant e.quiet) e.facts
+  lacked = lacks-room e.on.serving.call e.on.serving.task here (e.silent refl) (e.tasked.laws.ends_of NeedsRoom here (e.tasked.laws.sound.ends here NeedsRoom e.facts e.end).0) (e.meant.meant e.quiet) e.facts
 
   -- the node above, to which its ascent goes on
   rises : (a up : Ascent) → ascent_of e.on.serving.task ≡ Some a → IsOneUp a up → IsAscent up here.past
@@ -245,5 +245,5 @@ module _ (lone : AloneLaws) (p : Parts) (w : ℕ) (task : AnyTask) (m : MustGoUp
         | inl due ↦ inl due
         | inr none ↦ absurd (no-look (looks-only m.ends.on.serving.call (kind_of m.ends.on.serving.task) none.looks))
       ])
-      (λ lonely room. absurd (again-ended p w m.ends.on m.ends.quiet NeedsRoom m.ends.end (m.ends.tasked.laws.ends_of NeedsRoom (known p w m.ends.on) (m.ends.tasked.laws.ends (known p w m.ends.on) NeedsRoom m.ends.facts m.ends.end).0) (λ e. e) (λ e. e) lonely room))
+      (λ lonely room. absurd (again-ended p w m.ends.on m.ends.quiet NeedsRoom m.ends.end (m.ends.tasked.laws.ends_of NeedsRoom (known p w m.ends.on) (m.ends.tasked.laws.sound.ends (known p w m.ends.on) NeedsRoom m.ends.facts m.ends.end).0) (λ e. e) (λ e. e) lonely room))
       (duly-other p w m.ends.on task None m.ends.quiet no-seek no-delete)

@@ -60,12 +60,12 @@ module _ (b : LonelyLaws) (p : Parts) (w : ℕ) (x : OpenCall) (seen : Seen) (to
 
     asks : (z : Todo) → asked ≡ z → AsksBriefly p.access p.journal.past told.between.story w y told.between.opened key z
     asks (todo.Read a) e = gets (started p.access w (Reading a))
-        (b.brief.reads p.access w (acts_since w p.journal.past) key x.path x.task y.task a (subst (λ z. HasCounted x.task z y.task) e h.counts) h.heard.change was.brief)
-    asks todo.Finish e = record { get = gets p.access (b.brief.told p.access w (acts_since w p.journal.past) key x.path x.task y.task asked h.counts h.heard.change was.brief); stands = stands }
-    asks (todo.Load a) e = h.looks.asks (todo.Load a) looks (h.heard.asked ∙ ap Some e)
-    asks (todo.Store a v) e = h.looks.asks (todo.Store a v) looks (h.heard.asked ∙ ap Some e)
-    asks (todo.Flush line) e = h.looks.asks (todo.Flush line) looks (h.heard.asked ∙ ap Some e)
-    asks (todo.Swap entries) e = h.looks.asks (todo.Swap entries) looks (h.heard.asked ∙ ap Some e)
+        (b.brief.reads p.access w (acts_since w p.journal.past) key x.path x.task y.task a (subst (λ z. HasCounted x.task z y.task) e h.counts) h.heard.goes.change was.brief)
+    asks todo.Finish e = record { get = gets p.access (b.brief.told p.access w (acts_since w p.journal.past) key x.path x.task y.task asked h.counts h.heard.goes.change was.brief); stands = stands }
+    asks (todo.Load a) e = h.looks.asks (todo.Load a) looks (h.heard.goes.asked ∙ ap Some e)
+    asks (todo.Store a v) e = h.looks.asks (todo.Store a v) looks (h.heard.goes.asked ∙ ap Some e)
+    asks (todo.Flush line) e = h.looks.asks (todo.Flush line) looks (h.heard.goes.asked ∙ ap Some e)
+    asks (todo.Swap entries) e = h.looks.asks (todo.Swap entries) looks (h.heard.goes.asked ∙ ap Some e)
 
   pub told-lonely : WhereLonely p.journal.past w y.call (λ key. AsksBriefly p.access p.journal.past told.between.story w y told.between.opened key asked)
   told-lonely key get lonely =

@@ -41,7 +41,7 @@ meant-on called t p q laws on (inr (inr made)) = inr (inr (laws.made_for (key_of
 
 -- once it was told something
 still-none : (old new : AnyTask) (seen : Seen) (moment : ℕ) (free : FreeSlots) (todo : Todo) (left : FreeSlots) → HasHeard old seen moment free todo new left → (swaps_of old ≡ 0) ⊎ (0 < change_swaps old) → (swaps_of new ≡ 0) ⊎ (0 < change_swaps new)
-still-none old new seen moment free todo left h (inl none) = inl (omega (arith, h.fewer, none))
+still-none old new seen moment free todo left h (inl none) = inl (omega (arith, h.goes.fewer, none))
 still-none old new seen moment free todo left h (inr some) = inr (subst (λ n. 0 < n) (sym h.swaps) some)
 
 pub meant-told : (called : Call) (p : Past) (old new : AnyTask) (seen : Seen) (moment : ℕ) (free : FreeSlots) (todo : Todo) (left : FreeSlots) → HasHeard old seen moment free todo new left → IsMeantFor called old p → IsMeantFor called new p

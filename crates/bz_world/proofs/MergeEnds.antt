@@ -131,7 +131,7 @@ restarts-alone o on no-path no-view = absurd on
 
 module _ (p : Parts) (w at : ℕ) (o : Outcome) (e : HasEndedAfter p w at o) where
   looked-so : IsLookingOn (known p w e.had.on).past e.had.on.serving → EndsLookingOn o
-  looked-so look = looks-on-ends (kind_of e.had.on.serving.task) o look.looks (e.tasked.laws.ends_of o (known p w e.had.on) (e.tasked.laws.ends (known p w e.had.on) o e.facts e.ends).0)
+  looked-so look = looks-on-ends (kind_of e.had.on.serving.task) o look.looks (e.tasked.laws.ends_of o (known p w e.had.on) (e.tasked.laws.sound.ends (known p w e.had.on) o e.facts e.ends).0)
 
   -- so where it ended in another way than these it had its leaf merged, if that might be
   pub ended-otherwise : ScenesAreSeen → TreesStand → (o ≡ Done → ⊥) → ((path : declared.Path) → o ≡ Path path → ⊥) → ((view : LeafView) → o ≡ View view → ⊥) → HasToEnd p w at

@@ -67,17 +67,17 @@ module _ (c : Config) (log : Log) (opened : Open) (p : Past) (taken : ℕ) (stoc
   goes = none-ended (end_of x.task) (λ some. deaf what (subst (λ o. Hears o what) (laws.only some) hears))
 
   left-same : needs_of x.task ≡ 0 → length left.free ≡ stock.left
-  left-same none = elim h.slots [
+  left-same none = elim h.goes.slots [
     | inl all ↦ absurd (omega (arith, all.some, none))
     | inr same ↦ ap (λ (f : FreeSlots). length f.free) same.slots ∙ sym held
   ]
 
   fewer : answered_in what + swaps_of next ≤ swaps_of x.task
-  fewer = omega (arith, h.fewer, told-swaps (asks_of x.task) what hears)
+  fewer = omega (arith, h.goes.fewer, told-swaps (asks_of x.task) what hears)
 
   -- its last swap took effect, and it has ended
   done : effects_in what ≡ 1 → swaps_of x.task ≤ 1 → end_of next ≡ Some Done
-  done one few = let won : what ≡ seen.Swapped true = told-true what one in h.last won (omega (arith, few, fewer, ap answered_in won))
+  done one few = let won : what ≡ seen.Swapped true = told-true what one in h.goes.last won (omega (arith, few, fewer, ap answered_in won))
 
   module _ (at : ℕ) where
     telling-told : IsTellingFew (reach taken (effects_in what) (answered_in what)) x → IsTellingFew (reach taken 0 0) (record x { task = next })
@@ -97,13 +97,13 @@ module _ (c : Config) (log : Log) (opened : Open) (p : Past) (taken : ℕ) (stoc
       alone-now = u.alone goes
 
       ends-short : (o : Outcome) → EndsOrNeedsRoom o → end_of next ≡ Some o → EndsShort c log at (reach taken 0 0) o
-      ends-short Done h' e = absurd (let none = u.before (omega (arith, h.only_last e)) in omega (arith, none, ap effects_in (h.done e)))
+      ends-short Done h' e = absurd (let none = u.before (omega (arith, h.goes.only_last e)) in omega (arith, none, ap effects_in (h.goes.done e)))
       ends-short Restart h' e = absurd (not-again (omega (arith, alone-now, counted)) e)
       ends-short NeedsRoom h' e = absurd (not-room u.kind u.knows u.seen u.seen_since u.seen_by_now u.may alone-now e)
       ends-short (Full Nodes) h' e =
-          let some : 0 < needs_of x.task = omega (arith, h.full_nodes e) in
-          omega (arith, h.full_nodes e, held, u.left some, laws.few, u.wants)
-      ends-short (Full Swaps) h' e = let lacked = h.full_swaps e in omega (arith, u.taken, h.fewer, none-left (asks_of x.task) what hears lacked, ap answered_in lacked)
+          let some : 0 < needs_of x.task = omega (arith, h.goes.full_nodes e) in
+          omega (arith, h.goes.full_nodes e, held, u.left some, laws.few, u.wants)
+      ends-short (Full Swaps) h' e = let lacked = h.goes.full_swaps e in omega (arith, u.taken, h.goes.fewer, none-left (asks_of x.task) what hears lacked, ap answered_in lacked)
       ends-short (Full Height) h' e = absurd (omega (arith, not-high e, h.wants, u.wants))
       ends-short o h' e = absurd h'
 
@@ -114,14 +114,14 @@ module _ (c : Config) (log : Log) (opened : Open) (p : Past) (taken : ℕ) (stoc
         after = u.after;
         stood = u.stood;
         leaves = u.leaves;
-        alone = λ on. let sum : made_of x.task + effects_in what ≡ made_of next + 0 = omega (arith, h.counted on) in subst (λ k. HasOthers 0 k p) sum alone-now;
-        knows = known.heard x.task next (key_of x.call) p u.knows h.meant;
+        alone = λ on. let sum : made_of x.task + effects_in what ≡ made_of next + 0 = omega (arith, h.goes.counted on) in subst (λ k. HasOthers 0 k p) sum alone-now;
+        knows = known.heard x.task next (key_of x.call) p u.knows h.goes.meant;
         seen = u.seen;
         seen_since = u.seen_since;
         seen_by_now = u.seen_by_now;
         may = u.may;
         wants = h.wants ∙ u.wants;
-        left = λ some. omega (arith, u.left (omega (arith, some, no-more-needs (needs_of x.task) (needs_of next) free left h.slots)), ap (λ (f : FreeSlots). length f.free) (none-gone (needs_of x.task) (needs_of next) free left h.slots some), held);
+        left = λ some. omega (arith, u.left (omega (arith, some, no-more-needs (needs_of x.task) (needs_of next) free left h.goes.slots)), ap (λ (f : FreeSlots). length f.free) (none-gone (needs_of x.task) (needs_of next) free left h.goes.slots some), held);
         taken = omega (arith, u.taken, fewer);
         before = λ few. refl;
         ends = λ o e. ends-short o (merge-ends (kind_of next) o (h.kind ∙ u.kind) (later.ends_of o (means o e).0 (means o e).1)) e;
@@ -140,7 +140,7 @@ module _ (c : Config) (log : Log) (opened : Open) (p : Past) (taken : ℕ) (stoc
   duly-told d = record {
     looking = λ quiet seek. d.looking quiet (sym (ap seeks h.kind) ∙ seek);
     deleting = λ quiet kind on. let g = d.deleting quiet (sym h.kind ∙ kind) goes in record {
-      alone = let sum : made_of x.task + effects_in what ≡ made_of next + 0 = omega (arith, h.counted on) in subst (λ k. HasOthers 0 k p) sum g.alone;
+      alone = let sum : made_of x.task + effects_in what ≡ made_of next + 0 = omega (arith, h.goes.counted on) in subst (λ k. HasOthers 0 k p) sum g.alone;
       wants = h.wants ∙ g.wants;
       swaps = omega (arith, g.swaps, fewer);
       way = g.way;

@@ -203,7 +203,7 @@ left-within (SplittingInnerRoot t b) a e within = absurd (cc e)
 left-within (Merging t) a e within = absurd (cc e)
 
 pub within-told : (old new : AnyTask) (seen : Seen) (moment : ℕ) (free : FreeSlots) (todo : Todo) (left : FreeSlots) → HasHeard old seen moment free todo new left → IsWithinItsActs old → IsWithinItsActs new
-within-told old new seen moment free todo left h within = within-of new (λ a e. omega (arith, h.nearer, left-within old a (sym h.kind ∙ e) within))
+within-told old new seen moment free todo left h within = within-of new (λ a e. omega (arith, h.goes.nearer, left-within old a (sym h.kind ∙ e) within))
 
 -- what may be used of a resource is what it was, while a worker steps, and it is known as before
 pub bound-on : (r : Resource) (c : Config) (w : ℕ) (m : Mark) (past : List Mark) → stepper (m ∷ past) ≡ Some w → bound_of r c (m ∷ past) w ≡ bound_of r c past w

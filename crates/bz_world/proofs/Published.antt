@@ -124,7 +124,7 @@ module _ (b : StrikeLaws) (p : Parts) (s : ℕ) (h : IsStriking p s) (publishes 
   ]
 
   first : its-open.effect ≡ None
-  first = none-by its-open.effect ((its b p s h).tasked.laws.once (before b p s h) (waits b p s h) publishes)
+  first = none-by its-open.effect ((its b p s h).tasked.laws.sound.once (before b p s h) (waits b p s h) publishes)
 
   changes : Changes (change_of (x b p s h).task) c (here (before b p s h)) (effect_instant c p.access ((kept b p s h).story.at (length log.past)))
   changes = subst (λ z. ContentFollows z (change_of (x b p s h).task) c (here (before b p s h)) (effect_instant c p.access ((kept b p s h).story.at (length log.past)))) publishes (good b p s h).content
@@ -232,7 +232,7 @@ module _ (b : StrikeLaws) (p : Parts) (s : ℕ) (h : IsStriking p s) (publishes 
   told-scene = b.scenes c p.access (with_mark with_flush effect_mark) told_story worker since effected lives (record { from = begun-its.from; by_now = omega (arith, begun-its.by_now) })
 
   knows : facts_of (x b p s h).task Took (scene c (effect_mark ∷ h.mark ∷ log.past) told_story worker since effected)
-  knows = (its b p s h).tasked.laws.stable Took (scene c (h.mark ∷ log.past) (after b p s h) worker since effected) (scene c (effect_mark ∷ h.mark ∷ log.past) told_story worker since effected) (sym (its b p s h).tasked.config)
+  knows = (its b p s h).tasked.laws.sound.stable Took (scene c (h.mark ∷ log.past) (after b p s h) worker since effected) (scene c (effect_mark ∷ h.mark ∷ log.past) told_story worker since effected) (sym (its b p s h).tasked.config)
       (subst (λ o. facts_of (x b p s h).task Took (scene c (h.mark ∷ log.past) (after b p s h) worker since o)) opened-is (took b p s h)) told-scene.scene
       (b.quiet c p.access p.access with_flush (after b p s h) effect_mark worker since effected no-act (λ a out n. refl) begun-effected)
 

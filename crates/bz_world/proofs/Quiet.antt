@@ -94,7 +94,7 @@ module _ (b : StepLaws) (old new : Parts) (w : ℕ) (x : OpenCall) (made : Act) 
 
   -- what its task asks for may be asked for
   pub askable : (todo : Todo) → s.asked ≡ todo → stage_in old.access (doing_of old.access w) ≡ Waiting → IsAskable (scene old.config old.journal.past k.story w s.call_open.look.since s.opened) todo
-  askable todo e waits = s.tasked.laws.askable (scene old.config old.journal.past k.story w s.call_open.look.since s.opened) todo (sym s.tasked.config) (subst (λ z. facts_of x.task z (scene old.config old.journal.past k.story w s.call_open.look.since s.opened)) waits s.facts) (sees w x s).scene (s.asks ∙ ap Some e)
+  askable todo e waits = s.tasked.laws.sound.askable (scene old.config old.journal.past k.story w s.call_open.look.since s.opened) todo (sym s.tasked.config) (subst (λ z. facts_of x.task z (scene old.config old.journal.past k.story w s.call_open.look.since s.opened)) waits s.facts) (sees w x s).scene (s.asks ∙ ap Some e)
 
   -- a private store that it does is its own
   own-store : (todo : Todo) → s.asked ≡ todo → IsDoing old.access old.owners.items w todo → (d u : ℕ) → doing_of old.access w ≡ Storing d u → IsOwnStore (scene old.config old.journal.past k.story w s.call_open.look.since s.opened) d u

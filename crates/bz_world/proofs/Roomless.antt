@@ -40,7 +40,7 @@ module _ (p : Parts) (w : ℕ) (told : Seen) (m : MustTell p w told) (other : to
 
   -- a change would not have gone on
   never : (z : Scene) → means_of asks.serving.task NeedsRoom z → makes_no_change m.serving.task ≡ false → ⊥
-  never z means change = m.told.tasked.laws.going before.request m.told.stage (scene p.config p.journal.past m.told.between.story w m.told.between.call_open.look.since m.told.between.opened) z change before.is before.more m.told.facts (heard.heard.meant NeedsRoom z means)
+  never z means change = m.told.tasked.laws.going before.request m.told.stage (scene p.config p.journal.past m.told.between.story w m.told.between.call_open.look.since m.told.between.opened) z change before.is before.more m.told.facts (heard.heard.goes.meant NeedsRoom z means)
 
   makes-none : end_of asks.serving.task ≡ Some NeedsRoom → makes_no_change asks.serving.task ≡ true
   makes-none ended = heard.heard.silent ∙ go (makes_no_change m.serving.task) refl
@@ -50,7 +50,7 @@ module _ (p : Parts) (w : ℕ) (told : Seen) (m : MustTell p w told) (other : to
 
       go : (b : Bool) → makes_no_change m.serving.task ≡ b → makes_no_change m.serving.task ≡ true
       go true e = e
-      go false e = absurd (never here (asks.asking.tasked.laws.ends here NeedsRoom asks.asking.facts ended).0 e)
+      go false e = absurd (never here (asks.asking.tasked.laws.sound.ends here NeedsRoom asks.asking.facts ended).0 e)
 
   pub room-found : HasNotLackedRoom q w
   room-found ended = ap makes_none_in asks.is ∙ makes-none (sym (ap end_in asks.is) ∙ ended)

@@ -236,7 +236,7 @@ view-kind k view e = absurd e
 -- a task that wants something is none of a call that reads
 pub full-writes : (p : Parts) (w : ℕ) (spent : Spent) (e : HasEnded p w (outcome.Full spent)) → is_read e.on.serving.call ≡ false
 full-writes p w spent e = swaps-write e.on.serving.call (kind_of e.on.serving.task) (e.meant.look e.quiet)
-    (full-no-look (kind_of e.on.serving.task) spent (e.tasked.laws.ends_of (outcome.Full spent) (known p w e.on) (e.tasked.laws.ends (known p w e.on) (outcome.Full spent) e.facts e.end).0))
+    (full-no-look (kind_of e.on.serving.task) spent (e.tasked.laws.ends_of (outcome.Full spent) (known p w e.on) (e.tasked.laws.sound.ends (known p w e.on) (outcome.Full spent) e.facts e.end).0))
 
 -- once a call has had its effect its leaf is read whole, and merged then
 pub after-read : RoundLaws → (p : Parts) (w : ℕ) (on : MustGoOn p w) → is_some on.serving.effect ≡ true → HasToSpare p w on.serving (known p w on).past (λ r q. coming r q (errand_of on.serving) kinds.Seek)

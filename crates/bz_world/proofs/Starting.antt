@@ -63,7 +63,7 @@ may-ask b p w todo m =
     let sees : Sees p.config (m.asking.between.story.at (length p.journal.past)) (scene p.config p.journal.past m.asking.between.story w m.asking.between.call_open.look.since m.asking.between.opened) = b.scenes p.config p.access p.journal m.asking.between.story w m.asking.between.call_open.look.since m.asking.between.opened m.asking.between.living (begun-in m.asking.between.living m.asking.between.call_open) in
     record {
       sees = sees;
-      askable = m.asking.tasked.laws.askable (scene p.config p.journal.past m.asking.between.story w m.asking.between.call_open.look.since m.asking.between.opened) todo (sym m.asking.tasked.config) m.asking.facts sees.scene m.asking.asks;
+      askable = m.asking.tasked.laws.sound.askable (scene p.config p.journal.past m.asking.between.story w m.asking.between.call_open.look.since m.asking.between.opened) todo (sym m.asking.tasked.config) m.asking.facts sees.scene m.asking.asks;
     }
 
 -- a read, a store or a flush

@@ -165,7 +165,7 @@ serving-stays seen stay c m n log mark story after owners stock more v x living 
   doing = doing-stays m n owners v s.asked l.same s.doing;
   finishing = finishing-stays m n v x l.same.doing s.finishing;
   facts = subst (λ z. facts_of x.task z (scene c (mark ∷ log.past) after v s.call_open.look.since s.opened)) (sym (stage-stays m n v l.same))
-      (s.tasked.laws.stable (stage_in m (doing_of m v)) (scene c log.past story v s.call_open.look.since s.opened) (scene c (mark ∷ log.past) after v s.call_open.look.since s.opened) (sym s.tasked.config) s.facts
+      (s.tasked.laws.sound.stable (stage_in m (doing_of m v)) (scene c log.past story v s.call_open.look.since s.opened) (scene c (mark ∷ log.past) after v s.call_open.look.since s.opened) (sym s.tasked.config) s.facts
       (seen c n (with_mark log mark) after v s.call_open.look.since s.opened living (record { from = since; by_now = omega (arith, s.call_open.look.by_now) })).scene (l.lawful s.call_open.look.since s.opened (record { from = omega (arith, since, l.from); by_now = s.call_open.look.by_now })));
   covered = covered-stays (story.took v) (after.took v) (story.filled v) (after.filled v) (needs_of x.task) l.took l.filled s.covered;
   alone = l.alone s.call_open.look.since s.opened x.task s.call_open.look.by_now s.alone;

@@ -81,7 +81,7 @@ module _ (b : StepLaws) (old new : Parts) (w : ℕ) (x : OpenCall) (made : Act) 
     later-seen = b.scenes old.config new.access (with_mark old.journal (mark_of w made)) after w its.call_open.look.since its.opened living (let h : HasBegun old.journal k.story its.call_open.look.since = begun-in k.living its.call_open in record { from = h.from; by_now = omega (arith, h.by_now) })
 
     took : facts_of x.task Took later
-    took = its.tasked.laws.stored before later d u (sym its.tasked.config) (subst (λ z. facts_of x.task z before) (ap (stage_in old.access) stores) its.facts) (sees b old new w x made answer k is-worker a w x its).scene later-seen.scene (its.asks ∙ ap Some asked) stored
+    took = its.tasked.laws.acts.stored before later d u (sym its.tasked.config) (subst (λ z. facts_of x.task z before) (ap (stage_in old.access) stores) its.facts) (sees b old new w x made answer k is-worker a w x its).scene later-seen.scene (its.asks ∙ ap Some asked) stored
 
     pub told-store : IsTold new w x seen.Stored
     told-store = subst (λ p. IsTold p w x seen.Stored) (sym a.rest) (record {

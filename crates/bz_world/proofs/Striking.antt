@@ -118,7 +118,7 @@ module _ (b : StrikeLaws) (p : Parts) (s : ℕ) (h : IsStriking p s) where
   no-look looks = swapless b.paid.asked x.task (entries_of old.access s) owner.asks (its.tasked.laws.looks looks).swaps
 
   pub good : IsGoodSwap (publishing_of x.task) (change_of x.task) (entries_of old.access s) before (effect_instant old.config p.access (kept.story.at (length old.journal.past)))
-  good = its.tasked.laws.effect before (effect_instant old.config p.access (kept.story.at (length old.journal.past))) (entries_of old.access s) (sym its.tasked.config) waits before-seen.scene owner.asks took-place.stand
+  good = its.tasked.laws.acts.effect before (effect_instant old.config p.access (kept.story.at (length old.journal.past))) (entries_of old.access s) (sym its.tasked.config) waits before-seen.scene owner.asks took-place.stand
       (took-place.swaps (omega (arith, few, kept.living.effects)))
 
   pub strikes-it : Strikes old.config old.access p.access old.journal kept.story h.mark s w its.call_open.look.since its.opened (publishing_of x.task) (change_of x.task)
@@ -157,7 +157,7 @@ module _ (b : StrikeLaws) (p : Parts) (s : ℕ) (h : IsStriking p s) where
 
   -- and the task knows that the swap took effect
   pub took : facts_of x.task Took later
-  took = its.tasked.laws.took before later (entries_of old.access s) (sym its.tasked.config) waits before-seen.scene later-seen.scene owner.asks took-place.stand takes-effect
+  took = its.tasked.laws.acts.took before later (entries_of old.access s) (sym its.tasked.config) waits before-seen.scene later-seen.scene owner.asks took-place.stand takes-effect
 
   -- it was its own, of which it waits for the answer
   pub struck-alone : WaitsAlone p.access (doing_of p.access w) x.task later.past
@@ -187,7 +187,7 @@ module _ (b : StrikeLaws) (p : Parts) (s : ℕ) (h : IsStriking p s) where
   -- its task serves the call as far as it has come
   serves : Serves (errand_of x) x.task before.past
   serves = record {
-    once = λ publishes. ap is_some (sym its.call_open.effect) ∙ its.tasked.laws.once before waits publishes;
+    once = λ publishes. ap is_some (sym its.call_open.effect) ∙ its.tasked.laws.sound.once before waits publishes;
     later = λ effected. swaps-or-merges (kind_of x.task) (let at = some-moment x.effect effected in its.meant.later at.0 at.1) (λ look. swapless b.paid.asked x.task (entries_of old.access s) owner.asks (its.tasked.laws.looks look).swaps);
     meant = λ quiet. its.meant.meant (none-of x.effect quiet);
   }

@@ -43,12 +43,12 @@ taken-few needed left old new (inr t) = omega (arith, t.fewer, ap (λ (z : FreeS
 pub told-few : (old new : Option OpenCall) (seen : Seen) (moment : ℕ) (free : FreeSlots) (todo : Todo) (left : FreeSlots) → HasToldIn old seen moment free todo new left → length free.free + needs_in new ≤ length left.free + needs_in old
 told-few None new seen moment free todo left h = absurd h
 told-few (Some x) None seen moment free todo left h = absurd h
-told-few (Some x) (Some y) seen moment free todo left h = taken-few (needs_of x.task) (needs_of y.task) free left h.heard.slots
+told-few (Some x) (Some y) seen moment free todo left h = taken-few (needs_of x.task) (needs_of y.task) free left h.heard.goes.slots
 
 pub told-fewer : (old new : Option OpenCall) (seen : Seen) (moment : ℕ) (free : FreeSlots) (todo : Todo) (left : FreeSlots) → HasToldIn old seen moment free todo new left → length left.free ≤ length free.free
 told-fewer None new seen moment free todo left h = absurd h
 told-fewer (Some x) None seen moment free todo left h = absurd h
-told-fewer (Some x) (Some y) seen moment free todo left h = no-more-free (needs_of x.task) (needs_of y.task) free left h.heard.slots
+told-fewer (Some x) (Some y) seen moment free todo left h = no-more-free (needs_of x.task) (needs_of y.task) free left h.heard.goes.slots
 
 -- nor than a split does
 pub few-told : (p : Parts) (w : ℕ) (seen : Seen) → MustTell p w seen → needs_in (get_or p.workers.items w None) ≤ SPLIT_SLOTS
@@ -67,12 +67,12 @@ pub few-in-all : (old new : Option OpenCall) (seen : Seen) (moment : ℕ) (free 
     → length left.free ≤ last + SPLIT_SLOTS → (todo ≢ Finish → length left.free ≤ last + needs_in new) → length free.free ≤ last + SPLIT_SLOTS
 few-in-all None new seen moment free todo left last h most went on = absurd h
 few-in-all (Some x) None seen moment free todo left last h most went on = absurd h
-few-in-all (Some x) (Some y) seen moment free todo left last h most went on = elim h.heard.slots [
+few-in-all (Some x) (Some y) seen moment free todo left last h most went on = elim h.heard.goes.slots [
   | inr none ↦ omega (arith, went, ap (λ (z : FreeSlots). length z.free) none.slots)
   | inl all ↦ (
       let gone : length left.free ≡ length (drop (needs_of x.task) free.free) = ap (λ (z : FreeSlots). length z.free) all.slots in
       let more : todo ≢ Finish = λ e.
-      let end = some-end (end_of y.task) (h.laws.finish (h.heard.asked ∙ ap Some e)) in
-      omega (arith, gone, length-drop (needs_of x.task) free.free, all.some, all.enough, ap (λ (z : FreeSlots). length z.free) (h.heard.kept end.0 end.1)) in
+      let end = some-end (end_of y.task) (h.laws.finish (h.heard.goes.asked ∙ ap Some e)) in
+      omega (arith, gone, length-drop (needs_of x.task) free.free, all.some, all.enough, ap (λ (z : FreeSlots). length z.free) (h.heard.goes.kept end.0 end.1)) in
       omega (arith, gone, length-drop (needs_of x.task) free.free, all.enough, all.none_left, most, on more))
 ]

@@ -64,7 +64,7 @@ module _ (scenes : ScenesAreSeen) (hidden : OwnWordsAreHidden) (p : Parts) (w : 
       let sees : Sees p.config (between.story.at (length p.journal.past)) (scene p.config p.journal.past between.story v h.call_open.look.since h.opened) = scenes p.config p.access p.journal between.story v h.call_open.look.since h.opened between.living (begun-in between.living h.call_open) in
       let same : todo.Store c q ≡ todo.Store a u = cc (d.0, storing) in
       let own : IsOwnStore (scene p.config p.journal.past between.story v h.call_open.look.since h.opened) a u =
-      h.tasked.laws.askable (scene p.config p.journal.past between.story v h.call_open.look.since h.opened) (todo.Store a u) (sym h.tasked.config)
+      h.tasked.laws.sound.askable (scene p.config p.journal.past between.story v h.call_open.look.since h.opened) (todo.Store a u) (sym h.tasked.config)
       (subst (λ z. facts_of x.task z (scene p.config p.journal.past between.story v h.call_open.look.since h.opened)) (ap (stage_in p.access) storing) h.facts) sees.scene (h.asks ∙ ap Some (e ∙ same)) in
       hidden p.config (between.story.at (length p.journal.past)) (scene p.config p.journal.past between.story v h.call_open.look.since h.opened) a sees own.mine
 

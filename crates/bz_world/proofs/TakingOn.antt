@@ -99,7 +99,7 @@ must-go-on p w todo m outcome ended lonely = record {
   serving = m.serving;
   is = m.is;
   between = m.asking.between;
-  filled = (m.asking.tasked.laws.ends (scene p.config p.journal.past m.asking.between.story w m.asking.between.call_open.look.since m.asking.between.opened) outcome m.asking.facts ended).1;
+  filled = (m.asking.tasked.laws.sound.ends (scene p.config p.journal.past m.asking.between.story w m.asking.between.call_open.look.since m.asking.between.opened) outcome m.asking.facts ended).1;
   fit = m.asking.meant.fit;
   exact = m.asking.exact;
   merges = m.asking.merges;
@@ -152,7 +152,7 @@ lacks-other p w todo then m lacks q moment free left rest asks told key get lone
 pub lacks-swap : RoundLaws → (p : Parts) (w : ℕ) (todo then : Todo) (m : MustStart p w todo) → LacksDescriptor p todo → (q : Parts) (moment : ℕ) (free left : FreeSlots) → q ≡ record p { slots = q.slots; workers = q.workers } → MustStart q w then
     → HasToldIn (get_or p.workers.items w None) NoSwap moment free then (get_or q.workers.items w None) left → LacksSwap q w
 lacks-swap b p w todo then m lacks q moment free left rest asks told = record {
-  on = must-go-on q w then asks (Full Swaps) (heard.heard.no_swap refl) (λ key get lonely. absurd (lacks-other p w todo then m lacks q moment free left rest asks told key get lonely));
+  on = must-go-on q w then asks (Full Swaps) (heard.heard.goes.no_swap refl) (λ key get lonely. absurd (lacks-other p w todo then m lacks q moment free left rest asks told key get lonely));
   spent = ap (λ (z : Parts). z.access.taken) rest ∙ (lacks.spent ∙ sym (ap (λ (z : Parts). z.config.swaps) rest));
   little = λ whole. omega (
     arith,
@@ -164,9 +164,9 @@ lacks-swap b p w todo then m lacks q moment free left rest asks told = record {
   room = room-of b q w asks.serving 0 (λ r. start_takes r then) (scene q.config q.journal.past asks.asking.between.story w asks.asking.between.call_open.look.since asks.asking.between.opened).past asks.asking.paid;
   write = λ quiet. subst (λ (x : OpenCall). is_read x.call ≡ false) (sym heard.rest) (swaps-write m.serving.call (kind_of m.serving.task) (m.asking.meant.look (sym (ap (λ (x : OpenCall). x.effect) heard.rest) ∙ quiet))
       (λ look. swapless b.asked m.serving.task lacks.entries (m.asking.asks ∙ ap Some lacks.is) (m.asking.tasked.laws.looks look).swaps));
-  told = λ quiet lonely room. full-told asks.asking.between.opened (scene q.config q.journal.past asks.asking.between.story w asks.asking.between.call_open.look.since asks.asking.between.opened).past q.access.taken (stock_of q) asks.serving quiet (heard.heard.no_swap refl)
+  told = λ quiet lonely room. full-told asks.asking.between.opened (scene q.config q.journal.past asks.asking.between.story w asks.asking.between.call_open.look.since asks.asking.between.opened).past q.access.taken (stock_of q) asks.serving quiet (heard.heard.goes.no_swap refl)
       (λ looks. swapless b.asked m.serving.task lacks.entries (m.asking.asks ∙ ap Some lacks.is) (m.asking.tasked.laws.looks (seeks-look (kind_of m.serving.task) (sym (ap seeks heard.heard.kind) ∙ looks))).swaps) (asks.asking.exact lonely room);
-  merged = λ at is. ended-merged b.scenes b.trees q w at (must-go-on q w then asks (Full Swaps) (heard.heard.no_swap refl) (λ key get lonely. absurd (lacks-other p w todo then m lacks q moment free left rest asks told key get lonely))) is (Full Swaps) (heard.heard.no_swap refl)
+  merged = λ at is. ended-merged b.scenes b.trees q w at (must-go-on q w then asks (Full Swaps) (heard.heard.goes.no_swap refl) (λ key get lonely. absurd (lacks-other p w todo then m lacks q moment free left rest asks told key get lonely))) is (Full Swaps) (heard.heard.goes.no_swap refl)
       (λ full. ap (λ (z : Parts). z.access.taken) rest ∙ (lacks.spent ∙ sym (ap (λ (z : Parts). z.config.swaps) rest)))
       (λ begun may s. never-full s.task);
 }
@@ -176,9 +176,9 @@ lacks-swap b p w todo then m lacks q moment free left rest asks told = record {
 
     -- neither a delete that told of its swap ends so, nor what looks on
     never-full : IsTellingFew (reach_idle q.access) asks.serving ⊎ IsLookingOn (scene q.config q.journal.past asks.asking.between.story w asks.asking.between.call_open.look.since asks.asking.between.opened).past asks.serving → ⊥
-    never-full (inl tells) = cc (tells.ends (Full Swaps) (heard.heard.no_swap refl))
+    never-full (inl tells) = cc (tells.ends (Full Swaps) (heard.heard.goes.no_swap refl))
     never-full (inr look) = looks-on-ends (kind_of asks.serving.task) (Full Swaps) look.looks (asks.asking.tasked.laws.ends_of (Full Swaps) (scene q.config q.journal.past asks.asking.between.story w asks.asking.between.call_open.look.since asks.asking.between.opened)
-        (asks.asking.tasked.laws.ends (scene q.config q.journal.past asks.asking.between.story w asks.asking.between.call_open.look.since asks.asking.between.opened) (Full Swaps) asks.asking.facts (heard.heard.no_swap refl)).0)
+        (asks.asking.tasked.laws.sound.ends (scene q.config q.journal.past asks.asking.between.story w asks.asking.between.call_open.look.since asks.asking.between.opened) (Full Swaps) asks.asking.facts (heard.heard.goes.no_swap refl)).0)
 
     -- the descriptor that is asked for was still to be had, by what is promised for the call
     few : p.access.taken - p.taken_then + (start_takes Descriptors todo + weigh Descriptors m.serving.task) + 0 ≤ SWAPS_PER_CALL → p.config.swaps < p.taken_then + SWAPS_PER_CALL
@@ -536,7 +536,7 @@ pub never-ends : (old slot : Option OpenCall) (moment : ℕ) (free : FreeSlots) 
 never-ends (Some y) (Some z) moment free todo left h x is silent kind ends =
     let same : y ≡ x = cc is in
     let none : end_of z.task ≡ None = h.heard.begins refl (subst (λ (o : OpenCall). makes_no_change o.task ≡ true) (sym same) silent) (subst (λ (o : OpenCall). kind_of o.task ≢ kinds.Find) (sym same) kind) in
-    let some : IsSome (end_of z.task) = h.laws.finish (h.heard.asked ∙ ap Some ends) in
+    let some : IsSome (end_of z.task) = h.laws.finish (h.heard.goes.asked ∙ ap Some ends) in
     cc (subst IsSome none some)
 never-ends None slot moment free todo left h x is silent kind ends = absurd h
 never-ends (Some y) None moment free todo left h x is silent kind ends = absurd h

@@ -80,7 +80,7 @@ next-of x seen moment free todo (Some y) left h = record { next = y; is = refl; 
 pub full-rightly : RoundLaws → (p : Parts) (w : ℕ) (seen : Seen) (m : MustTell p w seen) (moment : ℕ) (todo : Todo) (slot : Option OpenCall) (left : FreeSlots) → HasToldIn (Some m.serving) seen moment p.slots todo slot left → end_in slot ≡ Some (outcome.Full Nodes)
     → (length left.free < wants_in slot) × (RunsWhole p.config w p.journal.past → HadFew p.config (begun_with p) Nodes)
 full-rightly b p w seen m moment todo slot left told ended = (
-  omega (arith, lacked, m.told.tasked.laws.few, n.told.heard.wants, ap wants_in n.is, no-more-free (needs_of m.serving.task) (needs_of n.next.task) p.slots left n.told.heard.slots),
+  omega (arith, lacked, m.told.tasked.laws.few, n.told.heard.wants, ap wants_in n.is, no-more-free (needs_of m.serving.task) (needs_of n.next.task) p.slots left n.told.heard.goes.slots),
   λ whole. few (b.afforded Slots p.access w (errand_of m.serving) m.serving.task (effects_in seen) 0 (used_in Slots p w) (bound_in Slots p w) (scene p.config p.journal.past m.told.between.story w m.told.between.call_open.look.since m.told.between.opened).past (m.told.paid Slots whole)),
 )
   where
@@ -88,14 +88,14 @@ full-rightly b p w seen m moment todo slot left told ended = (
     n = next-of m.serving seen moment p.slots todo slot left told
 
     lacked : length p.slots.free < needs_of m.serving.task
-    lacked = n.told.heard.full_nodes (sym (ap end_in n.is) ∙ ended)
+    lacked = n.told.heard.goes.full_nodes (sym (ap end_in n.is) ∙ ended)
 
     few : p.left_then - length p.slots.free + (0 + needs_of m.serving.task) + 0 ≤ SLOTS_PER_CALL → p.left_then < SLOTS_PER_CALL
     few enough = omega (arith, enough, lacked)
 
 -- and one that has ended for want of a descriptor was told so
 pub lacked-told : (p : Parts) (w : ℕ) (seen : Seen) (m : MustTell p w seen) (moment : ℕ) (todo : Todo) (slot : Option OpenCall) (left : FreeSlots) → HasToldIn (Some m.serving) seen moment p.slots todo slot left → end_in slot ≡ Some (outcome.Full Swaps) → seen ≡ NoSwap
-lacked-told p w seen m moment todo slot left told ended = let n : IsNext m.serving seen moment p.slots todo slot left = next-of m.serving seen moment p.slots todo slot left told in n.told.heard.full_swaps (sym (ap end_in n.is) ∙ ended)
+lacked-told p w seen m moment todo slot left told ended = let n : IsNext m.serving seen moment p.slots todo slot left = next-of m.serving seen moment p.slots todo slot left told in n.told.heard.goes.full_swaps (sym (ap end_in n.is) ∙ ended)
 
 -- of a task that takes none, none is gone, and it takes none later
 slots-fewer : (before after : ℕ) (free left : FreeSlots) → AreTakenFrom before after free left → after ≤ before
@@ -109,11 +109,11 @@ slots-same before after free left zero (inr none) = none.slots
 -- a look-up that was told something is one as before
 looks-still : (old new : AnyTask) (seen : Seen) (moment : ℕ) (free : FreeSlots) (todo : Todo) (left : FreeSlots) (key : List ℕ) (way : Option Path) → IsLookup key way old → HasHeard old seen moment free todo new left → IsLookup key way new
 looks-still old new seen moment free todo left key way l h = record {
-  path = λ path s means. l.path path s (h.meant (outcome.Path path) s means);
-  view = λ view s means. l.view view s (h.meant (outcome.View view) s means);
-  found = λ view s means. l.found view s (h.meant (outcome.Key view) s means);
-  leads = λ path is view s means. l.leads path is view s (h.meant (outcome.View view) s means);
-  leads_found = λ path is view s means. l.leads_found path is view s (h.meant (outcome.Key view) s means);
+  path = λ path s means. l.path path s (h.goes.meant (outcome.Path path) s means);
+  view = λ view s means. l.view view s (h.goes.meant (outcome.View view) s means);
+  found = λ view s means. l.found view s (h.goes.meant (outcome.Key view) s means);
+  leads = λ path is view s means. l.leads path is view s (h.goes.meant (outcome.View view) s means);
+  leads_found = λ path is view s means. l.leads_found path is view s (h.goes.meant (outcome.Key view) s means);
   ascent = λ a is. l.ascent a (sym h.ascent ∙ is);
 }
 
@@ -159,13 +159,13 @@ module _ (scenes : ScenesAreSeen) (slots : SlotsAreTaken) (laws : LonelyLaws) (l
   module _ (todo : Todo) (left : FreeSlots) (y : OpenCall) (h : HasTold x seen (length p.journal.past) p.slots todo y left) where
     tasked : IsTasked p.config y.call y.path y.had y.task
     tasked = subst (λ (z : OpenCall). IsTasked p.config z.call z.path z.had y.task) (sym h.rest) (record {
-      config = h.heard.config ∙ told.tasked.config;
+      config = h.heard.goes.config ∙ told.tasked.config;
       laws = h.laws;
       lookup = looks-still x.task y.task seen (length p.journal.past) p.slots todo left (key_of x.call) x.path told.tasked.lookup h.heard;
       wayless = λ none other. looks-still x.task y.task seen (length p.journal.past) p.slots todo left (key_of x.call) other (told.tasked.wayless none other) h.heard;
       change = elim told.tasked.change [
         | inl look ↦ inl (h.heard.silent ∙ look)
-        | inr is ↦ inr (subst (IsChangeFor x.call x.had) (sym h.heard.change) is)
+        | inr is ↦ inr (subst (IsChangeFor x.call x.had) (sym h.heard.goes.change) is)
       ];
     })
 
@@ -181,14 +181,14 @@ module _ (scenes : ScenesAreSeen) (slots : SlotsAreTaken) (laws : LonelyLaws) (l
 
     covered : IsCovered (after.took w) (told.between.story.filled w) (needs_of y.task)
     covered = covered-stays (λ k. told.between.story.took w k || is_gained p.slots left k) (after.took w) (told.between.story.filled w) (told.between.story.filled w) (needs_of y.task) (λ k. ap (λ (z : Scene). z.took k) later) (λ k e. e)
-        (covered-taken (told.between.story.took w) (told.between.story.filled w) (needs_of x.task) (needs_of y.task) p.slots left h.heard.slots told.covered)
+        (covered-taken (told.between.story.took w) (told.between.story.filled w) (needs_of x.task) (needs_of y.task) p.slots left h.heard.goes.slots told.covered)
 
     lonely : WhereLonely p.journal.past w y.call (λ key. AsksBriefly p.access p.journal.past after w y told.between.opened key todo)
     lonely key get alone = took-lonely p.access p.journal.past told.between.story w y told.between.opened key p.slots left todo (told-lonely laws p w x seen told sees.scene (length p.journal.past) todo left y h key get alone)
 
     -- where nobody else's swap took effect it has not ended to begin again
     not-again : told.alone.others ≡ 0 → end_of y.task ≢ Some outcome.Restart
-    not-again none ends = told.alone.wins none (elim (h.heard.restart ends) [
+    not-again none ends = told.alone.wins none (elim (h.heard.goes.restart ends) [
       | inl lost ↦ lost
       | inr differs ↦ (lone.refused x.task y.task seen (length p.journal.past) p.slots left todo told.stage here h.heard ends (sym told.tasked.config) sees.scene told.facts told.tells (alone-by none differs)).answer
     ])
@@ -196,7 +196,7 @@ module _ (scenes : ScenesAreSeen) (slots : SlotsAreTaken) (laws : LonelyLaws) (l
         alone-by : told.alone.others ≡ 0 → differs_of x.task seen → IsAlone (made_of x.task) here.past
         alone-by none differs =
             let waited : HasWaited x.task = told.alone.waited in
-            let untold : effects_in seen ≡ 0 = cause-none (asks_of x.task) seen waited.scene (told.tasked.laws.cause waited.scene seen waited.config waited.facts differs) in
+            let untold : effects_in seen ≡ 0 = cause-none (asks_of x.task) seen waited.scene (told.tasked.laws.sound.cause waited.scene seen waited.config waited.facts differs) in
             omega (arith, told.alone.counted, none, untold)
 
     asks-alone : AsksAlone y.task todo here.past
@@ -226,7 +226,7 @@ module _ (scenes : ScenesAreSeen) (slots : SlotsAreTaken) (laws : LonelyLaws) (l
         looks = ap (λ (z : OpenCall). only_looks z.call (kind_of y.task)) h.rest ∙ (ap (only_looks x.call) h.heard.kind ∙ none.looks);
         thawed = ap (λ (z : OpenCall). z.froze) h.rest ∙ none.thawed;
         same_taken = none.same_taken;
-        same_left = ap (λ (f : FreeSlots). length f.free) (slots-same (needs_of x.task) (needs_of y.task) p.slots left (told.tasked.laws.looks (looks-only x.call (kind_of x.task) none.looks)).needs h.heard.slots) ∙ none.same_left;
+        same_left = ap (λ (f : FreeSlots). length f.free) (slots-same (needs_of x.task) (needs_of y.task) p.slots left (told.tasked.laws.looks (looks-only x.call (kind_of x.task) none.looks)).needs h.heard.goes.slots) ∙ none.same_left;
       })
     ]
 
@@ -234,8 +234,8 @@ module _ (scenes : ScenesAreSeen) (slots : SlotsAreTaken) (laws : LonelyLaws) (l
     still-exact : CountsExactly p.config p.journal w told.between.opened here.past (reach_idle p.access) (record (stock_of p) { left = length left.free }) (tells_of y) y
     still-exact lonely room = subst (λ (z : OpenCall). IsExact told.between.opened here.past (reach_idle p.access) (record (stock_of p) { left = length left.free }) (tells_of z) z) (sym h.rest)
         (exact-told told.between.opened here.past p.access.taken (stock_of p) (tells_of x) x y.task seen (length p.journal.past) p.slots todo left h.heard told.tasked.laws h.laws told.hears told.alone.others told.alone.counted not-again
-        (λ o e. (scene p.config p.journal.past after w told.between.call_open.look.since told.between.opened, (h.laws.ends (scene p.config p.journal.past after w told.between.call_open.look.since told.between.opened) o facts e).0)) refl
-        (λ none. slots-same (needs_of x.task) (needs_of y.task) p.slots left none h.heard.slots) (told.exact lonely room))
+        (λ o e. (scene p.config p.journal.past after w told.between.call_open.look.since told.between.opened, (h.laws.sound.ends (scene p.config p.journal.past after w told.between.call_open.look.since told.between.opened) o facts e).0)) refl
+        (λ none. slots-same (needs_of x.task) (needs_of y.task) p.slots left none h.heard.goes.slots) (told.exact lonely room))
 
     -- and the merge that is due: it does not lack a neighbour, and no slots but for a split
     good : IsScene (scene p.config p.journal.past after w told.between.call_open.look.since told.between.opened)
@@ -244,7 +244,7 @@ module _ (scenes : ScenesAreSeen) (slots : SlotsAreTaken) (laws : LonelyLaws) (l
     still-duly : MergesDuly p.config p.journal w told.between.opened here.past (reach_idle p.access) (record (stock_of p) { left = length left.free }) y
     still-duly lonely = subst (λ (z : OpenCall). IsDuly p.config p.journal told.between.opened here.past (reach_idle p.access) (record (stock_of p) { left = length left.free }) z) (sym h.rest)
         (duly-told p.config p.journal told.between.opened here.past p.access.taken (stock_of p) x y.task seen (length p.journal.past) p.slots todo left h.heard told.tasked.laws h.laws told.hears told.alone.others told.alone.counted not-again
-        (λ o e. (scene p.config p.journal.past after w told.between.call_open.look.since told.between.opened, (h.laws.ends (scene p.config p.journal.past after w told.between.call_open.look.since told.between.opened) o facts e).0)) refl lone.known
+        (λ o e. (scene p.config p.journal.past after w told.between.call_open.look.since told.between.opened, (h.laws.sound.ends (scene p.config p.journal.past after w told.between.call_open.look.since told.between.opened) o facts e).0)) refl lone.known
         (λ e. (h.laws.height (scene p.config p.journal.past after w told.between.call_open.look.since told.between.opened) good facts e).0)
         (λ kind knows i since by_now may counted e. lone.room x.task y.task seen (length p.journal.past) p.slots left todo (key_of x.call) i (scene p.config p.journal.past after w told.between.call_open.look.since told.between.opened) h.heard kind good facts (omega (arith, counted)) knows
         (record { from = since; to = by_now }) may e) (told.merges lonely))
@@ -255,11 +255,11 @@ module _ (scenes : ScenesAreSeen) (slots : SlotsAreTaken) (laws : LonelyLaws) (l
         on = told.between.on;
         story = after;
         tabled = tabled-beside (record { workers = size; owners = refl; crew = refl; steps = refl; rest = refl }) told.between.tabled;
-        taken = let t = told.between.taken in record { shown = t.shown; held = t.held; few = t.few; notes = t.notes; unused = t.unused; only = t.only; unstored = λ k free. t.unstored k (was-free (needs_of x.task) (needs_of y.task) p.slots left h.heard.slots k free) };
+        taken = let t = told.between.taken in record { shown = t.shown; held = t.held; few = t.few; notes = t.notes; unused = t.unused; only = t.only; unstored = λ k free. t.unstored k (was-free (needs_of x.task) (needs_of y.task) p.slots left h.heard.goes.slots k free) };
         living = living;
         sound = told.between.sound;
         leaves = told.between.leaves;
-        free = still-free p.config (image_at_on p.journal.start p.journal.past) told.between.story w (needs_of x.task) (needs_of y.task) p.slots left h.heard.slots told.between.free;
+        free = still-free p.config (image_at_on p.journal.start p.journal.past) told.between.story w (needs_of x.task) (needs_of y.task) p.slots left h.heard.goes.slots told.between.free;
         others = λ v ne. subst (IsSlot p.config p.access p.journal after p.owners.items (record (stock_of p) { left = length left.free }) v) (sym (rest v ne))
             (slot-scenes p.config p.access p.journal told.between.story after p.owners.items (stock_of p) (record (stock_of p) { left = length left.free }) v (get_or p.workers.items v None) told.between.opened (other v ne) (λ k. refl) (λ is. ne (told.between.steps v is)) (not-lonely laws.alone w v p.journal.past told.between.opened told.between.call_open.is_open ne) (told.between.others v ne));
         worker = told.between.worker;
@@ -271,10 +271,10 @@ module _ (scenes : ScenesAreSeen) (slots : SlotsAreTaken) (laws : LonelyLaws) (l
         steps = told.between.steps;
       };
       tasked = tasked;
-      asks = h.heard.asked;
+      asks = h.heard.goes.asked;
       finished = elim told.finished [
         | inl may ↦ inl (subst MayGoOn (sym h.rest) may)
-        | inr won ↦ inr (let last : Some todo ≡ Some Finish = sym h.heard.asked ∙ h.heard.published won.publishing won.won in cc last)
+        | inr won ↦ inr (let last : Some todo ≡ Some Finish = sym h.heard.goes.asked ∙ h.heard.goes.published won.publishing won.won in cc last)
       ];
       facts = facts;
       covered = covered;
@@ -304,9 +304,9 @@ module _ (scenes : ScenesAreSeen) (slots : SlotsAreTaken) (laws : LonelyLaws) (l
           leads = λ path is. subst (λ (z : OpenCall). IsPath (key_of z.call) path here.past) (sym n.told.rest) (k.leads path (sym (ap (λ (z : OpenCall). z.path) n.told.rest) ∙ is));
           quiet = ap (λ (z : OpenCall). z.effect) n.told.rest ∙ k.quiet;
           some = λ none. k.some (sym (ap (λ (z : OpenCall). z.path) n.told.rest) ∙ none);
-          slotless = omega (arith, k.slotless, slots-fewer (needs_of x.task) (needs_of n.next.task) p.slots left n.told.heard.slots);
+          slotless = omega (arith, k.slotless, slots-fewer (needs_of x.task) (needs_of n.next.task) p.slots left n.told.heard.goes.slots);
           spares = λ r counted. subst (λ (e : Errand). Spares r p.access w e (used_of r p.access p.journal.past (record (stock_of p) { left = length left.free }) w) (bound_in r p w) here.past (λ q. coming r q e kinds.Find)) (sym (ap errand_of n.told.rest))
-              (subst (λ (f : FreeSlots). Spares r p.access w (errand_of x) (used_of r p.access p.journal.past (record (stock_of p) { left = length f.free }) w) (bound_in r p w) here.past (λ q. coming r q (errand_of x) kinds.Find)) (sym (slots-same (needs_of x.task) (needs_of n.next.task) p.slots left k.slotless n.told.heard.slots)) (k.spares r counted));
-          lacks = λ z means alone. subst (λ (e : Errand). 0 < stage_now e here.past) (sym (ap errand_of n.told.rest)) (k.lacks z (n.told.heard.meant outcome.NeedsRoom z means) alone);
+              (subst (λ (f : FreeSlots). Spares r p.access w (errand_of x) (used_of r p.access p.journal.past (record (stock_of p) { left = length f.free }) w) (bound_in r p w) here.past (λ q. coming r q (errand_of x) kinds.Find)) (sym (slots-same (needs_of x.task) (needs_of n.next.task) p.slots left k.slotless n.told.heard.goes.slots)) (k.spares r counted));
+          lacks = λ z means alone. subst (λ (e : Errand). 0 < stage_now e here.past) (sym (ap errand_of n.told.rest)) (k.lacks z (n.told.heard.goes.meant outcome.NeedsRoom z means) alone);
         };
       }

@@ -72,7 +72,7 @@ needed-slots law scenes p w e some = elim (e.meant.meant e.quiet) [
   | inl none ↦ absurd (omega (arith, none.slots, some))
   | inr made ↦ elim made [
     | inl merge ↦ subst (NeedsAtLeast p.config p.journal.start p.journal.past e.on.between.opened) (sym (merges-want e.on.serving.task (key_of e.on.serving.call) (known p w e.on).past merge))
-        (merge-needs p w e.on (law e.on.serving.task (key_of e.on.serving.call) (known p w e.on) (known-scene scenes p w e.on) merge (e.tasked.laws.ends (known p w e.on) (Full Nodes) e.facts e.end).0))
+        (merge-needs p w e.on (law e.on.serving.task (key_of e.on.serving.call) (known p w e.on) (known-scene scenes p w e.on) merge (e.tasked.laws.sound.ends (known p w e.on) (Full Nodes) e.facts e.end).0))
     | inr other ↦ e.on.between.call_open.wanted (e.on.between.call_open.effect ∙ e.quiet) some (made-otherwise e.on.serving.task (key_of e.on.serving.call) (words_asked e.on.serving.call) (known p w e.on).past other)
   ]
 ]

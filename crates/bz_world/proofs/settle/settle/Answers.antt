@@ -23,10 +23,10 @@ settle_effective-requires-clause-ends c =
       facts = facts;
       tasked = tasked;
       paid = finished-for c.args.parts.now c.args.w c.requires.ends.serving here.past c.requires.ends.asking.paid;
-      path = λ path is. tasked.lookup.path path here (tasked.laws.ends here (Path path) facts (ended ∙ ap Some is)).0;
-      view = λ view is. tasked.lookup.view view here (tasked.laws.ends here (View view) facts (ended ∙ ap Some is)).0;
-      leads = λ view is path way. tasked.lookup.leads path way view here (tasked.laws.ends here (View view) facts (ended ∙ ap Some is)).0;
-      some = λ view is none. no-view (key_of on.serving.call) on.serving.task (tasked.wayless none) view here (tasked.laws.ends here (View view) facts (ended ∙ ap Some is)).0;
+      path = λ path is. tasked.lookup.path path here (tasked.laws.sound.ends here (Path path) facts (ended ∙ ap Some is)).0;
+      view = λ view is. tasked.lookup.view view here (tasked.laws.sound.ends here (View view) facts (ended ∙ ap Some is)).0;
+      leads = λ view is path way. tasked.lookup.leads path way view here (tasked.laws.sound.ends here (View view) facts (ended ∙ ap Some is)).0;
+      some = λ view is none. no-view (key_of on.serving.call) on.serving.task (tasked.wayless none) view here (tasked.laws.sound.ends here (View view) facts (ended ∙ ap Some is)).0;
       alone = let a = c.requires.ends.asking.alone in record { others = a.others; made = a.made; counted = a.counted; stands = λ none again. a.stands refl none (ended ∙ ap Some again) };
       swaps = λ is. c.requires.swaps (c.outcome_of-outcome.ensures ∙ ap Some is);
     }
@@ -44,17 +44,17 @@ settle_quiet-requires-clause-ends c =
       facts = facts;
       end = ended;
       quiet = ap effect_in (sym (slot-is c.args.parts.now c.args.w on c.index.result.now c.index.ensures)) ∙ sym c.in-None.ensures;
-      path = λ path is. tasked.lookup.path path here (tasked.laws.ends here (Path path) facts (ended ∙ ap Some is)).0;
-      view = λ view is. tasked.lookup.view view here (tasked.laws.ends here (View view) facts (ended ∙ ap Some is)).0;
+      path = λ path is. tasked.lookup.path path here (tasked.laws.sound.ends here (Path path) facts (ended ∙ ap Some is)).0;
+      view = λ view is. tasked.lookup.view view here (tasked.laws.sound.ends here (View view) facts (ended ∙ ap Some is)).0;
       full = λ is. let f = c.requires.full (c.outcome_of-outcome.ensures ∙ ap Some is) in (subst (λ z. length c.args.parts.now.slots.free < wants_in z) c.requires.ends.is f.0, f.1);
-      found = λ view is. tasked.lookup.found view here (tasked.laws.ends here (Key view) facts (ended ∙ ap Some is)).0;
-      leads_found = λ view is path way. tasked.lookup.leads_found path way view here (tasked.laws.ends here (Key view) facts (ended ∙ ap Some is)).0;
-      leads = λ view is path way. tasked.lookup.leads path way view here (tasked.laws.ends here (View view) facts (ended ∙ ap Some is)).0;
+      found = λ view is. tasked.lookup.found view here (tasked.laws.sound.ends here (Key view) facts (ended ∙ ap Some is)).0;
+      leads_found = λ view is path way. tasked.lookup.leads_found path way view here (tasked.laws.sound.ends here (Key view) facts (ended ∙ ap Some is)).0;
+      leads = λ view is path way. tasked.lookup.leads path way view here (tasked.laws.sound.ends here (View view) facts (ended ∙ ap Some is)).0;
       alone = let a = c.requires.ends.asking.alone in record { others = a.others; made = a.made; counted = a.counted; stands = λ none again. a.stands refl none (ended ∙ ap Some again) };
       meant = c.requires.ends.asking.meant;
       paid = finished-for c.args.parts.now c.args.w c.requires.ends.serving here.past c.requires.ends.asking.paid;
-      some = λ view is none. no-view (key_of on.serving.call) on.serving.task (tasked.wayless none) view here (tasked.laws.ends here (View view) facts (ended ∙ ap Some is)).0;
-      some_found = λ view is none. no-key (key_of on.serving.call) on.serving.task (tasked.wayless none) view here (tasked.laws.ends here (Key view) facts (ended ∙ ap Some is)).0;
+      some = λ view is none. no-view (key_of on.serving.call) on.serving.task (tasked.wayless none) view here (tasked.laws.sound.ends here (View view) facts (ended ∙ ap Some is)).0;
+      some_found = λ view is none. no-key (key_of on.serving.call) on.serving.task (tasked.wayless none) view here (tasked.laws.sound.ends here (Key view) facts (ended ∙ ap Some is)).0;
       swaps = λ is. c.requires.swaps (c.outcome_of-outcome.ensures ∙ ap Some is);
       silent = λ is. sym (ap makes_none_in c.requires.ends.is) ∙ c.requires.crowded (c.outcome_of-outcome.ensures ∙ ap Some is);
     }

@@ -28,7 +28,7 @@ look_up_alone-requires c = record {
   may = inl c.requires.ends.quiet;
   stands = λ lonely at is deletes. absurd (cc (c.requires.ends.quiet, is));
   over = λ delete none. absurd (cc (c.requires.ends.end, none));
-  again = no-look-up c.args.parts.now c.args.w c.requires.ends.on (again-ended c.args.parts.now c.args.w c.requires.ends.on c.requires.ends.quiet NeedsRoom c.requires.ends.end (c.requires.ends.tasked.laws.ends_of NeedsRoom (known c.args.parts.now c.args.w c.requires.ends.on) (c.requires.ends.tasked.laws.ends (known c.args.parts.now c.args.w c.requires.ends.on) NeedsRoom c.requires.ends.facts c.requires.ends.end).0) (λ e. e) (λ e. e));
+  again = no-look-up c.args.parts.now c.args.w c.requires.ends.on (again-ended c.args.parts.now c.args.w c.requires.ends.on c.requires.ends.quiet NeedsRoom c.requires.ends.end (c.requires.ends.tasked.laws.ends_of NeedsRoom (known c.args.parts.now c.args.w c.requires.ends.on) (c.requires.ends.tasked.laws.sound.ends (known c.args.parts.now c.args.w c.requires.ends.on) NeedsRoom c.requires.ends.facts c.requires.ends.end).0) (λ e. e) (λ e. e));
   other = crowded-other c.args.parts.now c.args.w c.requires.ends;
   pays = crowded-pays c.start_laws.ensures.lone c.args.parts.now c.args.w c.requires.ends (subst StandsBelowIn here c.above.ensures.stands)
       (λ up. true≢false (sym (c.above.ensures.due (subst MayGoUpIn (sym here) up)) ∙ ap is_some c.in-None.is));

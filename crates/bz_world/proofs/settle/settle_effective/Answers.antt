@@ -34,7 +34,7 @@ pub read_leaf-requires-clause-path : goal.read_leaf-requires-clause-path
 read_leaf-requires-clause-path c =
     let e = c.requires.ends in
     let ended : end_of e.had.on.serving.task ≡ Some (Path c.in-Path.path) = e.ends ∙ ap Some c.in-Path.is in
-    let kind : kind_of e.had.on.serving.task ≡ kinds.Seek = path-kind (kind_of e.had.on.serving.task) c.in-Path.path (e.tasked.laws.ends_of (Path c.in-Path.path) (known c.args.parts.now c.args.w e.had.on) (e.tasked.laws.ends (known c.args.parts.now c.args.w e.had.on) (Path c.in-Path.path) e.facts ended).0) in
+    let kind : kind_of e.had.on.serving.task ≡ kinds.Seek = path-kind (kind_of e.had.on.serving.task) c.in-Path.path (e.tasked.laws.ends_of (Path c.in-Path.path) (known c.args.parts.now c.args.w e.had.on) (e.tasked.laws.sound.ends (known c.args.parts.now c.args.w e.had.on) (Path c.in-Path.path) e.facts ended).0) in
     record {
       on = e.had.on;
       may = inr (ap is_delete (call-is c.args.parts.now c.args.w e.had.on c.index.result.now c.called-call.result c.index.ensures c.called-call.ensures ∙ c.in-Delete.is));
@@ -51,7 +51,7 @@ pub settle_small-requires-clause-read : goal.settle_small-requires-clause-read
 settle_small-requires-clause-read c =
     let e = c.requires.ends in
     let ended : end_of e.had.on.serving.task ≡ Some (View c.in-View.view) = e.ends ∙ ap Some c.in-View.is in
-    let kind : kind_of e.had.on.serving.task ≡ kinds.ReadWhole = view-kind (kind_of e.had.on.serving.task) c.in-View.view (e.tasked.laws.ends_of (View c.in-View.view) (known c.args.parts.now c.args.w e.had.on) (e.tasked.laws.ends (known c.args.parts.now c.args.w e.had.on) (View c.in-View.view) e.facts ended).0) in
+    let kind : kind_of e.had.on.serving.task ≡ kinds.ReadWhole = view-kind (kind_of e.had.on.serving.task) c.in-View.view (e.tasked.laws.ends_of (View c.in-View.view) (known c.args.parts.now c.args.w e.had.on) (e.tasked.laws.sound.ends (known c.args.parts.now c.args.w e.had.on) (View c.in-View.view) e.facts ended).0) in
     record {
       had = e.had;
       kind = kind;

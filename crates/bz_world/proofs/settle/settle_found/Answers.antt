@@ -22,7 +22,7 @@ answer-requires-clause-view c =
     let on : MustGoOn c.args.parts.now c.args.w = must-go-on c.args.parts.now c.args.w Finish s.must (Key c.in-Key.view) ended s.must.asking.lonely in
     record {
       on = on;
-      viewed = s.must.asking.tasked.lookup.found c.in-Key.view (known c.args.parts.now c.args.w on) (s.must.asking.tasked.laws.ends (known c.args.parts.now c.args.w on) (Key c.in-Key.view) s.must.asking.facts ended).0;
+      viewed = s.must.asking.tasked.lookup.found c.in-Key.view (known c.args.parts.now c.args.w on) (s.must.asking.tasked.laws.sound.ends (known c.args.parts.now c.args.w on) (Key c.in-Key.view) s.must.asking.facts ended).0;
       leads = s.knows.leads;
       some = s.knows.some;
       quiet = s.knows.quiet;
@@ -37,7 +37,7 @@ look_up-requires c =
     let s = c.requires.ends.start in
     let ended : end_of s.must.serving.task ≡ Some c.outcome_of.result = ended-by c.args.parts.now c.args.w Finish s.must c.outcome_of.result c.outcome_of.ensures in
     let on : MustGoOn c.args.parts.now c.args.w = must-go-on c.args.parts.now c.args.w Finish s.must c.outcome_of.result ended s.must.asking.lonely in
-    let means : means_of s.must.serving.task c.outcome_of.result (known c.args.parts.now c.args.w on) = (s.must.asking.tasked.laws.ends (known c.args.parts.now c.args.w on) c.outcome_of.result s.must.asking.facts ended).0 in
+    let means : means_of s.must.serving.task c.outcome_of.result (known c.args.parts.now c.args.w on) = (s.must.asking.tasked.laws.sound.ends (known c.args.parts.now c.args.w on) c.outcome_of.result s.must.asking.facts ended).0 in
     let again : c.outcome_of.result ≡ Restart = find-restarts c.outcome_of.result (subst (λ k. IsEndOf k c.outcome_of.result) c.requires.ends.kind (s.must.asking.tasked.laws.ends_of c.outcome_of.result (known c.args.parts.now c.args.w on) means)) (λ view e. c.in_default.not-Key view e) in
     record {
       on = on;

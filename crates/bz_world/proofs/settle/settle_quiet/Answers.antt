@@ -16,7 +16,7 @@ pub look_into-requires-clause-path : goal.look_into-requires-clause-path
 look_into-requires-clause-path c =
     let e = c.requires.ends in
     let ended : end_of e.on.serving.task ≡ Some (Path c.in-Path.path) = e.end ∙ ap Some c.in-Path.is in
-    let kind : kind_of e.on.serving.task ≡ kinds.Seek = path-kind (kind_of e.on.serving.task) c.in-Path.path (e.tasked.laws.ends_of (Path c.in-Path.path) (known c.args.parts.now c.args.w e.on) (e.tasked.laws.ends (known c.args.parts.now c.args.w e.on) (Path c.in-Path.path) e.facts ended).0) in
+    let kind : kind_of e.on.serving.task ≡ kinds.Seek = path-kind (kind_of e.on.serving.task) c.in-Path.path (e.tasked.laws.ends_of (Path c.in-Path.path) (known c.args.parts.now c.args.w e.on) (e.tasked.laws.sound.ends (known c.args.parts.now c.args.w e.on) (Path c.in-Path.path) e.facts ended).0) in
     record {
       on = e.on;
       quiet = e.quiet;
@@ -30,7 +30,7 @@ pub answer-requires-clause-view : goal.answer-requires-clause-view
 answer-requires-clause-view c =
     let e = c.requires.ends in
     let ended : end_of e.on.serving.task ≡ Some (Key c.in-Key.view) = e.end ∙ ap Some c.in-Key.is in
-    let kind : kind_of e.on.serving.task ≡ kinds.Find = key-kind (kind_of e.on.serving.task) c.in-Key.view (e.tasked.laws.ends_of (Key c.in-Key.view) (known c.args.parts.now c.args.w e.on) (e.tasked.laws.ends (known c.args.parts.now c.args.w e.on) (Key c.in-Key.view) e.facts ended).0) in
+    let kind : kind_of e.on.serving.task ≡ kinds.Find = key-kind (kind_of e.on.serving.task) c.in-Key.view (e.tasked.laws.ends_of (Key c.in-Key.view) (known c.args.parts.now c.args.w e.on) (e.tasked.laws.sound.ends (known c.args.parts.now c.args.w e.on) (Key c.in-Key.view) e.facts ended).0) in
     record {
       on = e.on;
       viewed = e.found c.in-Key.view c.in-Key.is;
@@ -47,7 +47,7 @@ pub answer_whole-requires-clause-view : goal.answer_whole-requires-clause-view
 answer_whole-requires-clause-view c =
     let e = c.requires.ends in
     let ended : end_of e.on.serving.task ≡ Some (View c.in-View.view) = e.end ∙ ap Some c.in-View.is in
-    let kind : kind_of e.on.serving.task ≡ kinds.ReadWhole = view-kind (kind_of e.on.serving.task) c.in-View.view (e.tasked.laws.ends_of (View c.in-View.view) (known c.args.parts.now c.args.w e.on) (e.tasked.laws.ends (known c.args.parts.now c.args.w e.on) (View c.in-View.view) e.facts ended).0) in
+    let kind : kind_of e.on.serving.task ≡ kinds.ReadWhole = view-kind (kind_of e.on.serving.task) c.in-View.view (e.tasked.laws.ends_of (View c.in-View.view) (known c.args.parts.now c.args.w e.on) (e.tasked.laws.sound.ends (known c.args.parts.now c.args.w e.on) (View c.in-View.view) e.facts ended).0) in
     record {
       on = e.on;
       viewed = e.view c.in-View.view c.in-View.is;
@@ -75,7 +75,7 @@ look_up_frozen-requires c =
       may = inl e.quiet;
       stands = λ lonely at is deletes. absurd (cc (e.quiet, is));
       over = λ delete none. absurd (cc (ended, none));
-      again = no-look-up c.args.parts.now c.args.w e.on (again-ended c.args.parts.now c.args.w e.on e.quiet Done ended (e.tasked.laws.ends_of Done (known c.args.parts.now c.args.w e.on) (e.tasked.laws.ends (known c.args.parts.now c.args.w e.on) Done e.facts ended).0) (λ e. e) (λ e. e));
+      again = no-look-up c.args.parts.now c.args.w e.on (again-ended c.args.parts.now c.args.w e.on e.quiet Done ended (e.tasked.laws.ends_of Done (known c.args.parts.now c.args.w e.on) (e.tasked.laws.sound.ends (known c.args.parts.now c.args.w e.on) Done e.facts ended).0) (λ e. e) (λ e. e));
       other = other-ended c.args.parts.now c.args.w e.on Done ended (λ path e. cc e) (λ view e. cc e);
       pays = λ r counted. (c.round_laws.ensures.rounds r).done c.args.parts.now.access c.args.w (errand_of e.on.serving) e.on.serving.task (used_in r c.args.parts.now c.args.w) (bound_in r c.args.parts.now c.args.w) (known c.args.parts.now c.args.w e.on).past (ap is_some e.quiet) ended (e.paid r counted);
     }
@@ -83,7 +83,7 @@ look_up_frozen-requires c =
 pub look_up-requires : goal.look_up-requires
 look_up-requires c =
     let e = c.requires.ends in
-    let again : c.args.outcome ≡ Restart = restarts (kind_of e.on.serving.task) c.args.outcome (e.tasked.laws.ends_of c.args.outcome (known c.args.parts.now c.args.w e.on) (e.tasked.laws.ends (known c.args.parts.now c.args.w e.on) c.args.outcome e.facts e.end).0)
+    let again : c.args.outcome ≡ Restart = restarts (kind_of e.on.serving.task) c.args.outcome (e.tasked.laws.ends_of c.args.outcome (known c.args.parts.now c.args.w e.on) (e.tasked.laws.sound.ends (known c.args.parts.now c.args.w e.on) c.args.outcome e.facts e.end).0)
     (λ path e. c.in_default.not-Path path e) (λ view e. c.in_default.not-Key view e) (λ view e. c.in_default.not-View view e) (λ spent e. c.in_default.not-Full spent e) (λ e. c.in_default.not-NeedsRoom e) (λ e. c.in_default.not-Done e) in
     record {
       on = e.on;

@@ -10,7 +10,7 @@ use Rattle.bz_running.specs.Kinds.{kind_of}
 use Rattle.bz_running.specs.LookingUp.{look_of, reads_asked, HasCounted}
 use Rattle.bz_running.specs.MadeFor.{IsMadeFor, IsMergeFor, IsSmallMerge}
 use Rattle.bz_running.specs.declared.running.AnyTask.TheVariants.{Seeking, Finding, Reading, Inserting, Updating, Deleting, Freezing, Consolidating, Splitting, SplittingBelow, SplittingInner, SplittingInnerRoot, Merging}
-use Rattle.bz_running.proofs.Ascending.{hears-on-ascent, meant-so}
+use Rattle.bz_running.proofs.Ascending.{hears-on-ascent, goes-on-ascent, learns-on-ascent}
 use Rattle.bz_running.proofs.Beginning.{hears-start, copy-begins, split-begins, below-begins, fork-begins, crown-begins, merge-begins, seek-begins, leaf-begins, freeze-begins}
 use Rattle.bz_running.proofs.Counting.{seek-counts, find-counts, none-counts}
 use Rattle.bz_running.proofs.Lacking.{no-change, no-merge, merge-lacks}
@@ -73,14 +73,9 @@ pub returns-in-Inserting : goal.returns-in-Inserting
 unfolding view_of change_swaps wants_of ascent_of makes_no_change leaves_few_of look_of kind_of IsMadeFor IsMergeFor IsSmallMerge
 returns-in-Inserting c = record {
   heard = subst (λ t. HasHeard t c.args.seen c.args.moment c.args.slots.now c.next-in-Inserting.result (Inserting c.next-in-Inserting.new.self) c.next-in-Inserting.new.slots) (sym c.in-Inserting.is) (let e = c.next-in-Inserting.ensures in record {
-    asked = e.goes.asked;
-    nearer = e.goes.nearer;
-    fewer = e.goes.fewer;
-    counted = e.goes.counted;
+    goes = e.goes;
     swaps = refl;
-    config = e.goes.config;
     wants = refl;
-    change = e.goes.change;
     ascent = refl;
     kind = refl;
     silent = refl;
@@ -88,18 +83,7 @@ returns-in-Inserting c = record {
     merge_for = λ key p m. absurd m;
     small_for = λ key p m. absurd m;
     few = refl;
-    meant = e.goes.meant;
-    slots = e.goes.slots;
-    kept = e.goes.kept;
     begins = λ start silent other. absurd (no-change silent);
-    last = e.goes.last;
-    only_last = e.goes.only_last;
-    done = e.goes.done;
-    published = e.goes.published;
-    restart = e.goes.restart;
-    no_swap = e.goes.no_swap;
-    full_swaps = e.goes.full_swaps;
-    full_nodes = e.goes.full_nodes;
     no_neighbour = λ is lacks. absurd (no-merge _ refl is);
     learns = e.learns;
   });
@@ -110,14 +94,9 @@ pub returns-in-Updating : goal.returns-in-Updating
 unfolding view_of change_swaps wants_of ascent_of makes_no_change leaves_few_of look_of kind_of IsMadeFor IsMergeFor IsSmallMerge
 returns-in-Updating c = record {
   heard = subst (λ t. HasHeard t c.args.seen c.args.moment c.args.slots.now c.next-in-Updating.result (Updating c.next-in-Updating.new.self) c.next-in-Updating.new.slots) (sym c.in-Updating.is) (let e = c.next-in-Updating.ensures in record {
-    asked = e.goes.asked;
-    nearer = e.goes.nearer;
-    fewer = e.goes.fewer;
-    counted = e.goes.counted;
+    goes = e.goes;
     swaps = refl;
-    config = e.goes.config;
     wants = refl;
-    change = e.goes.change;
     ascent = refl;
     kind = refl;
     silent = refl;
@@ -125,18 +104,7 @@ returns-in-Updating c = record {
     merge_for = λ key p m. absurd m;
     small_for = λ key p m. absurd m;
     few = refl;
-    meant = e.goes.meant;
-    slots = e.goes.slots;
-    kept = e.goes.kept;
     begins = λ start silent other. absurd (no-change silent);
-    last = e.goes.last;
-    only_last = e.goes.only_last;
-    done = e.goes.done;
-    published = e.goes.published;
-    restart = e.goes.restart;
-    no_swap = e.goes.no_swap;
-    full_swaps = e.goes.full_swaps;
-    full_nodes = e.goes.full_nodes;
     no_neighbour = λ is lacks. absurd (no-merge _ refl is);
     learns = e.learns;
   });
@@ -147,14 +115,9 @@ pub returns-in-Consolidating : goal.returns-in-Consolidating
 unfolding view_of change_swaps wants_of ascent_of makes_no_change leaves_few_of look_of kind_of IsMadeFor IsMergeFor IsSmallMerge
 returns-in-Consolidating c = record {
   heard = subst (λ t. HasHeard t c.args.seen c.args.moment c.args.slots.now c.next-in-Consolidating.result (Consolidating c.next-in-Consolidating.new.self) c.next-in-Consolidating.new.slots) (sym c.in-Consolidating.is) (let e = c.next-in-Consolidating.ensures in record {
-    asked = e.goes.asked;
-    nearer = e.goes.nearer;
-    fewer = e.goes.fewer;
-    counted = e.goes.counted;
+    goes = e.goes;
     swaps = refl;
-    config = e.goes.config;
     wants = refl;
-    change = e.goes.change;
     ascent = refl;
     kind = refl;
     silent = refl;
@@ -162,18 +125,7 @@ returns-in-Consolidating c = record {
     merge_for = λ key p m. absurd m;
     small_for = λ key p m. absurd m;
     few = refl;
-    meant = e.goes.meant;
-    slots = e.goes.slots;
-    kept = e.goes.kept;
     begins = λ start silent other. copy-begins c.in-Consolidating.task c.next-in-Consolidating.new.self (hears-start c.args.self.now (Consolidating c.in-Consolidating.task) c.args.seen c.in-Consolidating.is start c.requires.hears) (λ o. e.goes.begins o start);
-    last = e.goes.last;
-    only_last = e.goes.only_last;
-    done = e.goes.done;
-    published = e.goes.published;
-    restart = e.goes.restart;
-    no_swap = e.goes.no_swap;
-    full_swaps = e.goes.full_swaps;
-    full_nodes = e.goes.full_nodes;
     no_neighbour = λ is lacks. absurd (no-merge _ refl is);
     learns = e.learns;
   });
@@ -184,14 +136,9 @@ pub returns-in-Splitting : goal.returns-in-Splitting
 unfolding view_of change_swaps wants_of ascent_of makes_no_change leaves_few_of look_of kind_of IsMadeFor IsMergeFor IsSmallMerge
 returns-in-Splitting c = record {
   heard = subst (λ t. HasHeard t c.args.seen c.args.moment c.args.slots.now c.next-in-Splitting.result (Splitting c.next-in-Splitting.new.self) c.next-in-Splitting.new.slots) (sym c.in-Splitting.is) (let e = c.next-in-Splitting.ensures in record {
-    asked = e.goes.asked;
-    nearer = e.goes.nearer;
-    fewer = e.goes.fewer;
-    counted = e.goes.counted;
+    goes = e.goes;
     swaps = refl;
-    config = e.goes.config;
     wants = refl;
-    change = e.goes.change;
     ascent = refl;
     kind = refl;
     silent = refl;
@@ -199,18 +146,7 @@ returns-in-Splitting c = record {
     merge_for = λ key p m. absurd m;
     small_for = λ key p m. absurd m;
     few = refl;
-    meant = e.goes.meant;
-    slots = e.goes.slots;
-    kept = e.goes.kept;
     begins = λ start silent other. split-begins c.in-Splitting.task c.next-in-Splitting.new.self (hears-start c.args.self.now (Splitting c.in-Splitting.task) c.args.seen c.in-Splitting.is start c.requires.hears) (λ o. e.goes.begins o start);
-    last = e.goes.last;
-    only_last = e.goes.only_last;
-    done = e.goes.done;
-    published = e.goes.published;
-    restart = e.goes.restart;
-    no_swap = e.goes.no_swap;
-    full_swaps = e.goes.full_swaps;
-    full_nodes = e.goes.full_nodes;
     no_neighbour = λ is lacks. absurd (no-merge _ refl is);
     learns = e.learns;
   });
@@ -221,14 +157,9 @@ pub returns-in-SplittingBelow : goal.returns-in-SplittingBelow
 unfolding view_of change_swaps wants_of ascent_of makes_no_change leaves_few_of look_of kind_of IsMadeFor IsMergeFor IsSmallMerge
 returns-in-SplittingBelow c = record {
   heard = subst (λ t. HasHeard t c.args.seen c.args.moment c.args.slots.now c.next-in-SplittingBelow.result (SplittingBelow c.next-in-SplittingBelow.new.self c.in-SplittingBelow.field-1) c.next-in-SplittingBelow.new.slots) (sym c.in-SplittingBelow.is) (let e = c.next-in-SplittingBelow.ensures in record {
-    asked = e.goes.asked;
-    nearer = e.goes.nearer;
-    fewer = e.goes.fewer;
-    counted = e.goes.counted;
+    goes = goes-on-ascent c.in-SplittingBelow.field-1 (below_view c.in-SplittingBelow.task) (below_view c.next-in-SplittingBelow.new.self) e.goes;
     swaps = refl;
-    config = e.goes.config;
     wants = refl;
-    change = e.goes.change;
     ascent = refl;
     kind = refl;
     silent = refl;
@@ -236,20 +167,9 @@ returns-in-SplittingBelow c = record {
     merge_for = λ key p m. absurd m;
     small_for = λ key p m. absurd m;
     few = refl;
-    meant = e.goes.meant;
-    slots = e.goes.slots;
-    kept = e.goes.kept;
     begins = λ start silent other. below-begins c.in-SplittingBelow.task c.next-in-SplittingBelow.new.self (hears-start c.args.self.now (SplittingBelow c.in-SplittingBelow.task c.in-SplittingBelow.field-1) c.args.seen c.in-SplittingBelow.is start c.requires.hears) (λ o. e.goes.begins o start);
-    last = e.goes.last;
-    only_last = e.goes.only_last;
-    done = e.goes.done;
-    published = e.goes.published;
-    restart = e.goes.restart;
-    no_swap = e.goes.no_swap;
-    full_swaps = e.goes.full_swaps;
-    full_nodes = e.goes.full_nodes;
     no_neighbour = λ is lacks. absurd (no-merge _ refl is);
-    learns = λ stage s now same good free f tells. (e.learns stage s now same good free f.0 tells, meant-so _ _ _ s.past e.goes.meant f.1);
+    learns = learns-on-ascent c.in-SplittingBelow.field-1 (below_view c.in-SplittingBelow.task) (below_view c.next-in-SplittingBelow.new.self) c.args.seen c.args.moment c.args.slots.now c.next-in-SplittingBelow.new.slots e.goes.meant e.learns;
   });
   counts = none-counts c.args.self.now (SplittingBelow c.next-in-SplittingBelow.new.self c.in-SplittingBelow.field-1) c.next-in-SplittingBelow.result (ap look_of c.in-SplittingBelow.is) refl;
 }
@@ -258,14 +178,9 @@ pub returns-in-SplittingInner : goal.returns-in-SplittingInner
 unfolding view_of change_swaps wants_of ascent_of makes_no_change leaves_few_of look_of kind_of IsMadeFor IsMergeFor IsSmallMerge
 returns-in-SplittingInner c = record {
   heard = subst (λ t. HasHeard t c.args.seen c.args.moment c.args.slots.now c.next-in-SplittingInner.result (SplittingInner c.next-in-SplittingInner.new.self c.in-SplittingInner.field-1) c.next-in-SplittingInner.new.slots) (sym c.in-SplittingInner.is) (let e = c.next-in-SplittingInner.ensures in record {
-    asked = e.goes.asked;
-    nearer = e.goes.nearer;
-    fewer = e.goes.fewer;
-    counted = e.goes.counted;
+    goes = goes-on-ascent c.in-SplittingInner.field-1 (fork_view c.in-SplittingInner.task) (fork_view c.next-in-SplittingInner.new.self) e.goes;
     swaps = refl;
-    config = e.goes.config;
     wants = refl;
-    change = e.goes.change;
     ascent = refl;
     kind = refl;
     silent = refl;
@@ -273,20 +188,9 @@ returns-in-SplittingInner c = record {
     merge_for = λ key p m. absurd m;
     small_for = λ key p m. absurd m;
     few = refl;
-    meant = e.goes.meant;
-    slots = e.goes.slots;
-    kept = e.goes.kept;
     begins = λ start silent other. fork-begins c.in-SplittingInner.task c.next-in-SplittingInner.new.self (hears-start c.args.self.now (SplittingInner c.in-SplittingInner.task c.in-SplittingInner.field-1) c.args.seen c.in-SplittingInner.is start c.requires.hears) (λ o. e.goes.begins o start);
-    last = e.goes.last;
-    only_last = e.goes.only_last;
-    done = e.goes.done;
-    published = e.goes.published;
-    restart = e.goes.restart;
-    no_swap = e.goes.no_swap;
-    full_swaps = e.goes.full_swaps;
-    full_nodes = e.goes.full_nodes;
     no_neighbour = λ is lacks. absurd (no-merge _ refl is);
-    learns = λ stage s now same good free f tells. (e.learns stage s now same good free f.0 tells, meant-so _ _ _ s.past e.goes.meant f.1);
+    learns = learns-on-ascent c.in-SplittingInner.field-1 (fork_view c.in-SplittingInner.task) (fork_view c.next-in-SplittingInner.new.self) c.args.seen c.args.moment c.args.slots.now c.next-in-SplittingInner.new.slots e.goes.meant e.learns;
   });
   counts = none-counts c.args.self.now (SplittingInner c.next-in-SplittingInner.new.self c.in-SplittingInner.field-1) c.next-in-SplittingInner.result (ap look_of c.in-SplittingInner.is) refl;
 }
@@ -295,14 +199,9 @@ pub returns-in-SplittingInnerRoot : goal.returns-in-SplittingInnerRoot
 unfolding view_of change_swaps wants_of ascent_of makes_no_change leaves_few_of look_of kind_of IsMadeFor IsMergeFor IsSmallMerge
 returns-in-SplittingInnerRoot c = record {
   heard = subst (λ t. HasHeard t c.args.seen c.args.moment c.args.slots.now c.next-in-SplittingInnerRoot.result (SplittingInnerRoot c.next-in-SplittingInnerRoot.new.self c.in-SplittingInnerRoot.field-1) c.next-in-SplittingInnerRoot.new.slots) (sym c.in-SplittingInnerRoot.is) (let e = c.next-in-SplittingInnerRoot.ensures in record {
-    asked = e.goes.asked;
-    nearer = e.goes.nearer;
-    fewer = e.goes.fewer;
-    counted = e.goes.counted;
+    goes = goes-on-ascent c.in-SplittingInnerRoot.field-1 (crown_view c.in-SplittingInnerRoot.task) (crown_view c.next-in-SplittingInnerRoot.new.self) e.goes;
     swaps = refl;
-    config = e.goes.config;
     wants = refl;
-    change = e.goes.change;
     ascent = refl;
     kind = refl;
     silent = refl;
@@ -310,20 +209,9 @@ returns-in-SplittingInnerRoot c = record {
     merge_for = λ key p m. absurd m;
     small_for = λ key p m. absurd m;
     few = refl;
-    meant = e.goes.meant;
-    slots = e.goes.slots;
-    kept = e.goes.kept;
     begins = λ start silent other. crown-begins c.in-SplittingInnerRoot.task c.next-in-SplittingInnerRoot.new.self (hears-start c.args.self.now (SplittingInnerRoot c.in-SplittingInnerRoot.task c.in-SplittingInnerRoot.field-1) c.args.seen c.in-SplittingInnerRoot.is start c.requires.hears) (λ o. e.goes.begins o start);
-    last = e.goes.last;
-    only_last = e.goes.only_last;
-    done = e.goes.done;
-    published = e.goes.published;
-    restart = e.goes.restart;
-    no_swap = e.goes.no_swap;
-    full_swaps = e.goes.full_swaps;
-    full_nodes = e.goes.full_nodes;
     no_neighbour = λ is lacks. absurd (no-merge _ refl is);
-    learns = λ stage s now same good free f tells. (e.learns stage s now same good free f.0 tells, meant-so _ _ _ s.past e.goes.meant f.1);
+    learns = learns-on-ascent c.in-SplittingInnerRoot.field-1 (crown_view c.in-SplittingInnerRoot.task) (crown_view c.next-in-SplittingInnerRoot.new.self) c.args.seen c.args.moment c.args.slots.now c.next-in-SplittingInnerRoot.new.slots e.goes.meant e.learns;
   });
   counts = none-counts c.args.self.now (SplittingInnerRoot c.next-in-SplittingInnerRoot.new.self c.in-SplittingInnerRoot.field-1) c.next-in-SplittingInnerRoot.result (ap look_of c.in-SplittingInnerRoot.is) refl;
 }
@@ -332,14 +220,9 @@ pub returns-in-Merging : goal.returns-in-Merging
 unfolding view_of change_swaps wants_of ascent_of makes_no_change leaves_few_of look_of kind_of IsMadeFor IsMergeFor IsSmallMerge
 returns-in-Merging c = record {
   heard = subst (λ t. HasHeard t c.args.seen c.args.moment c.args.slots.now c.next-in-Merging.result (Merging c.next-in-Merging.new.self) c.next-in-Merging.new.slots) (sym c.in-Merging.is) (let e = c.next-in-Merging.ensures in record {
-    asked = e.goes.asked;
-    nearer = e.goes.nearer;
-    fewer = e.goes.fewer;
-    counted = e.goes.counted;
+    goes = e.goes;
     swaps = refl;
-    config = e.goes.config;
     wants = refl;
-    change = e.goes.change;
     ascent = refl;
     kind = refl;
     silent = refl;
@@ -347,18 +230,7 @@ returns-in-Merging c = record {
     merge_for = merge-kept c.in-Merging.task c.next-in-Merging.new.self e.goes.basis;
     small_for = small-kept c.in-Merging.task c.next-in-Merging.new.self e.goes.basis;
     few = refl;
-    meant = e.goes.meant;
-    slots = e.goes.slots;
-    kept = e.goes.kept;
     begins = λ start silent other. merge-begins c.in-Merging.task c.next-in-Merging.new.self (hears-start c.args.self.now (Merging c.in-Merging.task) c.args.seen c.in-Merging.is start c.requires.hears) (λ o. e.goes.begins o start);
-    last = e.goes.last;
-    only_last = e.goes.only_last;
-    done = e.goes.done;
-    published = e.goes.published;
-    restart = e.goes.restart;
-    no_swap = e.goes.no_swap;
-    full_swaps = e.goes.full_swaps;
-    full_nodes = e.goes.full_nodes;
     no_neighbour = λ is lacks. merge-lacks c.in-Merging.task c.next-in-Merging.new.self c.args.seen e.goes.fewer (subst (λ z. Hears (asks_of z) c.args.seen) c.in-Merging.is c.requires.hears) lacks;
     learns = e.learns;
   });
@@ -369,14 +241,9 @@ pub returns-in-Seeking : goal.returns-in-Seeking
 unfolding view_of change_swaps wants_of ascent_of makes_no_change leaves_few_of kind_of IsMadeFor IsMergeFor IsSmallMerge look_of reads_asked
 returns-in-Seeking c = record {
   heard = subst (λ t. HasHeard t c.args.seen c.args.moment c.args.slots.now c.next.result (Seeking c.next.new.self) c.next.new.slots) (sym c.in-Seeking.is) (let e = c.next.ensures in record {
-    asked = e.goes.asked;
-    nearer = e.goes.nearer;
-    fewer = e.goes.fewer;
-    counted = e.goes.counted;
+    goes = e.goes;
     swaps = refl;
-    config = e.goes.config;
     wants = refl;
-    change = e.goes.change;
     ascent = refl;
     kind = refl;
     silent = refl;
@@ -384,18 +251,7 @@ returns-in-Seeking c = record {
     merge_for = λ key p m. absurd m;
     small_for = λ key p m. absurd m;
     few = refl;
-    meant = e.goes.meant;
-    slots = e.goes.slots;
-    kept = e.goes.kept;
     begins = λ start silent other. seek-begins c.next.new.self (λ o. e.goes.begins o start);
-    last = e.goes.last;
-    only_last = e.goes.only_last;
-    done = e.goes.done;
-    published = e.goes.published;
-    restart = e.goes.restart;
-    no_swap = e.goes.no_swap;
-    full_swaps = e.goes.full_swaps;
-    full_nodes = e.goes.full_nodes;
     no_neighbour = λ is lacks. absurd (no-merge _ refl is);
     learns = e.learns;
   });
@@ -407,14 +263,9 @@ pub returns-in-Finding : goal.returns-in-Finding
 unfolding view_of change_swaps wants_of ascent_of makes_no_change leaves_few_of kind_of IsMadeFor IsMergeFor IsSmallMerge look_of reads_asked
 returns-in-Finding c = record {
   heard = subst (λ t. HasHeard t c.args.seen c.args.moment c.args.slots.now c.next-in-Finding.result (Finding c.next-in-Finding.new.self) c.next-in-Finding.new.slots) (sym c.in-Finding.is) (let e = c.next-in-Finding.ensures in record {
-    asked = e.goes.asked;
-    nearer = e.goes.nearer;
-    fewer = e.goes.fewer;
-    counted = e.goes.counted;
+    goes = e.goes;
     swaps = refl;
-    config = e.goes.config;
     wants = refl;
-    change = e.goes.change;
     ascent = refl;
     kind = refl;
     silent = refl;
@@ -422,18 +273,7 @@ returns-in-Finding c = record {
     merge_for = λ key p m. absurd m;
     small_for = λ key p m. absurd m;
     few = refl;
-    meant = e.goes.meant;
-    slots = e.goes.slots;
-    kept = e.goes.kept;
     begins = λ start silent other. absurd (other refl);
-    last = e.goes.last;
-    only_last = e.goes.only_last;
-    done = e.goes.done;
-    published = e.goes.published;
-    restart = e.goes.restart;
-    no_swap = e.goes.no_swap;
-    full_swaps = e.goes.full_swaps;
-    full_nodes = e.goes.full_nodes;
     no_neighbour = λ is lacks. absurd (no-merge _ refl is);
     learns = e.learns;
   });
@@ -445,14 +285,9 @@ pub returns-in-Reading : goal.returns-in-Reading
 unfolding view_of change_swaps wants_of ascent_of makes_no_change leaves_few_of kind_of IsMadeFor IsMergeFor IsSmallMerge look_of
 returns-in-Reading c = record {
   heard = subst (λ t. HasHeard t c.args.seen c.args.moment c.args.slots.now c.next-in-Reading.result (Reading c.next-in-Reading.new.self) c.next-in-Reading.new.slots) (sym c.in-Reading.is) (let e = c.next-in-Reading.ensures in record {
-    asked = e.goes.asked;
-    nearer = e.goes.nearer;
-    fewer = e.goes.fewer;
-    counted = e.goes.counted;
+    goes = e.goes;
     swaps = refl;
-    config = e.goes.config;
     wants = refl;
-    change = e.goes.change;
     ascent = refl;
     kind = refl;
     silent = refl;
@@ -460,18 +295,7 @@ returns-in-Reading c = record {
     merge_for = λ key p m. absurd m;
     small_for = λ key p m. absurd m;
     few = refl;
-    meant = e.goes.meant;
-    slots = e.goes.slots;
-    kept = e.goes.kept;
     begins = λ start silent other. leaf-begins c.next-in-Reading.new.self (λ o. e.goes.begins o start);
-    last = e.goes.last;
-    only_last = e.goes.only_last;
-    done = e.goes.done;
-    published = e.goes.published;
-    restart = e.goes.restart;
-    no_swap = e.goes.no_swap;
-    full_swaps = e.goes.full_swaps;
-    full_nodes = e.goes.full_nodes;
     no_neighbour = λ is lacks. absurd (no-merge _ refl is);
     learns = e.learns;
   });
@@ -482,14 +306,9 @@ pub returns-in-Deleting : goal.returns-in-Deleting
 unfolding view_of change_swaps wants_of ascent_of makes_no_change leaves_few_of kind_of IsMadeFor IsMergeFor IsSmallMerge look_of
 returns-in-Deleting c = record {
   heard = subst (λ t. HasHeard t c.args.seen c.args.moment c.args.slots.now c.next-in-Deleting.result (Deleting c.next-in-Deleting.new.self) c.next-in-Deleting.new.slots) (sym c.in-Deleting.is) (let e = c.next-in-Deleting.ensures in record {
-    asked = e.goes.asked;
-    nearer = e.goes.nearer;
-    fewer = e.goes.fewer;
-    counted = e.goes.counted;
+    goes = e.goes;
     swaps = refl;
-    config = e.goes.config;
     wants = refl;
-    change = e.goes.change;
     ascent = refl;
     kind = refl;
     silent = refl;
@@ -497,18 +316,7 @@ returns-in-Deleting c = record {
     merge_for = λ key p m. absurd m;
     small_for = λ key p m. absurd m;
     few = few-kept c.in-Deleting.task c.next-in-Deleting.new.self e.goes.change e.goes.basis;
-    meant = e.goes.meant;
-    slots = e.goes.slots;
-    kept = e.goes.kept;
     begins = λ start silent other. absurd (no-change silent);
-    last = e.goes.last;
-    only_last = e.goes.only_last;
-    done = e.goes.done;
-    published = e.goes.published;
-    restart = e.goes.restart;
-    no_swap = e.goes.no_swap;
-    full_swaps = e.goes.full_swaps;
-    full_nodes = e.goes.full_nodes;
     no_neighbour = λ is lacks. absurd (no-merge _ refl is);
     learns = e.learns;
   });
@@ -519,14 +327,9 @@ pub returns-in-Freezing : goal.returns-in-Freezing
 unfolding view_of change_swaps wants_of ascent_of makes_no_change leaves_few_of kind_of IsMadeFor IsMergeFor IsSmallMerge look_of
 returns-in-Freezing c = record {
   heard = subst (λ t. HasHeard t c.args.seen c.args.moment c.args.slots.now c.next-in-Freezing.result (Freezing c.next-in-Freezing.new.self) c.next-in-Freezing.new.slots) (sym c.in-Freezing.is) (let e = c.next-in-Freezing.ensures in record {
-    asked = e.goes.asked;
-    nearer = e.goes.nearer;
-    fewer = e.goes.fewer;
-    counted = e.goes.counted;
+    goes = e.goes;
     swaps = refl;
-    config = e.goes.config;
     wants = refl;
-    change = e.goes.change;
     ascent = refl;
     kind = refl;
     silent = refl;
@@ -534,18 +337,7 @@ returns-in-Freezing c = record {
     merge_for = λ key p m. absurd m;
     small_for = λ key p m. absurd m;
     few = refl;
-    meant = e.goes.meant;
-    slots = e.goes.slots;
-    kept = e.goes.kept;
     begins = λ start silent other. freeze-begins c.next-in-Freezing.new.self.phase (λ o. e.goes.begins o start);
-    last = e.goes.last;
-    only_last = e.goes.only_last;
-    done = e.goes.done;
-    published = e.goes.published;
-    restart = e.goes.restart;
-    no_swap = e.goes.no_swap;
-    full_swaps = e.goes.full_swaps;
-    full_nodes = e.goes.full_nodes;
     no_neighbour = λ is lacks. absurd (no-merge _ refl is);
     learns = e.learns;
   });

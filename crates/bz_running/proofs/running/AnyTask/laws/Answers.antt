@@ -9,16 +9,14 @@ use Rattle.bz_running.proofs.Statements.{takes-few, wants-few, publishes-last}
 use Rattle.bz_running.proofs.running.AnyTask.laws.Goals as goal
 
 pub returns : goal.returns
-returns c = let e = c.ended-ended.ensures in let l = c.learnt.ensures in let a = c.acted.ensures in record {
-  stable = l.stable;
+returns c = let e = c.ended-ended.ensures in let l = c.learnt.ensures in record {
+  sound = l;
+  acts = c.acted.ensures;
   made_for = made-stays c.views_stay.ensures c.args.self.now;
   merge_for = merge-stays c.args.self.now;
   small_for = small-stays c.views_stay.ensures c.args.self.now;
-  askable = l.askable;
-  cause = l.cause;
   few = takes-few c.consolidations_take_one_slot.ensures c.merges_take_two_slots.ensures c.args.self.now l.few;
   most = wants-few c.args.self.now;
-  once = l.once;
   last = publishes-last c.args.self.now;
   publishes_last = last-swap-publishes c.args.self.now;
   looks = looks-take-nothing c.args.self.now;
@@ -27,11 +25,6 @@ returns c = let e = c.ended-ended.ensures in let l = c.learnt.ensures in let a =
   going = goes-on-in-room c.args.self.now;
   finish = λ f. subst IsSome e.end (e.finish f);
   only = λ k. e.only (subst IsSome (sym e.end) k);
-  ends = l.ends;
   rises = rises-on c.ascents_rise.ensures c.args.self.now l.ends;
   height = filled-up c.ascents_end.ensures c.args.self.now l.ends;
-  effect = a.effect;
-  took = a.took;
-  stored = a.stored;
-  flushed = a.flushed;
 }
