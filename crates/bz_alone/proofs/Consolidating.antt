@@ -3,8 +3,8 @@ use Rattle.std.proofs.Common.{subst}
 use Rattle.bz_task.specs.Scene.{Scene, Waiting, IsScene}
 use Rattle.bz_running.specs.FromConsol.Duties.{renewal_of}
 use Rattle.bz_running.specs.FromConsol.Facts.{Renewal, consol_asks, consol_facts, consol_differs}
-use Rattle.bz_running.specs.FromConsol.Phase.{Phase}
-use Rattle.bz_running.specs.FromConsol.Phase.TheVariants.{Guard, Swap}
+use Rattle.bz_writer.specs.declared.phase.WritePhase.{WritePhase}
+use Rattle.bz_writer.specs.declared.phase.WritePhase.TheVariants.{Guard, Swap}
 use Rattle.bz_renew.specs.Renewals.{renewal}
 use Rattle.bz_alone.specs.Alone.{GoesOn}
 use Rattle.bz_alone.specs.Laws.{ConsolidationsGoOn}
@@ -13,9 +13,9 @@ use Rattle.bz_alone.proofs.Basis.{Laws}
 use Rattle.bz_alone.proofs.Going.{idles, reads, swaps}
 use Rattle.bz_alone.proofs.Links.{guard-same, renewal-stands}
 
-goes : Laws → (s : Scene) → IsScene s → IsQuietSince s.past.since s.past → (r : Renewal) (phase : Phase) → consol_facts r phase Waiting s → GoesOn (consol_asks s.past.config r phase) (consol_differs r.link phase) s
+goes : Laws → (s : Scene) → IsScene s → IsQuietSince s.past.since s.past → (r : Renewal) (phase : WritePhase) → consol_facts r phase Waiting s → GoesOn (consol_asks s.past.config r phase) (consol_differs r.link phase) s
 goes b s good q r Guard f = reads r.link.guard (consol_differs r.link Guard) s (λ v a d. d (guard-same b.values s good q r.link v f.1.guard a))
-goes b s good q r Swap f = swaps (renewal r.link r.slot) (consol_differs r.link Swap) s (renewal-stands b.values s good q r.link r.slot f.1.viewed.guard) (λ seen d. d)
+goes b s good q r Swap f = swaps (renewal r.link (r.slot 0)) (consol_differs r.link Swap) s (renewal-stands b.values s good q r.link (r.slot 0) f.1.ready.viewed.guard) (λ seen d. d)
 goes b s good q r phase f = idles _ (consol_differs r.link phase) s (λ entries e. absurd (cc)) (λ seen d. d)
 
 pub consolidations-go-on : Laws → ConsolidationsGoOn

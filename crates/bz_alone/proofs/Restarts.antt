@@ -5,8 +5,8 @@ use Rattle.bz_below.specs.Facts.{below_differs}
 use Rattle.bz_below.specs.declared.phase.Phase.{Phase as BelowPhase}
 use Rattle.bz_below.specs.declared.phase.Phase.TheVariants as below
 use Rattle.bz_running.specs.FromConsol.Facts.{consol_differs}
-use Rattle.bz_running.specs.FromConsol.Phase.{Phase as ConsolPhase}
-use Rattle.bz_running.specs.FromConsol.Phase.TheVariants as consol
+use Rattle.bz_writer.specs.declared.phase.WritePhase.{WritePhase}
+use Rattle.bz_writer.specs.declared.phase.WritePhase.TheVariants as write
 use Rattle.bz_running.specs.FromCrown.Facts.{crown_differs}
 use Rattle.bz_running.specs.FromCrown.Phase.{Phase as CrownPhase}
 use Rattle.bz_running.specs.FromCrown.Phase.TheVariants as crown
@@ -29,8 +29,6 @@ use Rattle.bz_running.specs.FromMerge.Plans.{Merging}
 use Rattle.bz_running.specs.FromMerge.Phase.{Phase as MergePhase}
 use Rattle.bz_running.specs.FromMerge.Phase.TheVariants as merge
 use Rattle.bz_below.specs.FromSplit.Facts.{split_differs}
-use Rattle.bz_below.specs.FromSplit.Phase.{Phase as SplitPhase}
-use Rattle.bz_below.specs.FromSplit.Phase.TheVariants as split
 use Rattle.bz_task.specs.Requests.{Tells}
 use Rattle.bz_task.specs.Scene.{Scene, Stage, Waiting, Took}
 use Rattle.bz_task.specs.declared.path.Link.{Link}
@@ -67,15 +65,15 @@ of-leaf link ws leaf.Fresh (Was v) d = tt
 of-leaf link ws phase (Was v) d = tt
 of-leaf link ws phase seen d = absurd d
 
-of-consol : (link : Link) (phase : ConsolPhase) (seen : Seen) → consol_differs link phase seen → IsOfRead seen
+of-consol : (link : Link) (phase : WritePhase) (seen : Seen) → consol_differs link phase seen → IsOfRead seen
 unfolding IsOfRead
-of-consol link consol.Fresh (Was v) d = tt
+of-consol link write.Fresh (Was v) d = tt
 of-consol link phase (Was v) d = tt
 of-consol link phase seen d = absurd d
 
-of-split : (link : Link) (phase : SplitPhase) (seen : Seen) → split_differs link phase seen → IsOfRead seen
+of-split : (link : Link) (phase : WritePhase) (seen : Seen) → split_differs link phase seen → IsOfRead seen
 unfolding IsOfRead
-of-split link split.Fresh (Was v) d = tt
+of-split link write.Fresh (Was v) d = tt
 of-split link phase (Was v) d = tt
 of-split link phase seen d = absurd d
 
@@ -88,12 +86,14 @@ of-below lower phase seen d = absurd d
 of-fork : (upper middle lower : Link) (phase : ForkPhase) (seen : Seen) → fork_differs upper middle lower phase seen → IsOfRead seen
 unfolding IsOfRead
 of-fork upper middle lower fork.Fresh (Was v) d = tt
+of-fork upper middle lower (fork.Writing write.Fresh) (Was v) d = tt
 of-fork upper middle lower phase (Was v) d = tt
 of-fork upper middle lower phase seen d = absurd d
 
 of-crown : (upper lower : Link) (phase : CrownPhase) (seen : Seen) → crown_differs upper lower phase seen → IsOfRead seen
 unfolding IsOfRead
 of-crown upper lower crown.Fresh (Was v) d = tt
+of-crown upper lower (crown.Writing write.Fresh) (Was v) d = tt
 of-crown upper lower phase (Was v) d = tt
 of-crown upper lower phase seen d = absurd d
 

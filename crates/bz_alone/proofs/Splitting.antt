@@ -4,8 +4,8 @@ use Rattle.bz_task.specs.Scene.{Scene, Waiting, IsScene}
 use Rattle.bz_renew.specs.Renewals.{renewal}
 use Rattle.bz_below.specs.FromSplit.Duties.{split_of}
 use Rattle.bz_below.specs.FromSplit.Facts.{Split, split_asks, split_facts, split_differs}
-use Rattle.bz_below.specs.FromSplit.Phase.{Phase}
-use Rattle.bz_below.specs.FromSplit.Phase.TheVariants.{Guard, Swap}
+use Rattle.bz_writer.specs.declared.phase.WritePhase.{WritePhase}
+use Rattle.bz_writer.specs.declared.phase.WritePhase.TheVariants.{Guard, Swap}
 use Rattle.bz_alone.specs.Alone.{GoesOn}
 use Rattle.bz_alone.specs.Laws.{RootSplitsGoOn}
 use Rattle.bz_alone.specs.Quiet.{IsQuietSince}
@@ -13,9 +13,9 @@ use Rattle.bz_alone.proofs.Basis.{Laws}
 use Rattle.bz_alone.proofs.Going.{idles, reads, swaps}
 use Rattle.bz_alone.proofs.Links.{guard-same, renewal-stands}
 
-goes : Laws → (s : Scene) → IsScene s → IsQuietSince s.past.since s.past → (r : Split) (phase : Phase) → split_facts r phase Waiting s → GoesOn (split_asks s.past.config r phase) (split_differs r.link phase) s
+goes : Laws → (s : Scene) → IsScene s → IsQuietSince s.past.since s.past → (r : Split) (phase : WritePhase) → split_facts r phase Waiting s → GoesOn (split_asks s.past.config r phase) (split_differs r.link phase) s
 goes b s good q r Guard f = reads r.link.guard (split_differs r.link Guard) s (λ v a d. d (guard-same b.values s good q r.link v f.1.guard a))
-goes b s good q r Swap f = swaps (renewal r.link (r.slot 0)) (split_differs r.link Swap) s (renewal-stands b.values s good q r.link (r.slot 0) f.1.parted.guard) (λ seen d. d)
+goes b s good q r Swap f = swaps (renewal r.link (r.slot 0)) (split_differs r.link Swap) s (renewal-stands b.values s good q r.link (r.slot 0) f.1.ready.parted.guard) (λ seen d. d)
 goes b s good q r phase f = idles _ (split_differs r.link phase) s (λ entries e. absurd (cc)) (λ seen d. d)
 
 pub root-splits-go-on : Laws → RootSplitsGoOn

@@ -6,7 +6,8 @@ use Rattle.bz_running.specs.FromBranch.InnerSplits.{inner_swap}
 use Rattle.bz_running.specs.FromFork.Duties.{fork_of}
 use Rattle.bz_running.specs.FromFork.Facts.{Fork, fork_asks, fork_facts, fork_differs}
 use Rattle.bz_running.specs.FromFork.Phase.{Phase}
-use Rattle.bz_running.specs.FromFork.Phase.TheVariants.{Unread, Tight, Again, Room, Check, Guard, Swap}
+use Rattle.bz_running.specs.FromFork.Phase.TheVariants.{Unread, Tight, Again, Room, Check, Writing}
+use Rattle.bz_writer.specs.declared.phase.WritePhase.TheVariants.{Guard, Swap}
 use Rattle.bz_alone.specs.Alone.{GoesOn}
 use Rattle.bz_alone.specs.Laws.{InnerSplitsGoOn}
 use Rattle.bz_alone.specs.Quiet.{IsQuietSince}
@@ -20,10 +21,10 @@ goes b s good q r Tight f = reads r.middle.guard (fork_differs r.upper r.middle 
 goes b s good q r Again f = reads r.lower.guard (fork_differs r.upper r.middle r.lower Again) s (λ v a d. d (guard-same b.values s good q r.lower v f.1.links.node.guard a))
 goes b s good q r Room f = reads r.middle.guard (fork_differs r.upper r.middle r.lower Room) s (λ v a d. d (guard-same b.values s good q r.middle v f.1.links.down.guard a))
 goes b s good q r Check f = reads r.middle.guard (fork_differs r.upper r.middle r.lower Check) s (λ v a d. d (guard-same b.values s good q r.middle v f.1.links.down.guard a))
-goes b s good q r Guard f = reads r.upper.guard (fork_differs r.upper r.middle r.lower Guard) s (λ v a d. d (guard-same b.values s good q r.upper v f.1.links.down.upper_guard a))
-goes b s good q r Swap f =
-    let l = f.1.planned.links in
-    swaps (inner_swap s.past.config r.upper r.middle r.lower (r.slot 0)) (fork_differs r.upper r.middle r.lower Swap) s
+goes b s good q r (Writing Guard) f = reads r.upper.guard (fork_differs r.upper r.middle r.lower (Writing Guard)) s (λ v a d. d (guard-same b.values s good q r.upper v f.1.links.down.upper_guard a))
+goes b s good q r (Writing Swap) f =
+    let l = f.1.ready.planned.links in
+    swaps (inner_swap s.past.config r.upper r.middle r.lower (r.slot 0)) (fork_differs r.upper r.middle r.lower (Writing Swap)) s
     (inner-stands b.values s good q r.upper r.middle r.lower (r.slot 0) l.down.upper_guard (open-below s r.upper r.middle l.down) l.node) (λ seen d. d)
 goes b s good q r phase f = idles _ (fork_differs r.upper r.middle r.lower phase) s (λ entries e. absurd (cc)) (λ seen d. d)
 

@@ -4,7 +4,8 @@ use Rattle.bz_task.specs.Scene.{Scene, Waiting, IsScene}
 use Rattle.bz_running.specs.FromCrown.Duties.{crown_of}
 use Rattle.bz_running.specs.FromCrown.Facts.{Crown, crown_asks, crown_facts, crown_differs}
 use Rattle.bz_running.specs.FromCrown.Phase.{Phase}
-use Rattle.bz_running.specs.FromCrown.Phase.TheVariants.{Again, Guard, Swap}
+use Rattle.bz_running.specs.FromCrown.Phase.TheVariants.{Again, Writing}
+use Rattle.bz_writer.specs.declared.phase.WritePhase.TheVariants.{Guard, Swap}
 use Rattle.bz_below.specs.FromSplit.BelowSplits.{below_swap}
 use Rattle.bz_alone.specs.Alone.{GoesOn}
 use Rattle.bz_alone.specs.Laws.{InnerRootSplitsGoOn}
@@ -15,10 +16,10 @@ use Rattle.bz_alone.proofs.Links.{guard-same, below-stands}
 
 goes : Laws → (s : Scene) → IsScene s → IsQuietSince s.past.since s.past → (r : Crown) (phase : Phase) → crown_facts r phase Waiting s → GoesOn (crown_asks s.past.config r phase) (crown_differs r.upper r.lower phase) s
 goes b s good q r Again f = reads r.lower.guard (crown_differs r.upper r.lower Again) s (λ v a d. d (guard-same b.values s good q r.lower v f.1.links.node.guard a))
-goes b s good q r Guard f = reads r.upper.guard (crown_differs r.upper r.lower Guard) s (λ v a d. d (guard-same b.values s good q r.upper v f.1.links.guard a))
-goes b s good q r Swap f =
-    let l = f.1.planned.links in
-    swaps (below_swap s.past.config r.upper r.lower (r.slot 0)) (crown_differs r.upper r.lower Swap) s (below-stands b.values s good q r.upper r.lower (r.slot 0) l.guard l.node) (λ seen d. d)
+goes b s good q r (Writing Guard) f = reads r.upper.guard (crown_differs r.upper r.lower (Writing Guard)) s (λ v a d. d (guard-same b.values s good q r.upper v f.1.links.guard a))
+goes b s good q r (Writing Swap) f =
+    let l = f.1.ready.planned.links in
+    swaps (below_swap s.past.config r.upper r.lower (r.slot 0)) (crown_differs r.upper r.lower (Writing Swap)) s (below-stands b.values s good q r.upper r.lower (r.slot 0) l.guard l.node) (λ seen d. d)
 goes b s good q r phase f = idles _ (crown_differs r.upper r.lower phase) s (λ entries e. absurd (cc)) (λ seen d. d)
 
 pub inner-root-splits-go-on : Laws → InnerRootSplitsGoOn

@@ -2,4 +2,3 @@
 pub use Rattle.bz_running.specs.FromConsol.Consolidate
 pub use Rattle.bz_running.specs.FromConsol.Duties
 pub use Rattle.bz_running.specs.FromConsol.Facts
-pub use Rattle.bz_running.specs.FromConsol.Phase

@@ -3,7 +3,7 @@ use Rattle.std.proofs.Common.{◌≡◌, ◌+◌, ◌≤◌, arith}
 use Rattle.bz_layout.specs.declared.config.Config.{Config}
 use Rattle.bz_task.specs.Requests.{Hears, swaps_in, effects_in}
 use Rattle.bz_task.specs.declared.todo.Seen.{Seen}
-use Rattle.bz_split.proofs.Counting.{heard-effects}
+use Rattle.bz_writer.proofs.Sizes.{heard-effects}
 use Rattle.bz_below.specs.Facts.{Below, below_asks, below_swaps}
 use Rattle.bz_below.specs.declared.phase.Phase.{Phase}
 use Rattle.bz_below.specs.declared.phase.Phase.TheVariants.{Done}

@@ -37,6 +37,7 @@ use bz_renew::{is_whole, last_link, swap_freezing, take_three};
 use bz_split::laws::leaf_splits_below_are_good;
 use bz_split::parts_of;
 use bz_task::{LeafView, Link, Outcome, Path, Seen, Task, Todo, laws};
+use bz_writer::{is_read, word_in};
 
 const NODE_LINES: u32 = NODE_WORDS / LINE_WORDS;
 
@@ -389,26 +390,6 @@ impl SplitBelow {
             | Phase::NoSlot
             | Phase::NoSwap => Todo::Finish,
         }
-    }
-}
-
-// The word that a load found.
-fn word_in(seen: Seen) -> u64
-    ensures { (v : ℕ) → seen ≡ Was v → result ≡ v }
-{
-    match seen {
-        Seen::Read(word) => word,
-        _ => 0,
-    }
-}
-
-// Whether a load found this value.
-fn is_read(seen: Seen, value: u64) -> bool
-    ensures { IsTrue result ↔ (seen ≡ Was value) }
-{
-    match seen {
-        Seen::Read(found) => found == value,
-        _ => false,
     }
 }
 

@@ -6,7 +6,6 @@ mod front;
 pub mod laws;
 mod links;
 mod parts;
-mod reading;
 mod swaps;
 
 pub use bz_below::{SplitBelow, is_due as is_due_below, leaves_room};
@@ -14,5 +13,4 @@ pub use bz_renew::laws as renew_laws;
 pub use front::{level_of, low_fence};
 pub use links::{is_full, is_thawed, link_at};
 pub use parts::parts_of;
-pub use reading::{is_read, word_in};
 pub use swaps::swap_freezing_two;

@@ -4,7 +4,6 @@
 mod consolidate;
 mod copies;
 pub mod laws;
-mod phase;
 
 pub use bz_renew::is_due;
 pub use consolidate::Consolidate;

@@ -45,10 +45,8 @@ use Rattle.bz_mutate.specs.declared.delete_phase.DeletePhase.{DeletePhase as Del
 use Rattle.bz_mutate.specs.declared.delete_phase.DeletePhase.TheVariants as delete
 use Rattle.bz_freeze.specs.declared.phase.Phase.{Phase as FreezePhase}
 use Rattle.bz_freeze.specs.declared.phase.Phase.TheVariants as freeze
-use Rattle.bz_running.specs.FromConsol.Phase.{Phase as ConsolPhase}
-use Rattle.bz_running.specs.FromConsol.Phase.TheVariants as consol
-use Rattle.bz_below.specs.FromSplit.Phase.{Phase as SplitPhase}
-use Rattle.bz_below.specs.FromSplit.Phase.TheVariants as split
+use Rattle.bz_writer.specs.declared.phase.WritePhase.{WritePhase}
+use Rattle.bz_writer.specs.declared.phase.WritePhase.TheVariants as write
 use Rattle.bz_below.specs.declared.phase.Phase.{Phase as BelowPhase}
 use Rattle.bz_below.specs.declared.phase.Phase.TheVariants as below
 use Rattle.bz_running.specs.FromCrown.Phase.{Phase as CrownPhase}
@@ -86,12 +84,12 @@ freeze-counted : (c : Config) (k st : ℕ) (p : FreezePhase) → swaps_in (freez
 freeze-counted c k st freeze.Fresh = omega arith
 freeze-counted c k st p = omega arith
 
-consol-counted : (c : Config) (r : Renewal) (p : ConsolPhase) → swaps_in (consol_asks c r p) ≤ consol_swaps p
-consol-counted c r consol.Fresh = omega arith
+consol-counted : (c : Config) (r : Renewal) (p : WritePhase) → swaps_in (consol_asks c r p) ≤ consol_swaps p
+consol-counted c r write.Fresh = omega arith
 consol-counted c r p = omega arith
 
-split-counted : (c : Config) (r : Split) (p : SplitPhase) → swaps_in (split_asks c r p) ≤ split_swaps p
-split-counted c r split.Fresh = omega arith
+split-counted : (c : Config) (r : Split) (p : WritePhase) → swaps_in (split_asks c r p) ≤ split_swaps p
+split-counted c r write.Fresh = omega arith
 split-counted c r p = omega arith
 
 below-counted : (c : Config) (r : Below) (p : BelowPhase) → swaps_in (below_asks c r p) ≤ below_swaps p
@@ -100,10 +98,12 @@ below-counted c r p = omega arith
 
 crown-counted : (c : Config) (r : Crown) (p : CrownPhase) → swaps_in (crown_asks c r p) ≤ crown_swaps p
 crown-counted c r crown.Fresh = omega arith
+crown-counted c r (crown.Writing write.Fresh) = omega arith
 crown-counted c r p = omega arith
 
 fork-counted : (c : Config) (r : Fork) (p : ForkPhase) → swaps_in (fork_asks c r p) ≤ fork_swaps p
 fork-counted c r fork.Fresh = omega arith
+fork-counted c r (fork.Writing write.Fresh) = omega arith
 fork-counted c r p = omega arith
 
 merge-counted : (c : Config) (r : Merge) (p : MergePhase) → swaps_in (merge_asks c r p) ≤ merge_swaps p

@@ -35,10 +35,8 @@ use Rattle.bz_mutate.specs.declared.delete_phase.DeletePhase.{DeletePhase as Del
 use Rattle.bz_mutate.specs.declared.delete_phase.DeletePhase.TheVariants as delete
 use Rattle.bz_freeze.specs.declared.phase.Phase.{Phase as FreezePhase}
 use Rattle.bz_freeze.specs.declared.phase.Phase.TheVariants as freeze
-use Rattle.bz_running.specs.FromConsol.Phase.{Phase as ConsolPhase}
-use Rattle.bz_running.specs.FromConsol.Phase.TheVariants as consol
-use Rattle.bz_below.specs.FromSplit.Phase.{Phase as SplitPhase}
-use Rattle.bz_below.specs.FromSplit.Phase.TheVariants as split
+use Rattle.bz_writer.specs.declared.phase.WritePhase.{WritePhase}
+use Rattle.bz_writer.specs.declared.phase.WritePhase.TheVariants as write
 use Rattle.bz_below.specs.declared.phase.Phase.{Phase as BelowPhase}
 use Rattle.bz_below.specs.declared.phase.Phase.TheVariants as below
 use Rattle.bz_running.specs.FromCrown.Phase.{Phase as CrownPhase}
@@ -77,20 +75,22 @@ freeze-few : (p : FreezePhase) → freeze_left p ≤ freeze_left freeze.Fresh
 freeze-few freeze.Fresh = omega arith
 freeze-few p = omega arith
 
-consol-few : (p : ConsolPhase) → consol_left p ≤ consol_acts
-consol-few consol.Fresh = omega arith
+consol-few : (p : WritePhase) → consol_left p ≤ consol_acts
+consol-few write.Fresh = omega arith
 consol-few p = omega arith
 
-split-few : (p : SplitPhase) → split_left p ≤ split_acts
-split-few split.Fresh = omega arith
+split-few : (p : WritePhase) → split_left p ≤ split_acts
+split-few write.Fresh = omega arith
 split-few p = omega arith
 
 crown-few : (p : CrownPhase) → crown_left p ≤ crown_acts
 crown-few crown.Fresh = omega arith
+crown-few (crown.Writing write.Fresh) = omega arith
 crown-few p = omega arith
 
 fork-few : (p : ForkPhase) → fork_left p ≤ fork_acts
 fork-few fork.Fresh = omega arith
+fork-few (fork.Writing write.Fresh) = omega arith
 fork-few p = omega arith
 
 merge-few : (right : Bool) (p : MergePhase) → merge_left right p ≤ merge_acts
@@ -115,12 +115,12 @@ freeze-swaps : (p : FreezePhase) → freeze_swaps p ≤ FREEZE_SWAPS
 freeze-swaps freeze.Fresh = omega arith
 freeze-swaps p = omega arith
 
-consol-swaps : (p : ConsolPhase) → consol_swaps p ≤ RENEWAL_SWAPS
-consol-swaps consol.Fresh = omega arith
+consol-swaps : (p : WritePhase) → consol_swaps p ≤ RENEWAL_SWAPS
+consol-swaps write.Fresh = omega arith
 consol-swaps p = omega arith
 
-split-swaps : (p : SplitPhase) → split_swaps p ≤ RENEWAL_SWAPS
-split-swaps split.Fresh = omega arith
+split-swaps : (p : WritePhase) → split_swaps p ≤ RENEWAL_SWAPS
+split-swaps write.Fresh = omega arith
 split-swaps p = omega arith
 
 below-swaps : (p : BelowPhase) → below_swaps p ≤ RENEWAL_SWAPS
@@ -129,10 +129,12 @@ below-swaps p = omega arith
 
 crown-swaps : (p : CrownPhase) → crown_swaps p ≤ RENEWAL_SWAPS
 crown-swaps crown.Fresh = omega arith
+crown-swaps (crown.Writing write.Fresh) = omega arith
 crown-swaps p = omega arith
 
 fork-swaps : (p : ForkPhase) → fork_swaps p ≤ RENEWAL_SWAPS
 fork-swaps fork.Fresh = omega arith
+fork-swaps (fork.Writing write.Fresh) = omega arith
 fork-swaps p = omega arith
 
 merge-swaps : (p : MergePhase) → merge_swaps p ≤ MERGE_SWAPS
@@ -142,12 +144,12 @@ merge-swaps p = omega arith
 none : 0 ≤ 0
 none = omega arith
 
-consol-needs : (p : ConsolPhase) → consol_needs p ≤ CONSOLIDATION_SLOTS
-consol-needs consol.Fresh = omega arith
+consol-needs : (p : WritePhase) → consol_needs p ≤ CONSOLIDATION_SLOTS
+consol-needs write.Fresh = omega arith
 consol-needs p = omega arith
 
-split-needs : (p : SplitPhase) → split_needs p ≤ SPLIT_SLOTS
-split-needs split.Fresh = omega arith
+split-needs : (p : WritePhase) → split_needs p ≤ SPLIT_SLOTS
+split-needs write.Fresh = omega arith
 split-needs p = omega arith
 
 below-needs : (p : BelowPhase) → below_needs p ≤ SPLIT_SLOTS
@@ -156,10 +158,12 @@ below-needs p = omega arith
 
 crown-needs : (p : CrownPhase) → crown_needs p ≤ SPLIT_SLOTS
 crown-needs crown.Fresh = omega arith
+crown-needs (crown.Writing write.Fresh) = omega arith
 crown-needs p = omega arith
 
 fork-needs : (p : ForkPhase) → fork_needs p ≤ SPLIT_SLOTS
 fork-needs fork.Fresh = omega arith
+fork-needs (fork.Writing write.Fresh) = omega arith
 fork-needs p = omega arith
 
 merge-needs : (p : MergePhase) → merge_needs p ≤ MERGE_SLOTS

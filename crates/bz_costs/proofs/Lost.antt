@@ -8,6 +8,7 @@ use Rattle.bz_running.specs.FromFork.Duties.{fork_of}
 use Rattle.bz_running.specs.FromFork.Facts.{Fork, fork_asks, fork_end, fork_left, fork_needs, fork_swaps}
 use Rattle.bz_running.specs.FromFork.Phase.{Phase as ForkPhase}
 use Rattle.bz_running.specs.FromFork.Phase.TheVariants as fork
+use Rattle.bz_writer.proofs.Sizes.{no-room}
 use Rattle.bz_layout.specs.declared.config.Config.{Config}
 use Rattle.bz_running.specs.Duties.{view_of}
 use Rattle.bz_task.specs.Requests.{swaps_in}
@@ -35,6 +36,7 @@ node-left r = omega arith
 
 node-lost : (r : Resource) (c : Config) (x : Fork) (p : ForkPhase) → fork_end p ≡ Some NeedsRoom → most_of_inner r ≤ weight r (fork_left p) (fork_swaps p - swaps_in (fork_asks c x p)) (fork_needs p) + cost_of_lost_inner r
 node-lost r c x fork.NoRoom e = node-left r
+node-lost r c x (fork.Writing w) e = absurd (no-room w e)
 node-lost r c x p e = absurd (cc)
 
 pub lost-little : (r : Resource) → LostSplitsCostLittle r

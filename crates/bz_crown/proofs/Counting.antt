@@ -1,24 +1,15 @@
 -- How many swaps the split of an inner root still asks for, and that none takes effect where none was asked for.
-use Rattle.std.proofs.Common.{◌≡◌, ◌+◌, ◌≤◌, true, arith}
-use Rattle.std.specs.Prelude.{Option, Some}
+use Rattle.std.proofs.Common.{◌≡◌, ◌+◌, ◌≤◌, arith}
 use Rattle.bz_layout.specs.declared.config.Config.{Config}
 use Rattle.bz_task.specs.Requests.{Hears, swaps_in, effects_in}
 use Rattle.bz_task.specs.declared.todo.Seen.{Seen}
-use Rattle.bz_task.specs.declared.todo.Seen.TheVariants.{Swapped}
-use Rattle.bz_task.specs.declared.todo.Todo.{Todo}
-use Rattle.bz_task.specs.declared.todo.Todo.TheVariants.{Swap as Swaps_for}
 use Rattle.bz_crown.specs.Facts.{Crown, crown_asks, crown_swaps}
 use Rattle.bz_crown.specs.declared.phase.Phase.{Phase}
-use Rattle.bz_crown.specs.declared.phase.Phase.TheVariants.{Done}
-
--- an answer tells of an effect only where a swap was asked for
-heard-effects : (asked : Option Todo) (seen : Seen) → Hears asked seen → effects_in seen ≤ swaps_in asked
-heard-effects (Some (Swaps_for entries)) (Swapped true) h = omega arith
-heard-effects asked (Swapped true) h = absurd (h)
-heard-effects asked seen h = omega arith
+use Rattle.bz_crown.specs.declared.phase.Phase.TheVariants.{Writing}
+use Rattle.bz_writer.proofs.Sizes.{heard-effects, swaps-few as writer-few}
 
 swaps-few : (p : Phase) → crown_swaps p ≤ 1
-swaps-few Done = omega arith
+swaps-few (Writing w) = writer-few w
 swaps-few p = omega arith
 
 -- after an act that is no swap no more swaps are asked for than before it, and none took effect

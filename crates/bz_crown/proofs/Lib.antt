@@ -5,7 +5,5 @@ mod Counting
 mod Making
 mod Reading
 mod Telling
-mod Looking
-mod Writing
 mod Viewing
 mod Beginning

@@ -1,25 +1,17 @@
 -- The three nodes are words that may be stored, and what is known once their slots are taken.
 use Rattle.std.proofs.Common.{◌≡◌, ℕ, zero, suc, ◌+◌, ◌<◌, arith, sym, subst}
 use Rattle.std.specs.Prelude.{length, All, None}
-use Rattle.bz_layout.specs.Addresses.{SlotsApart}
-use Rattle.bz_layout.specs.Slots.{FreeSlots}
 use Rattle.bz_layout.specs.declared.limits.TheConstants.{MAX_NODES}
 use Rattle.bz_layout.specs.declared.sizes.TheConstants.{NODE_WORDS}
 use Rattle.bz_node.specs.Records.{IsChild}
-use Rattle.bz_task.specs.Laws.{NothingIsGained}
-use Rattle.bz_task.specs.OwnActs.{AreUnreached, gained}
-use Rattle.bz_task.specs.Scene.{Scene, Waiting, IsScene, HasFilled}
+use Rattle.bz_task.specs.Scene.{Scene, IsScene}
 use Rattle.bz_parted.specs.FromHalves.Roots.{root_children}
 use Rattle.bz_parted.proofs.FromHalves.Roots.{root-room}
 use Rattle.bz_parted.specs.Roots.{tall_root_words}
-use Rattle.bz_renew.specs.Guards.{WasAsRead}
-use Rattle.bz_renew.specs.Nodes.{ArePlain, HaveSlots, HasFilledBegun}
-use Rattle.bz_renew.proofs.NodeWrites.{nodes-taken, none-begun}
+use Rattle.bz_renew.specs.Nodes.{ArePlain, HaveSlots}
 use Rattle.bz_renew.proofs.Plainness.{IsPlain, inner-plain}
 use Rattle.bz_branch.specs.Parts.{AreHalvesOfNode}
-use Rattle.bz_crown.specs.Facts.{Crown, crown_nodes, IsPlanned, IsSplitting, AreMadeOf, HasBegunCrown, crown_facts}
-use Rattle.bz_crown.specs.declared.phase.Phase.{Phase}
-use Rattle.bz_crown.specs.declared.phase.Phase.TheVariants.{Fresh, Word, Again, Guard, Store, Flush, Swap, Done, Restart, TooHigh, NoSlot, NoSwap}
+use Rattle.bz_crown.specs.Facts.{Crown, crown_nodes, IsPlanned, AreMadeOf}
 
 -- the three nodes are words that may be stored
 module _ (r : Crown) (s : Scene) (good : IsScene s) (v : IsPlanned r s.past) (made : AreMadeOf r.read (r.image 0) (r.image 1) (r.image 2) (r.slot 1) (r.slot 2)) (slots : HaveSlots s.past.config.nodes (crown_nodes r)) where
@@ -54,32 +46,3 @@ module _ (r : Crown) (s : Scene) (good : IsScene s) (v : IsPlanned r s.past) (ma
 
   pub are-plain : ArePlain (crown_nodes r)
   are-plain = record { size = sizes; plain = plains }
-
--- the slots were taken, and so the first store is known
-pub begun-knows : SlotsApart → NothingIsGained → (r : Crown) (phase : Phase) (s : Scene) (old new : FreeSlots) → IsScene s → HasBegunCrown r phase old new → old.nodes ≡ s.past.config.nodes → AreUnreached s old → HasFilled s
-    → (planned : IsPlanned r s.past) → WasAsRead r.upper planned.links.guarded s.past → crown_facts r phase Waiting (gained s old new)
-begun-knows apart nothing r (Store j) s old new good h nodes unreached filled v looked =
-    let slots : HaveSlots s.past.config.nodes (crown_nodes r) = subst (λ z. HaveSlots z (crown_nodes r)) nodes h.1.0.slots in
-    let first : IsSplitting r 0 0 (gained s old new) = record {
-      planned = v;
-      looked = looked;
-      sep = h.1.1.sep;
-      parts = parts r s good v h.1.1 slots;
-      over = over r s good v h.1.1 slots;
-      plain = are-plain r s good v h.1.1 slots;
-      writing = nodes-taken apart (crown_nodes r) s old new h.1.0 nodes unreached;
-    } in (
-      subst (λ z. HasFilledBegun (crown_nodes r) z (gained s old new)) (sym h.0) (none-begun apart (crown_nodes r) s old new h.1.0 nodes unreached filled),
-      (omega (arith, h.0), subst (λ z. IsSplitting r z 0 (gained s old new)) (sym h.0) first),
-    )
-begun-knows apart nothing r NoSlot s old new good h nodes unreached filled v looked = subst (λ z. HasFilled (gained s old z)) (sym h.1) (nothing s old filled)
-begun-knows apart nothing r Fresh s old new good h nodes unreached filled v looked = absurd (h)
-begun-knows apart nothing r (Word i) s old new good h nodes unreached filled v looked = absurd (h)
-begun-knows apart nothing r Again s old new good h nodes unreached filled v looked = absurd (h)
-begun-knows apart nothing r Guard s old new good h nodes unreached filled v looked = absurd (h)
-begun-knows apart nothing r (Flush j) s old new good h nodes unreached filled v looked = absurd (h)
-begun-knows apart nothing r Swap s old new good h nodes unreached filled v looked = absurd (h)
-begun-knows apart nothing r Done s old new good h nodes unreached filled v looked = absurd (h)
-begun-knows apart nothing r Restart s old new good h nodes unreached filled v looked = absurd (h)
-begun-knows apart nothing r TooHigh s old new good h nodes unreached filled v looked = absurd (h)
-begun-knows apart nothing r NoSwap s old new good h nodes unreached filled v looked = absurd (h)

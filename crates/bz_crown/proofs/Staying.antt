@@ -4,21 +4,20 @@ use Rattle.bz_layout.specs.Slots.{FreeSlots}
 use Rattle.bz_layout.specs.declared.sizes.TheConstants.{NODE_WORDS}
 use Rattle.bz_parted.specs.Roots.{tall_root_words}
 use Rattle.bz_task.specs.Instant.{Instant}
-use Rattle.bz_task.specs.Laws.{NothingIsGained}
+use Rattle.bz_task.proofs.Proved.{nothing_is_gained}
 use Rattle.bz_task.specs.OwnActs.{gained}
 use Rattle.bz_task.specs.Scene.{Past, Scene, Stage, Waiting, Took, IsLawful, Continues, HasFilled}
 use Rattle.bz_task.specs.declared.path.Link.{Link}
-use Rattle.bz_renew.specs.Guards.{WasAsRead}
 use Rattle.bz_renew.proofs.Guards.{as-read-stays}
-use Rattle.bz_renew.proofs.NodeWrites.{nodes-stay, begun-stays, nodes-no-slot, begun-no-slot}
+use Rattle.bz_writer.specs.Laws.{IsSoundPlan}
+use Rattle.bz_writer.proofs.Staying.{stable as writer-stable, no-slot as writer-no-slot}
 use Rattle.bz_renew.proofs.Staying.{guarded-stays}
-use Rattle.bz_branch.specs.FromSplit.Facts.{SPLIT_WORDS, SPLIT_LINES}
 use Rattle.bz_branch.proofs.FromSplit.Staying.{stood-stays}
 use Rattle.bz_branch.specs.Parts.{AreHalvesOfNode}
 use Rattle.bz_branch.proofs.Staying.{open-stays, open-guarded, read-stays, inner-stays, halves-stay}
-use Rattle.bz_crown.specs.Facts.{Crown, crown_nodes, HasLinks, IsReading, IsPlan, WasTooHigh, IsSplitting, WasSplitAtRoot, crown_facts}
+use Rattle.bz_crown.specs.Facts.{Crown, crown_plan, HasLinks, IsReading, IsPlan, WasTooHigh, IsSplitting, WasSplitAtRoot, crown_facts}
 use Rattle.bz_crown.specs.declared.phase.Phase.{Phase}
-use Rattle.bz_crown.specs.declared.phase.Phase.TheVariants.{Fresh, Word, Again, Guard, Store, Flush, Swap, Done, Restart, TooHigh, NoSlot, NoSwap}
+use Rattle.bz_crown.specs.declared.phase.Phase.TheVariants.{Fresh, Word, Again, TooHigh, Writing}
 
 module _ (p q : Past) (c : Continues p q) where
   unfoldable pub links-stay : (upper lower : Link) → HasLinks upper lower p → HasLinks upper lower q
@@ -52,10 +51,6 @@ module _ (p q : Past) (c : Continues p q) where
     low_enough = v.low_enough;
   }
 
-  pub looked-stays : (upper lower : Link) (read : List ℕ) (v : IsPlan upper lower read p) → WasAsRead upper v.links.guarded p → WasAsRead upper (planned-stays upper lower read v).links.guarded q
-  unfolding planned-stays links-stay
-  looked-stays upper lower read v w = as-read-stays p q c upper v.links.guarded w
-
   -- the halves, and the root over them, are those of the same node
   pub parts-stay : (upper lower : Link) (read left right sep : List ℕ) (v : IsPlan upper lower read p) → AreHalvesOfNode p.config.nodes read left right sep v.node.level v.node.low v.node.high
       → AreHalvesOfNode q.config.nodes read left right sep (planned-stays upper lower read v).node.level (planned-stays upper lower read v).node.low (planned-stays upper lower read v).node.high
@@ -78,7 +73,7 @@ module _ (p q : Past) (c : Continues p q) where
     highest = v.highest;
   }
 
-  split-stays : (upper : Link) → WasSplitAtRoot upper p → WasSplitAtRoot upper q
+  pub split-stays : (upper : Link) → WasSplitAtRoot upper p → WasSplitAtRoot upper q
   unfolding inner-stays
   split-stays upper t = record {
     root_slot = t.root_slot;
@@ -101,18 +96,17 @@ module _ (p q : Past) (c : Continues p q) where
     right_half = stood-stays p q c upper t.left t.right t.sep t.right_slot t.before t.right t.now t.right_half;
   }
 
-module _ (r : Crown) (s after : Scene) (l : IsLawful s after) where
-  splitting : (stored lines : ℕ) → IsSplitting r stored lines s → IsSplitting r stored lines after
-  splitting stored lines f = record {
-    planned = planned-stays s.past after.past l.continues r.upper r.lower r.read f.planned;
-    looked = looked-stays s.past after.past l.continues r.upper r.lower r.read f.planned f.looked;
-    sep = f.sep;
-    parts = parts-stay s.past after.past l.continues r.upper r.lower r.read (r.image 1) (r.image 2) f.sep f.planned f.parts;
-    over = over-stays s.past after.past l.continues r.upper r.lower r.read f.planned (r.image 0) (r.slot 1) (r.slot 2) f.sep f.over;
-    plain = f.plain;
-    writing = nodes-stay (crown_nodes r) stored lines s after f.writing l;
-  }
+pub splitting-stays : (p q : Past) → Continues p q → (r : Crown) → IsSplitting r p → IsSplitting r q
+unfolding planned-stays links-stay
+splitting-stays p q c r f = record {
+  planned = planned-stays p q c r.upper r.lower r.read f.planned;
+  looked = as-read-stays p q c r.upper f.planned.links.guarded f.looked;
+  sep = f.sep;
+  parts = parts-stay p q c r.upper r.lower r.read (r.image 1) (r.image 2) f.sep f.planned f.parts;
+  over = over-stays p q c r.upper r.lower r.read f.planned (r.image 0) (r.slot 1) (r.slot 2) f.sep f.over;
+}
 
+module _ (r : Crown) (sound : IsSoundPlan (crown_plan r)) (s after : Scene) (l : IsLawful s after) where
   filled : HasFilled s → HasFilled after
   filled f k t = l.filled k ∙ f k (sym (l.took k) ∙ t)
 
@@ -120,51 +114,13 @@ module _ (r : Crown) (s after : Scene) (l : IsLawful s after) where
   stable Fresh Waiting f = reading-stays s.past after.past l.continues r 1 f
   stable (Word i) Waiting f = (filled f.0, (f.1.0, (f.1.1.0, reading-stays s.past after.past l.continues r i f.1.1.1)))
   stable Again Waiting f = (filled f.0, reading-stays s.past after.past l.continues r NODE_WORDS f.1)
-  stable Guard Waiting f = (filled f.0, planned-stays s.past after.past l.continues r.upper r.lower r.read f.1)
-  stable (Store j) Waiting f = (begun-stays (crown_nodes r) j s after f.0 l, (f.1.0, splitting j 0 f.1.1))
-  stable (Store j) Took f = (begun-stays (crown_nodes r) (j + 1) s after f.0 l, (f.1.0, splitting (j + 1) 0 f.1.1))
-  stable (Flush j) Waiting f = (filled f.0, (f.1.0, splitting SPLIT_WORDS j f.1.1))
-  stable (Flush j) Took f = (filled f.0, (f.1.0, splitting SPLIT_WORDS (j + 1) f.1.1))
-  stable Swap Waiting f = (filled f.0, splitting SPLIT_WORDS SPLIT_LINES f.1)
-  stable Swap Took f = (filled f.0, split-stays s.past after.past l.continues r.upper f.1)
-  stable Done Waiting f = (filled f.0, split-stays s.past after.past l.continues r.upper f.1)
   stable TooHigh Waiting f = (filled f.0, high-stays s.past after.past l.continues r.upper f.1)
-  stable Restart Waiting f = filled f
-  stable NoSlot Waiting f = filled f
-  stable NoSwap Waiting f = filled f
-  stable Fresh Took f = absurd (f)
-  stable (Word i) Took f = absurd (f)
-  stable Again Took f = absurd (f)
-  stable Guard Took f = absurd (f)
-  stable Done Took f = absurd (f)
-  stable TooHigh Took f = absurd (f)
-  stable Restart Took f = absurd (f)
-  stable NoSlot Took f = absurd (f)
-  stable NoSwap Took f = absurd (f)
+  stable (Writing w) stage f = writer-stable (crown_plan r) sound s after l w stage f
+  stable phase Took f = absurd (f)
 
 -- it stays where no slot is taken
-module _ (nothing : NothingIsGained) (r : Crown) (s : Scene) (free : FreeSlots) where
-  splitting-too : (stored lines : ℕ) → IsSplitting r stored lines s → IsSplitting r stored lines (gained s free free)
-  splitting-too stored lines f = record {
-    planned = f.planned;
-    looked = f.looked;
-    sep = f.sep;
-    parts = f.parts;
-    over = f.over;
-    plain = f.plain;
-    writing = nodes-no-slot (crown_nodes r) stored lines s free f.writing;
-  }
-
+module _ (r : Crown) (s : Scene) (free : FreeSlots) where
   pub no-slot : (phase : Phase) → crown_facts r phase Waiting s → crown_facts r phase Waiting (gained s free free)
   no-slot Fresh f = f
-  no-slot (Word i) f = (nothing s free f.0, f.1)
-  no-slot Again f = (nothing s free f.0, f.1)
-  no-slot Guard f = (nothing s free f.0, f.1)
-  no-slot (Store j) f = (begun-no-slot (crown_nodes r) j s free f.0, (f.1.0, splitting-too j 0 f.1.1))
-  no-slot (Flush j) f = (nothing s free f.0, (f.1.0, splitting-too SPLIT_WORDS j f.1.1))
-  no-slot Swap f = (nothing s free f.0, splitting-too SPLIT_WORDS SPLIT_LINES f.1)
-  no-slot Done f = (nothing s free f.0, f.1)
-  no-slot TooHigh f = (nothing s free f.0, f.1)
-  no-slot Restart f = nothing s free f
-  no-slot NoSlot f = nothing s free f
-  no-slot NoSwap f = nothing s free f
+  no-slot (Writing w) f = writer-no-slot (crown_plan r) s free w f
+  no-slot phase f = (nothing_is_gained s free f.0, f.1)

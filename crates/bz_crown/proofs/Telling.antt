@@ -15,8 +15,9 @@ use Rattle.bz_task.specs.declared.todo.Seen.TheVariants.{Read as Was}
 use Rattle.bz_branch.specs.FromBelow.Parents.{WereRead}
 use Rattle.bz_branch.specs.Nodes.{WasInner, ReadNodesWere}
 use Rattle.bz_crown.specs.Facts.{Crown, IsReading, HasTold, crown_asks, crown_left, crown_steps, crown_needs, crown_facts, IsReadyCrown}
+use Rattle.bz_writer.specs.declared.phase.WritePhase.TheVariants.{Guard, Restart}
 use Rattle.bz_crown.specs.declared.phase.Phase.{Phase}
-use Rattle.bz_crown.specs.declared.phase.Phase.TheVariants.{Fresh, Word, Again, Guard, Store, Flush, Swap, Done, Restart, TooHigh, NoSlot, NoSwap}
+use Rattle.bz_crown.specs.declared.phase.Phase.TheVariants.{Fresh, Again, TooHigh, Writing}
 use Rattle.bz_crown.proofs.Ending.{EndsWell, goes-on, other-lower, read-answers, was-no-swap}
 
 -- the root, where its own status is found as it was
@@ -40,7 +41,7 @@ waits r Took s f = absurd (f)
 
 -- what the root's own status, once more, teaches
 pub told-learns : ReadNodesWere → (c : Config) (r : Crown) (p : Phase) (seen : Seen) (stage : Stage) (s : Scene) → HasTold r seen p → s.past.config ≡ c → IsScene s → crown_facts r Again stage s → Tells (crown_asks c r Again) stage seen s → crown_facts r p Waiting s
-told-learns law c r Guard seen stage s h same good f t =
+told-learns law c r (Writing Guard) seen stage s h same good f t =
     let g = waits r stage s f in
     let w = was-inner law r s good g.1 (found-now c r seen stage s t h.0) in
     (g.0, record { links = g.1.links; node = w; many = is-many r s g.1 w; low_enough = h.1 s.past.config.nodes w.node.raw w.level w.low w.high w.node.none })
@@ -58,16 +59,8 @@ told-learns law c r TooHigh seen stage s h same good f t =
         highest = h.1 s.past.config.nodes w.node.raw w.level w.low w.high w.node.none;
       },
     )
-told-learns law c r Restart seen stage s h same good f t = (waits r stage s f).0
-told-learns law c r Fresh seen stage s h same good f t = absurd (h)
-told-learns law c r (Word i) seen stage s h same good f t = absurd (h)
-told-learns law c r Again seen stage s h same good f t = absurd (h)
-told-learns law c r (Store j) seen stage s h same good f t = absurd (h)
-told-learns law c r (Flush j) seen stage s h same good f t = absurd (h)
-told-learns law c r Swap seen stage s h same good f t = absurd (h)
-told-learns law c r Done seen stage s h same good f t = absurd (h)
-told-learns law c r NoSlot seen stage s h same good f t = absurd (h)
-told-learns law c r NoSwap seen stage s h same good f t = absurd (h)
+told-learns law c r (Writing Restart) seen stage s h same good f t = (waits r stage s f).0
+told-learns law c r p seen stage s h same good f t = absurd (h)
 
 -- what it leads to
 pub record Tolds (r : Crown) (c : Config) (seen : Seen) (p : Phase) (free : FreeSlots) : Type 0 where
@@ -78,8 +71,8 @@ pub record Tolds (r : Crown) (c : Config) (seen : Seen) (p : Phase) (free : Free
   pub ends : EndsWell r.upper r.lower seen Again p free
 
 pub tolds : (r : Crown) (c : Config) (seen : Seen) (p : Phase) (free : FreeSlots) → Hears (crown_asks c r Again) seen → HasTold r seen p → Tolds r c seen p free
-tolds r c seen Guard free hears h =
-    record { begun = λ e. absurd (cc); ready = tt; nearer = omega arith; taken = inr (record { fewer = omega arith; slots = refl }); ends = goes-on r.upper r.lower seen Again Guard free refl (was-no-swap r.lower.guard seen hears) }
+tolds r c seen (Writing Guard) free hears h =
+    record { begun = λ e. absurd (cc); ready = ((λ e. absurd (cc)), tt); nearer = omega arith; taken = inr (record { fewer = omega arith; slots = refl }); ends = goes-on r.upper r.lower seen Again (Writing Guard) free refl (was-no-swap r.lower.guard seen hears) }
 tolds r c seen TooHigh free hears h = record {
   begun = λ e. absurd (cc);
   ready = tt;
@@ -87,9 +80,9 @@ tolds r c seen TooHigh free hears h = record {
   taken = inr (record { fewer = omega arith; slots = refl });
   ends = record { done = λ e. absurd (cc); restart = λ e. absurd (cc); no_swap = λ e. absurd (was-no-swap r.lower.guard seen hears e); full_swaps = λ e. absurd (cc); full_nodes = λ e. absurd (cc) };
 }
-tolds r c seen Restart free hears h = record {
+tolds r c seen (Writing Restart) free hears h = record {
   begun = λ e. absurd (cc);
-  ready = tt;
+  ready = ((λ e. absurd (cc)), tt);
   nearer = omega arith;
   taken = inr (record { fewer = omega arith; slots = refl });
   ends = record {
@@ -100,12 +93,4 @@ tolds r c seen Restart free hears h = record {
     full_nodes = λ e. absurd (cc);
   };
 }
-tolds r c seen Fresh free hears h = absurd (h)
-tolds r c seen (Word i) free hears h = absurd (h)
-tolds r c seen Again free hears h = absurd (h)
-tolds r c seen (Store j) free hears h = absurd (h)
-tolds r c seen (Flush j) free hears h = absurd (h)
-tolds r c seen Swap free hears h = absurd (h)
-tolds r c seen Done free hears h = absurd (h)
-tolds r c seen NoSlot free hears h = absurd (h)
-tolds r c seen NoSwap free hears h = absurd (h)
+tolds r c seen p free hears h = absurd (h)

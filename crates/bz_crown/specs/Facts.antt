@@ -1,8 +1,7 @@
 -- What the split of an inner root knows, and what it asks for.
-use Rattle.std.specs.Prelude.{◌≡◌, ◌≢◌, ℕ, ◌+◌, ◌-◌, ◌*◌, ◌^◌, ◌<◌, ◌≤◌, ◌⊎◌, nat_lt, if◌then◌else◌, false, List, Option, Some, None, length}
+use Rattle.std.specs.Prelude.{◌≡◌, ◌≢◌, ℕ, ◌+◌, ◌-◌, ◌*◌, ◌^◌, ◌<◌, ◌≤◌, nat_lt, if◌then◌else◌, false, List, [], Option, Some, None, length}
 use Rattle.bz_call.specs.declared.replies.Spent.TheVariants.{Nodes as NoNodes, Swaps as NoSwaps, Height as NoLevels}
 use Rattle.bz_layout.specs.Addresses.{node_address}
-use Rattle.bz_layout.specs.Slots.{FreeSlots}
 use Rattle.bz_layout.specs.declared.config.Config.{Config}
 use Rattle.bz_layout.specs.declared.sizes.TheConstants.{NODE_WORDS, STATUS_AT}
 use Rattle.bz_layout.specs.declared.thresholds.TheConstants.{INNER_LIMIT, MAX_LEVELS, SPLIT_SLOTS}
@@ -12,26 +11,30 @@ use Rattle.bz_slotted.specs.Rules.{node_fault}
 use Rattle.bz_task.specs.FromSwap.SwapMemory.{is_target}
 use Rattle.bz_word.specs.Statuses.{status}
 use Rattle.bz_task.specs.Outcomes.{IsUnderRoot, IsGuarded}
-use Rattle.bz_task.specs.Scene.{Past, Scene, Stage, Waiting, Took, HasFilled}
+use Rattle.bz_task.specs.Scene.{Past, Scene, Stage, Waiting, HasFilled}
 use Rattle.bz_task.specs.declared.path.Link.{Link}
 use Rattle.bz_task.specs.declared.todo.Outcome.{Outcome}
 use Rattle.bz_task.specs.declared.todo.Outcome.TheVariants.{Done as IsDone, Restart as Restarts, Full as IsFull}
 use Rattle.bz_task.specs.declared.todo.Seen.{Seen}
 use Rattle.bz_task.specs.declared.todo.Seen.TheVariants.{Read as Was}
 use Rattle.bz_task.specs.declared.todo.Todo.{Todo}
-use Rattle.bz_task.specs.declared.todo.Todo.TheVariants.{Read as Reads, Store as Stores_at, Flush as Flushes_line, Swap as Swaps_for, Finish}
+use Rattle.bz_task.specs.declared.todo.Todo.TheVariants.{Read as Reads, Finish}
 use Rattle.bz_parted.specs.Parting.{child_words}
 use Rattle.bz_parted.specs.Roots.{tall_root_words}
 use Rattle.bz_renew.specs.Guards.{WasAsRead}
-use Rattle.bz_renew.specs.Nodes.{Nodes, word_address, word_value, line_number, AreWriting, ArePlain, HaveSlots, HasFilledBegun, AreSlotsTaken}
+use Rattle.bz_renew.specs.Nodes.{Nodes}
 use Rattle.bz_renew.specs.Renewals.{renewal}
 use Rattle.bz_branch.specs.FromSplit.BelowSplits.{below_swap}
 use Rattle.bz_branch.specs.FromSplit.Facts.{SPLIT_WORDS, SPLIT_LINES, StoodFresh}
 use Rattle.bz_branch.specs.FromBelow.Parents.{WereRead}
 use Rattle.bz_branch.specs.Nodes.{IsOpenLink, WasInner}
 use Rattle.bz_branch.specs.Parts.{IsFullNode, AreHalvesOfNode, ArePartsOfNode}
+use Rattle.bz_writer.specs.Facts.{write_asks, write_facts, write_differs, write_ready}
+use Rattle.bz_writer.specs.Phases.{write_end, write_left, write_swaps, write_needs}
+use Rattle.bz_writer.specs.Plans.{Plan}
+use Rattle.bz_writer.specs.declared.phase.WritePhase.TheVariants.{Fresh as Unbegun, Guard, Flush, Restart}
 use Rattle.bz_crown.specs.declared.phase.Phase.{Phase}
-use Rattle.bz_crown.specs.declared.phase.Phase.TheVariants.{Fresh, Word, Again, Guard, Store, Flush, Swap, Done, Restart, TooHigh, NoSlot, NoSwap}
+use Rattle.bz_crown.specs.declared.phase.Phase.TheVariants.{Fresh, Word, Again, TooHigh, Writing}
 
 -- the root link, and a link in the root; the slots and the words of the new root, of the left half and of the right half; and the
 -- words that were read of the root so far
@@ -44,72 +47,6 @@ pub record Crown : Type 0 where
 
 abbrev pub crown_nodes : Crown → Nodes
 crown_nodes r = record { count = SPLIT_SLOTS; slot = r.slot; image = r.image }
-
-abbrev pub crown_asks : Config → Crown → Phase → Option Todo
-crown_asks c r Fresh = None
-crown_asks c r (Word i) = Some (Reads (node_address c r.upper.slot + i))
-crown_asks c r Again = Some (Reads r.lower.guard)
-crown_asks c r Guard = Some (Reads r.upper.guard)
-crown_asks c r (Store j) = Some (Stores_at (word_address c (crown_nodes r) j) (word_value (crown_nodes r) j))
-crown_asks c r (Flush j) = Some (Flushes_line (line_number c (crown_nodes r) j))
-crown_asks c r Swap = Some (Swaps_for (below_swap c r.upper r.lower (r.slot 0)))
-crown_asks c r phase = Some Finish
-
-abbrev pub crown_end : Phase → Option Outcome
-crown_end Done = Some IsDone
-crown_end Restart = Some Restarts
-crown_end TooHigh = Some (IsFull NoLevels)
-crown_end NoSlot = Some (IsFull NoNodes)
-crown_end NoSwap = Some (IsFull NoSwaps)
-crown_end phase = None
-
--- the most steps: the loads of the root's words and of the two guards, a store for each word, a flush for each line, which counts two,
--- the swap, and the end
-abbrev pub crown_acts : ℕ
-crown_acts = NODE_WORDS + SPLIT_WORDS + 2 * SPLIT_LINES + 3
-
--- the most swaps that are still asked for: that of the root link, until it has ended
-abbrev pub crown_swaps : Phase → ℕ
-crown_swaps Done = 0
-crown_swaps Restart = 0
-crown_swaps TooHigh = 0
-crown_swaps NoSlot = 0
-crown_swaps NoSwap = 0
-crown_swaps phase = 1
-
-abbrev pub crown_left : Phase → ℕ
-crown_left Fresh = crown_acts
-crown_left (Word i) = crown_acts - i
-crown_left Again = SPLIT_WORDS + 2 * SPLIT_LINES + 3
-crown_left Guard = SPLIT_WORDS + 2 * SPLIT_LINES + 2
-crown_left (Store j) = SPLIT_WORDS + 2 * SPLIT_LINES + 1 - j
-crown_left (Flush j) = 2 * (SPLIT_LINES - j)
-crown_left Swap = 1
-crown_left phase = 0
-
--- the steps of what is asked for
-abbrev pub crown_steps : Phase → ℕ
-crown_steps (Flush j) = 2
-crown_steps phase = 1
-
--- the slots are taken when both guards have been looked at again
-abbrev pub crown_needs : Phase → ℕ
-crown_needs Fresh = SPLIT_SLOTS
-crown_needs (Word i) = SPLIT_SLOTS
-crown_needs Again = SPLIT_SLOTS
-crown_needs Guard = SPLIT_SLOTS
-crown_needs phase = 0
-
--- after a word comes the next one that is read, or the root's status once more
-abbrev pub word_after : ℕ → Phase
-word_after next = if nat_lt next NODE_WORDS then Word next else Again
-
--- after a store comes the next one, or the first flush; after a flush the next one, or the swap
-abbrev pub store_after : ℕ → Phase
-store_after j = if nat_lt (j + 1) SPLIT_WORDS then Store (j + 1) else Flush 0
-
-abbrev pub flush_after : ℕ → Phase
-flush_after j = if nat_lt (j + 1) SPLIT_LINES then Flush (j + 1) else Swap
 
 -- both links were read; the lower one stands in the node to which the root link leads, whose status, read at moment `guarded`, counts
 -- more words than an inner node may keep
@@ -147,17 +84,14 @@ pub record WasTooHigh (upper : Link) (p : Past) : Type 0 where
   pub many : INNER_LIMIT < child_words (children_in read)
   pub highest : MAX_LEVELS ≤ node.level + 1
 
--- since the root's status was read the root status was looked at again, and was as the path names it; the three nodes are being
--- written, the first of them the root over the halves of the old one: so many of their words are stored, and so many of their lines
--- durable
-pub record IsSplitting (r : Crown) (stored lines : ℕ) (s : Scene) : Type 0 where
-  pub planned : IsPlanned r s.past
-  pub looked : WasAsRead r.upper planned.links.guarded s.past
+-- and since the root's status was read the root status was looked at again, and was as the path names it; the first node is the root over
+-- the halves of the old one
+pub record IsSplitting (r : Crown) (p : Past) : Type 0 where
+  pub planned : IsPlanned r p
+  pub looked : WasAsRead r.upper planned.links.guarded p
   pub sep : List ℕ
-  pub parts : AreHalvesOfNode s.past.config.nodes r.read (r.image 1) (r.image 2) sep planned.node.level planned.node.low planned.node.high
+  pub parts : AreHalvesOfNode p.config.nodes r.read (r.image 1) (r.image 2) sep planned.node.level planned.node.low planned.node.high
   pub over : r.image 0 ≡ tall_root_words (r.slot 1) (r.slot 2) sep (planned.node.level + 1)
-  pub plain : ArePlain (crown_nodes r)
-  pub writing : AreWriting (crown_nodes r) stored lines s
 
 -- at a moment since the look-up began the root link led to a new root, one level above what the old one was at an earlier one, over the
 -- two halves of that. To none of the three a link had led one moment before
@@ -181,25 +115,82 @@ pub record WasSplitAtRoot (upper : Link) (p : Past) : Type 0 where
   pub left_half : StoodFresh left_slot left before p
   pub right_half : StoodFresh right_slot right before p
 
+-- the swap may be made: its targets are different words
+pub record IsSwapReady (c : Config) (r : Crown) : Type 0 where
+  pub upper_plain : r.upper.status < 2 ^ 61
+  pub lower_plain : r.lower.status < 2 ^ 61
+  pub apart : r.upper.link ≢ r.upper.guard
+  pub slot : r.upper.slot < c.nodes
+  pub target : is_target (renewal r.upper (r.slot 0)) (node_address c r.upper.slot + STATUS_AT) ≡ false
+
+-- the new root and the halves are written, and the root link goes to the root; the old one is frozen
+abbrev pub crown_plan : Crown → Plan
+crown_plan r = record {
+  nodes = crown_nodes r;
+  guard = r.upper.guard;
+  status = r.upper.status;
+  entries = λ c. below_swap c r.upper r.lower (r.slot 0);
+  nameable = λ c. IsSwapReady c r;
+  -- the root
+  basis = record { slot = r.upper.slot; nodes = [] };
+  planned = IsPlanned r;
+  ready = IsSplitting r;
+  done = WasSplitAtRoot r.upper;
+  none = λ p. Unit {0};
+}
+
+abbrev pub crown_asks : Config → Crown → Phase → Option Todo
+crown_asks c r Fresh = None
+crown_asks c r (Word i) = Some (Reads (node_address c r.upper.slot + i))
+crown_asks c r Again = Some (Reads r.lower.guard)
+crown_asks c r (Writing w) = write_asks c (crown_plan r) w
+crown_asks c r TooHigh = Some Finish
+
+abbrev pub crown_end : Phase → Option Outcome
+crown_end TooHigh = Some (IsFull NoLevels)
+crown_end (Writing w) = write_end w
+crown_end phase = None
+
+-- the most steps: the loads of the root's words and of the two guards, a store for each word, a flush for each line, which counts two,
+-- the swap, and the end
+abbrev pub crown_acts : ℕ
+crown_acts = NODE_WORDS + SPLIT_WORDS + 2 * SPLIT_LINES + 3
+
+-- the most swaps that are still asked for: that of the root link, until it has ended
+abbrev pub crown_swaps : Phase → ℕ
+crown_swaps TooHigh = 0
+crown_swaps (Writing w) = write_swaps w
+crown_swaps phase = 1
+
+abbrev pub crown_left : Phase → ℕ
+crown_left Fresh = crown_acts
+crown_left (Word i) = crown_acts - i
+crown_left Again = SPLIT_WORDS + 2 * SPLIT_LINES + 3
+crown_left (Writing w) = write_left SPLIT_SLOTS w
+crown_left TooHigh = 0
+
+-- the steps of what is asked for
+abbrev pub crown_steps : Phase → ℕ
+crown_steps (Writing (Flush j)) = 2
+crown_steps phase = 1
+
+-- the slots are taken when both guards have been looked at again
+abbrev pub crown_needs : Phase → ℕ
+crown_needs (Writing w) = write_needs SPLIT_SLOTS w
+crown_needs TooHigh = 0
+crown_needs phase = SPLIT_SLOTS
+
+-- after a word comes the next one that is read, or the root's status once more
+abbrev pub word_after : ℕ → Phase
+word_after next = if nat_lt next NODE_WORDS then Word next else Again
+
 abbrev pub crown_facts : Crown → Phase → Stage → Scene → Type 0
 crown_facts r Fresh Waiting s = IsReading r 1 s.past
 crown_facts r (Word i) Waiting s = HasFilled s × ((0 < i) × ((i < NODE_WORDS) × IsReading r i s.past))
 crown_facts r Again Waiting s = HasFilled s × IsReading r NODE_WORDS s.past
-crown_facts r Guard Waiting s = HasFilled s × IsPlanned r s.past
-crown_facts r (Store j) Waiting s = HasFilledBegun (crown_nodes r) j s × ((j < SPLIT_WORDS) × IsSplitting r j 0 s)
-crown_facts r (Store j) Took s = HasFilledBegun (crown_nodes r) (j + 1) s × ((j < SPLIT_WORDS) × IsSplitting r (j + 1) 0 s)
-crown_facts r (Flush j) Waiting s = HasFilled s × ((j < SPLIT_LINES) × IsSplitting r SPLIT_WORDS j s)
-crown_facts r (Flush j) Took s = HasFilled s × ((j < SPLIT_LINES) × IsSplitting r SPLIT_WORDS (j + 1) s)
-crown_facts r Swap Waiting s = HasFilled s × IsSplitting r SPLIT_WORDS SPLIT_LINES s
-crown_facts r Swap Took s = HasFilled s × WasSplitAtRoot r.upper s.past
-crown_facts r Done Waiting s = HasFilled s × WasSplitAtRoot r.upper s.past
 crown_facts r TooHigh Waiting s = HasFilled s × WasTooHigh r.upper s.past
-crown_facts r Fresh Took s = ⊥
-crown_facts r (Word i) Took s = ⊥
-crown_facts r Again Took s = ⊥
-crown_facts r Guard Took s = ⊥
-crown_facts r phase Waiting s = HasFilled s
-crown_facts r phase Took s = ⊥
+crown_facts r (Writing w) stage s = write_facts (crown_plan r) w stage s
+crown_facts r phase stage s = ⊥
 
 -- what its end means: the root link led to a fresh root over the two halves; or the tree had as many levels as there may be; else
 -- nothing is known beyond why it ended
@@ -223,23 +214,13 @@ IsEndOfCrown outcome = ⊥
 -- a guard is another one than the path names
 abbrev pub crown_differs : Link → Link → Phase → Seen → Type 0
 crown_differs upper lower Again (Was v) = v ≢ lower.status
-crown_differs upper lower Guard (Was v) = v ≢ upper.status
+crown_differs upper lower (Writing w) seen = write_differs upper.status w seen
 crown_differs upper lower phase seen = ⊥
-
--- the swap may be made: its targets are different words
-pub record IsSwapReady (c : Config) (r : Crown) : Type 0 where
-  pub upper_plain : r.upper.status < 2 ^ 61
-  pub lower_plain : r.lower.status < 2 ^ 61
-  pub apart : r.upper.link ≢ r.upper.guard
-  pub slot : r.upper.slot < c.nodes
-  pub target : is_target (renewal r.upper (r.slot 0)) (node_address c r.upper.slot + STATUS_AT) ≡ false
 
 -- what is named is there
 abbrev pub IsReadyCrown : Config → Crown → Phase → Type 0
 IsReadyCrown c r (Word i) = (r.upper.slot < c.nodes) × (i < NODE_WORDS)
-IsReadyCrown c r (Store j) = HaveSlots c.nodes (crown_nodes r) × (j < SPLIT_WORDS)
-IsReadyCrown c r (Flush j) = HaveSlots c.nodes (crown_nodes r) × (j < SPLIT_LINES)
-IsReadyCrown c r Swap = HaveSlots c.nodes (crown_nodes r) × IsSwapReady c r
+IsReadyCrown c r (Writing w) = (w ≢ Unbegun) × write_ready c (crown_plan r) w
 IsReadyCrown c r phase = Unit {0}
 
 -- the words are those of an inner node above its limit, above which there may be a level
@@ -261,20 +242,9 @@ pub record AreMadeOf (read root left right : List ℕ) (left_slot right_slot : �
   pub over : (nodes : ℕ) (raw : ℕ → ℕ) (level : ℕ) (low high : Option (List ℕ)) → node_fault nodes raw (node_of read) level low high ≡ None → root ≡ tall_root_words left_slot right_slot sep (level + 1)
   pub size : length root ≡ NODE_WORDS
 
--- three slots were taken, and the nodes are made; or there were not so many
-abbrev pub HasBegunCrown : Crown → Phase → FreeSlots → FreeSlots → Type 0
-HasBegunCrown r (Store j) old new = (j ≡ 0) × (AreSlotsTaken (crown_nodes r) old new × AreMadeOf r.read (r.image 0) (r.image 1) (r.image 2) (r.slot 1) (r.slot 2))
-HasBegunCrown r NoSlot old new = (length old.free < SPLIT_SLOTS) × (new ≡ old)
-HasBegunCrown r phase old new = ⊥
-
--- that is where the root status was as the path names it; elsewhere none was taken
-abbrev pub HasLookedCrown : Crown → Seen → Phase → FreeSlots → FreeSlots → Type 0
-HasLookedCrown r seen phase old new =
-    ((seen ≡ Was r.upper.status) × HasBegunCrown r phase old new) ⊎ ((seen ≢ Was r.upper.status) × ((phase ≡ Restart) × (new ≡ old)))
-
 -- where the root's own status is as it was, its words tell whether there may be a level above it
 abbrev pub HasTold : Crown → Seen → Phase → Type 0
-HasTold r seen Guard = (seen ≡ Was r.lower.status) × IsLowEnough r.read
+HasTold r seen (Writing Guard) = (seen ≡ Was r.lower.status) × IsLowEnough r.read
 HasTold r seen TooHigh = (seen ≡ Was r.lower.status) × IsHighest r.read
-HasTold r seen Restart = seen ≢ Was r.lower.status
+HasTold r seen (Writing Restart) = seen ≢ Was r.lower.status
 HasTold r seen phase = ⊥

@@ -1,5 +1,7 @@
 //! The phases of a split of an inner root.
 
+use bz_writer::WritePhase;
+
 /// What a split of an inner root asks for next.
 #[derive(Clone, Copy, Drop)]
 pub(crate) enum Phase {
@@ -9,22 +11,8 @@ pub(crate) enum Phase {
     Word(u32),
     /// The load of the root's own status, once more.
     Again,
-    /// The load of the root status, once more.
-    Guard,
-    /// The store of one of the words of its three nodes, counted through.
-    Store(u32),
-    /// The flush of one of their lines, counted through.
-    Flush(u32),
-    /// The swap of the root pointer, the root status and the root's own status.
-    Swap,
-    /// The swap took effect.
-    Done,
-    /// A guard or a link was another one, at a load of a guard or at the swap.
-    Restart,
     /// The tree has as many levels as there may be.
     TooHigh,
-    /// Fewer than three slots were left.
-    NoSlot,
-    /// No descriptor was left.
-    NoSwap,
+    /// The writing, from the load of the root status on, once more, or its end: at the load of the root's own status before it, too.
+    Writing(WritePhase),
 }

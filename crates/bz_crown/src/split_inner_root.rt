@@ -5,7 +5,8 @@ ghost use Rattle.bz_call.specs.declared.replies.Spent.TheVariants.{Height};
 ghost use Rattle.bz_layout.specs.Config.{IsConfig};
 ghost use Rattle.bz_layout.specs.declared.thresholds.TheConstants.{SPLIT_SLOTS, MAX_LEVELS};
 ghost use Rattle.bz_renew.specs.Nodes.{word_value};
-ghost use Rattle.bz_task.specs.Contract.{IsBegun};
+ghost use Rattle.bz_task.specs.Contract.{IsBegun, MayHear, GoesOn, Learns};
+ghost use Rattle.bz_writer.specs.Facts.{write_asks, write_ready, write_view};
 ghost use Rattle.bz_task.specs.Outcomes.{IsPath};
 ghost use Rattle.bz_task.specs.OwnActs.{AreTakenFrom, AreUnreached, gained};
 ghost use Rattle.bz_task.specs.Requests.{Hears, Tells, IsKnown, swaps_in, effects_in};
@@ -15,24 +16,29 @@ ghost use Rattle.bz_task.specs.declared.todo.Seen.TheVariants.{Start, Swapped, N
 ghost use Rattle.bz_branch.specs.FromSplit.Facts.{split_change};
 ghost use Rattle.bz_crown.specs.Due.{IsDue};
 ghost use Rattle.bz_crown.specs.Duties.{crown_of, asks_crown, end_crown, left_crown, swaps_crown, needs_crown, facts_crown, differs_crown, crown_view};
-ghost use Rattle.bz_crown.specs.Facts.{crown_nodes, crown_acts, crown_end, crown_left, crown_steps, crown_swaps, crown_facts, IsEndOfCrown, HasBegunCrown, HasLookedCrown, HasTold, AreMadeOf, IsReadyCrown, IsSplittable, WasSplitAtRoot, WasTooHigh, crown_needs, word_after, store_after, flush_after};
+ghost use Rattle.bz_crown.specs.Facts.{crown_nodes, crown_plan, crown_acts, crown_steps, IsEndOfCrown, HasTold, AreMadeOf, IsReadyCrown, IsSplittable, WasSplitAtRoot, WasTooHigh, word_after};
 
 use crate::phase::Phase;
-use bz_branch::laws::{inner_root_splits_are_good, read_nodes_were};
-use bz_branch::{is_read, level_of, link_at, parts_of, word_in};
+use bz_branch::laws::read_nodes_were;
+use bz_branch::{level_of, link_at, parts_of};
 use bz_call::Spent;
 use bz_gaps::{first_word, next_place};
-use bz_layout::{Config, LINE_WORDS, MAX_LEVELS, NODE_WORDS, SPLIT_SLOTS, Slots};
+use bz_layout::{Config, MAX_LEVELS, NODE_WORDS, SPLIT_SLOTS, Slots};
 use bz_node::NodeImage;
 use bz_parted::tall_root_over;
-use bz_renew::{is_whole, swap_freezing, take_three};
-use bz_task::{LeafView, Link, Outcome, Path, Seen, Task, Todo, laws};
-
-const NODE_LINES: u32 = NODE_WORDS / LINE_WORDS;
+use bz_renew::{is_whole, swap_freezing};
+use bz_task::{LeafView, Link, Outcome, Path, Seen, Task, Todo};
+use bz_writer::{WritePhase, flush_at, is_read, look, store_at, word_in};
 
 const SPLIT_WORDS: u32 = NODE_WORDS * SPLIT_SLOTS;
 
-const SPLIT_LINES: u32 = NODE_LINES * SPLIT_SLOTS;
+// The new root and the halves.
+#[derive(Clone, Copy, Drop)]
+struct Made {
+    root: NodeImage,
+    left: NodeImage,
+    right: NodeImage,
+}
 
 /// The split of the inner root of a path. It ends with Done where a root over its halves has taken its place, and it is frozen; with
 /// Restart where the root pointer or a status was another one; with Full where the tree has as many levels as there may be, or fewer
@@ -92,103 +98,55 @@ impl SplitInnerRoot {
         ensures { HasTold (crown_of self.now) seen result }
     {
         if !is_read(seen, self.lower.status) {
-            return Phase::Restart;
+            return Phase::Writing(WritePhase::Restart);
         }
         if level_of(&self.read) < MAX_LEVELS - 1 {
-            Phase::Guard
+            Phase::Writing(WritePhase::Guard)
         } else {
             Phase::TooHigh
         }
     }
 
-    // Makes the new root and the halves, for these slots.
-    fn make(&mut self, slots: [u16; 3])
-        requires { IsSplittable self.old.read.0 }
-        ensures config { self.new.config ≡ self.old.config }
-        ensures upper { self.new.upper ≡ self.old.upper }
-        ensures lower { self.new.lower ≡ self.old.lower }
-        ensures read { self.new.read ≡ self.old.read }
-        ensures slots { self.new.slots ≡ slots }
-        ensures phase { self.new.phase ≡ self.old.phase }
-        ensures made { AreMadeOf self.new.read.0 self.new.root.0 self.new.left.0 self.new.right.0 (slice_index slots 1) (slice_index slots 2) }
+    // The new root and the halves, for these slots.
+    fn make(&self, slots: [u16; 3]) -> Made
+        requires { IsSplittable self.now.read.0 }
+        ensures { AreMadeOf self.now.read.0 result.root.0 result.left.0 result.right.0 (slice_index slots 1) (slice_index slots 2) }
     {
         let halves = parts_of(&self.read);
-        self.root = tall_root_over(
-            slots[1],
-            slots[2],
-            halves.separator,
-            level_of(&self.read) + 1,
-        );
-        is_whole(&self.root);
-        self.left = halves.left;
-        self.right = halves.right;
-        self.slots = slots;
-    }
-
-    // The phase with which the nodes are begun: the first store, where three slots are left.
-    fn begin(&mut self, slots: &mut Slots)
-        requires { IsSplittable self.old.read.0 }
-        ensures config { self.new.config ≡ self.old.config }
-        ensures upper { self.new.upper ≡ self.old.upper }
-        ensures lower { self.new.lower ≡ self.old.lower }
-        ensures read { self.new.read ≡ self.old.read }
-        ensures begun { HasBegunCrown (crown_of self.new) self.new.phase slots.old slots.new }
-    {
-        match take_three(slots) {
-            Some(taken) => {
-                self.make(taken);
-                self.phase = Phase::Store(0);
-            }
-            None => self.phase = Phase::NoSlot,
+        let level = level_of(&self.read) + 1;
+        let root = tall_root_over(slots[1], slots[2], halves.separator, level);
+        is_whole(&root);
+        Made {
+            root,
+            left: halves.left,
+            right: halves.right,
         }
     }
 
-    // The phase after another look at the root status: the nodes are begun where it is as the path names it.
-    fn look(&mut self, seen: Seen, slots: &mut Slots)
-        requires { IsSplittable self.old.read.0 }
+    // The next phase of the writing: the nodes are made when the slots are taken.
+    fn write(&mut self, phase: WritePhase, seen: Seen, slots: &mut Slots, moment: u32) -> WritePhase
+        requires { MayHear (write_view self.old.config (crown_plan (crown_of self.old)) phase) seen moment slots.old }
         ensures config { self.new.config ≡ self.old.config }
         ensures upper { self.new.upper ≡ self.old.upper }
-        ensures lower { self.new.lower ≡ self.old.lower }
-        ensures read { self.new.read ≡ self.old.read }
-        ensures looked { HasLookedCrown (crown_of self.new) seen self.new.phase slots.old slots.new }
-    {
-        if is_read(seen, self.upper.status) {
-            self.begin(slots);
-        } else {
-            self.phase = Phase::Restart;
-        }
-    }
-
-    // The phase after what came of a store, a flush or the swap.
-    fn after(&self, seen: Seen, moment: u32) -> Phase
-        requires begun { self.now.phase ≢ Phase.Fresh }
-        requires read { (i : ℕ) → self.now.phase ≢ Phase.Word i }
-        requires told { self.now.phase ≢ Phase.Again }
-        requires looked { self.now.phase ≢ Phase.Guard }
-        requires hears { Hears (asks_crown self.now) seen }
-        requires known { IsKnown self.now.config (facts_crown self.now) (asks_crown self.now) seen moment }
-        ensures nearer { crown_left result + crown_steps result ≤ left_crown self.now }
-        ensures fewer { crown_swaps result + swaps_in (asks_crown self.now) ≤ swaps_crown self.now }
-        ensures counted { crown_end result ≡ None → effects_in seen ≡ 0 }
-        ensures needs { crown_needs result ≡ 0 }
-        ensures done { result ≡ Phase.Done → seen ≡ Swapped true }
-        ensures last { seen ≡ Swapped true → result ≡ Phase.Done }
-        ensures restart { result ≡ Phase.Restart → seen ≡ Swapped false }
-        ensures no_swap { (result ≡ Phase.NoSwap) ↔ (seen ≡ NoneLeft) }
-        ensures slots { result ≢ Phase.NoSlot }
-        ensures begun { result ≢ Phase.Fresh }
-        ensures config { IsConfig self.now.config }
-        ensures ready { IsReadyCrown self.now.config (crown_of self.now) result }
-        ensures learns { (stage : Stage) (s : Scene) → s.past.config ≡ self.now.config → facts_crown self.now stage s → Tells (asks_crown self.now) stage seen s → crown_facts (crown_of self.now) result Waiting s }
+        ensures begun { result ≢ WritePhase.Fresh }
+        ensures ready { write_ready self.new.config (crown_plan (crown_of self.new)) result }
+        ensures goes { (todo : Todo) → write_asks self.new.config (crown_plan (crown_of self.new)) result ≡ Some todo → GoesOn (write_view self.old.config (crown_plan (crown_of self.old)) phase) (write_view self.new.config (crown_plan (crown_of self.new)) result) seen slots.old slots.new todo }
+        ensures learns { Learns (write_view self.old.config (crown_plan (crown_of self.old)) phase) (write_view self.new.config (crown_plan (crown_of self.new)) result) seen moment slots.old slots.new }
     {
         let _moment = moment;
-        bz_renew::laws::links_turn();
-        match (self.phase, seen) {
-            (Phase::Store(j), Seen::Stored) => after_store(j),
-            (Phase::Flush(j), Seen::Flushed) => after_flush(j),
-            (Phase::Swap, Seen::Swapped(true)) => Phase::Done,
-            (Phase::Swap, Seen::NoSwap) => Phase::NoSwap,
-            _ => Phase::Restart,
+        match phase {
+            WritePhase::Fresh => WritePhase::Guard,
+            WritePhase::Guard => {
+                let begun = look(SPLIT_SLOTS, self.upper.status, seen, slots);
+                let taken = begun.slots;
+                let made = self.make(taken);
+                self.root = made.root;
+                self.left = made.left;
+                self.right = made.right;
+                self.slots = taken;
+                begun.phase
+            }
+            _ => phase.after(SPLIT_SLOTS, seen),
         }
     }
 
@@ -214,10 +172,8 @@ impl SplitInnerRoot {
         ensures no_swap { seen ≡ NoneLeft → end_crown self.new ≡ Some (Outcome.Full Spent.Swaps) }
         ensures full_swaps { end_crown self.new ≡ Some (Outcome.Full Spent.Swaps) → seen ≡ NoneLeft }
         ensures full_nodes { end_crown self.new ≡ Some (Outcome.Full Spent.Nodes) → length slots.old.free < needs_crown self.old }
-        ensures learns { (stage : Stage) (s : Scene) → s.past.config ≡ self.old.config → IsScene s → (0 < needs_crown self.old → AreUnreached s slots.old) → facts_crown self.old stage s → Tells (asks_crown self.old) stage seen s → facts_crown self.new Waiting (gained s slots.old slots.new) }
+        ensures learns { Learns (crown_view self.old) (crown_view self.new) seen moment slots.old slots.new }
     {
-        laws::nothing_is_gained();
-        bz_layout::slots_apart();
         read_nodes_were();
         match self.phase {
             Phase::Fresh => self.phase = Phase::Word(1),
@@ -227,8 +183,11 @@ impl SplitInnerRoot {
                 self.phase = after_word(next);
             }
             Phase::Again => self.phase = self.told(seen),
-            Phase::Guard => self.look(seen, slots),
-            _ => self.phase = self.after(seen, moment),
+            Phase::Writing(phase) => {
+                let next = self.write(phase, seen, slots, moment);
+                self.phase = Phase::Writing(next);
+            }
+            Phase::TooHigh => {}
         }
     }
 
@@ -255,28 +214,30 @@ impl SplitInnerRoot {
         match self.phase {
             Phase::Word(i) => Todo::Read(self.config.node_at(self.upper.slot as u32) + i),
             Phase::Again => Todo::Read(self.lower.guard),
-            Phase::Guard => Todo::Read(self.upper.guard),
-            Phase::Store(j) => {
-                let slot = self.slots[(j / NODE_WORDS) as usize] as u32;
-                Todo::Store(self.config.node_at(slot) + j % NODE_WORDS, self.word(j))
-            }
-            Phase::Flush(j) => {
-                let slot = self.slots[(j / NODE_LINES) as usize] as u32;
-                Todo::Flush(self.config.node_at(slot) / LINE_WORDS + j % NODE_LINES)
-            }
-            Phase::Swap => Todo::Swap(swap_freezing(
+            Phase::Writing(phase) => self.written(phase),
+            Phase::Fresh | Phase::TooHigh => Todo::Finish,
+        }
+    }
+
+    // What the writing asks for.
+    fn written(&self, phase: WritePhase) -> Todo
+        requires begun { phase ≢ WritePhase.Fresh }
+        requires config { IsConfig self.now.config }
+        requires ready { write_ready self.now.config (crown_plan (crown_of self.now)) phase }
+        ensures { write_asks self.now.config (crown_plan (crown_of self.now)) phase ≡ Some result }
+    {
+        match phase {
+            WritePhase::Guard => Todo::Read(self.upper.guard),
+            WritePhase::Store(j) => store_at(&self.config, &self.slots, j, self.word(j)),
+            WritePhase::Flush(j) => flush_at(&self.config, &self.slots, j),
+            WritePhase::Swap => Todo::Swap(swap_freezing(
                 &self.config,
                 &self.upper,
                 self.slots[0],
                 self.upper.slot,
                 self.lower.status,
             )),
-            Phase::Fresh
-            | Phase::Done
-            | Phase::Restart
-            | Phase::TooHigh
-            | Phase::NoSlot
-            | Phase::NoSwap => Todo::Finish,
+            _ => Todo::Finish,
         }
     }
 }
@@ -293,30 +254,6 @@ fn after_word(next: u32) -> Phase
     }
 }
 
-// The phase after the store of a word: that of the next one, or the first flush.
-fn after_store(j: u32) -> Phase
-    requires { j < SPLIT_WORDS }
-    ensures { result ≡ store_after j }
-{
-    if j + 1 < SPLIT_WORDS {
-        Phase::Store(j + 1)
-    } else {
-        Phase::Flush(0)
-    }
-}
-
-// The phase after the flush of a line: that of the next one, or the swap.
-fn after_flush(j: u32) -> Phase
-    requires { j < SPLIT_LINES }
-    ensures { result ≡ flush_after j }
-{
-    if j + 1 < SPLIT_LINES {
-        Phase::Flush(j + 1)
-    } else {
-        Phase::Swap
-    }
-}
-
 impl Task for SplitInnerRoot {
     ghost view = { crown_view };
 
@@ -326,11 +263,8 @@ impl Task for SplitInnerRoot {
 
     fn ended(&self) -> Option<Outcome> {
         match self.phase {
-            Phase::Done => Some(Outcome::Done),
-            Phase::Restart => Some(Outcome::Restart),
             Phase::TooHigh => Some(Outcome::Full(Spent::Height)),
-            Phase::NoSlot => Some(Outcome::Full(Spent::Nodes)),
-            Phase::NoSwap => Some(Outcome::Full(Spent::Swaps)),
+            Phase::Writing(phase) => phase.ended(),
             _ => None,
         }
     }
@@ -340,15 +274,7 @@ impl Task for SplitInnerRoot {
         self.asked()
     }
 
-    fn learnt(&self) {
-        bz_renew::laws::links_turn();
-        bz_word::laws::statuses();
-    }
+    fn learnt(&self) {}
 
-    fn acted(&self) {
-        bz_renew::laws::links_turn();
-        bz_parted::laws::roots_stand_at_levels();
-        bz_layout::slots_apart();
-        inner_root_splits_are_good();
-    }
+    fn acted(&self) {}
 }

@@ -1,55 +1,77 @@
 -- What the split of an inner node below a parent asks for may be asked for, and what its acts lead to.
-use Rattle.std.proofs.Common.{◌≡◌, ℕ, ◌+◌, ◌<◌, false, List, [], ◌∷◌, arith, refl, sym, ap, subst, ◌∙◌, inl, inr, Some}
-use Rattle.std.specs.Prelude.{All, slice_index}
-use Rattle.std.proofs.lemmas.Bool.{cases_lt}
-use Rattle.std.proofs.lemmas.List.{get_or_past}
-use Rattle.bz_layout.specs.Addresses.{node_address, SlotsApart}
+use Rattle.std.proofs.Common.{◌≡◌, ◌≢◌, ◌==◌, Option, ℕ, ◌+◌, ◌<◌, ◌≤◌, false, List, [], ◌∷◌, arith, refl, sym, ap, subst, ◌∙◌, inl, inr, Some}
+use Rattle.std.specs.Prelude.{All}
+use Rattle.std.proofs.lemmas.Bool.Decides.{nat_tests}
+use Rattle.bz_shape.specs.Walk.{is_among}
+use Rattle.bz_task.specs.FromSwap.SwapMemory.{is_target}
+use Rattle.bz_layout.specs.Addresses.{node_address}
 use Rattle.bz_layout.specs.declared.config.Config.{Config}
 use Rattle.bz_layout.specs.declared.sizes.TheConstants.{NODE_WORDS, STATUS_AT}
 use Rattle.bz_shape.specs.Slots.{Wider, Halves}
 use Rattle.bz_node.specs.Reading.{children_in}
-use Rattle.bz_halves.specs.Parents.{HasRoomToPart, IsPartedParent, ParentsOfHalvesAreWhole}
+use Rattle.bz_halves.specs.Parents.{HasRoomToPart, IsPartedParent}
 use Rattle.bz_shape.specs.Split.{AreThree}
 use Rattle.bz_slotted.specs.ReadingLaws.{node_of}
 use Rattle.bz_slotted.specs.Rules.{node_fault}
 use Rattle.bz_task.proofs.FromSwap.EntryLists.{All-inserted}
-use Rattle.bz_word.specs.Statements.{IsCodec}
-use Rattle.bz_word.specs.Statuses.{status_word, status, IsStatus, IsStatusWord}
 use Rattle.bz_word.specs.declared.entry.Entry.{Entry}
-use Rattle.bz_word.specs.declared.status.Status.{Status}
 use Rattle.bz_branch.specs.FromContent.Restructures.{children_of}
 use Rattle.bz_task.specs.Instant.{Instant, words}
 use Rattle.bz_task.specs.OwnActs.{Stores, Flushes}
-use Rattle.bz_task.specs.Requests.{IsEntryToAsk, IsAskable, IsReadable, IsTarget, IsCause}
-use Rattle.bz_task.specs.Scene.{Scene, Waiting, Took, IsScene, HasFilled, here}
+use Rattle.bz_task.specs.Requests.{Answers, IsEntryToAsk, IsAskable, IsReadable, IsTarget, IsCause}
+use Rattle.bz_task.specs.Scene.{Past, Scene, Stage, Waiting, Took, IsScene, HasFilled, here}
 use Rattle.bz_task.specs.Swaps.{Stand, SwapsTo, IsGoodSwap, Takes}
 use Rattle.bz_task.specs.declared.todo.Seen.{Seen}
-use Rattle.bz_task.specs.declared.todo.Seen.TheVariants.{Start, Read as Was, Stored, Flushed, Swapped, NoSwap as NoneLeft}
+use Rattle.bz_task.specs.declared.todo.Seen.TheVariants.{Read as Was}
 use Rattle.bz_task.specs.declared.todo.Todo.{Todo}
 use Rattle.bz_task.specs.declared.todo.Todo.TheVariants.{Store as Stores_at, Flush as Flushes_line, Swap as Swaps_for}
 use Rattle.bz_task.specs.declared.path.Link.{Link}
 use Rattle.bz_renew.specs.Freezings.{freezing_entry, renewal_with}
 use Rattle.bz_renew.specs.LinkSwaps.{IsFresh}
-use Rattle.bz_renew.specs.Nodes.{word_address, word_value, line_number}
-use Rattle.bz_renew.specs.Renewals.{renewal, link_entry, guard_entry, IsTurnable, LinksMayBeTurned}
-use Rattle.bz_renew.proofs.FreshSlots.{unreached}
+use Rattle.bz_renew.specs.Nodes.{HaveSlots}
+use Rattle.bz_renew.specs.Renewals.{renewal, link_entry, guard_entry, IsTurnable}
 use Rattle.bz_task.proofs.FrozenWords.{frozen-plain}
 use Rattle.bz_renew.proofs.Guards.{guard-readable, guard-differed}
 use Rattle.bz_renew.proofs.Inserting.{inserted-other}
-use Rattle.bz_renew.proofs.NodeWrites.{nodes-store, nodes-flush, begun-store, node-may-store, node-may-flush}
 use Rattle.bz_renew.proofs.Restamping.{restamped-plain}
 use Rattle.bz_renew.proofs.TwoEntries.{all-two, sets-first}
-use Rattle.bz_renew.proofs.Words.{node-at, node-past}
-use Rattle.bz_branch.specs.InnerSplits.{inner_swap, AreReadyInner, IsInnerSplit, InnerSplitsAreGood}
-use Rattle.bz_fork.specs.Facts.{Fork, fork_nodes, HasLinks, IsPlan, IsSplitting, WasSplitInner, parent_words, fork_asks, fork_facts, fork_differs}
+use Rattle.bz_branch.specs.InnerSplits.{inner_swap, AreReadyInner, IsInnerSplit}
+use Rattle.bz_fork.specs.Facts.{Fork, fork_nodes, fork_plan, HasLinks, IsPlan, IsPlanned, IsSplitting, WasSplitInner, AreClear, AreMadeOf, HasPlace, IsSwapReady, parent_words, fork_asks, fork_end, fork_facts, fork_means, fork_needs, fork_differs}
 use Rattle.bz_branch.specs.FromSplit.BelowSplits.{parent_freezing}
-use Rattle.bz_branch.specs.FromSplit.Facts.{SPLIT_WORDS, SPLIT_LINES, StoodFresh, split_change}
+use Rattle.bz_branch.specs.FromSplit.Facts.{StoodFresh, split_change}
 use Rattle.bz_branch.specs.FromSplit.RootSplits.{AreFreshThree}
 use Rattle.bz_fork.specs.declared.phase.Phase.{Phase}
-use Rattle.bz_fork.specs.declared.phase.Phase.TheVariants.{Fresh, Unread, Tight, Word, Again, Room, Above, Check, Guard, Store, Flush, Swap, Done, Restart, NoRoom, NoSlot, NoSwap}
+use Rattle.bz_fork.specs.declared.phase.Phase.TheVariants.{Fresh, Unread, Tight, Word, Again, Room, Above, Check, NoRoom, Writing}
+use Rattle.bz_writer.specs.Facts.{write_asks, write_facts}
+use Rattle.bz_writer.specs.declared.phase.WritePhase.TheVariants.{Guard}
+use Rattle.bz_writer.specs.Phases.{means_of}
+use Rattle.bz_writer.specs.declared.phase.WritePhase.{WritePhase}
+use Rattle.bz_layout.specs.Slots.{FreeSlots}
+use Rattle.bz_layout.specs.declared.thresholds.TheConstants.{SPLIT_SLOTS}
+use Rattle.bz_task.specs.declared.todo.Outcome.{Outcome}
+use Rattle.bz_task.specs.declared.todo.Outcome.TheVariants.{Done as IsDone, Restart as Restarts, Full as IsFull, NeedsRoom as NoneFits}
+use Rattle.bz_call.specs.declared.replies.Spent.TheVariants.{Nodes as NoNodes, Swaps as NoSwaps}
+use Rattle.bz_branch.specs.FromBelow.Facts.{HasRoom, HasParent}
+use Rattle.bz_branch.specs.Parts.{ArePartsOfNode}
 use Rattle.bz_branch.specs.Nodes.{IsOpenLink}
 use Rattle.bz_branch.proofs.Standing.{guard-is, node-below}
-use Rattle.bz_fork.proofs.Staying.{has-links-stay, guarded-now, counted-now, planned-stays, looked-stays, parts-stay, over-stays, clear-stays}
+use Rattle.bz_fork.proofs.Staying.{guarded-now, counted-now, has-links-stay, planned-stays, parts-stay, over-stays, split-stays, splitting-stays}
+use Rattle.bz_halves.proofs.Proved.{parents_of_halves_are_whole}
+use Rattle.bz_layout.proofs.Laws.{slots_apart}
+use Rattle.bz_word.proofs.Proved.{statuses}
+use Rattle.bz_renew.proofs.Proved.{guarded_links_stand, links_may_be_turned}
+use Rattle.bz_task.proofs.Proved.{ranges_stay}
+use Rattle.bz_renew.proofs.Freezings.{far-target, slot-far}
+use Rattle.bz_renew.proofs.TwoEntries.{no-target}
+use Rattle.bz_renew.proofs.Guards.{answered-as-read}
+use Rattle.bz_writer.specs.Laws.{IsSoundPlan, IsGoodPlan, IsWritten, LooksWell}
+use Rattle.bz_writer.proofs.Written.{holds, fresh, was-unreached, stood}
+use Rattle.bz_writer.proofs.Acting.{askable as writer-askable, cause as writer-cause, ends as writer-ends, stored-here, flushed-here, effect-here, took-here}
+use Rattle.bz_writer.proofs.Sizes.{needs-few}
+use Rattle.bz_branch.proofs.Proved.{inner_splits_are_good}
+use Rattle.bz_fork.proofs.Clearing.{are-clear}
+use Rattle.bz_fork.proofs.Making.{are-plain, halves, over}
+use Rattle.bz_fork.proofs.Uniting.{one-separator}
 
 some-same : (a b : Todo) → Some a ≡ Some b → a ≡ b
 some-same a b e = cc
@@ -72,304 +94,138 @@ module _ (upper middle lower : Link) (s : Scene) (good : IsScene s) (v : HasLink
   word-readable i l = record { outside = inr (omega arith); within = omega (arith, middle-slot, l) }
 
 -- the entries of the swap
-may-swap : LinksMayBeTurned → IsCodec Status IsStatus IsStatusWord status_word status → (r : Fork) (s : Scene) → IsScene s → IsSplitting r SPLIT_WORDS SPLIT_LINES s → All (IsEntryToAsk s) (inner_swap s.past.config r.upper r.middle r.lower (r.slot 0))
-may-swap turned codec r s good f =
+may-swap : (r : Fork) (s : Scene) → IsScene s → IsSplitting r s.past → r.slot 0 < s.past.config.nodes → All (IsEntryToAsk s) (inner_swap s.past.config r.upper r.middle r.lower (r.slot 0))
+may-swap r s good f new =
     let v = f.planned.links in
-    let t : IsTurnable r.upper s = turned s r.upper good v.down.upper_guard v.down.upper_thawed in
-    let m : IsTurnable r.middle s = turned s r.middle good v.down.guard v.down.thawed in
-    let u : IsTurnable r.lower s = turned s r.lower good v.node.guard v.node.thawed in
+    let t : IsTurnable r.upper s = links_may_be_turned s r.upper good v.down.upper_guard v.down.upper_thawed in
+    let m : IsTurnable r.middle s = links_may_be_turned s r.middle good v.down.guard v.down.thawed in
+    let u : IsTurnable r.lower s = links_may_be_turned s r.lower good v.node.guard v.node.thawed in
     let old : r.upper.slot < s.past.config.nodes = upper-slot r.upper r.middle r.lower s good v in
-    let new : r.slot 0 < s.past.config.nodes = f.writing.slots.within 0 (omega arith) in
     let parent_target : IsTarget s (node_address s.past.config r.upper.slot + STATUS_AT) = subst (IsTarget s) (guard-is s r.upper.slot r.middle good (above-of r.upper r.middle r.lower s v)) m.guard_target in
     let node_target : IsTarget s (node_address s.past.config r.middle.slot + STATUS_AT) = subst (IsTarget s) (guard-is s r.middle.slot r.lower good v.node) u.guard_target in
     All-inserted (IsEntryToAsk s) (freezing_entry s.past.config (parent_freezing r.middle r.lower)) (renewal_with s.past.config r.upper (r.slot 0) (parent_freezing r.upper r.middle ∷ []))
-    (record { target = node_target; expected = u.plain; new = frozen-plain codec r.lower.status u.plain })
+    (record { target = node_target; expected = u.plain; new = frozen-plain statuses r.lower.status u.plain })
     (All-inserted (IsEntryToAsk s) (freezing_entry s.past.config (parent_freezing r.upper r.middle)) (renewal r.upper (r.slot 0))
-    (record { target = parent_target; expected = m.plain; new = frozen-plain codec r.middle.status m.plain })
+    (record { target = parent_target; expected = m.plain; new = frozen-plain statuses r.middle.status m.plain })
     (all-two (IsEntryToAsk s) (link_entry r.upper (r.slot 0)) (guard_entry r.upper)
     (record { target = t.link_target; expected = omega (arith, old, good.config.nodes_in_range.at_most); new = omega (arith, new, good.config.nodes_in_range.at_most) })
-    (record { target = t.guard_target; expected = t.plain; new = restamped-plain codec r.upper.status t.plain })))
+    (record { target = t.guard_target; expected = t.plain; new = restamped-plain statuses r.upper.status t.plain })))
 
-pub askable : LinksMayBeTurned → IsCodec Status IsStatus IsStatusWord status_word status → (c : Config) (r : Fork) (phase : Phase) (s : Scene) (todo : Todo) → s.past.config ≡ c → fork_facts r phase Waiting s → IsScene s → fork_asks c r phase ≡ Some todo → IsAskable s todo
-askable turned codec c r Fresh s todo same f good e = absurd (cc)
-askable turned codec c r Unread s todo same f good e = subst (IsAskable s) (some-same _ todo e) (guard-readable s r.lower good f.1.0.links.node.guard)
-askable turned codec c r Tight s todo same f good e = subst (IsAskable s) (some-same _ todo e) (guard-readable s r.middle good f.1.links.down.guard)
-askable turned codec c r (Word i) s todo same f good e =
-    subst (IsAskable s) (some-same _ todo e)
-    (subst (λ (z : Config). IsReadable s (node_address z r.middle.slot + i)) same (word-readable r.upper r.middle r.lower s good f.1.1.1.links i f.1.1.0))
-askable turned codec c r Again s todo same f good e = subst (IsAskable s) (some-same _ todo e) (guard-readable s r.lower good f.1.links.node.guard)
-askable turned codec c r Room s todo same f good e = subst (IsAskable s) (some-same _ todo e) (guard-readable s r.middle good f.1.links.down.guard)
-askable turned codec c r (Above i) s todo same f good e =
-    subst (IsAskable s) (some-same _ todo e)
-    (subst (λ (z : Config). IsReadable s (node_address z r.upper.slot + i)) same (above-readable r.upper r.middle r.lower s good f.1.1.1.links i f.1.1.0))
-askable turned codec c r Check s todo same f good e = subst (IsAskable s) (some-same _ todo e) (guard-readable s r.middle good f.1.links.down.guard)
-askable turned codec c r Guard s todo same f good e = subst (IsAskable s) (some-same _ todo e) (guard-readable s r.upper good f.1.links.down.upper_guard)
-askable turned codec c r (Store j) s todo same f good e =
-    subst (IsAskable s) (some-same _ todo e)
-    (subst (λ z. IsAskable s (Stores_at (word_address z (fork_nodes r) j) (word_value (fork_nodes r) j))) same (node-may-store (fork_nodes r) j s (omega (arith, f.1.0)) f.1.1.plain f.1.1.writing))
-askable turned codec c r (Flush j) s todo same f good e =
-    subst (IsAskable s) (some-same _ todo e)
-    (subst (λ z. IsAskable s (Flushes_line (line_number z (fork_nodes r) j))) same (node-may-flush (fork_nodes r) j s f.1.1.writing.slots (omega (arith, f.1.0))))
-askable turned codec c r Swap s todo same f good e =
-    subst (IsAskable s) (some-same _ todo e)
-    (subst (λ (z : Config). All (IsEntryToAsk s) (inner_swap z r.upper r.middle r.lower (r.slot 0))) same (may-swap turned codec r s good f.1))
-askable turned codec c r Done s todo same f good e = subst (IsAskable s) (some-same _ todo e) tt
-askable turned codec c r Restart s todo same f good e = subst (IsAskable s) (some-same _ todo e) tt
-askable turned codec c r NoRoom s todo same f good e = subst (IsAskable s) (some-same _ todo e) tt
-askable turned codec c r NoSlot s todo same f good e = subst (IsAskable s) (some-same _ todo e) tt
-askable turned codec c r NoSwap s todo same f good e = subst (IsAskable s) (some-same _ todo e) tt
+-- the status of the node is none of the other targets
+node-apart : (s : Scene) (upper middle : Link) (to : ℕ) → AreClear s.past.config upper middle → is_target (renewal_with s.past.config upper to (parent_freezing upper middle ∷ [])) (node_address s.past.config middle.slot + STATUS_AT) ≡ false
+node-apart s upper middle to v =
+    let c = s.past.config in
+    far-target c upper to (parent_freezing upper middle ∷ []) (node_address c middle.slot + STATUS_AT) (slot-far slots_apart c (parent_freezing upper middle ∷ []) middle.slot STATUS_AT (omega arith) (inl (one-other upper.slot middle.slot v.two)))
+    ∙ no-target (link_entry upper to) (guard_entry upper) (node_address c middle.slot + STATUS_AT) v.link_node v.guard_node
+  where
+    one-other : (a b : ℕ) → a ≢ b → is_among (a ∷ []) b ≡ false
+    one-other a b ne = let t : (a == b) ≡ false = grind (arith, nat_tests) in rw t refl
 
--- a guard that differs has been changed since it was read
-pub cause : (c : Config) (r : Fork) (phase : Phase) (s : Scene) (seen : Seen) → fork_facts r phase Waiting s → fork_differs r.upper r.middle r.lower phase seen → IsCause (fork_asks c r phase) seen s
-cause c r Unread s (Was v) f d = inl (guard-differed s r.lower v f.1.0.links.node.guard d)
-cause c r Unread s Start f d = absurd (d)
-cause c r Unread s Stored f d = absurd (d)
-cause c r Unread s Flushed f d = absurd (d)
-cause c r Unread s (Swapped won) f d = absurd (d)
-cause c r Unread s NoneLeft f d = absurd (d)
-cause c r Tight s (Was v) f d = inl (guard-differed s r.middle v f.1.links.down.guard d)
-cause c r Tight s Start f d = absurd (d)
-cause c r Tight s Stored f d = absurd (d)
-cause c r Tight s Flushed f d = absurd (d)
-cause c r Tight s (Swapped won) f d = absurd (d)
-cause c r Tight s NoneLeft f d = absurd (d)
-cause c r Again s (Was v) f d = inl (guard-differed s r.lower v f.1.links.node.guard d)
-cause c r Again s Start f d = absurd (d)
-cause c r Again s Stored f d = absurd (d)
-cause c r Again s Flushed f d = absurd (d)
-cause c r Again s (Swapped won) f d = absurd (d)
-cause c r Again s NoneLeft f d = absurd (d)
-cause c r Room s (Was v) f d = inl (guard-differed s r.middle v f.1.links.down.guard d)
-cause c r Room s Start f d = absurd (d)
-cause c r Room s Stored f d = absurd (d)
-cause c r Room s Flushed f d = absurd (d)
-cause c r Room s (Swapped won) f d = absurd (d)
-cause c r Room s NoneLeft f d = absurd (d)
-cause c r Check s (Was v) f d = inl (guard-differed s r.middle v f.1.links.down.guard d)
-cause c r Check s Start f d = absurd (d)
-cause c r Check s Stored f d = absurd (d)
-cause c r Check s Flushed f d = absurd (d)
-cause c r Check s (Swapped won) f d = absurd (d)
-cause c r Check s NoneLeft f d = absurd (d)
-cause c r Guard s (Was v) f d = inl (guard-differed s r.upper v f.1.links.down.upper_guard d)
-cause c r Guard s Start f d = absurd (d)
-cause c r Guard s Stored f d = absurd (d)
-cause c r Guard s Flushed f d = absurd (d)
-cause c r Guard s (Swapped won) f d = absurd (d)
-cause c r Guard s NoneLeft f d = absurd (d)
-cause c r Fresh s seen f d = absurd (d)
-cause c r (Word i) s seen f d = absurd (d)
-cause c r (Above i) s seen f d = absurd (d)
-cause c r (Store j) s seen f d = absurd (d)
-cause c r (Flush j) s seen f d = absurd (d)
-cause c r Swap s seen f d = absurd (d)
-cause c r Done s seen f d = absurd (d)
-cause c r Restart s seen f d = absurd (d)
-cause c r NoRoom s seen f d = absurd (d)
-cause c r NoSlot s seen f d = absurd (d)
-cause c r NoSwap s seen f d = absurd (d)
+swap-ready : (r : Fork) (s : Scene) → IsScene s → IsSplitting r s.past → IsSwapReady s.past.config r
+swap-ready r s good f =
+    let v = f.planned.links in
+    let t : IsTurnable r.upper s = links_may_be_turned s r.upper good v.down.upper_guard v.down.upper_thawed in
+    let m : IsTurnable r.middle s = links_may_be_turned s r.middle good v.down.guard v.down.thawed in
+    let u : IsTurnable r.lower s = links_may_be_turned s r.lower good v.node.guard v.node.thawed in
+    record {
+      upper_plain = t.plain;
+      middle_plain = m.plain;
+      lower_plain = u.plain;
+      apart = t.apart;
+      upper_slot = upper-slot r.upper r.middle r.lower s good v;
+      slot = middle-slot r.upper r.middle r.lower s good v;
+      target = no-target (link_entry r.upper (r.slot 0)) (guard_entry r.upper) (node_address s.past.config r.upper.slot + STATUS_AT) f.clear.link_parent f.clear.guard_parent;
+      node_target = node-apart s r.upper r.middle (r.slot 0) f.clear;
+    }
+
+pub sound : (r : Fork) → IsSoundPlan (fork_plan r)
+sound r = record {
+  some = omega arith;
+  few = omega arith;
+  planned = λ p q c v. planned-stays p q c r.upper r.middle r.lower r.read r.above v;
+  ready = λ p q c v. splitting-stays p q c r v;
+  done = λ p q c v. split-stays p q c r.upper r.middle v;
+  none = λ p q c v. v;
+  readable = λ s good v. guard-readable s r.upper good v.links.down.upper_guard;
+  differed = λ s v p ne. guard-differed s r.upper v p.links.down.upper_guard ne;
+  nameable = λ s good f slots. swap-ready r s good f;
+  named = λ s good f slots. may-swap r s good f (slots.within 0 (omega arith));
+}
 
 -- once all words are stored and durable, the slots hold the three nodes
-module _ (r : Fork) (s : Scene) (f : IsSplitting r SPLIT_WORDS SPLIT_LINES s) where
-  holds : (n : ℕ) → n < 3 → words s.past.config (here s) (r.slot n) ≡ node_of (r.image n)
-  holds n h = λ t i. each i t
-    where
-      each : (i : ℕ) → words s.past.config (here s) (r.slot n) i ≡ node_of (r.image n) i
-      each i = elim (cases_lt i NODE_WORDS) [
-        | inl l ↦ node-at s.past.config (here s).value (r.slot n) i l ∙ f.writing.stored_is n i h l (omega (arith, h, l))
-        | inr l ↦ node-past s.past.config (here s).value (r.slot n) i l ∙ sym (get_or_past (r.image n) i 0 (omega (arith, l, f.plain.size n h)))
-      ]
+module _ (r : Fork) (s : Scene) (w : IsWritten (fork_plan r) s) where
+  held : (n : ℕ) → n < 3 → words s.past.config (here s) (r.slot n) ≡ node_of (r.image n)
+  held n h = holds (fork_plan r) s w n h
 
-  pub fresh : (n : ℕ) → n < 3 → IsFresh s (r.slot n)
-  fresh n h = record {
-    slot = f.writing.slots.within n h;
-    own = λ i l. record { mine = f.writing.mine n i h l; flushed = f.writing.flushed n i h l (omega (arith, h, l)) };
-  }
+  own : (n : ℕ) → n < 3 → IsFresh s (r.slot n)
+  own n h = fresh (fork_plan r) s w n h
 
   three : AreThree (r.slot 0) (r.slot 1) (r.slot 2)
   three = record {
-    q_l = λ e. absurd (omega (arith, f.writing.slots.apart 0 1 (omega arith) (omega arith) e));
-    q_r = λ e. absurd (omega (arith, f.writing.slots.apart 0 2 (omega arith) (omega arith) e));
-    l_r = λ e. absurd (omega (arith, f.writing.slots.apart 1 2 (omega arith) (omega arith) e));
+    q_l = λ e. absurd (omega (arith, w.writing.slots.apart 0 1 (omega arith) (omega arith) e));
+    q_r = λ e. absurd (omega (arith, w.writing.slots.apart 0 2 (omega arith) (omega arith) e));
+    l_r = λ e. absurd (omega (arith, w.writing.slots.apart 1 2 (omega arith) (omega arith) e));
   }
 
   fresh-three : AreFreshThree (r.slot 0) (r.slot 1) (r.slot 2) s
-  fresh-three = record { three = three; root = fresh 0 (omega arith); left = fresh 1 (omega arith); right = fresh 2 (omega arith) }
+  fresh-three = record { three = three; root = own 0 (omega arith); left = own 1 (omega arith); right = own 2 (omega arith) }
 
-  module _ (wholes : ParentsOfHalvesAreWhole) where
-    room : HasRoomToPart s.past.config.nodes (children_in r.above) f.planned.parent.level (r.slot 1) (r.slot 2) f.planned.sep
-    room = record {
-      few = f.planned.parent.parent.few;
-      slots = f.planned.parent.parent.partable.slots;
-      left_slot = f.writing.slots.within 1 (omega arith);
-      right_slot = f.writing.slots.within 2 (omega arith);
-      inner = f.planned.parent.parent.inner;
-      few_levels = f.planned.parent.parent.lowest;
-      room = f.planned.room;
-    }
+  room : HasRoomToPart s.past.config.nodes (children_in r.above) w.ready.planned.parent.level (r.slot 1) (r.slot 2) w.ready.planned.sep
+  room = record {
+    few = w.ready.planned.parent.parent.few;
+    slots = w.ready.planned.parent.parent.partable.slots;
+    left_slot = w.writing.slots.within 1 (omega arith);
+    right_slot = w.writing.slots.within 2 (omega arith);
+    inner = w.ready.planned.parent.parent.inner;
+    few_levels = w.ready.planned.parent.parent.lowest;
+    room = w.ready.planned.room;
+  }
 
-    made : IsPartedParent s.past.config.nodes (node_of r.above) (children_in r.above) f.planned.parent.low f.planned.parent.high f.planned.parent.level f.planned.links.child (r.slot 1) (r.slot 2) f.planned.sep
-    made = wholes s.past.config.nodes (node_of r.above) (children_in r.above) f.planned.parent.low f.planned.parent.high f.planned.parent.level f.planned.links.child (r.slot 1) (r.slot 2) f.planned.sep f.planned.parent.parent.partable.may room f.planned.parent.parent.partable.has
+  made : IsPartedParent s.past.config.nodes (node_of r.above) (children_in r.above) w.ready.planned.parent.low w.ready.planned.parent.high w.ready.planned.parent.level w.ready.planned.links.child (r.slot 1) (r.slot 2) w.ready.planned.sep
+  made = parents_of_halves_are_whole s.past.config.nodes (node_of r.above) (children_in r.above) w.ready.planned.parent.low w.ready.planned.parent.high w.ready.planned.parent.level w.ready.planned.links.child (r.slot 1) (r.slot 2) w.ready.planned.sep w.ready.planned.parent.parent.partable.may room w.ready.planned.parent.parent.partable.has
 
-    holds-parent : words s.past.config (here s) (r.slot 0) ≡ node_of (parent_words r f.planned.sep f.planned.links.child f.planned.parent.level f.planned.parent.low f.planned.parent.high)
-    holds-parent = holds 0 (omega arith) ∙ ap node_of f.over
+  holds-parent : words s.past.config (here s) (r.slot 0) ≡ node_of (parent_words r w.ready.planned.sep w.ready.planned.links.child w.ready.planned.parent.level w.ready.planned.parent.low w.ready.planned.parent.high)
+  holds-parent = held 0 (omega arith) ∙ ap node_of w.ready.over
 
-    ready : AreReadyInner r.upper.slot r.middle.slot f.planned.links.guarded f.planned.links.counted f.planned.links.child f.halves.cut (r.slot 0) (r.slot 1) (r.slot 2) f.planned.sep s
-    ready = record {
-      fresh = fresh-three;
-      parent_whole = (λ t. node_fault s.past.config.nodes (holds-parent t) (holds-parent t) (f.planned.parent.level_is t) (f.planned.parent.low_is t) (f.planned.parent.high_is t)) ∙ made.inner.none;
-      wider = subst (λ n. Wider (children_of n) (children_of (words s.past.config (here s) (r.slot 0))) f.planned.links.child (r.slot 1) (r.slot 2) f.planned.sep) (sym f.planned.parent.were)
-          (subst (λ n. Wider (children_of (node_of r.above)) (children_of n) f.planned.links.child (r.slot 1) (r.slot 2) f.planned.sep) (sym holds-parent) made.wider);
-      left_whole = (λ t. node_fault s.past.config.nodes (holds 1 (omega arith) t) (holds 1 (omega arith) t) (f.planned.node.level_is t) (f.planned.node.low_is t) (Some f.planned.sep)) ∙ f.halves.left_whole;
-      right_whole = (λ t. node_fault s.past.config.nodes (holds 2 (omega arith) t) (holds 2 (omega arith) t) (f.planned.node.level_is t) (Some f.planned.sep) (f.planned.node.high_is t)) ∙ f.halves.right_whole;
-      halves = subst (λ n. Halves (children_of n) (children_of (words s.past.config (here s) (r.slot 1))) (children_of (words s.past.config (here s) (r.slot 2))) f.halves.cut f.planned.sep) (sym f.planned.node.were)
-          (subst (λ n. Halves (children_of (node_of r.read)) (children_of n) (children_of (words s.past.config (here s) (r.slot 2))) f.halves.cut f.planned.sep) (sym (holds 1 (omega arith)))
-          (subst (λ n. Halves (children_of (node_of r.read)) (children_of (node_of (r.image 1))) (children_of n) f.halves.cut f.planned.sep) (sym (holds 2 (omega arith))) f.halves.halves));
-    }
+  ready : AreReadyInner r.upper.slot r.middle.slot w.ready.planned.links.guarded w.ready.planned.links.counted w.ready.planned.links.child w.ready.halves.cut (r.slot 0) (r.slot 1) (r.slot 2) w.ready.planned.sep s
+  ready = record {
+    fresh = fresh-three;
+    parent_whole = (λ t. node_fault s.past.config.nodes (holds-parent t) (holds-parent t) (w.ready.planned.parent.level_is t) (w.ready.planned.parent.low_is t) (w.ready.planned.parent.high_is t)) ∙ made.inner.none;
+    wider = subst (λ n. Wider (children_of n) (children_of (words s.past.config (here s) (r.slot 0))) w.ready.planned.links.child (r.slot 1) (r.slot 2) w.ready.planned.sep) (sym w.ready.planned.parent.were)
+        (subst (λ n. Wider (children_of (node_of r.above)) (children_of n) w.ready.planned.links.child (r.slot 1) (r.slot 2) w.ready.planned.sep) (sym holds-parent) made.wider);
+    left_whole = (λ t. node_fault s.past.config.nodes (held 1 (omega arith) t) (held 1 (omega arith) t) (w.ready.planned.node.level_is t) (w.ready.planned.node.low_is t) (Some w.ready.planned.sep)) ∙ w.ready.halves.left_whole;
+    right_whole = (λ t. node_fault s.past.config.nodes (held 2 (omega arith) t) (held 2 (omega arith) t) (w.ready.planned.node.level_is t) (Some w.ready.planned.sep) (w.ready.planned.node.high_is t)) ∙ w.ready.halves.right_whole;
+    halves = subst (λ n. Halves (children_of n) (children_of (words s.past.config (here s) (r.slot 1))) (children_of (words s.past.config (here s) (r.slot 2))) w.ready.halves.cut w.ready.planned.sep) (sym w.ready.planned.node.were)
+        (subst (λ n. Halves (children_of (node_of r.read)) (children_of n) (children_of (words s.past.config (here s) (r.slot 2))) w.ready.halves.cut w.ready.planned.sep) (sym (held 1 (omega arith)))
+        (subst (λ n. Halves (children_of (node_of r.read)) (children_of (node_of (r.image 1))) (children_of n) w.ready.halves.cut w.ready.planned.sep) (sym (held 2 (omega arith))) w.ready.halves.halves));
+  }
 
-    pub inner-split : IsInnerSplit r.upper r.middle r.lower (r.slot 0) (r.slot 1) (r.slot 2) f.halves.cut f.planned.sep s
-    inner-split = record {
-      down = f.planned.links.down;
-      node = f.planned.links.node;
-      ready = subst (λ z. AreReadyInner r.upper.slot r.middle.slot z f.planned.links.node.guard.guarded f.planned.links.down.under.child.child f.halves.cut (r.slot 0) (r.slot 1) (r.slot 2) f.planned.sep s) (sym f.planned.links.is_guarded)
-          (subst (λ z. AreReadyInner r.upper.slot r.middle.slot f.planned.links.guarded z f.planned.links.down.under.child.child f.halves.cut (r.slot 0) (r.slot 1) (r.slot 2) f.planned.sep s) (sym f.planned.links.is_counted)
-          (subst (λ z. AreReadyInner r.upper.slot r.middle.slot f.planned.links.guarded f.planned.links.counted z f.halves.cut (r.slot 0) (r.slot 1) (r.slot 2) f.planned.sep s) (sym f.planned.links.is_child) ready));
-    }
-
-same-entries : (a b : List Entry) → Some (Swaps_for a) ≡ Some (Swaps_for b) → a ≡ b
-same-entries a b e = cc
-
--- the effect of the swap
-pub effect : InnerSplitsAreGood → ParentsOfHalvesAreWhole → (c : Config) (r : Fork) (phase : Phase) (s : Scene) (y : Instant) (entries : List Entry) → s.past.config ≡ c → fork_facts r phase Waiting s → IsScene s → fork_asks c r phase ≡ Some (Swaps_for entries) → Stand entries (here s)
-    → SwapsTo s.past.config entries (here s) y → IsGoodSwap false split_change entries s y
-effect law wholes c r Fresh s y entries same f good e stand swaps = absurd (cc)
-effect law wholes c r Unread s y entries same f good e stand swaps = absurd (cc)
-effect law wholes c r Tight s y entries same f good e stand swaps = absurd (cc)
-effect law wholes c r (Word i) s y entries same f good e stand swaps = absurd (cc)
-effect law wholes c r Again s y entries same f good e stand swaps = absurd (cc)
-effect law wholes c r Room s y entries same f good e stand swaps = absurd (cc)
-effect law wholes c r (Above i) s y entries same f good e stand swaps = absurd (cc)
-effect law wholes c r Check s y entries same f good e stand swaps = absurd (cc)
-effect law wholes c r Guard s y entries same f good e stand swaps = absurd (cc)
-effect law wholes c r (Store j) s y entries same f good e stand swaps = absurd (cc)
-effect law wholes c r (Flush j) s y entries same f good e stand swaps = absurd (cc)
-effect law wholes c r Swap s y entries same f good e stand swaps =
-    let is : inner_swap s.past.config r.upper r.middle r.lower (r.slot 0) ≡ entries = ap (λ (z : Config). inner_swap z r.upper r.middle r.lower (r.slot 0)) same ∙ same-entries (inner_swap c r.upper r.middle r.lower (r.slot 0)) entries e in
-    subst (λ z. IsGoodSwap false split_change z s y) is (law split_change s y r.upper r.middle r.lower (r.slot 0) (r.slot 1) (r.slot 2) f.1.halves.cut f.1.planned.sep good (inner-split r s f.1 wholes)
-    (subst (λ z. Stand z (here s)) (sym is) stand) (subst (λ z. SwapsTo s.past.config z (here s) y) (sym is) swaps))
-effect law wholes c r Done s y entries same f good e stand swaps = absurd (cc)
-effect law wholes c r Restart s y entries same f good e stand swaps = absurd (cc)
-effect law wholes c r NoRoom s y entries same f good e stand swaps = absurd (cc)
-effect law wholes c r NoSlot s y entries same f good e stand swaps = absurd (cc)
-effect law wholes c r NoSwap s y entries same f good e stand swaps = absurd (cc)
-
-same-store : (a b v w : ℕ) → Some (Stores_at a v) ≡ Some (Stores_at b w) → (a ≡ b) × (v ≡ w)
-same-store a b v w e = (cc, cc)
-
-same-flush : (a b : ℕ) → Some (Flushes_line a) ≡ Some (Flushes_line b) → a ≡ b
-same-flush a b e = cc
-
--- what is known once a store, or a flush, is made
-pub stored : SlotsApart → (c : Config) (r : Fork) (phase : Phase) (s after : Scene) (a v : ℕ) → s.past.config ≡ c → fork_facts r phase Waiting s → fork_asks c r phase ≡ Some (Stores_at a v) → Stores a v s after → fork_facts r phase Took after
-stored apart c r (Store j) s after a v same f e t =
-    let is = same-store (word_address c (fork_nodes r) j) a (word_value (fork_nodes r) j) v e in
-    let at : a ≡ word_address s.past.config (fork_nodes r) j = sym is.0 ∙ ap (λ z. word_address z (fork_nodes r) j) (sym same) in
-    let made : Stores (word_address s.past.config (fork_nodes r) j) (word_value (fork_nodes r) j) s after =
-    subst (λ z. Stores z (word_value (fork_nodes r) j) s after) at (subst (λ z. Stores a z s after) (sym is.1) t) in (
-      begun-store (fork_nodes r) j (word_value (fork_nodes r) j) s after f.0 made,
-      (
-        f.1.0,
-        record {
-          planned = planned-stays s.past after.past t.continues r.upper r.middle r.lower r.read r.above f.1.1.planned;
-          looked = looked-stays s.past after.past t.continues r.upper r.middle r.lower r.read r.above f.1.1.planned f.1.1.looked;
-          clear = clear-stays s.past after.past t.continues r.upper r.middle f.1.1.clear;
-          halves = parts-stay s.past after.past t.continues r.upper r.middle r.lower r.read r.above (r.image 1) (r.image 2) f.1.1.planned f.1.1.halves;
-          over = over-stays s.past after.past t.continues r.upper r.middle r.lower r.read r.above f.1.1.planned (r.image 0) (r.slot 1) (r.slot 2) f.1.1.over;
-          plain = f.1.1.plain;
-          writing = nodes-store apart (fork_nodes r) j s after (omega (arith, f.1.0)) f.1.1.writing made;
-        },
-      ),
-    )
-stored apart c r Fresh s after a v same f e t = absurd (cc)
-stored apart c r Unread s after a v same f e t = absurd (cc)
-stored apart c r Tight s after a v same f e t = absurd (cc)
-stored apart c r (Word i) s after a v same f e t = absurd (cc)
-stored apart c r Again s after a v same f e t = absurd (cc)
-stored apart c r Room s after a v same f e t = absurd (cc)
-stored apart c r (Above i) s after a v same f e t = absurd (cc)
-stored apart c r Check s after a v same f e t = absurd (cc)
-stored apart c r Guard s after a v same f e t = absurd (cc)
-stored apart c r (Flush j) s after a v same f e t = absurd (cc)
-stored apart c r Swap s after a v same f e t = absurd (cc)
-stored apart c r Done s after a v same f e t = absurd (cc)
-stored apart c r Restart s after a v same f e t = absurd (cc)
-stored apart c r NoRoom s after a v same f e t = absurd (cc)
-stored apart c r NoSlot s after a v same f e t = absurd (cc)
-stored apart c r NoSwap s after a v same f e t = absurd (cc)
-
-pub flushed : (c : Config) (r : Fork) (phase : Phase) (s after : Scene) (line : ℕ) → s.past.config ≡ c → fork_facts r phase Waiting s → fork_asks c r phase ≡ Some (Flushes_line line) → Flushes line s after → fork_facts r phase Took after
-flushed c r (Flush j) s after line same f e t =
-    let is : line ≡ line_number s.past.config (fork_nodes r) j = sym (same-flush (line_number c (fork_nodes r) j) line e) ∙ ap (λ z. line_number z (fork_nodes r) j) (sym same) in
-    let made : Flushes (line_number s.past.config (fork_nodes r) j) s after = subst (λ z. Flushes z s after) is t in (
-      λ k h. t.filled k ∙ f.0 k (sym (t.took k) ∙ h),
-      (
-        f.1.0,
-        record {
-          planned = planned-stays s.past after.past t.continues r.upper r.middle r.lower r.read r.above f.1.1.planned;
-          looked = looked-stays s.past after.past t.continues r.upper r.middle r.lower r.read r.above f.1.1.planned f.1.1.looked;
-          clear = clear-stays s.past after.past t.continues r.upper r.middle f.1.1.clear;
-          halves = parts-stay s.past after.past t.continues r.upper r.middle r.lower r.read r.above (r.image 1) (r.image 2) f.1.1.planned f.1.1.halves;
-          over = over-stays s.past after.past t.continues r.upper r.middle r.lower r.read r.above f.1.1.planned (r.image 0) (r.slot 1) (r.slot 2) f.1.1.over;
-          plain = f.1.1.plain;
-          writing = nodes-flush (fork_nodes r) j SPLIT_WORDS s after f.1.1.writing made;
-        },
-      ),
-    )
-flushed c r Fresh s after line same f e t = absurd (cc)
-flushed c r Unread s after line same f e t = absurd (cc)
-flushed c r Tight s after line same f e t = absurd (cc)
-flushed c r (Word i) s after line same f e t = absurd (cc)
-flushed c r Again s after line same f e t = absurd (cc)
-flushed c r Room s after line same f e t = absurd (cc)
-flushed c r (Above i) s after line same f e t = absurd (cc)
-flushed c r Check s after line same f e t = absurd (cc)
-flushed c r Guard s after line same f e t = absurd (cc)
-flushed c r (Store j) s after line same f e t = absurd (cc)
-flushed c r Swap s after line same f e t = absurd (cc)
-flushed c r Done s after line same f e t = absurd (cc)
-flushed c r Restart s after line same f e t = absurd (cc)
-flushed c r NoRoom s after line same f e t = absurd (cc)
-flushed c r NoSlot s after line same f e t = absurd (cc)
-flushed c r NoSwap s after line same f e t = absurd (cc)
-
-filled-after : (s after : Scene) → HasFilled s → {entries : List Entry} → Takes false entries s after → HasFilled after
-filled-after s after f takes k t = takes.filled k ∙ f k (sym (takes.took k) ∙ t)
+  pub inner-split : IsInnerSplit r.upper r.middle r.lower (r.slot 0) (r.slot 1) (r.slot 2) w.ready.halves.cut w.ready.planned.sep s
+  inner-split = record {
+    down = w.ready.planned.links.down;
+    node = w.ready.planned.links.node;
+    ready = subst (λ z. AreReadyInner r.upper.slot r.middle.slot z w.ready.planned.links.node.guard.guarded w.ready.planned.links.down.under.child.child w.ready.halves.cut (r.slot 0) (r.slot 1) (r.slot 2) w.ready.planned.sep s) (sym w.ready.planned.links.is_guarded)
+        (subst (λ z. AreReadyInner r.upper.slot r.middle.slot w.ready.planned.links.guarded z w.ready.planned.links.down.under.child.child w.ready.halves.cut (r.slot 0) (r.slot 1) (r.slot 2) w.ready.planned.sep s) (sym w.ready.planned.links.is_counted)
+        (subst (λ z. AreReadyInner r.upper.slot r.middle.slot w.ready.planned.links.guarded w.ready.planned.links.counted z w.ready.halves.cut (r.slot 0) (r.slot 1) (r.slot 2) w.ready.planned.sep s) (sym w.ready.planned.links.is_child) ready));
+  }
 
 -- once the swap took effect, the upper link leads to the new parent; to none of the three a link had led before
-module _ (may : LinksMayBeTurned) (r : Fork) (s after : Scene) (good : IsScene s) (f : IsSplitting r SPLIT_WORDS SPLIT_LINES s) (takes : Takes false (inner_swap s.past.config r.upper r.middle r.lower (r.slot 0)) s after) where
-  before-it : after.past.at s.past.now ≡ here s
-  before-it = takes.continues.at s.past.now (omega arith)
-
-  stood : (n : ℕ) → n < 3 → StoodFresh (r.slot n) (r.image n) s.past.now after.past
-  stood n h = record {
-    unreached = ap (λ (x : Instant). x.reached (r.slot n)) before-it ∙ unreached s (r.slot n) good (fresh r s f n h);
-    copied = λ i l. subst (λ (m : ℕ). (after.past.at m).value (node_address after.past.config (r.slot n) + i) ≡ slice_index (r.image n) i) takes.continues.now
-        (subst (λ (k : Config). (here after).value (node_address k (r.slot n) + i) ≡ slice_index (r.image n) i) (sym takes.continues.config)
-        (takes.keeps (node_address s.past.config (r.slot n) + i) (f.writing.mine n i h l) ∙ f.writing.stored_is n i h l (omega (arith, h, l))));
-  }
+module _ (r : Fork) (s after : Scene) (good : IsScene s) (w : IsWritten (fork_plan r) s) (takes : Takes false (inner_swap s.past.config r.upper r.middle r.lower (r.slot 0)) s after) where
+  stood-fresh : (n : ℕ) → n < 3 → StoodFresh (r.slot n) (r.image n) s.past.now after.past
+  stood-fresh n h = record { unreached = was-unreached (fork_plan r) s w n h good (inner_swap s.past.config r.upper r.middle r.lower (r.slot 0)) after takes; copied = stood (fork_plan r) s w n h good (inner_swap s.past.config r.upper r.middle r.lower (r.slot 0)) after takes }
 
   led-after : (here after).value r.upper.link ≡ r.slot 0 + 1
   led-after =
-      let v = f.planned.links in
-      let t : IsTurnable r.upper s = may s r.upper good v.down.upper_guard v.down.upper_thawed in
+      let v = w.ready.planned.links in
+      let t : IsTurnable r.upper s = links_may_be_turned s r.upper good v.down.upper_guard v.down.upper_thawed in
       takes.swaps.value r.upper.link
-      ∙ (inserted-other (freezing_entry s.past.config (parent_freezing r.middle r.lower)) (renewal_with s.past.config r.upper (r.slot 0) (parent_freezing r.upper r.middle ∷ [])) (here s).value r.upper.link (λ e. f.clear.link_node (sym e))
-      ∙ (inserted-other (freezing_entry s.past.config (parent_freezing r.upper r.middle)) (renewal r.upper (r.slot 0)) (here s).value r.upper.link (λ e. f.clear.link_parent (sym e))
+      ∙ (inserted-other (freezing_entry s.past.config (parent_freezing r.middle r.lower)) (renewal_with s.past.config r.upper (r.slot 0) (parent_freezing r.upper r.middle ∷ [])) (here s).value r.upper.link (λ e. w.ready.clear.link_node (sym e))
+      ∙ (inserted-other (freezing_entry s.past.config (parent_freezing r.upper r.middle)) (renewal r.upper (r.slot 0)) (here s).value r.upper.link (λ e. w.ready.clear.link_parent (sym e))
       ∙ sets-first (link_entry r.upper (r.slot 0)) (guard_entry r.upper) (here s).value r.upper.link refl (λ e. t.apart (sym e))))
 
   -- what the old parent and the node were stays known
   abbrev plan : IsPlan r.upper r.middle r.lower r.read r.above after.past
-  plan = planned-stays s.past after.past takes.continues r.upper r.middle r.lower r.read r.above f.planned
+  plan = planned-stays s.past after.past takes.continues r.upper r.middle r.lower r.read r.above w.ready.planned
 
   was-split : WasSplitInner r.upper r.middle after.past
   unfolding planned-stays has-links-stay
@@ -387,36 +243,131 @@ module _ (may : LinksMayBeTurned) (r : Fork) (s after : Scene) (good : IsScene s
     counted = plan.links.counted;
     before = s.past.now;
     since = omega (arith, plan.links.down.guard.since, plan.links.is_guarded);
-    order = guarded-now s.past after.past takes.continues r.upper r.middle r.lower f.planned.links;
+    order = guarded-now s.past after.past takes.continues r.upper r.middle r.lower w.ready.planned.links;
     counted_since = omega (arith, plan.links.node.guard.since, plan.links.is_counted);
-    counted_order = counted-now s.past after.past takes.continues r.upper r.middle r.lower f.planned.links;
+    counted_order = counted-now s.past after.past takes.continues r.upper r.middle r.lower w.ready.planned.links;
     now = omega (arith, takes.continues.now);
     old = plan.parent;
     node = plan.node;
-    parts = parts-stay s.past after.past takes.continues r.upper r.middle r.lower r.read r.above (r.image 1) (r.image 2) f.planned f.halves;
+    parts = parts-stay s.past after.past takes.continues r.upper r.middle r.lower r.read r.above (r.image 1) (r.image 2) w.ready.planned w.ready.halves;
     led = subst (λ (m : ℕ). (after.past.at m).value r.upper.link ≡ r.slot 0 + 1) takes.continues.now led-after;
-    parent = subst (λ z. StoodFresh (r.slot 0) z s.past.now after.past) (over-stays s.past after.past takes.continues r.upper r.middle r.lower r.read r.above f.planned (r.image 0) (r.slot 1) (r.slot 2) f.over) (stood 0 (omega arith));
-    left_half = stood 1 (omega arith);
-    right_half = stood 2 (omega arith);
+    parent = subst (λ z. StoodFresh (r.slot 0) z s.past.now after.past) (over-stays s.past after.past takes.continues r.upper r.middle r.lower r.read r.above w.ready.planned (r.image 0) (r.slot 1) (r.slot 2) w.ready.over) (stood-fresh 0 (omega arith));
+    left_half = stood-fresh 1 (omega arith);
+    right_half = stood-fresh 2 (omega arith);
   }
 
-pub took : LinksMayBeTurned → (c : Config) (r : Fork) (phase : Phase) (s after : Scene) (entries : List Entry) → s.past.config ≡ c → fork_facts r phase Waiting s → IsScene s → fork_asks c r phase ≡ Some (Swaps_for entries) → Takes false entries s after → fork_facts r phase Took after
-took may c r Swap s after entries same f good e takes =
-    let is : inner_swap s.past.config r.upper r.middle r.lower (r.slot 0) ≡ entries = ap (λ (z : Config). inner_swap z r.upper r.middle r.lower (r.slot 0)) same ∙ same-entries (inner_swap c r.upper r.middle r.lower (r.slot 0)) entries e in
-    (filled-after s after f.0 takes, was-split may r s after good f.1 (subst (λ (z : List Entry). Takes false z s after) (sym is) takes))
-took may c r Fresh s after entries same f good e takes = absurd (cc)
-took may c r Unread s after entries same f good e takes = absurd (cc)
-took may c r Tight s after entries same f good e takes = absurd (cc)
-took may c r (Word i) s after entries same f good e takes = absurd (cc)
-took may c r Again s after entries same f good e takes = absurd (cc)
-took may c r Room s after entries same f good e takes = absurd (cc)
-took may c r (Above i) s after entries same f good e takes = absurd (cc)
-took may c r Check s after entries same f good e takes = absurd (cc)
-took may c r Guard s after entries same f good e takes = absurd (cc)
-took may c r (Store j) s after entries same f good e takes = absurd (cc)
-took may c r (Flush j) s after entries same f good e takes = absurd (cc)
-took may c r Done s after entries same f good e takes = absurd (cc)
-took may c r Restart s after entries same f good e takes = absurd (cc)
-took may c r NoRoom s after entries same f good e takes = absurd (cc)
-took may c r NoSlot s after entries same f good e takes = absurd (cc)
-took may c r NoSwap s after entries same f good e takes = absurd (cc)
+pub good-plan : (r : Fork) → IsGoodPlan (fork_plan r)
+good-plan r = record {
+  effect = λ s y good w stand swaps. inner_splits_are_good _ s y r.upper r.middle r.lower (r.slot 0) (r.slot 1) (r.slot 2) w.ready.halves.cut w.ready.planned.sep good (inner-split r s w) stand swaps;
+  took = λ s after good w takes. was-split r s after good w takes;
+}
+
+-- the separator of whatever halves is that for which there is room
+same-separator : (r : Fork) (s : Scene) (v : IsPlanned r s.past) (left right sep : List ℕ) → ArePartsOfNode r.read left right sep → v.sep ≡ sep
+same-separator r s v left right sep parts =
+    one-separator s.past.config.nodes r.read v.left v.right v.sep left right sep v.node.level v.node.low v.node.high v.parts (parts s.past.config.nodes v.node.level v.node.low v.node.high v.node.node)
+
+-- the node that is split, and its parent, which has room
+pub planned-place : (c : Config) (r : Fork) (s : Scene) → s.past.config ≡ c → IsPlanned r s.past → HasPlace c.nodes r.middle.slot r.read r.above
+planned-place c r s same v =
+    let parent : HasParent s.past.config.nodes r.middle.slot v.sep r.above = record { level = v.parent.level; child = v.links.child; low = v.parent.low; high = v.parent.high; is = v.parent.parent } in
+    subst (λ (z : Config). HasPlace z.nodes r.middle.slot r.read r.above) same (record {
+      node = record {
+        full = record { nodes = s.past.config.nodes; level = v.node.level; low = v.node.low; high = v.node.high; node = v.node.node; many = v.many };
+        parent = λ left right sep parts. subst (λ z. HasParent s.past.config.nodes r.middle.slot z r.above) (same-separator r s v left right sep parts) parent;
+      };
+      room = λ left right sep parts. subst (HasRoom r.above) (same-separator r s v left right sep parts) v.room;
+    })
+
+pub at-guard : (r : Fork) (stage : Stage) (s : Scene) → write_facts (fork_plan r) Guard stage s → IsPlanned r s.past
+at-guard r Waiting s f = f.1
+at-guard r Took s f = absurd (f)
+
+-- where the upper guard is as the path names it, the nodes may be written
+pub looks-well : (o r : Fork) → ((p : Past) → IsPlanned o p → IsPlanned r p) → ((s : Scene) → Answers s o.upper.guard o.upper.status → Answers s r.upper.guard r.upper.status) → (c : Config)
+    → AreMadeOf c.nodes r.middle.slot r.read r.above (r.image 0) (r.image 1) (r.image 2) (r.slot 1) (r.slot 2) → (old new : FreeSlots) → old.nodes ≡ c.nodes → LooksWell (fork_plan o) (fork_plan r) old new
+looks-well o r planned answers c made old new same = record {
+  ready = λ s good nodes v a taken. (
+      let plan : IsPlanned r s.past = planned s.past v in
+      let found : Answers s r.upper.guard r.upper.status = answers s a in
+      let slots : HaveSlots s.past.config.nodes (fork_nodes r) = subst (λ z. HaveSlots z (fork_nodes r)) nodes taken.slots in
+      let is : AreMadeOf s.past.config.nodes r.middle.slot r.read r.above (r.image 0) (r.image 1) (r.image 2) (r.slot 1) (r.slot 2) = subst (λ z. AreMadeOf z r.middle.slot r.read r.above (r.image 0) (r.image 1) (r.image 2) (r.slot 1) (r.slot 2)) (sym same ∙ nodes) made in (
+        record {
+          planned = plan;
+          looked = answered-as-read s r.upper plan.links.counted (omega (arith, plan.links.node.guard.order, plan.links.node.guard.now, plan.links.is_counted)) found;
+          clear = are-clear guarded_links_stand ranges_stay slots_apart links_may_be_turned r.upper r.middle r.lower r.read r.above s good plan found.value;
+          halves = halves r s good plan is slots;
+          over = over r s good plan is slots;
+        },
+        are-plain r s good plan is slots,
+      ));
+  none = λ s good v. tt;
+}
+
+-- what is asked for may be asked for
+pub askable : (c : Config) (r : Fork) (phase : Phase) (s : Scene) (todo : Todo) → s.past.config ≡ c → fork_facts r phase Waiting s → IsScene s → fork_asks c r phase ≡ Some todo → IsAskable s todo
+askable c r Fresh s todo same f good e = absurd (cc)
+askable c r Unread s todo same f good e = subst (IsAskable s) (some-same _ todo e) (guard-readable s r.lower good f.1.0.links.node.guard)
+askable c r Tight s todo same f good e = subst (IsAskable s) (some-same _ todo e) (guard-readable s r.middle good f.1.links.down.guard)
+askable c r (Word i) s todo same f good e =
+    subst (IsAskable s) (some-same _ todo e)
+    (subst (λ (z : Config). IsReadable s (node_address z r.middle.slot + i)) same (word-readable r.upper r.middle r.lower s good f.1.1.1.links i f.1.1.0))
+askable c r Again s todo same f good e = subst (IsAskable s) (some-same _ todo e) (guard-readable s r.lower good f.1.links.node.guard)
+askable c r Room s todo same f good e = subst (IsAskable s) (some-same _ todo e) (guard-readable s r.middle good f.1.links.down.guard)
+askable c r (Above i) s todo same f good e =
+    subst (IsAskable s) (some-same _ todo e)
+    (subst (λ (z : Config). IsReadable s (node_address z r.upper.slot + i)) same (above-readable r.upper r.middle r.lower s good f.1.1.1.links i f.1.1.0))
+askable c r Check s todo same f good e = subst (IsAskable s) (some-same _ todo e) (guard-readable s r.middle good f.1.links.down.guard)
+askable c r NoRoom s todo same f good e = subst (IsAskable s) (some-same _ todo e) tt
+askable c r (Writing w) s todo same f good e = writer-askable (fork_plan r) (sound r) c s w todo same f good e
+
+-- a guard that differs has been changed since it was read
+pub cause : (c : Config) (r : Fork) (phase : Phase) (s : Scene) (seen : Seen) → fork_facts r phase Waiting s → fork_differs r.upper r.middle r.lower phase seen → IsCause (fork_asks c r phase) seen s
+cause c r Unread s (Was v) f d = inl (guard-differed s r.lower v f.1.0.links.node.guard d)
+cause c r Tight s (Was v) f d = inl (guard-differed s r.middle v f.1.links.down.guard d)
+cause c r Again s (Was v) f d = inl (guard-differed s r.lower v f.1.links.node.guard d)
+cause c r Room s (Was v) f d = inl (guard-differed s r.middle v f.1.links.down.guard d)
+cause c r Check s (Was v) f d = inl (guard-differed s r.middle v f.1.links.down.guard d)
+cause c r (Writing w) s seen f d = writer-cause (fork_plan r) (sound r) c s w seen f d
+cause c r phase s seen f d = absurd (d)
+
+pub few : (phase : Phase) → fork_needs phase ≤ SPLIT_SLOTS
+few (Writing w) = needs-few SPLIT_SLOTS w
+few phase = omega arith
+
+-- what the writer's end means
+of-writer : (upper middle : Link) (outcome : Outcome) (s : Scene) → means_of (WasSplitInner upper middle) (λ p. Unit {0}) outcome s → fork_means upper middle outcome s
+of-writer upper middle IsDone s m = m
+of-writer upper middle Restarts s m = tt
+of-writer upper middle (IsFull NoNodes) s m = tt
+of-writer upper middle (IsFull NoSwaps) s m = tt
+of-writer upper middle outcome s m = absurd (m)
+
+one-outcome : (a b : Outcome) → Some a ≡ Some b → a ≡ b
+one-outcome a b e = cc
+
+pub ends : (r : Fork) (phase : Phase) (s : Scene) (outcome : Outcome) → fork_facts r phase Waiting s → fork_end phase ≡ Some outcome → fork_means r.upper r.middle outcome s × HasFilled s
+ends r (Writing w) s outcome f e = let means = writer-ends (fork_plan r) (sound r) w s outcome f e in (of-writer r.upper r.middle outcome s means.0, means.1)
+ends r NoRoom s outcome f e = subst (λ z. fork_means r.upper r.middle z s × HasFilled s) (one-outcome NoneFits outcome e) (f.1, f.0)
+ends r phase s outcome f e = absurd (cc)
+
+-- what its acts lead to: it stores, flushes and swaps only while it writes
+module _ (c : Config) (r : Fork) (s after : Scene) (same : s.past.config ≡ c) where
+  at : (w : WritePhase) (asked : Option Todo) → write_asks c (fork_plan r) w ≡ asked → write_asks s.past.config (fork_plan r) w ≡ asked
+  at w asked e = ap (λ z. write_asks z (fork_plan r) w) same ∙ e
+
+  pub stored : (phase : Phase) (a v : ℕ) → fork_facts r phase Waiting s → fork_asks c r phase ≡ Some (Stores_at a v) → Stores a v s after → fork_facts r phase Took after
+  stored (Writing w) a v f e t = stored-here (fork_plan r) (sound r) s after w a v f (at w (Some (Stores_at a v)) e) t
+  stored phase a v f e t = absurd (cc)
+
+  pub flushed : (phase : Phase) (line : ℕ) → fork_facts r phase Waiting s → fork_asks c r phase ≡ Some (Flushes_line line) → Flushes line s after → fork_facts r phase Took after
+  flushed (Writing w) line f e t = flushed-here (fork_plan r) (sound r) s after w line f (at w (Some (Flushes_line line)) e) t
+  flushed phase line f e t = absurd (cc)
+
+  pub took : (phase : Phase) (entries : List Entry) → fork_facts r phase Waiting s → IsScene s → fork_asks c r phase ≡ Some (Swaps_for entries) → Takes false entries s after → fork_facts r phase Took after
+  took (Writing w) entries f good e takes = took-here (fork_plan r) (good-plan r) s after w entries f good (at w (Some (Swaps_for entries)) e) takes
+  took phase entries f good e takes = absurd (cc)
+
+pub effect : (c : Config) (r : Fork) (phase : Phase) (s : Scene) (y : Instant) (entries : List Entry) → s.past.config ≡ c → fork_facts r phase Waiting s → IsScene s → fork_asks c r phase ≡ Some (Swaps_for entries) → Stand entries (here s) → SwapsTo s.past.config entries (here s) y → IsGoodSwap false split_change entries s y
+effect c r (Writing w) s y entries same f good e stand swaps = effect-here (fork_plan r) (good-plan r) s w y entries f good (ap (λ z. write_asks z (fork_plan r) w) same ∙ e) stand swaps
+effect c r phase s y entries same f good e stand swaps = absurd (cc)

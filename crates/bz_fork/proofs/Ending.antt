@@ -1,6 +1,6 @@
 -- How a phase after an answer ends the task, if it does, and what answers to loads are.
 use Rattle.std.proofs.Common.{◌≡◌, ◌≢◌, ℕ, ◌<◌, ◌⊎◌, true, false, refl, sym, ap, ◌∙◌, inr}
-use Rattle.std.specs.Prelude.{◌≤◌, length, Some, None, ◌↔◌}
+use Rattle.std.specs.Prelude.{◌≤◌, length, Some, None}
 use Rattle.bz_call.specs.declared.replies.Spent.TheVariants.{Nodes as NoNodes, Swaps as NoSwaps}
 use Rattle.bz_layout.specs.Slots.{FreeSlots}
 use Rattle.bz_layout.specs.declared.config.Config.{Config}
@@ -14,84 +14,7 @@ use Rattle.bz_task.specs.declared.todo.Outcome.TheVariants.{Done as IsDone, Rest
 use Rattle.bz_task.specs.declared.todo.Seen.TheVariants.{Start, Read as Was, Stored, Flushed, Swapped, NoSwap as NoneLeft}
 use Rattle.bz_fork.specs.Facts.{Fork, fork_asks, fork_differs, fork_end, fork_needs}
 use Rattle.bz_fork.specs.declared.phase.Phase.{Phase}
-use Rattle.bz_fork.specs.declared.phase.Phase.TheVariants.{Fresh, Unread, Tight, Word, Again, Room, Above, Check, Guard, Store, Flush, Swap, Done, Restart, NoRoom, NoSlot, NoSwap}
-
--- how phases end
-ends-done : (p : Phase) → fork_end p ≡ Some IsDone → p ≡ Done
-ends-done Done e = refl
-ends-done Fresh e = absurd (cc)
-ends-done Unread e = absurd (cc)
-ends-done Tight e = absurd (cc)
-ends-done (Word i) e = absurd (cc)
-ends-done Again e = absurd (cc)
-ends-done Room e = absurd (cc)
-ends-done (Above i) e = absurd (cc)
-ends-done Check e = absurd (cc)
-ends-done Guard e = absurd (cc)
-ends-done (Store j) e = absurd (cc)
-ends-done (Flush j) e = absurd (cc)
-ends-done Swap e = absurd (cc)
-ends-done Restart e = absurd (cc)
-ends-done NoRoom e = absurd (cc)
-ends-done NoSlot e = absurd (cc)
-ends-done NoSwap e = absurd (cc)
-
-ends-restart : (p : Phase) → fork_end p ≡ Some Restarts → p ≡ Restart
-ends-restart Restart e = refl
-ends-restart Fresh e = absurd (cc)
-ends-restart Unread e = absurd (cc)
-ends-restart Tight e = absurd (cc)
-ends-restart (Word i) e = absurd (cc)
-ends-restart Again e = absurd (cc)
-ends-restart Room e = absurd (cc)
-ends-restart (Above i) e = absurd (cc)
-ends-restart Check e = absurd (cc)
-ends-restart Guard e = absurd (cc)
-ends-restart (Store j) e = absurd (cc)
-ends-restart (Flush j) e = absurd (cc)
-ends-restart Swap e = absurd (cc)
-ends-restart Done e = absurd (cc)
-ends-restart NoRoom e = absurd (cc)
-ends-restart NoSlot e = absurd (cc)
-ends-restart NoSwap e = absurd (cc)
-
-ends-no-swap : (p : Phase) → fork_end p ≡ Some (IsFull NoSwaps) → p ≡ NoSwap
-ends-no-swap NoSwap e = refl
-ends-no-swap Fresh e = absurd (cc)
-ends-no-swap Unread e = absurd (cc)
-ends-no-swap Tight e = absurd (cc)
-ends-no-swap (Word i) e = absurd (cc)
-ends-no-swap Again e = absurd (cc)
-ends-no-swap Room e = absurd (cc)
-ends-no-swap (Above i) e = absurd (cc)
-ends-no-swap Check e = absurd (cc)
-ends-no-swap Guard e = absurd (cc)
-ends-no-swap (Store j) e = absurd (cc)
-ends-no-swap (Flush j) e = absurd (cc)
-ends-no-swap Swap e = absurd (cc)
-ends-no-swap Done e = absurd (cc)
-ends-no-swap Restart e = absurd (cc)
-ends-no-swap NoRoom e = absurd (cc)
-ends-no-swap NoSlot e = absurd (cc)
-
-ends-no-slot : (p : Phase) → fork_end p ≡ Some (IsFull NoNodes) → p ≡ NoSlot
-ends-no-slot NoSlot e = refl
-ends-no-slot Fresh e = absurd (cc)
-ends-no-slot Unread e = absurd (cc)
-ends-no-slot Tight e = absurd (cc)
-ends-no-slot (Word i) e = absurd (cc)
-ends-no-slot Again e = absurd (cc)
-ends-no-slot Room e = absurd (cc)
-ends-no-slot (Above i) e = absurd (cc)
-ends-no-slot Check e = absurd (cc)
-ends-no-slot Guard e = absurd (cc)
-ends-no-slot (Store j) e = absurd (cc)
-ends-no-slot (Flush j) e = absurd (cc)
-ends-no-slot Swap e = absurd (cc)
-ends-no-slot Done e = absurd (cc)
-ends-no-slot Restart e = absurd (cc)
-ends-no-slot NoRoom e = absurd (cc)
-ends-no-slot NoSwap e = absurd (cc)
+use Rattle.bz_fork.specs.declared.phase.Phase.TheVariants.{Fresh, Unread, Tight, Again, Room, Check}
 
 -- a phase after another one, told of how it ends
 pub record EndsWell (upper middle lower : Link) (seen : Seen) (o p : Phase) (free : FreeSlots) : Type 0 where
@@ -100,15 +23,6 @@ pub record EndsWell (upper middle lower : Link) (seen : Seen) (o p : Phase) (fre
   pub no_swap : seen ≡ NoneLeft → fork_end p ≡ Some (IsFull NoSwaps)
   pub full_swaps : fork_end p ≡ Some (IsFull NoSwaps) → seen ≡ NoneLeft
   pub full_nodes : fork_end p ≡ Some (IsFull NoNodes) → length free.free < fork_needs o
-
-pub ends-well : (upper middle lower : Link) (seen : Seen) (o p : Phase) (free : FreeSlots) → (p ≡ Done → seen ≡ Swapped true) → (p ≡ Restart → (seen ≡ Swapped false) ⊎ fork_differs upper middle lower o seen) → (p ≡ NoSwap) ↔ (seen ≡ NoneLeft) → p ≢ NoSlot → EndsWell upper middle lower seen o p free
-ends-well upper middle lower seen o p free done restart no_swap slots = record {
-  done = λ e. done (ends-done p e);
-  restart = λ e. restart (ends-restart p e);
-  no_swap = λ e. ap fork_end (no_swap.1 e);
-  full_swaps = λ e. no_swap.0 (ends-no-swap p e);
-  full_nodes = λ e. absurd (slots (ends-no-slot p e));
-}
 
 -- an answer to a load
 pub was-read : (a : ℕ) (seen : Seen) → Hears (Some (Reads a)) seen → (v : ℕ) × (seen ≡ Was v)
@@ -147,14 +61,6 @@ other-lower upper middle lower Stored h ne = absurd (h)
 other-lower upper middle lower Flushed h ne = absurd (h)
 other-lower upper middle lower (Swapped won) h ne = absurd (h)
 other-lower upper middle lower NoneLeft h ne = absurd (h)
-
-pub other-upper : (upper middle lower : Link) (seen : Seen) → Hears (Some (Reads upper.guard)) seen → seen ≢ Was upper.status → fork_differs upper middle lower Guard seen
-other-upper upper middle lower (Was v) h ne = λ e. ne (ap Was e)
-other-upper upper middle lower Start h ne = absurd (h)
-other-upper upper middle lower Stored h ne = absurd (h)
-other-upper upper middle lower Flushed h ne = absurd (h)
-other-upper upper middle lower (Swapped won) h ne = absurd (h)
-other-upper upper middle lower NoneLeft h ne = absurd (h)
 
 pub other-middle : (upper middle lower : Link) (seen : Seen) → Hears (Some (Reads middle.guard)) seen → seen ≢ Was middle.status → fork_differs upper middle lower Check seen
 other-middle upper middle lower (Was v) h ne = λ e. ne (ap Was e)

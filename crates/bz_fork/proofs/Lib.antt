@@ -6,7 +6,6 @@ mod Staying
 mod Acting
 mod Ending
 mod Counting
-mod Ends
 mod Making
 mod Clearing
 mod Reading
@@ -15,8 +14,6 @@ mod ReadingOn
 mod ParentsThen
 mod Opening
 mod Telling
-mod Looking
-mod Writing
 mod Beginning
 mod Halving
 mod Starting

@@ -11,8 +11,9 @@ use Rattle.bz_task.specs.declared.todo.Seen.TheVariants.{Read as Was}
 use Rattle.bz_branch.specs.Nodes.{ParentsOfNodesWere}
 use Rattle.bz_branch.specs.Parts.{IsFullNode}
 use Rattle.bz_fork.specs.Facts.{Fork, HasReadNode, IsReadingAbove, HasOpened, fork_asks, fork_left, fork_steps, fork_needs, fork_facts, IsReadyFork}
+use Rattle.bz_writer.specs.declared.phase.WritePhase.TheVariants.{Restart}
 use Rattle.bz_fork.specs.declared.phase.Phase.{Phase}
-use Rattle.bz_fork.specs.declared.phase.Phase.TheVariants.{Fresh, Unread, Tight, Word, Again, Room, Above, Check, Guard, Store, Flush, Swap, Done, Restart, NoRoom, NoSlot, NoSwap}
+use Rattle.bz_fork.specs.declared.phase.Phase.TheVariants.{Fresh, Room, Above, NoRoom, Writing}
 use Rattle.bz_fork.proofs.Acting.{upper-slot}
 use Rattle.bz_fork.proofs.Ending.{EndsWell, goes-on, other-first, read-answers, was-no-swap}
 use Rattle.bz_fork.proofs.ParentsThen.{counted-since, counted-until, lacked-room}
@@ -55,21 +56,8 @@ opened-learns law have c r NoRoom seen stage s h good f t =
         lacked = lacked-room r s good g.1.links r.read n law (found c r seen stage s t h.0).value have a.left a.right a.sep parts h.1.room;
       },
     )
-opened-learns law have c r Restart seen stage s h good f t = (waits r stage s f).0
-opened-learns law have c r Fresh seen stage s h good f t = absurd (h)
-opened-learns law have c r Unread seen stage s h good f t = absurd (h)
-opened-learns law have c r Tight seen stage s h good f t = absurd (h)
-opened-learns law have c r (Word i) seen stage s h good f t = absurd (h)
-opened-learns law have c r Again seen stage s h good f t = absurd (h)
-opened-learns law have c r Room seen stage s h good f t = absurd (h)
-opened-learns law have c r Check seen stage s h good f t = absurd (h)
-opened-learns law have c r Guard seen stage s h good f t = absurd (h)
-opened-learns law have c r (Store j) seen stage s h good f t = absurd (h)
-opened-learns law have c r (Flush j) seen stage s h good f t = absurd (h)
-opened-learns law have c r Swap seen stage s h good f t = absurd (h)
-opened-learns law have c r Done seen stage s h good f t = absurd (h)
-opened-learns law have c r NoSlot seen stage s h good f t = absurd (h)
-opened-learns law have c r NoSwap seen stage s h good f t = absurd (h)
+opened-learns law have c r (Writing Restart) seen stage s h good f t = (waits r stage s f).0
+opened-learns law have c r p seen stage s h good f t = absurd (h)
 
 -- what it leads to
 pub record Opens (r : Fork) (c : Config) (seen : Seen) (p : Phase) (free : FreeSlots) : Type 0 where
@@ -90,9 +78,9 @@ opens r c seen NoRoom free stage s same good f hears h = record {
   fewer = omega arith;
   ends = record { done = λ e. absurd (cc); restart = λ e. absurd (cc); no_swap = λ e. absurd (was-no-swap r.middle.guard seen hears e); full_swaps = λ e. absurd (cc); full_nodes = λ e. absurd (cc) };
 }
-opens r c seen Restart free stage s same good f hears h = record {
+opens r c seen (Writing Restart) free stage s same good f hears h = record {
   begun = λ e. absurd (cc);
-  ready = tt;
+  ready = ((λ e. absurd (cc)), tt);
   nearer = omega arith;
   fewer = omega arith;
   ends = record {
@@ -103,17 +91,4 @@ opens r c seen Restart free stage s same good f hears h = record {
     full_nodes = λ e. absurd (cc);
   };
 }
-opens r c seen Fresh free stage s same good f hears h = absurd (h)
-opens r c seen Unread free stage s same good f hears h = absurd (h)
-opens r c seen Tight free stage s same good f hears h = absurd (h)
-opens r c seen (Word i) free stage s same good f hears h = absurd (h)
-opens r c seen Again free stage s same good f hears h = absurd (h)
-opens r c seen Room free stage s same good f hears h = absurd (h)
-opens r c seen Check free stage s same good f hears h = absurd (h)
-opens r c seen Guard free stage s same good f hears h = absurd (h)
-opens r c seen (Store j) free stage s same good f hears h = absurd (h)
-opens r c seen (Flush j) free stage s same good f hears h = absurd (h)
-opens r c seen Swap free stage s same good f hears h = absurd (h)
-opens r c seen Done free stage s same good f hears h = absurd (h)
-opens r c seen NoSlot free stage s same good f hears h = absurd (h)
-opens r c seen NoSwap free stage s same good f hears h = absurd (h)
+opens r c seen p free stage s same good f hears h = absurd (h)

@@ -14,8 +14,9 @@ use Rattle.bz_task.specs.declared.todo.Seen.TheVariants.{Read as Was}
 use Rattle.bz_branch.specs.FromBelow.Parents.{WereRead}
 use Rattle.bz_branch.specs.Nodes.{WasInner, ReadNodesWere}
 use Rattle.bz_fork.specs.Facts.{Fork, HasLinks, IsReading, HasRead, fork_asks, fork_left, fork_steps, fork_needs, fork_facts, IsReadyFork}
+use Rattle.bz_writer.specs.declared.phase.WritePhase.TheVariants.{Restart}
 use Rattle.bz_fork.specs.declared.phase.Phase.{Phase}
-use Rattle.bz_fork.specs.declared.phase.Phase.TheVariants.{Fresh, Unread, Tight, Word, Again, Room, Above, Check, Guard, Store, Flush, Swap, Done, Restart, NoRoom, NoSlot, NoSwap}
+use Rattle.bz_fork.specs.declared.phase.Phase.TheVariants.{Fresh, Again, Room, Writing}
 use Rattle.bz_fork.proofs.Ending.{EndsWell, goes-on, other-lower, read-answers, was-no-swap}
 
 -- the node, where its status is found as it was
@@ -43,22 +44,8 @@ read-learns law c r Room seen stage s h good f t =
     let g = waits r stage s f in
     let w = was-inner law r s good g.1.links r.read g.1.were (found-now c r seen stage s t h) in
     (g.0, record { links = g.1.links; node = w; many = is-many r s g.1.links r.read g.1.were.first w; above = g.1.above })
-read-learns law c r Restart seen stage s h good f t = (waits r stage s f).0
-read-learns law c r Fresh seen stage s h good f t = absurd (h)
-read-learns law c r Unread seen stage s h good f t = absurd (h)
-read-learns law c r Tight seen stage s h good f t = absurd (h)
-read-learns law c r (Word i) seen stage s h good f t = absurd (h)
-read-learns law c r Again seen stage s h good f t = absurd (h)
-read-learns law c r (Above i) seen stage s h good f t = absurd (h)
-read-learns law c r Check seen stage s h good f t = absurd (h)
-read-learns law c r Guard seen stage s h good f t = absurd (h)
-read-learns law c r (Store j) seen stage s h good f t = absurd (h)
-read-learns law c r (Flush j) seen stage s h good f t = absurd (h)
-read-learns law c r Swap seen stage s h good f t = absurd (h)
-read-learns law c r Done seen stage s h good f t = absurd (h)
-read-learns law c r NoRoom seen stage s h good f t = absurd (h)
-read-learns law c r NoSlot seen stage s h good f t = absurd (h)
-read-learns law c r NoSwap seen stage s h good f t = absurd (h)
+read-learns law c r (Writing Restart) seen stage s h good f t = (waits r stage s f).0
+read-learns law c r p seen stage s h good f t = absurd (h)
 
 -- what it leads to
 pub record Ons (r : Fork) (c : Config) (seen : Seen) (p : Phase) (free : FreeSlots) : Type 0 where
@@ -71,9 +58,9 @@ pub record Ons (r : Fork) (c : Config) (seen : Seen) (p : Phase) (free : FreeSlo
 pub reads : (r : Fork) (c : Config) (seen : Seen) (p : Phase) (free : FreeSlots) → Hears (fork_asks c r Again) seen → HasRead r seen p → Ons r c seen p free
 reads r c seen Room free hears h =
     record { begun = λ e. absurd (cc); ready = tt; nearer = omega arith; fewer = omega arith; ends = goes-on r.upper r.middle r.lower seen Again Room free refl (was-no-swap r.lower.guard seen hears) }
-reads r c seen Restart free hears h = record {
+reads r c seen (Writing Restart) free hears h = record {
   begun = λ e. absurd (cc);
-  ready = tt;
+  ready = ((λ e. absurd (cc)), tt);
   nearer = omega arith;
   fewer = omega arith;
   ends = record {
@@ -84,18 +71,4 @@ reads r c seen Restart free hears h = record {
     full_nodes = λ e. absurd (cc);
   };
 }
-reads r c seen Fresh free hears h = absurd (h)
-reads r c seen Unread free hears h = absurd (h)
-reads r c seen Tight free hears h = absurd (h)
-reads r c seen (Word i) free hears h = absurd (h)
-reads r c seen Again free hears h = absurd (h)
-reads r c seen (Above i) free hears h = absurd (h)
-reads r c seen Check free hears h = absurd (h)
-reads r c seen Guard free hears h = absurd (h)
-reads r c seen (Store j) free hears h = absurd (h)
-reads r c seen (Flush j) free hears h = absurd (h)
-reads r c seen Swap free hears h = absurd (h)
-reads r c seen Done free hears h = absurd (h)
-reads r c seen NoRoom free hears h = absurd (h)
-reads r c seen NoSlot free hears h = absurd (h)
-reads r c seen NoSwap free hears h = absurd (h)
+reads r c seen p free hears h = absurd (h)

@@ -15,8 +15,9 @@ use Rattle.bz_branch.specs.FromBelow.Facts.{words_with}
 use Rattle.bz_branch.specs.Nodes.{ParentsOfNodesWere}
 use Rattle.bz_fork.specs.Facts.{Fork, HasPassedNode, TakesNoChild, HasRefused, LackedPart, IsReadyFork, fork_asks, fork_left, fork_steps, fork_needs, fork_facts}
 use Rattle.bz_fork.specs.Halves.{HasHalves, FullNodesHaveHalves}
+use Rattle.bz_writer.specs.declared.phase.WritePhase.TheVariants.{Restart}
 use Rattle.bz_fork.specs.declared.phase.Phase.{Phase}
-use Rattle.bz_fork.specs.declared.phase.Phase.TheVariants.{Fresh, Tight, Restart, NoRoom}
+use Rattle.bz_fork.specs.declared.phase.Phase.TheVariants.{Fresh, Tight, NoRoom, Writing}
 use Rattle.bz_fork.proofs.Ending.{EndsWell, other-tight, read-answers, was-no-swap}
 use Rattle.bz_fork.proofs.ParentsThen.{counted-since, counted-until, lacked-room}
 
@@ -51,7 +52,7 @@ lacked law have halve r s good g now =
 -- what the status of the parent, once more, teaches
 pub refused-learns : ParentsOfNodesWere → ReadNodesHaveChildren → FullNodesHaveHalves → (c : Config) (r : Fork) (p : Phase) (seen : Seen) (stage : Stage) (s : Scene) → HasRefused r seen p → IsScene s → fork_facts r Tight stage s → Tells (fork_asks c r Tight) stage seen s → fork_facts r p Waiting s
 refused-learns law have halve c r NoRoom seen stage s h good f t = let g = waits r stage s f in (g.0, lacked law have halve r s good g.1 (found-now c r seen stage s t h))
-refused-learns law have halve c r Restart seen stage s h good f t = (waits r stage s f).0
+refused-learns law have halve c r (Writing Restart) seen stage s h good f t = (waits r stage s f).0
 refused-learns law have halve c r p seen stage s h good f t = absurd (h)
 
 -- what it leads to
@@ -70,9 +71,9 @@ refuses r c seen NoRoom free hears h = record {
   fewer = omega arith;
   ends = record { done = λ e. absurd (cc); restart = λ e. absurd (cc); no_swap = λ e. absurd (was-no-swap r.middle.guard seen hears e); full_swaps = λ e. absurd (cc); full_nodes = λ e. absurd (cc) };
 }
-refuses r c seen Restart free hears h = record {
+refuses r c seen (Writing Restart) free hears h = record {
   begun = λ e. absurd (cc);
-  ready = tt;
+  ready = ((λ e. absurd (cc)), tt);
   nearer = omega arith;
   fewer = omega arith;
   ends = record {

@@ -6,21 +6,20 @@ use Rattle.bz_layout.specs.declared.sizes.TheConstants.{NODE_WORDS}
 use Rattle.bz_halves.specs.Parents.{parted_words}
 use Rattle.bz_node.specs.Reading.{children_in}
 use Rattle.bz_task.specs.Instant.{Instant}
-use Rattle.bz_task.specs.Laws.{NothingIsGained}
+use Rattle.bz_task.proofs.Proved.{nothing_is_gained}
 use Rattle.bz_task.specs.OwnActs.{gained}
 use Rattle.bz_task.specs.Scene.{Past, Scene, Stage, Waiting, Took, IsLawful, Continues, HasFilled}
 use Rattle.bz_task.specs.declared.path.Link.{Link}
-use Rattle.bz_renew.specs.Guards.{WasAsRead}
 use Rattle.bz_renew.proofs.Guards.{as-read-stays}
-use Rattle.bz_renew.proofs.NodeWrites.{nodes-stay, begun-stays, nodes-no-slot, begun-no-slot}
-use Rattle.bz_branch.specs.FromSplit.Facts.{SPLIT_WORDS, SPLIT_LINES}
+use Rattle.bz_writer.specs.Laws.{IsSoundPlan}
+use Rattle.bz_writer.proofs.Staying.{stable as writer-stable, no-slot as writer-no-slot}
 use Rattle.bz_branch.proofs.FromSplit.Staying.{stood-stays}
 use Rattle.bz_branch.specs.FromBelow.Facts.{LackedRoom}
 use Rattle.bz_branch.specs.Parts.{AreHalvesOfNode}
 use Rattle.bz_branch.proofs.Staying.{open-stays, open-guarded, links-stay, links-guarded, links-child, read-stays, inner-stays, parent-stays, halves-stay}
-use Rattle.bz_fork.specs.Facts.{Fork, fork_nodes, HasLinks, IsReading, HasPassedNode, HasReadNode, IsReadingAbove, IsPlan, LackedPart, AreClear, IsSplitting, WasSplitInner, fork_facts}
+use Rattle.bz_fork.specs.Facts.{Fork, fork_plan, HasLinks, IsReading, HasPassedNode, HasReadNode, IsReadingAbove, IsPlan, LackedPart, AreClear, IsSplitting, WasSplitInner, fork_facts}
 use Rattle.bz_fork.specs.declared.phase.Phase.{Phase}
-use Rattle.bz_fork.specs.declared.phase.Phase.TheVariants.{Fresh, Unread, Tight, Word, Again, Room, Above, Check, Guard, Store, Flush, Swap, Done, Restart, NoRoom, NoSlot, NoSwap}
+use Rattle.bz_fork.specs.declared.phase.Phase.TheVariants.{Fresh, Unread, Tight, Word, Again, Room, Above, Check, NoRoom, Writing}
 
 module _ (p q : Past) (c : Continues p q) where
   unfoldable pub has-links-stay : (upper middle lower : Link) → HasLinks upper middle lower p → HasLinks upper middle lower q
@@ -96,10 +95,6 @@ module _ (p q : Past) (c : Continues p q) where
     room = v.room;
   }
 
-  pub looked-stays : (upper middle lower : Link) (read above : List ℕ) (v : IsPlan upper middle lower read above p) → WasAsRead upper v.links.counted p → WasAsRead upper (planned-stays upper middle lower read above v).links.counted q
-  unfolding planned-stays has-links-stay
-  looked-stays upper middle lower read above v w = as-read-stays p q c upper v.links.counted w
-
   -- the halves, and the parent with them, are those of the same nodes
   pub parts-stay : (upper middle lower : Link) (read above left right : List ℕ) (v : IsPlan upper middle lower read above p) → AreHalvesOfNode p.config.nodes read left right v.sep v.node.level v.node.low v.node.high
       → AreHalvesOfNode q.config.nodes read left right (planned-stays upper middle lower read above v).sep (planned-stays upper middle lower read above v).node.level (planned-stays upper middle lower read above v).node.low (planned-stays upper middle lower read above v).node.high
@@ -141,7 +136,7 @@ module _ (p q : Past) (c : Continues p q) where
     lacked = lacked-stays upper middle v.sep v.lacked;
   }
 
-  split-stays : (upper middle : Link) → WasSplitInner upper middle p → WasSplitInner upper middle q
+  pub split-stays : (upper middle : Link) → WasSplitInner upper middle p → WasSplitInner upper middle q
   unfolding inner-stays parent-stays
   split-stays upper middle t = record {
     parent_slot = t.parent_slot;
@@ -170,18 +165,17 @@ module _ (p q : Past) (c : Continues p q) where
     right_half = stood-stays p q c upper t.left t.right t.sep t.right_slot t.before t.right t.now t.right_half;
   }
 
-module _ (r : Fork) (s after : Scene) (l : IsLawful s after) where
-  splitting : (stored lines : ℕ) → IsSplitting r stored lines s → IsSplitting r stored lines after
-  splitting stored lines f = record {
-    planned = planned-stays s.past after.past l.continues r.upper r.middle r.lower r.read r.above f.planned;
-    looked = looked-stays s.past after.past l.continues r.upper r.middle r.lower r.read r.above f.planned f.looked;
-    clear = clear-stays s.past after.past l.continues r.upper r.middle f.clear;
-    halves = parts-stay s.past after.past l.continues r.upper r.middle r.lower r.read r.above (r.image 1) (r.image 2) f.planned f.halves;
-    over = over-stays s.past after.past l.continues r.upper r.middle r.lower r.read r.above f.planned (r.image 0) (r.slot 1) (r.slot 2) f.over;
-    plain = f.plain;
-    writing = nodes-stay (fork_nodes r) stored lines s after f.writing l;
-  }
+pub splitting-stays : (p q : Past) → Continues p q → (r : Fork) → IsSplitting r p → IsSplitting r q
+unfolding planned-stays has-links-stay
+splitting-stays p q c r f = record {
+  planned = planned-stays p q c r.upper r.middle r.lower r.read r.above f.planned;
+  looked = as-read-stays p q c r.upper f.planned.links.counted f.looked;
+  clear = clear-stays p q c r.upper r.middle f.clear;
+  halves = parts-stay p q c r.upper r.middle r.lower r.read r.above (r.image 1) (r.image 2) f.planned f.halves;
+  over = over-stays p q c r.upper r.middle r.lower r.read r.above f.planned (r.image 0) (r.slot 1) (r.slot 2) f.over;
+}
 
+module _ (r : Fork) (sound : IsSoundPlan (fork_plan r)) (s after : Scene) (l : IsLawful s after) where
   filled : HasFilled s → HasFilled after
   filled f k t = l.filled k ∙ f k (sym (l.took k) ∙ t)
 
@@ -194,61 +188,13 @@ module _ (r : Fork) (s after : Scene) (l : IsLawful s after) where
   stable Room Waiting f = (filled f.0, node-stays s.past after.past l.continues r f.1)
   stable (Above i) Waiting f = (filled f.0, (f.1.0, (f.1.1.0, above-stays s.past after.past l.continues r i f.1.1.1)))
   stable Check Waiting f = (filled f.0, above-stays s.past after.past l.continues r NODE_WORDS f.1)
-  stable Guard Waiting f = (filled f.0, planned-stays s.past after.past l.continues r.upper r.middle r.lower r.read r.above f.1)
-  stable (Store j) Waiting f = (begun-stays (fork_nodes r) j s after f.0 l, (f.1.0, splitting j 0 f.1.1))
-  stable (Store j) Took f = (begun-stays (fork_nodes r) (j + 1) s after f.0 l, (f.1.0, splitting (j + 1) 0 f.1.1))
-  stable (Flush j) Waiting f = (filled f.0, (f.1.0, splitting SPLIT_WORDS j f.1.1))
-  stable (Flush j) Took f = (filled f.0, (f.1.0, splitting SPLIT_WORDS (j + 1) f.1.1))
-  stable Swap Waiting f = (filled f.0, splitting SPLIT_WORDS SPLIT_LINES f.1)
-  stable Swap Took f = (filled f.0, split-stays s.past after.past l.continues r.upper r.middle f.1)
-  stable Done Waiting f = (filled f.0, split-stays s.past after.past l.continues r.upper r.middle f.1)
   stable NoRoom Waiting f = (filled f.0, part-stays s.past after.past l.continues r.upper r.middle f.1)
-  stable Restart Waiting f = filled f
-  stable NoSlot Waiting f = filled f
-  stable NoSwap Waiting f = filled f
-  stable Fresh Took f = absurd (f)
-  stable Unread Took f = absurd (f)
-  stable Tight Took f = absurd (f)
-  stable (Word i) Took f = absurd (f)
-  stable Again Took f = absurd (f)
-  stable Room Took f = absurd (f)
-  stable (Above i) Took f = absurd (f)
-  stable Check Took f = absurd (f)
-  stable Guard Took f = absurd (f)
-  stable Done Took f = absurd (f)
-  stable NoRoom Took f = absurd (f)
-  stable Restart Took f = absurd (f)
-  stable NoSlot Took f = absurd (f)
-  stable NoSwap Took f = absurd (f)
+  stable (Writing w) stage f = writer-stable (fork_plan r) sound s after l w stage f
+  stable phase Took f = absurd (f)
 
 -- it stays where no slot is taken
-module _ (nothing : NothingIsGained) (r : Fork) (s : Scene) (free : FreeSlots) where
-  splitting-too : (stored lines : ℕ) → IsSplitting r stored lines s → IsSplitting r stored lines (gained s free free)
-  splitting-too stored lines f = record {
-    planned = f.planned;
-    looked = f.looked;
-    clear = f.clear;
-    halves = f.halves;
-    over = f.over;
-    plain = f.plain;
-    writing = nodes-no-slot (fork_nodes r) stored lines s free f.writing;
-  }
-
+module _ (r : Fork) (s : Scene) (free : FreeSlots) where
   pub no-slot : (phase : Phase) → fork_facts r phase Waiting s → fork_facts r phase Waiting (gained s free free)
   no-slot Fresh f = f
-  no-slot Unread f = (nothing s free f.0, f.1)
-  no-slot Tight f = (nothing s free f.0, f.1)
-  no-slot (Word i) f = (nothing s free f.0, f.1)
-  no-slot Again f = (nothing s free f.0, f.1)
-  no-slot Room f = (nothing s free f.0, f.1)
-  no-slot (Above i) f = (nothing s free f.0, f.1)
-  no-slot Check f = (nothing s free f.0, f.1)
-  no-slot Guard f = (nothing s free f.0, f.1)
-  no-slot (Store j) f = (begun-no-slot (fork_nodes r) j s free f.0, (f.1.0, splitting-too j 0 f.1.1))
-  no-slot (Flush j) f = (nothing s free f.0, (f.1.0, splitting-too SPLIT_WORDS j f.1.1))
-  no-slot Swap f = (nothing s free f.0, splitting-too SPLIT_WORDS SPLIT_LINES f.1)
-  no-slot Done f = (nothing s free f.0, f.1)
-  no-slot NoRoom f = (nothing s free f.0, f.1)
-  no-slot Restart f = nothing s free f
-  no-slot NoSlot f = nothing s free f
-  no-slot NoSwap f = nothing s free f
+  no-slot (Writing w) f = writer-no-slot (fork_plan r) s free w f
+  no-slot phase f = (nothing_is_gained s free f.0, f.1)

@@ -14,8 +14,9 @@ use Rattle.bz_renew.specs.Standing.{GuardedLinksStand}
 use Rattle.bz_branch.specs.FromBelow.Parents.{WasParent}
 use Rattle.bz_branch.specs.Nodes.{ParentsOfNodesWere}
 use Rattle.bz_fork.specs.Facts.{Fork, IsReadingAbove, HasTold, fork_asks, fork_left, fork_steps, fork_needs, fork_facts, IsReadyFork}
+use Rattle.bz_writer.specs.declared.phase.WritePhase.TheVariants.{Guard, Restart}
 use Rattle.bz_fork.specs.declared.phase.Phase.{Phase}
-use Rattle.bz_fork.specs.declared.phase.Phase.TheVariants.{Fresh, Unread, Tight, Word, Again, Room, Above, Check, Guard, Store, Flush, Swap, Done, Restart, NoRoom, NoSlot, NoSwap}
+use Rattle.bz_fork.specs.declared.phase.Phase.TheVariants.{Fresh, Check, Writing}
 use Rattle.bz_fork.proofs.Ending.{EndsWell, goes-on, other-middle, read-answers, was-no-swap}
 use Rattle.bz_fork.proofs.ParentsThen.{was-parent, levels, two}
 use Rattle.bz_branch.proofs.FromBelow.ParentsThen.{taken}
@@ -30,7 +31,7 @@ waits r Took s f = absurd (f)
 
 -- what the status of the parent, once more, teaches
 pub told-learns : ParentsOfNodesWere → GuardedLinksStand → RangesStay → ReadNodesHaveChildren → (c : Config) (r : Fork) (p : Phase) (seen : Seen) (stage : Stage) (s : Scene) → HasTold r seen p → IsScene s → fork_facts r Check stage s → Tells (fork_asks c r Check) stage seen s → fork_facts r p Waiting s
-told-learns law stand ranges have c r Guard seen stage s h good f t =
+told-learns law stand ranges have c r (Writing Guard) seen stage s h good f t =
     let g = waits r stage s f in
     let now = found-now c r seen stage s t h in
     let v = g.1.links in
@@ -53,22 +54,8 @@ told-learns law stand ranges have c r Guard seen stage s h good f t =
         room = omega (arith, g.1.fits.room, taken have s.past.config.nodes r.middle.slot a.sep r.above w.level v.child w.low w.high r.middle.status w.parent g.1.above.first);
       },
     )
-told-learns law stand ranges have c r Restart seen stage s h good f t = (waits r stage s f).0
-told-learns law stand ranges have c r Fresh seen stage s h good f t = absurd (h)
-told-learns law stand ranges have c r Unread seen stage s h good f t = absurd (h)
-told-learns law stand ranges have c r Tight seen stage s h good f t = absurd (h)
-told-learns law stand ranges have c r (Word i) seen stage s h good f t = absurd (h)
-told-learns law stand ranges have c r Again seen stage s h good f t = absurd (h)
-told-learns law stand ranges have c r Room seen stage s h good f t = absurd (h)
-told-learns law stand ranges have c r (Above i) seen stage s h good f t = absurd (h)
-told-learns law stand ranges have c r Check seen stage s h good f t = absurd (h)
-told-learns law stand ranges have c r (Store j) seen stage s h good f t = absurd (h)
-told-learns law stand ranges have c r (Flush j) seen stage s h good f t = absurd (h)
-told-learns law stand ranges have c r Swap seen stage s h good f t = absurd (h)
-told-learns law stand ranges have c r Done seen stage s h good f t = absurd (h)
-told-learns law stand ranges have c r NoRoom seen stage s h good f t = absurd (h)
-told-learns law stand ranges have c r NoSlot seen stage s h good f t = absurd (h)
-told-learns law stand ranges have c r NoSwap seen stage s h good f t = absurd (h)
+told-learns law stand ranges have c r (Writing Restart) seen stage s h good f t = (waits r stage s f).0
+told-learns law stand ranges have c r p seen stage s h good f t = absurd (h)
 
 -- what it leads to
 pub record Tolds (r : Fork) (c : Config) (seen : Seen) (p : Phase) (free : FreeSlots) : Type 0 where
@@ -79,11 +66,11 @@ pub record Tolds (r : Fork) (c : Config) (seen : Seen) (p : Phase) (free : FreeS
   pub ends : EndsWell r.upper r.middle r.lower seen Check p free
 
 pub tolds : (r : Fork) (c : Config) (seen : Seen) (p : Phase) (free : FreeSlots) → Hears (fork_asks c r Check) seen → HasTold r seen p → Tolds r c seen p free
-tolds r c seen Guard free hears h =
-    record { begun = λ e. absurd (cc); ready = tt; nearer = omega arith; taken = inr (record { fewer = omega arith; slots = refl }); ends = goes-on r.upper r.middle r.lower seen Check Guard free refl (was-no-swap r.middle.guard seen hears) }
-tolds r c seen Restart free hears h = record {
+tolds r c seen (Writing Guard) free hears h =
+    record { begun = λ e. absurd (cc); ready = ((λ e. absurd (cc)), tt); nearer = omega arith; taken = inr (record { fewer = omega arith; slots = refl }); ends = goes-on r.upper r.middle r.lower seen Check (Writing Guard) free refl (was-no-swap r.middle.guard seen hears) }
+tolds r c seen (Writing Restart) free hears h = record {
   begun = λ e. absurd (cc);
-  ready = tt;
+  ready = ((λ e. absurd (cc)), tt);
   nearer = omega arith;
   taken = inr (record { fewer = omega arith; slots = refl });
   ends = record {
@@ -94,18 +81,4 @@ tolds r c seen Restart free hears h = record {
     full_nodes = λ e. absurd (cc);
   };
 }
-tolds r c seen Fresh free hears h = absurd (h)
-tolds r c seen Unread free hears h = absurd (h)
-tolds r c seen Tight free hears h = absurd (h)
-tolds r c seen (Word i) free hears h = absurd (h)
-tolds r c seen Again free hears h = absurd (h)
-tolds r c seen Room free hears h = absurd (h)
-tolds r c seen (Above i) free hears h = absurd (h)
-tolds r c seen Check free hears h = absurd (h)
-tolds r c seen (Store j) free hears h = absurd (h)
-tolds r c seen (Flush j) free hears h = absurd (h)
-tolds r c seen Swap free hears h = absurd (h)
-tolds r c seen Done free hears h = absurd (h)
-tolds r c seen NoRoom free hears h = absurd (h)
-tolds r c seen NoSlot free hears h = absurd (h)
-tolds r c seen NoSwap free hears h = absurd (h)
+tolds r c seen p free hears h = absurd (h)

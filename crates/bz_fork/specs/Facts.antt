@@ -1,27 +1,26 @@
 -- What the split of an inner node below a parent knows, and what it asks for.
-use Rattle.std.specs.Prelude.{◌≡◌, ◌≢◌, ℕ, ◌+◌, ◌-◌, ◌*◌, ◌^◌, ◌<◌, ◌≤◌, ◌⊎◌, nat_lt, if◌then◌else◌, true, false, List, [], ◌∷◌, Option, Some, None, length}
+use Rattle.std.specs.Prelude.{◌≡◌, ◌≢◌, ℕ, ◌+◌, ◌-◌, ◌*◌, ◌^◌, ◌<◌, ◌≤◌, nat_lt, if◌then◌else◌, false, List, [], ◌∷◌, Option, Some, None, length}
 use Rattle.bz_call.specs.declared.replies.Spent.TheVariants.{Nodes as NoNodes, Swaps as NoSwaps}
 use Rattle.bz_layout.specs.Addresses.{node_address}
-use Rattle.bz_layout.specs.Slots.{FreeSlots}
 use Rattle.bz_layout.specs.declared.config.Config.{Config}
 use Rattle.bz_layout.specs.declared.sizes.TheConstants.{NODE_WORDS, STATUS_AT, SHARED_WORDS}
 use Rattle.bz_layout.specs.declared.thresholds.TheConstants.{INNER_LIMIT, SPLIT_SLOTS}
 use Rattle.bz_node.specs.Reading.{children_in}
 use Rattle.bz_task.specs.FromSwap.SwapMemory.{is_target}
 use Rattle.bz_word.specs.Statuses.{status}
-use Rattle.bz_task.specs.Scene.{Past, Scene, Stage, Waiting, Took, HasFilled}
+use Rattle.bz_task.specs.Scene.{Past, Scene, Stage, Waiting, HasFilled}
 use Rattle.bz_task.specs.declared.path.Link.{Link}
 use Rattle.bz_task.specs.declared.todo.Outcome.{Outcome}
 use Rattle.bz_task.specs.declared.todo.Outcome.TheVariants.{Done as IsDone, Restart as Restarts, Full as IsFull, NeedsRoom as NoneFits}
 use Rattle.bz_task.specs.declared.todo.Seen.{Seen}
-use Rattle.bz_task.specs.declared.todo.Seen.TheVariants.{Read as Was, Swapped, NoSwap as NoneLeft}
+use Rattle.bz_task.specs.declared.todo.Seen.TheVariants.{Read as Was}
 use Rattle.bz_task.specs.declared.todo.Todo.{Todo}
-use Rattle.bz_task.specs.declared.todo.Todo.TheVariants.{Read as Reads, Store as Stores_at, Flush as Flushes_line, Swap as Swaps_for, Finish}
+use Rattle.bz_task.specs.declared.todo.Todo.TheVariants.{Read as Reads, Finish}
 use Rattle.bz_halves.specs.Parents.{parted_words}
 use Rattle.bz_parted.specs.Parting.{child_words}
 use Rattle.bz_renew.specs.Freezings.{renewal_with}
 use Rattle.bz_renew.specs.Guards.{WasAsRead}
-use Rattle.bz_renew.specs.Nodes.{Nodes, word_address, word_value, line_number, AreWriting, ArePlain, HaveSlots, HasFilledBegun, AreSlotsTaken}
+use Rattle.bz_renew.specs.Nodes.{Nodes}
 use Rattle.bz_renew.specs.Renewals.{renewal}
 use Rattle.bz_branch.specs.FromSplit.BelowSplits.{AreLinksDown, parent_freezing}
 use Rattle.bz_branch.specs.FromSplit.Facts.{SPLIT_WORDS, SPLIT_LINES, StoodFresh}
@@ -30,8 +29,12 @@ use Rattle.bz_branch.specs.FromBelow.Parents.{WereRead, WasParent}
 use Rattle.bz_branch.specs.InnerSplits.{inner_swap}
 use Rattle.bz_branch.specs.Nodes.{IsOpenLink, WasInner}
 use Rattle.bz_branch.specs.Parts.{IsFullNode, AreHalvesOfNode, ArePartsOfNode}
+use Rattle.bz_writer.specs.Facts.{write_asks, write_facts, write_differs, write_ready}
+use Rattle.bz_writer.specs.Phases.{write_end, write_left, write_swaps, write_needs}
+use Rattle.bz_writer.specs.Plans.{Plan}
+use Rattle.bz_writer.specs.declared.phase.WritePhase.TheVariants.{Fresh as Unbegun, Guard, Flush, Restart}
 use Rattle.bz_fork.specs.declared.phase.Phase.{Phase}
-use Rattle.bz_fork.specs.declared.phase.Phase.TheVariants.{Fresh, Unread, Tight, Word, Again, Room, Above, Check, Guard, Store, Flush, Swap, Done, Restart, NoRoom, NoSlot, NoSwap}
+use Rattle.bz_fork.specs.declared.phase.Phase.TheVariants.{Fresh, Unread, Tight, Word, Again, Room, Above, Check, NoRoom, Writing}
 use Rattle.bz_fork.specs.declared.room.TheConstants.{LEAST_CHILD_WORDS}
 
 -- the links to the parent and to the node, and one in the node; the slots and the words of the new parent, of the left half and of
@@ -47,103 +50,6 @@ pub record Fork : Type 0 where
 
 abbrev pub fork_nodes : Fork → Nodes
 fork_nodes r = record { count = SPLIT_SLOTS; slot = r.slot; image = r.image }
-
-abbrev pub fork_asks : Config → Fork → Phase → Option Todo
-fork_asks c r Fresh = None
-fork_asks c r Unread = Some (Reads r.lower.guard)
-fork_asks c r Tight = Some (Reads r.middle.guard)
-fork_asks c r (Word i) = Some (Reads (node_address c r.middle.slot + i))
-fork_asks c r Again = Some (Reads r.lower.guard)
-fork_asks c r Room = Some (Reads r.middle.guard)
-fork_asks c r (Above i) = Some (Reads (node_address c r.upper.slot + i))
-fork_asks c r Check = Some (Reads r.middle.guard)
-fork_asks c r Guard = Some (Reads r.upper.guard)
-fork_asks c r (Store j) = Some (Stores_at (word_address c (fork_nodes r) j) (word_value (fork_nodes r) j))
-fork_asks c r (Flush j) = Some (Flushes_line (line_number c (fork_nodes r) j))
-fork_asks c r Swap = Some (Swaps_for (inner_swap c r.upper r.middle r.lower (r.slot 0)))
-fork_asks c r phase = Some Finish
-
-abbrev pub fork_end : Phase → Option Outcome
-fork_end Done = Some IsDone
-fork_end Restart = Some Restarts
-fork_end NoRoom = Some NoneFits
-fork_end NoSlot = Some (IsFull NoNodes)
-fork_end NoSwap = Some (IsFull NoSwaps)
-fork_end phase = None
-
--- the most steps: the loads of the words of node and parent and of the three guards, that of the parent twice, a store for each word, a
--- flush for each line, which counts two, the swap, and the end
-abbrev pub fork_acts : ℕ
-fork_acts = NODE_WORDS + (NODE_WORDS + SPLIT_WORDS + 2 * SPLIT_LINES + 4)
-
--- of these steps so many are done at most where the parent lacks the room: the loads of the node's words and of its status, that of the
--- parent's status, and the end
-abbrev pub fork_fails : ℕ
-fork_fails = NODE_WORDS + 2
-
--- the most swaps that are still asked for: that of the link to the parent, until it has ended. Where it ended for want of room it has not
--- asked for it
-abbrev pub fork_swaps : Phase → ℕ
-fork_swaps Done = 0
-fork_swaps Restart = 0
-fork_swaps NoSlot = 0
-fork_swaps NoSwap = 0
-fork_swaps phase = 1
-
-abbrev pub fork_left : Phase → ℕ
-fork_left Fresh = fork_acts
-fork_left Unread = fork_acts - 1
-fork_left Tight = fork_acts - 2
-fork_left (Word i) = fork_acts - i
-fork_left Again = NODE_WORDS + SPLIT_WORDS + 2 * SPLIT_LINES + 4
-fork_left Room = NODE_WORDS + SPLIT_WORDS + 2 * SPLIT_LINES + 3
-fork_left NoRoom = fork_acts - fork_fails
-fork_left (Above i) = NODE_WORDS + SPLIT_WORDS + 2 * SPLIT_LINES + 3 - i
-fork_left Check = SPLIT_WORDS + 2 * SPLIT_LINES + 3
-fork_left Guard = SPLIT_WORDS + 2 * SPLIT_LINES + 2
-fork_left (Store j) = SPLIT_WORDS + 2 * SPLIT_LINES + 1 - j
-fork_left (Flush j) = 2 * (SPLIT_LINES - j)
-fork_left Swap = 1
-fork_left phase = 0
-
--- the steps of what is asked for
-abbrev pub fork_steps : Phase → ℕ
-fork_steps (Flush j) = 2
-fork_steps phase = 1
-
--- the slots are taken when all guards have been looked at again: none where it ended for want of room
-abbrev pub fork_needs : Phase → ℕ
-fork_needs Fresh = SPLIT_SLOTS
-fork_needs Unread = SPLIT_SLOTS
-fork_needs Tight = SPLIT_SLOTS
-fork_needs (Word i) = SPLIT_SLOTS
-fork_needs Again = SPLIT_SLOTS
-fork_needs Room = SPLIT_SLOTS
-fork_needs (Above i) = SPLIT_SLOTS
-fork_needs Check = SPLIT_SLOTS
-fork_needs Guard = SPLIT_SLOTS
-fork_needs NoRoom = SPLIT_SLOTS
-fork_needs phase = 0
-
--- after a word comes the next one that is read, or the status once more
-abbrev pub word_after : ℕ → Phase
-word_after next = if nat_lt next NODE_WORDS then Word next else Again
-
-abbrev pub above_after : ℕ → Phase
-above_after next = if nat_lt next NODE_WORDS then Above next else Check
-
--- after a store comes the next one, or the first flush; after a flush the next one, or the swap
-abbrev pub store_after : ℕ → Phase
-store_after j = if nat_lt (j + 1) SPLIT_WORDS then Store (j + 1) else Flush 0
-
-abbrev pub flush_after : ℕ → Phase
-flush_after j = if nat_lt (j + 1) SPLIT_LINES then Flush (j + 1) else Swap
-
--- after the swap comes an end
-abbrev pub swap_after : Seen → Phase
-swap_after (Swapped true) = Done
-swap_after NoneLeft = NoSwap
-swap_after seen = Restart
 
 -- the three links were read, each in the node to which the one before leads. The status of the parent was read at moment `guarded`,
 -- that of the node at moment `counted`, and counts more words than an inner node may keep; the middle link was that to child `child`
@@ -252,17 +158,14 @@ pub record AreClear (c : Config) (upper middle : Link) : Type 0 where
   pub guard_node : upper.guard ≢ node_address c middle.slot + STATUS_AT
   pub two : upper.slot ≢ middle.slot
 
--- since the node's status was read the upper guard was looked at again, and was as the path names it; the three nodes are being
--- written, the first of them the new parent, the others the node's halves: so many of their words are stored, and so many of their
--- lines durable
-pub record IsSplitting (r : Fork) (stored lines : ℕ) (s : Scene) : Type 0 where
-  pub planned : IsPlanned r s.past
-  pub looked : WasAsRead r.upper planned.links.counted s.past
-  pub clear : AreClear s.past.config r.upper r.middle
-  pub halves : AreHalvesOfNode s.past.config.nodes r.read (r.image 1) (r.image 2) planned.sep planned.node.level planned.node.low planned.node.high
+-- and since the node's status was read the upper guard was looked at again, and was as the path names it; the first node is the new parent,
+-- the others are the node's halves
+pub record IsSplitting (r : Fork) (p : Past) : Type 0 where
+  pub planned : IsPlanned r p
+  pub looked : WasAsRead r.upper planned.links.counted p
+  pub clear : AreClear p.config r.upper r.middle
+  pub halves : AreHalvesOfNode p.config.nodes r.read (r.image 1) (r.image 2) planned.sep planned.node.level planned.node.low planned.node.high
   pub over : r.image 0 ≡ parent_words r planned.sep planned.links.child planned.parent.level planned.parent.low planned.parent.high
-  pub plain : ArePlain (fork_nodes r)
-  pub writing : AreWriting (fork_nodes r) stored lines s
 
 -- at a moment since the look-up began the upper link led to a new parent: what the old one was at an earlier one, with the two halves of
 -- what the node was in the place of the child to which the middle link led. To none of the three a link had led one moment before
@@ -292,6 +195,95 @@ pub record WasSplitInner (upper middle : Link) (p : Past) : Type 0 where
   pub left_half : StoodFresh left_slot left before p
   pub right_half : StoodFresh right_slot right before p
 
+-- the swap may be made: its targets are different words
+pub record IsSwapReady (c : Config) (r : Fork) : Type 0 where
+  pub upper_plain : r.upper.status < 2 ^ 61
+  pub middle_plain : r.middle.status < 2 ^ 61
+  pub lower_plain : r.lower.status < 2 ^ 61
+  pub apart : r.upper.link ≢ r.upper.guard
+  pub upper_slot : r.upper.slot < c.nodes
+  pub slot : r.middle.slot < c.nodes
+  pub target : is_target (renewal r.upper (r.slot 0)) (node_address c r.upper.slot + STATUS_AT) ≡ false
+  pub node_target : is_target (renewal_with c r.upper (r.slot 0) (parent_freezing r.upper r.middle ∷ [])) (node_address c r.middle.slot + STATUS_AT) ≡ false
+
+-- the new parent and the halves are written, and the upper link goes to the parent; the old one and the node are frozen
+abbrev pub fork_plan : Fork → Plan
+fork_plan r = record {
+  nodes = fork_nodes r;
+  guard = r.upper.guard;
+  status = r.upper.status;
+  entries = λ c. inner_swap c r.upper r.middle r.lower (r.slot 0);
+  nameable = λ c. IsSwapReady c r;
+  -- the node
+  basis = record { slot = r.middle.slot; nodes = [] };
+  planned = IsPlanned r;
+  ready = IsSplitting r;
+  done = WasSplitInner r.upper r.middle;
+  none = λ p. Unit {0};
+}
+
+abbrev pub fork_asks : Config → Fork → Phase → Option Todo
+fork_asks c r Fresh = None
+fork_asks c r Unread = Some (Reads r.lower.guard)
+fork_asks c r Tight = Some (Reads r.middle.guard)
+fork_asks c r (Word i) = Some (Reads (node_address c r.middle.slot + i))
+fork_asks c r Again = Some (Reads r.lower.guard)
+fork_asks c r Room = Some (Reads r.middle.guard)
+fork_asks c r (Above i) = Some (Reads (node_address c r.upper.slot + i))
+fork_asks c r Check = Some (Reads r.middle.guard)
+fork_asks c r (Writing w) = write_asks c (fork_plan r) w
+fork_asks c r NoRoom = Some Finish
+
+abbrev pub fork_end : Phase → Option Outcome
+fork_end NoRoom = Some NoneFits
+fork_end (Writing w) = write_end w
+fork_end phase = None
+
+-- the most steps: the loads of the words of node and parent and of the three guards, that of the parent twice, a store for each word, a
+-- flush for each line, which counts two, the swap, and the end
+abbrev pub fork_acts : ℕ
+fork_acts = NODE_WORDS + (NODE_WORDS + SPLIT_WORDS + 2 * SPLIT_LINES + 4)
+
+-- of these steps so many are done at most where the parent lacks the room: the loads of the node's words and of its status, that of the
+-- parent's status, and the end
+abbrev pub fork_fails : ℕ
+fork_fails = NODE_WORDS + 2
+
+-- the most swaps that are still asked for: that of the link to the parent, until it has ended. Where it ended for want of room it has not
+-- asked for it
+abbrev pub fork_swaps : Phase → ℕ
+fork_swaps (Writing w) = write_swaps w
+fork_swaps phase = 1
+
+abbrev pub fork_left : Phase → ℕ
+fork_left Fresh = fork_acts
+fork_left Unread = fork_acts - 1
+fork_left Tight = fork_acts - 2
+fork_left (Word i) = fork_acts - i
+fork_left Again = NODE_WORDS + SPLIT_WORDS + 2 * SPLIT_LINES + 4
+fork_left Room = NODE_WORDS + SPLIT_WORDS + 2 * SPLIT_LINES + 3
+fork_left NoRoom = fork_acts - fork_fails
+fork_left (Above i) = NODE_WORDS + SPLIT_WORDS + 2 * SPLIT_LINES + 3 - i
+fork_left Check = SPLIT_WORDS + 2 * SPLIT_LINES + 3
+fork_left (Writing w) = write_left SPLIT_SLOTS w
+
+-- the steps of what is asked for
+abbrev pub fork_steps : Phase → ℕ
+fork_steps (Writing (Flush j)) = 2
+fork_steps phase = 1
+
+-- the slots are taken when all guards have been looked at again: none where it ended for want of room
+abbrev pub fork_needs : Phase → ℕ
+fork_needs (Writing w) = write_needs SPLIT_SLOTS w
+fork_needs phase = SPLIT_SLOTS
+
+-- after a word comes the next one that is read, or the status once more
+abbrev pub word_after : ℕ → Phase
+word_after next = if nat_lt next NODE_WORDS then Word next else Again
+
+abbrev pub above_after : ℕ → Phase
+above_after next = if nat_lt next NODE_WORDS then Above next else Check
+
 abbrev pub fork_facts : Fork → Phase → Stage → Scene → Type 0
 fork_facts r Fresh Waiting s = IsReading r 1 s.past
 fork_facts r Unread Waiting s = HasFilled s × (IsReading r 1 s.past × TakesNoChild r.middle.status)
@@ -301,26 +293,9 @@ fork_facts r Again Waiting s = HasFilled s × IsReading r NODE_WORDS s.past
 fork_facts r Room Waiting s = HasFilled s × HasReadNode r s.past
 fork_facts r (Above i) Waiting s = HasFilled s × ((0 < i) × ((i < NODE_WORDS) × IsReadingAbove r i s.past))
 fork_facts r Check Waiting s = HasFilled s × IsReadingAbove r NODE_WORDS s.past
-fork_facts r Guard Waiting s = HasFilled s × IsPlanned r s.past
-fork_facts r (Store j) Waiting s = HasFilledBegun (fork_nodes r) j s × ((j < SPLIT_WORDS) × IsSplitting r j 0 s)
-fork_facts r (Store j) Took s = HasFilledBegun (fork_nodes r) (j + 1) s × ((j < SPLIT_WORDS) × IsSplitting r (j + 1) 0 s)
-fork_facts r (Flush j) Waiting s = HasFilled s × ((j < SPLIT_LINES) × IsSplitting r SPLIT_WORDS j s)
-fork_facts r (Flush j) Took s = HasFilled s × ((j < SPLIT_LINES) × IsSplitting r SPLIT_WORDS (j + 1) s)
-fork_facts r Swap Waiting s = HasFilled s × IsSplitting r SPLIT_WORDS SPLIT_LINES s
-fork_facts r Swap Took s = HasFilled s × WasSplitInner r.upper r.middle s.past
-fork_facts r Done Waiting s = HasFilled s × WasSplitInner r.upper r.middle s.past
 fork_facts r NoRoom Waiting s = HasFilled s × LackedPart r.upper r.middle s.past
-fork_facts r Fresh Took s = ⊥
-fork_facts r Unread Took s = ⊥
-fork_facts r Tight Took s = ⊥
-fork_facts r (Word i) Took s = ⊥
-fork_facts r Again Took s = ⊥
-fork_facts r Room Took s = ⊥
-fork_facts r (Above i) Took s = ⊥
-fork_facts r Check Took s = ⊥
-fork_facts r Guard Took s = ⊥
-fork_facts r phase Waiting s = HasFilled s
-fork_facts r phase Took s = ⊥
+fork_facts r (Writing w) stage s = write_facts (fork_plan r) w stage s
+fork_facts r phase stage s = ⊥
 
 -- what its end means: the upper link led to a fresh parent with the two halves; or the parent lacked the room; else nothing is known
 -- beyond why it ended
@@ -348,27 +323,14 @@ fork_differs upper middle lower Tight (Was v) = v ≢ middle.status
 fork_differs upper middle lower Again (Was v) = v ≢ lower.status
 fork_differs upper middle lower Room (Was v) = v ≢ middle.status
 fork_differs upper middle lower Check (Was v) = v ≢ middle.status
-fork_differs upper middle lower Guard (Was v) = v ≢ upper.status
+fork_differs upper middle lower (Writing w) seen = write_differs upper.status w seen
 fork_differs upper middle lower phase seen = ⊥
-
--- the swap may be made: its targets are different words
-pub record IsSwapReady (c : Config) (r : Fork) : Type 0 where
-  pub upper_plain : r.upper.status < 2 ^ 61
-  pub middle_plain : r.middle.status < 2 ^ 61
-  pub lower_plain : r.lower.status < 2 ^ 61
-  pub apart : r.upper.link ≢ r.upper.guard
-  pub upper_slot : r.upper.slot < c.nodes
-  pub slot : r.middle.slot < c.nodes
-  pub target : is_target (renewal r.upper (r.slot 0)) (node_address c r.upper.slot + STATUS_AT) ≡ false
-  pub node_target : is_target (renewal_with c r.upper (r.slot 0) (parent_freezing r.upper r.middle ∷ [])) (node_address c r.middle.slot + STATUS_AT) ≡ false
 
 -- what is named is there
 abbrev pub IsReadyFork : Config → Fork → Phase → Type 0
 IsReadyFork c r (Word i) = (r.middle.slot < c.nodes) × (i < NODE_WORDS)
 IsReadyFork c r (Above i) = (r.upper.slot < c.nodes) × (i < NODE_WORDS)
-IsReadyFork c r (Store j) = HaveSlots c.nodes (fork_nodes r) × (j < SPLIT_WORDS)
-IsReadyFork c r (Flush j) = HaveSlots c.nodes (fork_nodes r) × (j < SPLIT_LINES)
-IsReadyFork c r Swap = HaveSlots c.nodes (fork_nodes r) × IsSwapReady c r
+IsReadyFork c r (Writing w) = (w ≢ Unbegun) × write_ready c (fork_plan r) w
 IsReadyFork c r phase = Unit {0}
 
 -- the node's words are those of one above its limit; the parent's words are those of one that may be parted at the node's place by the
@@ -389,18 +351,6 @@ pub record AreMadeOf (nodes slot : ℕ) (read above parent left right : List ℕ
   pub over : IsNewParent nodes slot left_slot right_slot sep above parent
   pub size : length parent ≡ NODE_WORDS
 
--- three slots were taken, and the nodes are made; or there were not so many
-abbrev pub HasBegunFork : ℕ → Fork → Phase → FreeSlots → FreeSlots → Type 0
-HasBegunFork nodes r (Store j) old new =
-    (j ≡ 0) × (AreSlotsTaken (fork_nodes r) old new × AreMadeOf nodes r.middle.slot r.read r.above (r.image 0) (r.image 1) (r.image 2) (r.slot 1) (r.slot 2))
-HasBegunFork nodes r NoSlot old new = (length old.free < SPLIT_SLOTS) × (new ≡ old)
-HasBegunFork nodes r phase old new = ⊥
-
--- that is where the upper guard was as the path names it; elsewhere none was taken
-abbrev pub HasLookedFork : ℕ → Fork → Seen → Phase → FreeSlots → FreeSlots → Type 0
-HasLookedFork nodes r seen phase old new =
-    ((seen ≡ Was r.upper.status) × HasBegunFork nodes r phase old new) ⊎ ((seen ≢ Was r.upper.status) × ((phase ≡ Restart) × (new ≡ old)))
-
 -- the node's words are read, unless the parent's status leaves room for no child
 abbrev pub IsFirst : Fork → Phase → Type 0
 IsFirst r Unread = TakesNoChild r.middle.status
@@ -410,30 +360,30 @@ IsFirst r phase = ⊥
 -- where they are not read, and the node's status is as it was, the parent's is looked at once more
 abbrev pub HasPassed : Fork → Seen → Phase → Type 0
 HasPassed r seen Tight = seen ≡ Was r.lower.status
-HasPassed r seen Restart = seen ≢ Was r.lower.status
+HasPassed r seen (Writing Restart) = seen ≢ Was r.lower.status
 HasPassed r seen phase = ⊥
 
 -- and where that is as it was too, the task ends
 abbrev pub HasRefused : Fork → Seen → Phase → Type 0
 HasRefused r seen NoRoom = seen ≡ Was r.middle.status
-HasRefused r seen Restart = seen ≢ Was r.middle.status
+HasRefused r seen (Writing Restart) = seen ≢ Was r.middle.status
 HasRefused r seen phase = ⊥
 
 -- where the node's status is as it was, the parent's is looked at
 abbrev pub HasRead : Fork → Seen → Phase → Type 0
 HasRead r seen Room = seen ≡ Was r.lower.status
-HasRead r seen Restart = seen ≢ Was r.lower.status
+HasRead r seen (Writing Restart) = seen ≢ Was r.lower.status
 HasRead r seen phase = ⊥
 
 -- where that is as it was, it tells whether there is room: only then the parent's words are read
 abbrev pub HasOpened : Fork → Seen → Phase → Type 0
 HasOpened r seen (Above i) = (i ≡ 1) × ((seen ≡ Was r.middle.status) × FitsParts r.read r.middle.status)
 HasOpened r seen NoRoom = (seen ≡ Was r.middle.status) × LacksParts r.read r.middle.status
-HasOpened r seen Restart = seen ≢ Was r.middle.status
+HasOpened r seen (Writing Restart) = seen ≢ Was r.middle.status
 HasOpened r seen phase = ⊥
 
 -- where it is once more as it was, the upper guard is looked at
 abbrev pub HasTold : Fork → Seen → Phase → Type 0
-HasTold r seen Guard = seen ≡ Was r.middle.status
-HasTold r seen Restart = seen ≢ Was r.middle.status
+HasTold r seen (Writing Guard) = seen ≡ Was r.middle.status
+HasTold r seen (Writing Restart) = seen ≢ Was r.middle.status
 HasTold r seen phase = ⊥

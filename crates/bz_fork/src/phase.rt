@@ -1,5 +1,7 @@
 //! The phases of a split of an inner node below a parent.
 
+use bz_writer::WritePhase;
+
 /// What a split of an inner node below a parent asks for next.
 #[derive(Clone, Copy, Drop)]
 pub(crate) enum Phase {
@@ -19,22 +21,8 @@ pub(crate) enum Phase {
     Above(u32),
     /// The load of the parent's status, once more.
     Check,
-    /// The load of the guard of the link to the parent, once more.
-    Guard,
-    /// The store of one of the words of its three nodes, counted through.
-    Store(u32),
-    /// The flush of one of their lines, counted through.
-    Flush(u32),
-    /// The swap of the link to the parent, its guard, and the statuses of the parent and of the node.
-    Swap,
-    /// The swap took effect.
-    Done,
-    /// A guard or a link was another one, at a load of a guard or at the swap.
-    Restart,
     /// The parent has no room for the separator.
     NoRoom,
-    /// Fewer than three slots were left.
-    NoSlot,
-    /// No descriptor was left.
-    NoSwap,
+    /// The writing, from the load of the guard of the link to the parent on, once more, or its end: at a load of a guard before it, too.
+    Writing(WritePhase),
 }

@@ -4,7 +4,8 @@ ghost use Rattle.std.specs.Prelude.{◌≡◌, ◌≢◌, ◌↔◌, ◌+◌, �
 ghost use Rattle.bz_layout.specs.Config.{IsConfig};
 ghost use Rattle.bz_layout.specs.declared.thresholds.TheConstants.{SPLIT_SLOTS, MAX_LEVELS};
 ghost use Rattle.bz_renew.specs.Nodes.{word_value};
-ghost use Rattle.bz_task.specs.Contract.{IsBegun};
+ghost use Rattle.bz_task.specs.Contract.{IsBegun, MayHear, GoesOn, Learns};
+ghost use Rattle.bz_writer.specs.Facts.{write_asks, write_ready, write_view};
 ghost use Rattle.bz_task.specs.Outcomes.{IsPath};
 ghost use Rattle.bz_task.specs.OwnActs.{AreTakenFrom, AreUnreached, gained};
 ghost use Rattle.bz_task.specs.Requests.{Hears, Tells, IsKnown, swaps_in, effects_in};
@@ -15,26 +16,31 @@ ghost use Rattle.bz_branch.specs.FromSplit.Facts.{split_change};
 ghost use Rattle.bz_branch.specs.Parts.{IsFullNode};
 ghost use Rattle.bz_fork.specs.Due.{IsDue};
 ghost use Rattle.bz_fork.specs.Duties.{fork_of, asks_fork, end_fork, left_fork, swaps_fork, needs_fork, facts_fork, differs_fork, fork_view};
-ghost use Rattle.bz_fork.specs.Facts.{fork_nodes, fork_acts, fork_end, fork_left, fork_steps, fork_swaps, fork_facts, IsEndOfFork, HasBegunFork, HasLookedFork, HasRead, HasOpened, HasTold, AreMadeOf, HasPlace, IsReadyFork, WasSplitInner, LackedPart, fork_needs, IsFirst, HasPassed, HasRefused, word_after, above_after, store_after, flush_after, swap_after};
+ghost use Rattle.bz_fork.specs.Facts.{fork_acts, fork_plan, fork_nodes, fork_steps, IsEndOfFork, HasRead, HasOpened, HasTold, AreMadeOf, HasPlace, IsReadyFork, WasSplitInner, LackedPart, IsFirst, HasPassed, HasRefused, word_after, above_after};
 
 use crate::laws::full_nodes_have_halves;
 use crate::parent::parent_with;
 use crate::phase::Phase;
 use crate::room::takes_no_child;
-use bz_branch::laws::{inner_splits_are_good, parents_of_nodes_were, read_nodes_were};
-use bz_branch::{is_read, leaves_room, link_at, parts_of, swap_freezing_two, word_in};
+use bz_branch::laws::{parents_of_nodes_were, read_nodes_were};
+use bz_branch::{leaves_room, link_at, parts_of, swap_freezing_two};
 use bz_call::Spent;
 use bz_gaps::{first_word, next_place};
-use bz_layout::{Config, LINE_WORDS, NODE_WORDS, SPLIT_SLOTS, Slots};
+use bz_layout::{Config, NODE_WORDS, SPLIT_SLOTS, Slots};
 use bz_node::NodeImage;
-use bz_renew::{is_whole, take_three};
+use bz_renew::is_whole;
 use bz_task::{LeafView, Link, Outcome, Path, Seen, Task, Todo, laws};
-
-const NODE_LINES: u32 = NODE_WORDS / LINE_WORDS;
+use bz_writer::{WritePhase, flush_at, is_read, look, store_at, word_in};
 
 const SPLIT_WORDS: u32 = NODE_WORDS * SPLIT_SLOTS;
 
-const SPLIT_LINES: u32 = NODE_LINES * SPLIT_SLOTS;
+// The new parent and the halves.
+#[derive(Clone, Copy, Drop)]
+struct Made {
+    parent: NodeImage,
+    left: NodeImage,
+    right: NodeImage,
+}
 
 /// The split of an inner node of a path, below a parent. It ends with Done where a new parent, with the node's halves in its place, has
 /// taken the old one's place, and both are frozen; with Restart where a link or a status was another one; with NeedsRoom where the
@@ -117,7 +123,7 @@ impl SplitInner {
         if is_read(seen, self.lower.status) {
             Phase::Tight
         } else {
-            Phase::Restart
+            Phase::Writing(WritePhase::Restart)
         }
     }
 
@@ -126,7 +132,7 @@ impl SplitInner {
         ensures { HasRefused (fork_of self.now) seen result }
     {
         if !is_read(seen, self.middle.status) {
-            return Phase::Restart;
+            return Phase::Writing(WritePhase::Restart);
         }
         Phase::NoRoom
     }
@@ -138,7 +144,7 @@ impl SplitInner {
         if is_read(seen, self.lower.status) {
             Phase::Room
         } else {
-            Phase::Restart
+            Phase::Writing(WritePhase::Restart)
         }
     }
 
@@ -149,7 +155,7 @@ impl SplitInner {
         ensures { HasOpened (fork_of self.now) seen result }
     {
         if !is_read(seen, self.middle.status) {
-            return Phase::Restart;
+            return Phase::Writing(WritePhase::Restart);
         }
         let separator = parts_of(&self.read).separator;
         if leaves_room(self.middle.status, &separator) {
@@ -164,24 +170,16 @@ impl SplitInner {
         ensures { HasTold (fork_of self.now) seen result }
     {
         if is_read(seen, self.middle.status) {
-            Phase::Guard
+            Phase::Writing(WritePhase::Guard)
         } else {
-            Phase::Restart
+            Phase::Writing(WritePhase::Restart)
         }
     }
 
-    // Makes the new parent and the halves, for these slots.
-    fn make(&mut self, slots: [u16; 3])
-        requires { HasPlace self.old.config.nodes self.old.middle.slot self.old.read.0 self.old.above.0 }
-        ensures config { self.new.config ≡ self.old.config }
-        ensures upper { self.new.upper ≡ self.old.upper }
-        ensures middle { self.new.middle ≡ self.old.middle }
-        ensures lower { self.new.lower ≡ self.old.lower }
-        ensures read { self.new.read ≡ self.old.read }
-        ensures above { self.new.above ≡ self.old.above }
-        ensures slots { self.new.slots ≡ slots }
-        ensures phase { self.new.phase ≡ self.old.phase }
-        ensures made { AreMadeOf self.old.config.nodes self.new.middle.slot self.new.read.0 self.new.above.0 self.new.parent.0 self.new.left.0 self.new.right.0 (slice_index slots 1) (slice_index slots 2) }
+    // The new parent and the halves, for these slots.
+    fn make(&self, slots: [u16; 3]) -> Made
+        requires { HasPlace self.now.config.nodes self.now.middle.slot self.now.read.0 self.now.above.0 }
+        ensures { AreMadeOf self.now.config.nodes self.now.middle.slot self.now.read.0 self.now.above.0 result.parent.0 result.left.0 result.right.0 (slice_index slots 1) (slice_index slots 2) }
     {
         let halves = parts_of(&self.read);
         let slot = self.middle.slot;
@@ -190,84 +188,38 @@ impl SplitInner {
             unreachable!();
         };
         is_whole(&parent);
-        self.parent = parent;
-        self.left = halves.left;
-        self.right = halves.right;
-        self.slots = slots;
-    }
-
-    // The phase with which the nodes are begun: the first store, where three slots are left.
-    fn begin(&mut self, slots: &mut Slots)
-        requires { HasPlace self.old.config.nodes self.old.middle.slot self.old.read.0 self.old.above.0 }
-        ensures config { self.new.config ≡ self.old.config }
-        ensures upper { self.new.upper ≡ self.old.upper }
-        ensures middle { self.new.middle ≡ self.old.middle }
-        ensures lower { self.new.lower ≡ self.old.lower }
-        ensures read { self.new.read ≡ self.old.read }
-        ensures above { self.new.above ≡ self.old.above }
-        ensures begun { HasBegunFork self.old.config.nodes (fork_of self.new) self.new.phase slots.old slots.new }
-    {
-        match take_three(slots) {
-            Some(taken) => {
-                self.make(taken);
-                self.phase = Phase::Store(0);
-            }
-            None => self.phase = Phase::NoSlot,
+        Made {
+            parent,
+            left: halves.left,
+            right: halves.right,
         }
     }
 
-    // The phase after another look at the upper guard: the nodes are begun where it is as the path names it.
-    fn look(&mut self, seen: Seen, slots: &mut Slots)
-        requires { HasPlace self.old.config.nodes self.old.middle.slot self.old.read.0 self.old.above.0 }
+    // The next phase of the writing: the nodes are made when the slots are taken.
+    fn write(&mut self, phase: WritePhase, seen: Seen, slots: &mut Slots, moment: u32) -> WritePhase
+        requires { MayHear (write_view self.old.config (fork_plan (fork_of self.old)) phase) seen moment slots.old }
         ensures config { self.new.config ≡ self.old.config }
         ensures upper { self.new.upper ≡ self.old.upper }
         ensures middle { self.new.middle ≡ self.old.middle }
-        ensures lower { self.new.lower ≡ self.old.lower }
-        ensures read { self.new.read ≡ self.old.read }
-        ensures above { self.new.above ≡ self.old.above }
-        ensures looked { HasLookedFork self.old.config.nodes (fork_of self.new) seen self.new.phase slots.old slots.new }
-    {
-        if is_read(seen, self.upper.status) {
-            self.begin(slots);
-        } else {
-            self.phase = Phase::Restart;
-        }
-    }
-
-    // The phase after what came of a store, a flush or the swap.
-    fn after(&self, seen: Seen, moment: u32) -> Phase
-        requires begun { self.now.phase ≢ Phase.Fresh }
-        requires passed { self.now.phase ≢ Phase.Unread }
-        requires refused { self.now.phase ≢ Phase.Tight }
-        requires read { (i : ℕ) → self.now.phase ≢ Phase.Word i }
-        requires again { self.now.phase ≢ Phase.Again }
-        requires opened { self.now.phase ≢ Phase.Room }
-        requires above { (i : ℕ) → self.now.phase ≢ Phase.Above i }
-        requires told { self.now.phase ≢ Phase.Check }
-        requires looked { self.now.phase ≢ Phase.Guard }
-        requires hears { Hears (asks_fork self.now) seen }
-        requires known { IsKnown self.now.config (facts_fork self.now) (asks_fork self.now) seen moment }
-        ensures nearer { fork_left result + fork_steps result ≤ left_fork self.now }
-        ensures fewer { fork_swaps result + swaps_in (asks_fork self.now) ≤ swaps_fork self.now }
-        ensures counted { fork_end result ≡ None → effects_in seen ≡ 0 }
-        ensures needs { fork_needs result ≡ 0 }
-        ensures done { result ≡ Phase.Done → seen ≡ Swapped true }
-        ensures last { seen ≡ Swapped true → result ≡ Phase.Done }
-        ensures restart { result ≡ Phase.Restart → seen ≡ Swapped false }
-        ensures no_swap { (result ≡ Phase.NoSwap) ↔ (seen ≡ NoneLeft) }
-        ensures slots { result ≢ Phase.NoSlot }
-        ensures begun { result ≢ Phase.Fresh }
-        ensures config { IsConfig self.now.config }
-        ensures ready { IsReadyFork self.now.config (fork_of self.now) result }
-        ensures learns { (stage : Stage) (s : Scene) → s.past.config ≡ self.now.config → facts_fork self.now stage s → Tells (asks_fork self.now) stage seen s → fork_facts (fork_of self.now) result Waiting s }
+        ensures begun { result ≢ WritePhase.Fresh }
+        ensures ready { write_ready self.new.config (fork_plan (fork_of self.new)) result }
+        ensures goes { (todo : Todo) → write_asks self.new.config (fork_plan (fork_of self.new)) result ≡ Some todo → GoesOn (write_view self.old.config (fork_plan (fork_of self.old)) phase) (write_view self.new.config (fork_plan (fork_of self.new)) result) seen slots.old slots.new todo }
+        ensures learns { Learns (write_view self.old.config (fork_plan (fork_of self.old)) phase) (write_view self.new.config (fork_plan (fork_of self.new)) result) seen moment slots.old slots.new }
     {
         let _moment = moment;
-        bz_renew::laws::links_turn();
-        bz_layout::slots_apart();
-        match self.phase {
-            Phase::Store(j) => after_store(j),
-            Phase::Flush(j) => after_flush(j),
-            _ => after_swap(seen),
+        match phase {
+            WritePhase::Fresh => WritePhase::Guard,
+            WritePhase::Guard => {
+                let begun = look(SPLIT_SLOTS, self.upper.status, seen, slots);
+                let taken = begun.slots;
+                let made = self.make(taken);
+                self.parent = made.parent;
+                self.left = made.left;
+                self.right = made.right;
+                self.slots = taken;
+                begun.phase
+            }
+            _ => phase.after(SPLIT_SLOTS, seen),
         }
     }
 
@@ -294,14 +246,12 @@ impl SplitInner {
         ensures no_swap { seen ≡ NoneLeft → end_fork self.new ≡ Some (Outcome.Full Spent.Swaps) }
         ensures full_swaps { end_fork self.new ≡ Some (Outcome.Full Spent.Swaps) → seen ≡ NoneLeft }
         ensures full_nodes { end_fork self.new ≡ Some (Outcome.Full Spent.Nodes) → length slots.old.free < needs_fork self.old }
-        ensures learns { (stage : Stage) (s : Scene) → s.past.config ≡ self.old.config → IsScene s → (0 < needs_fork self.old → AreUnreached s slots.old) → facts_fork self.old stage s → Tells (asks_fork self.old) stage seen s → facts_fork self.new Waiting (gained s slots.old slots.new) }
+        ensures learns { Learns (fork_view self.old) (fork_view self.new) seen moment slots.old slots.new }
     {
         laws::nothing_is_gained();
         laws::ranges_stay();
-        bz_layout::slots_apart();
         bz_renew::laws::links_turn();
         bz_renew::laws::guarded_links_stand();
-        bz_halves::laws::children_may_be_parted();
         bz_parted::laws::read_nodes_have_children();
         read_nodes_were();
         parents_of_nodes_were();
@@ -323,8 +273,11 @@ impl SplitInner {
                 self.phase = after_above(other);
             }
             Phase::Check => self.phase = self.told(seen),
-            Phase::Guard => self.look(seen, slots),
-            _ => self.phase = self.after(seen, moment),
+            Phase::Writing(phase) => {
+                let next = self.write(phase, seen, slots, moment);
+                self.phase = Phase::Writing(next);
+            }
+            Phase::NoRoom => {}
         }
     }
 
@@ -353,28 +306,30 @@ impl SplitInner {
             Phase::Again | Phase::Unread => Todo::Read(self.lower.guard),
             Phase::Above(i) => Todo::Read(self.config.node_at(self.upper.slot as u32) + i),
             Phase::Room | Phase::Check | Phase::Tight => Todo::Read(self.middle.guard),
-            Phase::Guard => Todo::Read(self.upper.guard),
-            Phase::Store(j) => {
-                let slot = self.slots[(j / NODE_WORDS) as usize] as u32;
-                Todo::Store(self.config.node_at(slot) + j % NODE_WORDS, self.word(j))
-            }
-            Phase::Flush(j) => {
-                let slot = self.slots[(j / NODE_LINES) as usize] as u32;
-                Todo::Flush(self.config.node_at(slot) / LINE_WORDS + j % NODE_LINES)
-            }
-            Phase::Swap => Todo::Swap(swap_freezing_two(
+            Phase::Writing(phase) => self.written(phase),
+            Phase::Fresh | Phase::NoRoom => Todo::Finish,
+        }
+    }
+
+    // What the writing asks for.
+    fn written(&self, phase: WritePhase) -> Todo
+        requires begun { phase ≢ WritePhase.Fresh }
+        requires config { IsConfig self.now.config }
+        requires ready { write_ready self.now.config (fork_plan (fork_of self.now)) phase }
+        ensures { write_asks self.now.config (fork_plan (fork_of self.now)) phase ≡ Some result }
+    {
+        match phase {
+            WritePhase::Guard => Todo::Read(self.upper.guard),
+            WritePhase::Store(j) => store_at(&self.config, &self.slots, j, self.word(j)),
+            WritePhase::Flush(j) => flush_at(&self.config, &self.slots, j),
+            WritePhase::Swap => Todo::Swap(swap_freezing_two(
                 &self.config,
                 &self.upper,
                 self.slots[0],
                 &self.middle,
                 self.lower.status,
             )),
-            Phase::Fresh
-            | Phase::Done
-            | Phase::Restart
-            | Phase::NoRoom
-            | Phase::NoSlot
-            | Phase::NoSwap => Todo::Finish,
+            _ => Todo::Finish,
         }
     }
 }
@@ -403,41 +358,6 @@ fn after_above(next: u32) -> Phase
     }
 }
 
-// The phase after the store of a word: that of the next one, or the first flush.
-fn after_store(j: u32) -> Phase
-    requires { j < SPLIT_WORDS }
-    ensures { result ≡ store_after j }
-{
-    if j + 1 < SPLIT_WORDS {
-        Phase::Store(j + 1)
-    } else {
-        Phase::Flush(0)
-    }
-}
-
-// The phase after the flush of a line: that of the next one, or the swap.
-fn after_flush(j: u32) -> Phase
-    requires { j < SPLIT_LINES }
-    ensures { result ≡ flush_after j }
-{
-    if j + 1 < SPLIT_LINES {
-        Phase::Flush(j + 1)
-    } else {
-        Phase::Swap
-    }
-}
-
-// The phase after the swap.
-fn after_swap(seen: Seen) -> Phase
-    ensures { result ≡ swap_after seen }
-{
-    match seen {
-        Seen::Swapped(true) => Phase::Done,
-        Seen::NoSwap => Phase::NoSwap,
-        _ => Phase::Restart,
-    }
-}
-
 impl Task for SplitInner {
     ghost view = { fork_view };
 
@@ -447,11 +367,8 @@ impl Task for SplitInner {
 
     fn ended(&self) -> Option<Outcome> {
         match self.phase {
-            Phase::Done => Some(Outcome::Done),
-            Phase::Restart => Some(Outcome::Restart),
             Phase::NoRoom => Some(Outcome::NeedsRoom),
-            Phase::NoSlot => Some(Outcome::Full(Spent::Nodes)),
-            Phase::NoSwap => Some(Outcome::Full(Spent::Swaps)),
+            Phase::Writing(phase) => phase.ended(),
             _ => None,
         }
     }
@@ -461,15 +378,7 @@ impl Task for SplitInner {
         self.asked()
     }
 
-    fn learnt(&self) {
-        bz_renew::laws::links_turn();
-        bz_word::laws::statuses();
-    }
+    fn learnt(&self) {}
 
-    fn acted(&self) {
-        bz_renew::laws::links_turn();
-        bz_halves::laws::parents_of_halves_are_whole();
-        bz_layout::slots_apart();
-        inner_splits_are_good();
-    }
+    fn acted(&self) {}
 }

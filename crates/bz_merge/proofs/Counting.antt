@@ -8,7 +8,7 @@ use Rattle.bz_word.specs.Statuses.{status}
 use Rattle.bz_task.specs.Requests.{Hears, swaps_in, effects_in}
 use Rattle.bz_task.specs.Scene.{Scene, Stage, Waiting, Took}
 use Rattle.bz_task.specs.declared.todo.Seen.{Seen}
-use Rattle.bz_split.proofs.Counting.{heard-effects}
+use Rattle.bz_writer.proofs.Sizes.{heard-effects}
 use Rattle.bz_merge.specs.Counts.{freezes_of, both_freezes, merge_swaps, merge_made}
 use Rattle.bz_merge.specs.Decisions.{HasTold, HasSettled, HasBegun, HasLooked}
 use Rattle.bz_merge.specs.Facts.{MERGE_WORDS, MERGE_LINES, merge_asks, merge_end, merge_facts, word_after, beside_after, store_after, flush_after}

@@ -11,7 +11,6 @@ mod Asking
 mod Readying
 mod Acting
 mod Choosing
-mod TwoSlots
 mod Ready
 mod Writing
 mod Swapping

@@ -3,5 +3,4 @@ pub use Rattle.bz_split.specs.BelowSplits
 pub use Rattle.bz_split.specs.Duties
 pub use Rattle.bz_split.specs.Facts
 pub use Rattle.bz_split.specs.Parts
-pub use Rattle.bz_split.specs.declared.phase.Phase
 pub use Rattle.bz_split.specs.declared.split_root.SplitRoot

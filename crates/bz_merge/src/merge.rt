@@ -28,7 +28,7 @@ use crate::freeze::freeze_of;
 use crate::laws::{leaves_read_were, merges_are_good, parents_read_were};
 use crate::links::upper_link;
 use crate::phase::Phase;
-use crate::seen::{is_frozen, is_read, word_in};
+use crate::seen::is_frozen;
 use crate::sibling::{Sibling, left_of, right_of};
 use crate::slots::take_two;
 use bz_call::Spent;
@@ -38,6 +38,7 @@ use bz_layout::{Config, LINE_WORDS, MERGE_SLOTS, NODE_WORDS, SPLIT_ABOVE, STATUS
 use bz_node::NodeImage;
 use bz_renew::{is_whole, last_link, swap_freezing};
 use bz_task::{LeafView, Link, Outcome, Path, Seen, Task, Todo, laws};
+use bz_writer::{is_read, word_in};
 
 const NODE_LINES: u32 = NODE_WORDS / LINE_WORDS;
 

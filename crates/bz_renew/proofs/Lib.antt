@@ -16,10 +16,9 @@ pub mod Plainness
 mod LowFences
 pub mod Sorting
 mod Turnable
-pub mod Writes
 pub mod NodeWrites
 pub mod Staying
 pub mod Guards
-mod Slots
+pub mod Slots
 mod Viewing
 pub mod Proved

@@ -1,13 +1,12 @@
 -- The first free slots, once they are taken.
 use Rattle.std.proofs.Common.{◌≡◌, ℕ, zero, suc, ◌<◌, ◌≤◌, ◌==◌, ◌||◌, Bool, true, false, List, [], ◌∷◌, ◌++◌, length, take, drop, arith, refl, sym, ap, subst, ◌∙◌, inl, inr}
-use Rattle.std.specs.Prelude.{slice_index, slice_index_or, Contains, All}
+use Rattle.std.specs.Prelude.{slice_index, Contains}
 use Rattle.std.proofs.lemmas.Bool.{cases_lt, true≢false}
 use Rattle.std.proofs.lemmas.Bool.Decides.{nat_tests}
 use Rattle.std.proofs.lemmas.List.{get_or_append_left, get_or-take, length-take-le}
 use Rattle.bz_layout.specs.Slots.{FreeSlots, IsInOrder, TakenSlotsAreGone}
 use Rattle.bz_shape.specs.Walk.{is_among}
 use Rattle.bz_renew.specs.Nodes.{AreSlotsTaken}
-use Rattle.bz_renew.specs.Writing.{TakesFirst}
 use Rattle.bz_renew.proofs.Words.{or-right}
 
 -- a slot that is not contained is not among them
@@ -18,21 +17,6 @@ not-among k (x ∷ xs) out = go (x == k) refl (not-among k xs (λ h. out (suc h.
     go : (b : Bool) → (x == k) ≡ b → is_among xs k ≡ false → (x == k) || is_among xs k ≡ false
     go true e ih = let same : x ≡ k = grind (arith, nat_tests) in absurd (out (0, omega arith, same))
     go false e ih = rw e ih
-
-pub first-taken : TakenSlotsAreGone → (old : FreeSlots) (out rest : List ℕ) (new : FreeSlots) → IsInOrder old → 1 ≤ length old.free → out ≡ take 1 old.free ++ rest → new ≡ record old { free = drop 1 old.free } → TakesFirst (slice_index_or out 0 0) old new
-first-taken law old out rest new order some is after = go old.free refl order.within some
-  where
-    go : (free : List ℕ) → old.free ≡ free → All (λ slot. slot < old.nodes) free → 1 ≤ length free → TakesFirst (slice_index_or out 0 0) old new
-    go [] e within l = absurd (omega (arith, l))
-    go (k ∷ free) e within l =
-        let first : slice_index_or out 0 0 ≡ k = ap (λ z. slice_index_or z 0 0) is ∙ ap (λ z. slice_index_or (take 1 z ++ rest) 0 0) e in
-        let left : new.free ≡ free = ap (λ z. z.free) after ∙ ap (drop 1) e in
-        let gone : ¬ Contains (drop 1 old.free) (slice_index old.free 0) = (law old 1 order).gone 0 (omega arith) in
-        record {
-          first = e ∙ (λ t. sym first t ∷ sym left t);
-          slot = subst (λ z. z < old.nodes) (sym first) (within 0 0 (omega arith));
-          gone = ap (λ z. is_among z (slice_index_or out 0 0)) (ap (λ z. z.free) after) ∙ not-among (slice_index_or out 0 0) (drop 1 old.free) (λ h. gone (subst (Contains (drop 1 old.free)) (first ∙ sym (ap (λ z. slice_index z 0) e)) h));
-        }
 
 -- what stands in a list is among it
 among-index : (xs : List ℕ) (n k : ℕ) → n < length xs → slice_index xs n ≡ k → is_among xs k ≡ true
@@ -50,31 +34,31 @@ one-of-first (suc m) (x ∷ xs) k h out = go (x == k) refl h (λ rest. one-of-fi
     go true e h further = (0, (omega arith, (let same : x ≡ k = grind (arith, nat_tests) in sym same)))
     go false e h further = let rest = further h in (suc rest.0, (omega (arith, rest.1.0), rest.1.1))
 
--- the first three of the free slots, once they are taken
-pub three-taken : TakenSlotsAreGone → (old : FreeSlots) (out rest : List ℕ) (new : FreeSlots) → IsInOrder old → 3 ≤ length old.free → out ≡ take 3 old.free ++ rest → new ≡ record old { free = drop 3 old.free }
-    → (image : ℕ → List ℕ) → AreSlotsTaken (record { count = 3; slot = slice_index out; image = image }) old new
-three-taken law old out rest new order some is after image = record {
+-- so many of them
+pub many-taken : TakenSlotsAreGone → (m : ℕ) (old : FreeSlots) (out rest : List ℕ) (new : FreeSlots) → IsInOrder old → m ≤ length old.free → out ≡ take m old.free ++ rest → new ≡ record old { free = drop m old.free }
+    → (image : ℕ → List ℕ) → AreSlotsTaken (record { count = m; slot = slice_index out; image = image }) old new
+many-taken law m old out rest new order some is after image = record {
   enough = some;
   rest = after;
   slots = record {
     within = λ n h. subst (λ z. z < old.nodes) (sym (at n h)) (order.within n 0 (omega (arith, h, some)));
-    apart = λ n m h k e. apart n m h k (sym (at n h) ∙ (e ∙ at m k));
+    apart = λ n k h l e. apart n k h l (sym (at n h) ∙ (e ∙ at k l));
   };
   were = λ n h. among-index old.free n (slice_index out n) (omega (arith, h, some)) (sym (at n h));
-  gone = λ n h. ap (λ z. is_among z.free (slice_index out n)) after ∙ not-among (slice_index out n) (drop 3 old.free) (λ c. (law old 3 order).gone n h (subst (Contains (drop 3 old.free)) (at n h) c));
+  gone = λ n h. ap (λ z. is_among z.free (slice_index out n)) after ∙ not-among (slice_index out n) (drop m old.free) (λ c. (law old m order).gone n h (subst (Contains (drop m old.free)) (at n h) c));
   only = λ k h out_of. (
-      let one = one-of-first 3 old.free k h (sym (ap (λ z. is_among z.free k) after) ∙ out_of) in
+      let one = one-of-first m old.free k h (sym (ap (λ z. is_among z.free k) after) ∙ out_of) in
       record { node = one.0; within = one.1.0; is = one.1.1 ∙ sym (at one.0 one.1.0) });
 }
   where
-    at : (n : ℕ) → n < 3 → slice_index out n ≡ slice_index old.free n
-    at n h = ap (λ z. slice_index z n) is ∙ (get_or_append_left (take 3 old.free) rest 0 n (omega (arith, h, some, length-take-le 3 old.free some)) ∙ get_or-take 3 old.free n 0 h)
+    at : (n : ℕ) → n < m → slice_index out n ≡ slice_index old.free n
+    at n h = ap (λ z. slice_index z n) is ∙ (get_or_append_left (take m old.free) rest 0 n (omega (arith, h, some, length-take-le m old.free some)) ∙ get_or-take m old.free n 0 h)
 
-    apart : (n m : ℕ) → n < 3 → m < 3 → slice_index old.free n ≡ slice_index old.free m → n ≡ m
-    apart n m h k e = elim (cases_lt n m) [
-      | inl before ↦ absurd (omega (arith, e, (law old 3 order).rising n m before (omega (arith, k, some))))
-      | inr not_before ↦ elim (cases_lt m n) [
-        | inl behind ↦ absurd (omega (arith, e, (law old 3 order).rising m n behind (omega (arith, h, some))))
+    apart : (n k : ℕ) → n < m → k < m → slice_index old.free n ≡ slice_index old.free k → n ≡ k
+    apart n k h l e = elim (cases_lt n k) [
+      | inl before ↦ absurd (omega (arith, e, (law old m order).rising n k before (omega (arith, l, some))))
+      | inr not_before ↦ elim (cases_lt k n) [
+        | inl behind ↦ absurd (omega (arith, e, (law old m order).rising k n behind (omega (arith, h, some))))
         | inr not_behind ↦ omega (arith, not_before, not_behind)
       ]
     ]

@@ -8,5 +8,4 @@ pub mod Renewals
 pub mod Sorted
 pub mod Standing
 pub mod Turning
-pub mod Writing
 pub mod FromPage

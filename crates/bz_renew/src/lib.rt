@@ -12,6 +12,6 @@ mod swaps;
 pub use bz_page::laws::ordered_pairs_are_found;
 pub use due::is_due;
 pub use links::last_link;
-pub use slot::{take_one, take_three};
+pub use slot::take_three;
 pub use sorted::{Fences, is_whole, sort_records};
 pub use swaps::{swap_freezing, swap_of};

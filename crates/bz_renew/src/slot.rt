@@ -2,25 +2,8 @@
 
 ghost use Rattle.std.specs.Prelude.{◌≡◌, ◌<◌, ℕ, List, IfSome, IfNone, length, slice_index};
 ghost use Rattle.bz_renew.specs.Nodes.{AreSlotsTaken};
-ghost use Rattle.bz_renew.specs.Writing.{TakesFirst};
 
 use bz_layout::Slots;
-
-/// Takes the first of the free slots, if there is one.
-pub fn take_one(slots: &mut Slots) -> Option<u16>
-    ensures taken { IfSome result (λ k. TakesFirst k slots.old slots.new) }
-    ensures nodes { slots.new.nodes ≡ slots.old.nodes }
-    ensures none { IfNone result (length slots.old.free < 1) }
-    ensures same { IfNone result (slots.new ≡ slots.old) }
-{
-    bz_layout::taken_slots_are_gone();
-    let mut taken = [0; 3];
-    if slots.take(1, &mut taken) {
-        Some(taken[0])
-    } else {
-        None
-    }
-}
 
 /// Takes the first three of the free slots, if there are so many.
 pub fn take_three(slots: &mut Slots) -> Option<[u16; 3]>

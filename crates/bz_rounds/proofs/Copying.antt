@@ -1,5 +1,5 @@
 -- The swap of a consolidation puts the copy in the place of the key's leaf.
-use Rattle.std.proofs.Common.{◌≡◌, ℕ, List, [], ◌∷◌, Some, sym, ap, subst, ◌∙◌, inl, inr}
+use Rattle.std.proofs.Common.{arith, ◌≡◌, ℕ, List, [], ◌∷◌, Some, sym, ap, subst, ◌∙◌, inl, inr}
 use Rattle.bz_layout.specs.declared.config.Config.{Config}
 use Rattle.bz_layout.specs.declared.sizes.TheConstants.{NODE_WORDS, NODE_LINES}
 use Rattle.bz_slotted.specs.Page.{page}
@@ -22,9 +22,11 @@ use Rattle.bz_renew.specs.Renewals.{renewal}
 use Rattle.bz_renew.specs.Turning.{TurnsAt, RootLinksTurn, ChildLinksTurn}
 use Rattle.bz_renew.proofs.FreshSlots.{outside-tree, raw-is, durable-is}
 use Rattle.bz_alone.specs.FromConsol.Duties.{renewal_of}
-use Rattle.bz_alone.specs.FromConsol.Facts.{Renewal, IsCopying, consol_asks, consol_facts}
-use Rattle.bz_alone.specs.FromConsol.Phase.{Phase}
-use Rattle.bz_alone.specs.FromConsol.Phase.TheVariants.{Swap}
+use Rattle.bz_alone.specs.FromConsol.Facts.{Renewal, consol_plan, consol_asks, consol_facts}
+use Rattle.bz_writer.specs.Laws.{IsWritten}
+use Rattle.bz_writer.specs.declared.phase.WritePhase.{WritePhase}
+use Rattle.bz_writer.specs.declared.phase.WritePhase.TheVariants.{Swap}
+use Rattle.bz_writer.proofs.Written.{holds, fresh as fresh-slot}
 use Rattle.bz_stage.specs.Laws.{CopiesGiveRoom}
 use Rattle.bz_stage.specs.Made.{MadeLeavesAreRoomy}
 use Rattle.bz_stage.specs.Swaps.{IsRoomy}
@@ -33,7 +35,6 @@ use Rattle.bz_rounds.specs.Laws.{LoneCopiesGiveRoom}
 use Rattle.bz_rounds.proofs.Lacking.{lacks-room}
 use Rattle.bz_rounds.proofs.Lone.{Basis, tree-now, leaf-now, same-entries}
 use Rattle.bz_rounds.proofs.Made.{copy-has-room}
-use Rattle.bz_tally.proofs.Stored.{one-held, one-fresh}
 
 -- the laws on which it rests
 pub record Laws : Type 0 where
@@ -46,57 +47,57 @@ pub record Laws : Type 0 where
   pub made : MadeLeavesAreRoomy
   pub room : CopiesGiveRoom
 
-module _ (b : Laws) (r : Renewal) (s : Scene) (y : Instant) (good : IsScene s) (f : IsCopying r NODE_WORDS NODE_LINES s) (swaps : SwapsTo s.past.config (renewal r.link r.slot) (here s) y) where
+module _ (b : Laws) (r : Renewal) (s : Scene) (y : Instant) (good : IsScene s) (f : IsWritten (consol_plan r) s) (swaps : SwapsTo s.past.config (renewal r.link (r.slot 0)) (here s) y) where
   abbrev c : Config
   c = s.past.config
 
   abbrev old : ℕ
   old = r.link.slot
 
-  fresh : IsFresh s r.slot
-  fresh = one-fresh r.slot r.image s f.viewed.size f.writing
+  fresh : IsFresh s (r.slot 0)
+  fresh = fresh-slot (consol_plan r) s f 0 (omega arith)
 
-  module _ (p i : ℕ) (changed : List ℕ) (t : TurnsAt r.link r.slot (old ∷ []) s y p i changed) where
-    leaf : StandsStill old f.viewed.moment s
-    leaf = b.still s old f.viewed.moment good f.viewed.leaf
+  module _ (p i : ℕ) (changed : List ℕ) (t : TurnsAt r.link (r.slot 0) (old ∷ []) s y p i changed) where
+    leaf : StandsStill old f.ready.viewed.moment s
+    leaf = b.still s old f.ready.viewed.moment good f.ready.viewed.leaf
 
-    place : SamePlace c (s.past.at f.viewed.moment) (here s) old
+    place : SamePlace c (s.past.at f.ready.viewed.moment) (here s) old
     place = leaf.place t.inside
 
-    raw-after : node c y.image r.slot ≡ node_of r.image
-    raw-after = raw-is b.plain r.link r.slot (old ∷ []) s y p i changed r.slot good fresh t swaps ∙ one-held r.slot r.image s f.viewed.size f.writing
+    raw-after : node c y.image (r.slot 0) ≡ node_of r.image
+    raw-after = raw-is b.plain r.link (r.slot 0) (old ∷ []) s y p i changed (r.slot 0) good fresh t swaps ∙ holds (consol_plan r) s f 0 (omega arith)
 
-    after : durable c y r.slot ≡ node_of r.image
-    after = durable-is b.plain r.link r.slot (old ∷ []) s y p i changed r.slot good fresh t swaps ∙ one-held r.slot r.image s f.viewed.size f.writing
+    after : durable c y (r.slot 0) ≡ node_of r.image
+    after = durable-is b.plain r.link (r.slot 0) (old ∷ []) s y p i changed (r.slot 0) good fresh t swaps ∙ holds (consol_plan r) s f 0 (omega arith)
 
-    turns : TurnsLink c (image_of (here s).image) (image_of y.image) ((form_at c (here s)).up old) ((form_at c (here s)).index old) r.slot (old ∷ [])
+    turns : TurnsLink c (image_of (here s).image) (image_of y.image) ((form_at c (here s)).up old) ((form_at c (here s)).index old) (r.slot 0) (old ∷ [])
     turns =
-        subst (λ j. TurnsLink c (image_of (here s).image) (image_of y.image) j ((form_at c (here s)).index old) r.slot (old ∷ [])) (sym t.up)
-        (subst (λ j. TurnsLink c (image_of (here s).image) (image_of y.image) p j r.slot (old ∷ [])) (sym t.index) t.turns)
+        subst (λ j. TurnsLink c (image_of (here s).image) (image_of y.image) j ((form_at c (here s)).index old) (r.slot 0) (old ∷ [])) (sym t.up)
+        (subst (λ j. TurnsLink c (image_of (here s).image) (image_of y.image) p j (r.slot 0) (old ∷ [])) (sym t.index) t.turns)
 
-    consolidates : Consolidates c (image_of (here s).image) (image_of y.image) old r.slot
+    consolidates : Consolidates c (image_of (here s).image) (image_of y.image) old (r.slot 0)
     consolidates = record {
       inside = t.inside;
       leaf = leaf.leaf t.inside;
-      fresh = outside-tree s r.slot good fresh;
-      whole = (λ j. node_fault c.nodes (raw-after j) (after j) 0 (place.low j) (place.high j)) ∙ f.viewed.alike.whole;
-      same = λ key. ap (λ n. found_of n key) after ∙ (f.viewed.alike.found key ∙ sym (leaf.says t.inside key));
+      fresh = outside-tree s (r.slot 0) good fresh;
+      whole = (λ j. node_fault c.nodes (raw-after j) (after j) 0 (place.low j) (place.high j)) ∙ f.ready.viewed.alike.whole;
+      same = λ key. ap (λ n. found_of n key) after ∙ (f.ready.viewed.alike.found key ∙ sym (leaf.says t.inside key));
       link = turns;
     }
 
-    pub copies-with-room : IsRoomy (page (node_of r.image)) → Consolidates c (image_of (here s).image) (image_of y.image) old r.slot × IsRoomy (page (durable c y r.slot))
+    pub copies-with-room : IsRoomy (page (node_of r.image)) → Consolidates c (image_of (here s).image) (image_of y.image) old (r.slot 0) × IsRoomy (page (durable c y (r.slot 0)))
     copies-with-room roomy = (consolidates, subst (λ n. IsRoomy (page n)) (sym after) roomy)
 
   -- where the link stands
-  pub copied : Stand (renewal r.link r.slot) (here s) → IsRoomy (page (node_of r.image)) → Consolidates c (image_of (here s).image) (image_of y.image) old r.slot × IsRoomy (page (durable c y r.slot))
-  copied stand roomy = elim f.viewed.guard.under [
-    | inl root ↦ copies-with-room c.nodes 0 [] (b.root s y r.link r.slot (old ∷ []) good root fresh.slot stand swaps) roomy
-    | inr node ↦ copies-with-room node.parent node.child.child (node.parent ∷ []) (b.child s y r.link r.slot (old ∷ []) good f.viewed.guard f.viewed.thawed node fresh.slot stand swaps) roomy
+  pub copied : Stand (renewal r.link (r.slot 0)) (here s) → IsRoomy (page (node_of r.image)) → Consolidates c (image_of (here s).image) (image_of y.image) old (r.slot 0) × IsRoomy (page (durable c y (r.slot 0)))
+  copied stand roomy = elim f.ready.viewed.guard.under [
+    | inl root ↦ copies-with-room c.nodes 0 [] (b.root s y r.link (r.slot 0) (old ∷ []) good root fresh.slot stand swaps) roomy
+    | inr node ↦ copies-with-room node.parent node.child.child (node.parent ∷ []) (b.child s y r.link (r.slot 0) (old ∷ []) good f.ready.viewed.guard f.ready.viewed.thawed node fresh.slot stand swaps) roomy
   ]
 
 -- a consolidation that asks for a swap has its copy ready
-swapping : (c : Config) (r : Renewal) (phase : Phase) (s : Scene) (entries : List Entry) → consol_facts r phase Waiting s → consol_asks c r phase ≡ Some (Swaps_for entries) → IsCopying r NODE_WORDS NODE_LINES s × (renewal r.link r.slot ≡ entries)
-swapping c r Swap s entries f e = (f.1, same-entries (renewal r.link r.slot) entries e)
+swapping : (c : Config) (r : Renewal) (phase : WritePhase) (s : Scene) (entries : List Entry) → consol_facts r phase Waiting s → consol_asks c r phase ≡ Some (Swaps_for entries) → IsWritten (consol_plan r) s × (renewal r.link (r.slot 0) ≡ entries)
+swapping c r Swap s entries f e = (f.1, same-entries (renewal r.link (r.slot 0)) entries e)
 swapping c r phase s entries f e = absurd (cc)
 
 pub copies : Laws → LoneCopiesGiveRoom
@@ -107,7 +108,7 @@ copies b t key read words entries s y l was m few =
     let leaf : leaf_in s.past.config (here s).image key ≡ t.link.slot = leaf-now b.basis s l.good key t.link.slot l.alone was in
     let d = copied b r s y l.good f.0 (subst (λ z. SwapsTo s.past.config z (here s) y) (sym f.1) l.leads) (subst (λ z. Stand z (here s)) (sym f.1) stand) (copy-has-room b.made read t.image.0 m) in
     record {
-      lacked = lacks-room b.basis s l.good key t.link.slot l.alone was (b.still s t.link.slot f.0.viewed.moment l.good f.0.viewed.leaf).frozen words;
-      room = b.room s.past.config (image_of (here s).image) (image_of y.image) key words t.slot (tree-now b.basis s l.good)
-          (subst (λ (k : ℕ). Consolidates s.past.config (image_of (here s).image) (image_of y.image) k t.slot) (sym leaf) d.0) d.1 few;
+      lacked = lacks-room b.basis s l.good key t.link.slot l.alone was (b.still s t.link.slot f.0.ready.viewed.moment l.good f.0.ready.viewed.leaf).frozen words;
+      room = b.room s.past.config (image_of (here s).image) (image_of y.image) key words (r.slot 0) (tree-now b.basis s l.good)
+          (subst (λ (k : ℕ). Consolidates s.past.config (image_of (here s).image) (image_of y.image) k (r.slot 0)) (sym leaf) d.0) d.1 few;
     }

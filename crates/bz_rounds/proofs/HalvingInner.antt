@@ -22,14 +22,15 @@ use Rattle.bz_parted.specs.Laws.{ChildrenPartInHalves}
 use Rattle.bz_renew.specs.Standing.{StillLeads}
 use Rattle.bz_renew.specs.Turning.{TurnsWith, AreGoing, RootLinksTurnWith, ChildLinksTurnWith}
 use Rattle.bz_tally.specs.FromSplit.BelowSplits.{AreLinksDown}
-use Rattle.bz_tally.specs.FromSplit.Facts.{SPLIT_WORDS, SPLIT_LINES}
 use Rattle.bz_ascent.specs.FromBranch.InnerSplits.{both_freezings, inner_swap}
 use Rattle.bz_ascent.specs.FromBranch.Nodes.{IsOpenLink}
 use Rattle.bz_ascent.proofs.FromBranch.Standing.{node-below}
 use Rattle.bz_alone.specs.FromFork.Duties.{asks_fork, facts_fork, fork_of}
-use Rattle.bz_alone.specs.FromFork.Facts.{Fork, IsSplitting, fork_asks, fork_facts, parent_words}
+use Rattle.bz_alone.specs.FromFork.Facts.{Fork, fork_plan, fork_asks, fork_facts, parent_words}
 use Rattle.bz_alone.specs.FromFork.Phase.{Phase}
-use Rattle.bz_alone.specs.FromFork.Phase.TheVariants.{Swap}
+use Rattle.bz_alone.specs.FromFork.Phase.TheVariants.{Writing}
+use Rattle.bz_writer.specs.Laws.{IsWritten}
+use Rattle.bz_writer.specs.declared.phase.WritePhase.TheVariants.{Swap}
 use Rattle.bz_alone.specs.FromFork.SplitInner.{SplitInner}
 use Rattle.bz_stage.specs.Laws.{InnerSplitsLowerTheStage, LeavesALevel, SplitsLeaveALevel, PathsAreOfKeys}
 use Rattle.bz_stage.specs.Made.{MadeInnersTakeTheirEntries}
@@ -65,7 +66,7 @@ pub record Laws : Type 0 where
   pub paths : PathsAreOfKeys
   pub crowded : AscentsAreCrowded
 
-module _ (b : Laws) (r : Fork) (s : Scene) (y : Instant) (good : IsScene s) (quiet : IsQuietSince s.past.since s.past) (f : IsSplitting r SPLIT_WORDS SPLIT_LINES s) where
+module _ (b : Laws) (r : Fork) (s : Scene) (y : Instant) (good : IsScene s) (quiet : IsQuietSince s.past.since s.past) (f : IsWritten (fork_plan r) s) where
   abbrev c : Config
   c = s.past.config
 
@@ -76,63 +77,63 @@ module _ (b : Laws) (r : Fork) (s : Scene) (y : Instant) (good : IsScene s) (qui
   a = r.middle.slot
 
   abbrev d : AreLinksDown r.upper r.middle s.past
-  d = f.planned.links.down
+  d = f.ready.planned.links.down
 
   abbrev above : IsOpenLink r.upper.slot r.middle s.past
-  above = in-parent s r.upper r.middle f.planned.links.down
+  above = in-parent s r.upper r.middle f.ready.planned.links.down
 
   abbrev inside : IsOpenLink r.middle.slot r.lower s.past
-  inside = f.planned.links.node
+  inside = f.ready.planned.links.node
 
   leads : StillLeads r.middle s d.guard.guarded p d.under.child.child
   leads = node-leads b.links s good quiet p r.middle above
 
   -- the parent, and the node, as they were read
-  parent-place : SamePlace c (s.past.at f.planned.links.guarded) (here s) p
-  parent-place = subst (λ m. SamePlace c (s.past.at m) (here s) p) f.planned.links.is_guarded (node-place b.links s good quiet p r.middle above)
+  parent-place : SamePlace c (s.past.at f.ready.planned.links.guarded) (here s) p
+  parent-place = subst (λ m. SamePlace c (s.past.at m) (here s) p) f.ready.planned.links.is_guarded (node-place b.links s good quiet p r.middle above)
 
   parent-now : durable c (here s) p ≡ node_of r.above
-  parent-now = node-words b.links s good quiet p r.middle above ∙ (ap (λ m. words c (s.past.at m) p) f.planned.links.is_guarded ∙ f.planned.parent.were)
+  parent-now = node-words b.links s good quiet p r.middle above ∙ (ap (λ m. words c (s.past.at m) p) f.ready.planned.links.is_guarded ∙ f.ready.planned.parent.were)
 
-  own-place : SamePlace c (s.past.at f.planned.links.counted) (here s) a
-  own-place = subst (λ m. SamePlace c (s.past.at m) (here s) a) f.planned.links.is_counted (node-place b.links s good quiet a r.lower inside)
+  own-place : SamePlace c (s.past.at f.ready.planned.links.counted) (here s) a
+  own-place = subst (λ m. SamePlace c (s.past.at m) (here s) a) f.ready.planned.links.is_counted (node-place b.links s good quiet a r.lower inside)
 
   own-now : durable c (here s) a ≡ node_of r.read
-  own-now = node-words b.links s good quiet a r.lower inside ∙ (ap (λ m. words c (s.past.at m) a) f.planned.links.is_counted ∙ f.planned.node.were)
+  own-now = node-words b.links s good quiet a r.lower inside ∙ (ap (λ m. words c (s.past.at m) a) f.ready.planned.links.is_counted ∙ f.ready.planned.node.were)
 
-  level : (form_at c (here s)).level a ≡ f.planned.node.level
-  level = own-place.level ∙ f.planned.node.level_is
+  level : (form_at c (here s)).level a ≡ f.ready.planned.node.level
+  level = own-place.level ∙ f.ready.planned.node.level_is
 
   pub high : 0 < (form_at c (here s)).level r.middle.slot
-  high = omega (arith, level, f.planned.node.node.inner)
+  high = omega (arith, level, f.ready.planned.node.node.inner)
 
-  room : HasRoomToPart c.nodes (children_in r.above) f.planned.parent.level (r.slot 1) (r.slot 2) f.planned.sep
+  room : HasRoomToPart c.nodes (children_in r.above) f.ready.planned.parent.level (r.slot 1) (r.slot 2) f.ready.planned.sep
   room = record {
-    few = f.planned.parent.parent.few;
-    slots = f.planned.parent.parent.partable.slots;
+    few = f.ready.planned.parent.parent.few;
+    slots = f.ready.planned.parent.parent.partable.slots;
     left_slot = f.writing.slots.within 1 (omega arith);
     right_slot = f.writing.slots.within 2 (omega arith);
-    inner = f.planned.parent.parent.inner;
-    few_levels = f.planned.parent.parent.lowest;
-    room = f.planned.room;
+    inner = f.ready.planned.parent.parent.inner;
+    few_levels = f.ready.planned.parent.parent.lowest;
+    room = f.ready.planned.room;
   }
 
-  made : IsPartedParent c.nodes (node_of r.above) (children_in r.above) f.planned.parent.low f.planned.parent.high f.planned.parent.level f.planned.links.child (r.slot 1) (r.slot 2) f.planned.sep
-  made = b.wholes c.nodes (node_of r.above) (children_in r.above) f.planned.parent.low f.planned.parent.high f.planned.parent.level f.planned.links.child (r.slot 1) (r.slot 2) f.planned.sep f.planned.parent.parent.partable.may room f.planned.parent.parent.partable.has
+  made : IsPartedParent c.nodes (node_of r.above) (children_in r.above) f.ready.planned.parent.low f.ready.planned.parent.high f.ready.planned.parent.level f.ready.planned.links.child (r.slot 1) (r.slot 2) f.ready.planned.sep
+  made = b.wholes c.nodes (node_of r.above) (children_in r.above) f.ready.planned.parent.low f.ready.planned.parent.high f.ready.planned.parent.level f.ready.planned.links.child (r.slot 1) (r.slot 2) f.ready.planned.sep f.ready.planned.parent.parent.partable.may room f.ready.planned.parent.parent.partable.has
 
-  wider : Wider (children_of (durable c (here s) p)) (children_of (node_of (r.image 0))) d.under.child.child (r.slot 1) (r.slot 2) f.planned.sep
-  wider = subst (λ n. Wider (children_of n) (children_of (node_of (r.image 0))) d.under.child.child (r.slot 1) (r.slot 2) f.planned.sep) (sym parent-now)
-      (subst (λ w. Wider (children_of (node_of r.above)) (children_of (node_of w)) d.under.child.child (r.slot 1) (r.slot 2) f.planned.sep) (sym f.over)
-      (subst (λ i. Wider (children_of (node_of r.above)) (children_of (node_of (parent_words r f.planned.sep f.planned.links.child f.planned.parent.level f.planned.parent.low f.planned.parent.high))) i (r.slot 1) (r.slot 2) f.planned.sep)
-      (sym f.planned.links.is_child) made.wider))
+  wider : Wider (children_of (durable c (here s) p)) (children_of (node_of (r.image 0))) d.under.child.child (r.slot 1) (r.slot 2) f.ready.planned.sep
+  wider = subst (λ n. Wider (children_of n) (children_of (node_of (r.image 0))) d.under.child.child (r.slot 1) (r.slot 2) f.ready.planned.sep) (sym parent-now)
+      (subst (λ w. Wider (children_of (node_of r.above)) (children_of (node_of w)) d.under.child.child (r.slot 1) (r.slot 2) f.ready.planned.sep) (sym f.ready.over)
+      (subst (λ i. Wider (children_of (node_of r.above)) (children_of (node_of (parent_words r f.ready.planned.sep f.ready.planned.links.child f.ready.planned.parent.level f.ready.planned.parent.low f.ready.planned.parent.high))) i (r.slot 1) (r.slot 2) f.ready.planned.sep)
+      (sym f.ready.planned.links.is_child) made.wider))
 
-  halves : Halves (children_of (durable c (here s) a)) (children_of (node_of (r.image 1))) (children_of (node_of (r.image 2))) f.halves.cut f.planned.sep
-  halves = subst (λ n. Halves (children_of n) (children_of (node_of (r.image 1))) (children_of (node_of (r.image 2))) f.halves.cut f.planned.sep) (sym own-now) f.halves.halves
+  halves : Halves (children_of (durable c (here s) a)) (children_of (node_of (r.image 1))) (children_of (node_of (r.image 2))) f.ready.halves.cut f.ready.planned.sep
+  halves = subst (λ n. Halves (children_of n) (children_of (node_of (r.image 1))) (children_of (node_of (r.image 2))) f.ready.halves.cut f.ready.planned.sep) (sym own-now) f.ready.halves.halves
 
   stored : (n : ℕ) → n < SPLIT_SLOTS → Holds s (r.slot n) (node_of (r.image n))
   stored n h = record { fresh = node-fresh r.slot r.image s f.plain f.writing n h; has = node-held r.slot r.image s f.plain f.writing n h }
 
-  ready : IsReady s p a d.under.child.child (r.slot 0) (r.slot 1) (r.slot 2) f.halves.cut f.planned.sep (node_of (r.image 0)) (node_of (r.image 1)) (node_of (r.image 2))
+  ready : IsReady s p a d.under.child.child (r.slot 0) (r.slot 1) (r.slot 2) f.ready.halves.cut f.ready.planned.sep (node_of (r.image 0)) (node_of (r.image 1)) (node_of (r.image 2))
   ready = record {
     stands = leads.stands;
     parent = node-below s p r.middle good above;
@@ -141,9 +142,9 @@ module _ (b : Laws) (r : Fork) (s : Scene) (y : Instant) (good : IsScene s) (qui
     above = stored 0 (omega arith);
     left = stored 1 (omega arith);
     right = stored 2 (omega arith);
-    whole = (λ e. node_fault c.nodes (node_of (f.over e)) (node_of (f.over e)) ((parent-place.level ∙ f.planned.parent.level_is) e) ((parent-place.low ∙ f.planned.parent.low_is) e) ((parent-place.high ∙ f.planned.parent.high_is) e)) ∙ made.inner.none;
-    left_whole = (λ e. node_fault c.nodes (node_of (r.image 1)) (node_of (r.image 1)) (level e) ((own-place.low ∙ f.planned.node.low_is) e) (Some f.planned.sep)) ∙ f.halves.left_whole;
-    right_whole = (λ e. node_fault c.nodes (node_of (r.image 2)) (node_of (r.image 2)) (level e) (Some f.planned.sep) ((own-place.high ∙ f.planned.node.high_is) e)) ∙ f.halves.right_whole;
+    whole = (λ e. node_fault c.nodes (node_of (f.ready.over e)) (node_of (f.ready.over e)) ((parent-place.level ∙ f.ready.planned.parent.level_is) e) ((parent-place.low ∙ f.ready.planned.parent.low_is) e) ((parent-place.high ∙ f.ready.planned.parent.high_is) e)) ∙ made.inner.none;
+    left_whole = (λ e. node_fault c.nodes (node_of (r.image 1)) (node_of (r.image 1)) (level e) ((own-place.low ∙ f.ready.planned.node.low_is) e) (Some f.ready.planned.sep)) ∙ f.ready.halves.left_whole;
+    right_whole = (λ e. node_fault c.nodes (node_of (r.image 2)) (node_of (r.image 2)) (level e) (Some f.ready.planned.sep) ((own-place.high ∙ f.ready.planned.node.high_is) e)) ∙ f.ready.halves.right_whole;
     wider = wider;
     halves = λ deep. halves;
     before = λ flat key e. absurd (omega (arith, flat, high));
@@ -160,17 +161,17 @@ module _ (b : Laws) (r : Fork) (s : Scene) (y : Instant) (good : IsScene s) (qui
   }
 
   abbrev pub IsHalved : Type 0
-  IsHalved = Splits c (image_of (here s).image) (image_of y.image) r.middle.slot (r.slot 0) (r.slot 1) (r.slot 2) f.halves.cut f.planned.sep × (IsRoomyInner c (image_of y.image) (r.slot 1) × IsRoomyInner c (image_of y.image) (r.slot 2))
+  IsHalved = Splits c (image_of (here s).image) (image_of y.image) r.middle.slot (r.slot 0) (r.slot 1) (r.slot 2) f.ready.halves.cut f.ready.planned.sep × (IsRoomyInner c (image_of y.image) (r.slot 1) × IsRoomyInner c (image_of y.image) (r.slot 2))
 
   module _ (swaps : SwapsTo c (inner_swap c r.upper r.middle r.lower (r.slot 0)) (here s) y) where
     halved-at : (top j : ℕ) (changed : List ℕ) → TurnsWith r.upper (r.slot 0) (both_freezings r.upper r.middle r.lower) (a ∷ p ∷ []) s y top j changed → IsHalved
     halved-at top j changed t = (
-      splits b.plain s y good r.upper (both_freezings r.upper r.middle r.lower) (r.slot 0) (a ∷ p ∷ []) top j changed t swaps a d.under.child.child (r.slot 1) (r.slot 2) f.halves.cut f.planned.sep (node_of (r.image 0)) (node_of (r.image 1)) (node_of (r.image 2)) ready refl,
+      splits b.plain s y good r.upper (both_freezings r.upper r.middle r.lower) (r.slot 0) (a ∷ p ∷ []) top j changed t swaps a d.under.child.child (r.slot 1) (r.slot 2) f.ready.halves.cut f.ready.planned.sep (node_of (r.image 0)) (node_of (r.image 1)) (node_of (r.image 2)) ready refl,
       (
         subst IsFew (sym (after b.plain s y good r.upper (both_freezings r.upper r.middle r.lower) (r.slot 0) (a ∷ p ∷ []) top j changed t swaps (r.slot 1) (node_of (r.image 1)) (stored 1 (omega arith))))
-            (left-few b.made b.part c.nodes r.read (r.image 1) (r.image 2) f.planned.sep f.planned.node.level f.planned.node.low f.planned.node.high f.planned.node.node f.planned.many f.halves),
+            (left-few b.made b.part c.nodes r.read (r.image 1) (r.image 2) f.ready.planned.sep f.ready.planned.node.level f.ready.planned.node.low f.ready.planned.node.high f.ready.planned.node.node f.ready.planned.many f.ready.halves),
         subst IsFew (sym (after b.plain s y good r.upper (both_freezings r.upper r.middle r.lower) (r.slot 0) (a ∷ p ∷ []) top j changed t swaps (r.slot 2) (node_of (r.image 2)) (stored 2 (omega arith))))
-            (right-few b.made b.part c.nodes r.read (r.image 1) (r.image 2) f.planned.sep f.planned.node.level f.planned.node.low f.planned.node.high f.planned.node.node f.planned.many f.halves),
+            (right-few b.made b.part c.nodes r.read (r.image 1) (r.image 2) f.ready.planned.sep f.ready.planned.node.level f.ready.planned.node.low f.ready.planned.node.high f.ready.planned.node.node f.ready.planned.many f.ready.halves),
       ),
     )
 
@@ -187,8 +188,8 @@ module _ (b : Laws) (r : Fork) (s : Scene) (y : Instant) (good : IsScene s) (qui
 
 -- a split that asks for a swap has its nodes ready
 swapping : (c : Config) (r : Fork) (phase : Phase) (s : Scene) (entries : List Entry) → fork_facts r phase Waiting s → fork_asks c r phase ≡ Some (Swaps_for entries)
-    → IsSplitting r SPLIT_WORDS SPLIT_LINES s × (inner_swap c r.upper r.middle r.lower (r.slot 0) ≡ entries)
-swapping c r Swap s entries f e = (f.1, same-entries (inner_swap c r.upper r.middle r.lower (r.slot 0)) entries e)
+    → IsWritten (fork_plan r) s × (inner_swap c r.upper r.middle r.lower (r.slot 0) ≡ entries)
+swapping c r (Writing Swap) s entries f e = (f.1, same-entries (inner_swap c r.upper r.middle r.lower (r.slot 0)) entries e)
 swapping c r phase s entries f e = absurd (cc)
 
 -- the split of the node to which an ascent has come
@@ -203,7 +204,7 @@ halves-node b t a key entries s y l up-to come =
     let crowded : WasCrowded a.key come.view s.past = subst (λ k. WasCrowded k come.view s.past) (sym come.key_is) come.leaf in
     let up : IsRisen a s = b.crowded a come.view s l.good l.alone up-to crowded in
     let n : ℕ = (form_at s.past.config (here s)).level a.node.slot in
-    let below : a.node.slot ≢ s.past.config.nodes = λ e. absurd (omega (arith, e, come.node, node-below s t.middle.slot t.lower l.good f.0.planned.links.node)) in
+    let below : a.node.slot ≢ s.past.config.nodes = λ e. absurd (omega (arith, e, come.node, node-below s t.middle.slot t.lower l.good f.0.ready.planned.links.node)) in
     let within : n < (view_in s.past.config (here s).image).height = ((fits-now b.basis s l.good).hangs a.node.slot up.stands.inside below).lower in
     let on : on_path (view_in s.past.config (here s).image) a.key n ≡ t.middle.slot = (b.paths (view_in s.past.config (here s).image) a.key n a.node.slot (tree-now b.basis s l.good) (omega (arith, within))).0 up.stands ∙ come.node in
     let d = halved b r s y l.good quiet f.0 (subst (λ z. SwapsTo s.past.config z (here s) y) (sym is) l.leads) (subst (λ z. Stand z (here s)) (sym is) stand) in
@@ -214,9 +215,9 @@ halves-node b t a key entries s y l up-to come =
       above = r.slot 0;
       left = r.slot 1;
       right = r.slot 2;
-      cut = f.0.halves.cut;
-      separator = f.0.planned.sep;
-      splits = subst (λ (k : ℕ). Splits s.past.config (image_of (here s).image) (image_of y.image) k (r.slot 0) (r.slot 1) (r.slot 2) f.0.halves.cut f.0.planned.sep) (sym on) d.0;
+      cut = f.0.ready.halves.cut;
+      separator = f.0.ready.planned.sep;
+      splits = subst (λ (k : ℕ). Splits s.past.config (image_of (here s).image) (image_of y.image) k (r.slot 0) (r.slot 1) (r.slot 2) f.0.ready.halves.cut f.0.ready.planned.sep) (sym on) d.0;
       left_roomy = d.1.0;
       right_roomy = d.1.1;
     }

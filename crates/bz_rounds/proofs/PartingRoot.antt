@@ -33,13 +33,14 @@ use Rattle.bz_renew.proofs.Freezings.{renewal-holds}
 use Rattle.bz_renew.proofs.FreshSlots.{outside-tree}
 use Rattle.bz_renew.proofs.TwoEntries.{both-stand}
 use Rattle.bz_tally.specs.FromSplit.BelowSplits.{parent_freezing, below_swap}
-use Rattle.bz_tally.specs.FromSplit.Facts.{SPLIT_WORDS, SPLIT_LINES}
 use Rattle.bz_ascent.specs.FromBranch.Nodes.{IsOpenLink}
 use Rattle.bz_ascent.proofs.FromBranch.Standing.{node-below}
 use Rattle.bz_alone.specs.FromCrown.Duties.{asks_crown, facts_crown, crown_of}
-use Rattle.bz_alone.specs.FromCrown.Facts.{Crown, IsSplitting, crown_asks, crown_facts}
+use Rattle.bz_alone.specs.FromCrown.Facts.{Crown, crown_plan, crown_asks, crown_facts}
 use Rattle.bz_alone.specs.FromCrown.Phase.{Phase}
-use Rattle.bz_alone.specs.FromCrown.Phase.TheVariants.{Swap}
+use Rattle.bz_alone.specs.FromCrown.Phase.TheVariants.{Writing}
+use Rattle.bz_writer.specs.Laws.{IsWritten}
+use Rattle.bz_writer.specs.declared.phase.WritePhase.TheVariants.{Swap}
 use Rattle.bz_alone.specs.FromCrown.SplitInnerRoot.{SplitInnerRoot}
 use Rattle.bz_stage.specs.Laws.{RootSplitsLowerTheStage, LeavesALevel, SplitsLeaveALevel}
 use Rattle.bz_stage.specs.Made.{MadeInnersTakeTheirEntries}
@@ -75,7 +76,7 @@ pub record Laws : Type 0 where
   pub made : MadeInnersTakeTheirEntries
   pub crowded : AscentsAreCrowded
 
-module _ (b : Laws) (r : Crown) (s : Scene) (y : Instant) (good : IsScene s) (quiet : IsQuietSince s.past.since s.past) (f : IsSplitting r SPLIT_WORDS SPLIT_LINES s) (stand : Stand (below_swap s.past.config r.upper r.lower (r.slot 0)) (here s)) where
+module _ (b : Laws) (r : Crown) (s : Scene) (y : Instant) (good : IsScene s) (quiet : IsQuietSince s.past.since s.past) (f : IsWritten (crown_plan r) s) (stand : Stand (below_swap s.past.config r.upper r.lower (r.slot 0)) (here s)) where
   abbrev c : Config
   c = s.past.config
 
@@ -83,7 +84,7 @@ module _ (b : Laws) (r : Crown) (s : Scene) (y : Instant) (good : IsScene s) (qu
   a = r.upper.slot
 
   abbrev inside : IsOpenLink r.upper.slot r.lower s.past
-  inside = f.planned.links.node
+  inside = f.ready.planned.links.node
 
   abbrev x : Image
   x = image_of (here s).image
@@ -95,15 +96,15 @@ module _ (b : Laws) (r : Crown) (s : Scene) (y : Instant) (good : IsScene s) (qu
   leads = node-leads b.links s good quiet a r.lower inside
 
   -- the root, as it was read
-  place : SamePlace c (s.past.at f.planned.links.guarded) (here s) a
-  place = subst (λ m. SamePlace c (s.past.at m) (here s) a) f.planned.links.is_guarded (node-place b.links s good quiet a r.lower inside)
+  place : SamePlace c (s.past.at f.ready.planned.links.guarded) (here s) a
+  place = subst (λ m. SamePlace c (s.past.at m) (here s) a) f.ready.planned.links.is_guarded (node-place b.links s good quiet a r.lower inside)
 
   own-now : durable c (here s) a ≡ node_of r.read
-  own-now = node-words b.links s good quiet a r.lower inside ∙ (ap (λ m. words c (s.past.at m) a) f.planned.links.is_guarded ∙ f.planned.node.were)
+  own-now = node-words b.links s good quiet a r.lower inside ∙ (ap (λ m. words c (s.past.at m) a) f.ready.planned.links.is_guarded ∙ f.ready.planned.node.were)
 
   led : (here s).value ROOT_AT ≡ a + 1
   led =
-      ap (here s).value (sym f.planned.links.under.pointer)
+      ap (here s).value (sym f.ready.planned.links.under.pointer)
       ∙ (both-stand (link_entry r.upper (r.slot 0)) (guard_entry r.upper) (here s) (renewal-holds c r.upper (r.slot 0) (λ (e : Entry). (here s).value e.target ≡ e.expected) (parent_freezing r.upper r.lower ∷ []) stand)).0
 
   pub root-is : root (resolve (here s).image) ≡ r.upper.slot
@@ -114,26 +115,26 @@ module _ (b : Laws) (r : Crown) (s : Scene) (y : Instant) (good : IsScene s) (qu
       let at : (here s).value ROOT_AT - 1 ≡ a = omega (arith, led) in
       subst (HasRoot c (here s)) at (b.roots c (here s) g)
 
-  level-now : (form_at c (here s)).level a ≡ f.planned.node.level
-  level-now = place.level ∙ f.planned.node.level_is
+  level-now : (form_at c (here s)).level a ≡ f.ready.planned.node.level
+  level-now = place.level ∙ f.ready.planned.node.level_is
 
   pub at-top : root_level s.past.config (image_of (here s).image) ≡ (form_at s.past.config (here s)).level r.upper.slot
   at-top = ap (λ k. level_of (durable c (here s) k)) root-is ∙ level-at b.leaves b.inners c x a (fits-now b.basis s good) leads.inside (λ e. absurd (omega (arith, e, node-below s a r.lower good inside)))
 
-  level : root_level c x ≡ f.planned.node.level
+  level : root_level c x ≡ f.ready.planned.node.level
   level = at-top ∙ level-now
 
   pub high : 0 < root_level s.past.config (image_of (here s).image)
-  high = omega (arith, level, f.planned.node.node.inner)
+  high = omega (arith, level, f.ready.planned.node.node.inner)
 
-  no-low : None ≡ f.planned.node.low
-  no-low = sym holds-all.low ∙ (place.low ∙ f.planned.node.low_is)
+  no-low : None ≡ f.ready.planned.node.low
+  no-low = sym holds-all.low ∙ (place.low ∙ f.ready.planned.node.low_is)
 
-  no-high : None ≡ f.planned.node.high
-  no-high = sym holds-all.high ∙ (place.high ∙ f.planned.node.high_is)
+  no-high : None ≡ f.ready.planned.node.high
+  no-high = sym holds-all.high ∙ (place.high ∙ f.ready.planned.node.high_is)
 
-  made : IsTallRoot c.nodes (r.slot 1) (r.slot 2) f.sep (f.planned.node.level + 1)
-  made = b.over c.nodes (r.slot 1) (r.slot 2) (f.planned.node.level + 1) f.sep good.config.nodes_in_range.at_most (f.writing.slots.within 1 (omega arith)) (f.writing.slots.within 2 (omega arith)) f.parts.separator (omega arith) f.planned.low_enough
+  made : IsTallRoot c.nodes (r.slot 1) (r.slot 2) f.ready.sep (f.ready.planned.node.level + 1)
+  made = b.over c.nodes (r.slot 1) (r.slot 2) (f.ready.planned.node.level + 1) f.ready.sep good.config.nodes_in_range.at_most (f.writing.slots.within 1 (omega arith)) (f.writing.slots.within 2 (omega arith)) f.ready.parts.separator (omega arith) f.ready.planned.low_enough
 
   stored : (n : ℕ) → n < SPLIT_SLOTS → Holds s (r.slot n) (node_of (r.image n))
   stored n h = record { fresh = node-fresh r.slot r.image s f.plain f.writing n h; has = node-held r.slot r.image s f.plain f.writing n h }
@@ -146,7 +147,7 @@ module _ (b : Laws) (r : Crown) (s : Scene) (y : Instant) (good : IsScene s) (qu
     z = image_of y.image
 
     t : TurnsWith r.upper (r.slot 0) (parent_freezing r.upper r.lower ∷ []) (a ∷ []) s y c.nodes 0 (a ∷ [])
-    t = b.turn s y r.upper (r.slot 0) (parent_freezing r.upper r.lower ∷ []) (a ∷ []) good f.planned.links.under (f.writing.slots.within 0 (omega arith)) going stand swaps
+    t = b.turn s y r.upper (r.slot 0) (parent_freezing r.upper r.lower ∷ []) (a ∷ []) good f.ready.planned.links.under (f.writing.slots.within 0 (omega arith)) going stand swaps
 
     has : (n : ℕ) → n < SPLIT_SLOTS → durable c y (r.slot n) ≡ node_of (r.image n)
     has n h = after b.plain s y good r.upper (parent_freezing r.upper r.lower ∷ []) (r.slot 0) (a ∷ []) c.nodes 0 (a ∷ []) t swaps (r.slot n) (node_of (r.image n)) (stored n h)
@@ -154,15 +155,15 @@ module _ (b : Laws) (r : Crown) (s : Scene) (y : Instant) (good : IsScene s) (qu
     has-raw : (n : ℕ) → n < SPLIT_SLOTS → node c y.image (r.slot n) ≡ node_of (r.image n)
     has-raw n h = raw-after b.plain s y good r.upper (parent_freezing r.upper r.lower ∷ []) (r.slot 0) (a ∷ []) c.nodes 0 (a ∷ []) t swaps (r.slot n) (node_of (r.image n)) (stored n h)
 
-    halves : Halves (children_of (durable c (here s) a)) (children_of (durable c y (r.slot 1))) (children_of (durable c y (r.slot 2))) f.parts.cut f.sep
-    halves = subst (λ n. Halves (children_of n) (children_of (durable c y (r.slot 1))) (children_of (durable c y (r.slot 2))) f.parts.cut f.sep) (sym own-now)
-        (subst (λ n. Halves (children_of (node_of r.read)) (children_of n) (children_of (durable c y (r.slot 2))) f.parts.cut f.sep) (sym (has 1 (omega arith)))
-        (subst (λ n. Halves (children_of (node_of r.read)) (children_of (node_of (r.image 1))) (children_of n) f.parts.cut f.sep) (sym (has 2 (omega arith))) f.parts.halves))
+    halves : Halves (children_of (durable c (here s) a)) (children_of (durable c y (r.slot 1))) (children_of (durable c y (r.slot 2))) f.ready.parts.cut f.ready.sep
+    halves = subst (λ n. Halves (children_of n) (children_of (durable c y (r.slot 1))) (children_of (durable c y (r.slot 2))) f.ready.parts.cut f.ready.sep) (sym own-now)
+        (subst (λ n. Halves (children_of (node_of r.read)) (children_of n) (children_of (durable c y (r.slot 2))) f.ready.parts.cut f.ready.sep) (sym (has 1 (omega arith)))
+        (subst (λ n. Halves (children_of (node_of r.read)) (children_of (node_of (r.image 1))) (children_of n) f.ready.parts.cut f.ready.sep) (sym (has 2 (omega arith))) f.ready.parts.halves))
 
-    two : AreTwo (children_of (durable c y (r.slot 0))) (r.slot 1) (r.slot 2) f.sep
-    two = subst (λ n. AreTwo (children_of n) (r.slot 1) (r.slot 2) f.sep) (sym (has 0 (omega arith) ∙ ap node_of f.over)) made.two
+    two : AreTwo (children_of (durable c y (r.slot 0))) (r.slot 1) (r.slot 2) f.ready.sep
+    two = subst (λ n. AreTwo (children_of n) (r.slot 1) (r.slot 2) f.ready.sep) (sym (has 0 (omega arith) ∙ ap node_of f.ready.over)) made.two
 
-    pub parts-root : SplitsRoot c (image_of (here s).image) (image_of y.image) (r.slot 0) (r.slot 1) (r.slot 2) f.parts.cut f.sep
+    pub parts-root : SplitsRoot c (image_of (here s).image) (image_of y.image) (r.slot 0) (r.slot 1) (r.slot 2) f.ready.parts.cut f.ready.sep
     parts-root = record {
       fresh_q = outside-tree s (r.slot 0) good (stored 0 (omega arith)).fresh;
       fresh_l = outside-tree s (r.slot 1) good (stored 1 (omega arith)).fresh;
@@ -170,25 +171,25 @@ module _ (b : Laws) (r : Crown) (s : Scene) (y : Instant) (good : IsScene s) (qu
       three = are-three r.slot r.image s f.plain f.writing;
       link = subst (λ k. TurnsLink c x z c.nodes 0 (r.slot 0) (k ∷ [])) (sym root-is) t.turns;
       two = two;
-      halves = λ deep. subst (λ k. Halves (children_of (durable c (here s) k)) (children_of (durable c y (r.slot 1))) (children_of (durable c y (r.slot 2))) f.parts.cut f.sep) (sym root-is) halves;
+      halves = λ deep. subst (λ k. Halves (children_of (durable c (here s) k)) (children_of (durable c y (r.slot 1))) (children_of (durable c y (r.slot 2))) f.ready.parts.cut f.ready.sep) (sym root-is) halves;
       says = λ flat. absurd (omega (arith, flat, high));
-      whole_q = (λ e. node_fault c.nodes ((has-raw 0 (omega arith) ∙ ap node_of f.over) e) ((has 0 (omega arith) ∙ ap node_of f.over) e) (level e + 1) None None) ∙ made.none;
-      whole_l = (λ e. node_fault c.nodes (has-raw 1 (omega arith) e) (has 1 (omega arith) e) (level e) (no-low e) (Some f.sep)) ∙ f.parts.left_whole;
-      whole_r = (λ e. node_fault c.nodes (has-raw 2 (omega arith) e) (has 2 (omega arith) e) (level e) (Some f.sep) (no-high e)) ∙ f.parts.right_whole;
+      whole_q = (λ e. node_fault c.nodes ((has-raw 0 (omega arith) ∙ ap node_of f.ready.over) e) ((has 0 (omega arith) ∙ ap node_of f.ready.over) e) (level e + 1) None None) ∙ made.none;
+      whole_l = (λ e. node_fault c.nodes (has-raw 1 (omega arith) e) (has 1 (omega arith) e) (level e) (no-low e) (Some f.ready.sep)) ∙ f.ready.parts.left_whole;
+      whole_r = (λ e. node_fault c.nodes (has-raw 2 (omega arith) e) (has 2 (omega arith) e) (level e) (Some f.ready.sep) (no-high e)) ∙ f.ready.parts.right_whole;
     }
 
     pub left-roomy : IsRoomyInner c (image_of y.image) (r.slot 1)
     left-roomy = subst IsFew (sym (has 1 (omega arith)))
-        (left-few b.made b.part c.nodes r.read (r.image 1) (r.image 2) f.sep f.planned.node.level f.planned.node.low f.planned.node.high f.planned.node.node f.planned.many f.parts)
+        (left-few b.made b.part c.nodes r.read (r.image 1) (r.image 2) f.ready.sep f.ready.planned.node.level f.ready.planned.node.low f.ready.planned.node.high f.ready.planned.node.node f.ready.planned.many f.ready.parts)
 
     pub right-roomy : IsRoomyInner c (image_of y.image) (r.slot 2)
     right-roomy = subst IsFew (sym (has 2 (omega arith)))
-        (right-few b.made b.part c.nodes r.read (r.image 1) (r.image 2) f.sep f.planned.node.level f.planned.node.low f.planned.node.high f.planned.node.node f.planned.many f.parts)
+        (right-few b.made b.part c.nodes r.read (r.image 1) (r.image 2) f.ready.sep f.ready.planned.node.level f.ready.planned.node.low f.ready.planned.node.high f.ready.planned.node.node f.ready.planned.many f.ready.parts)
 
 -- a split that asks for a swap has its nodes ready
 swapping : (c : Config) (r : Crown) (phase : Phase) (s : Scene) (entries : List Entry) → crown_facts r phase Waiting s → crown_asks c r phase ≡ Some (Swaps_for entries)
-    → IsSplitting r SPLIT_WORDS SPLIT_LINES s × (below_swap c r.upper r.lower (r.slot 0) ≡ entries)
-swapping c r Swap s entries f e = (f.1, same-entries (below_swap c r.upper r.lower (r.slot 0)) entries e)
+    → IsWritten (crown_plan r) s × (below_swap c r.upper r.lower (r.slot 0) ≡ entries)
+swapping c r (Writing Swap) s entries f e = (f.1, same-entries (below_swap c r.upper r.lower (r.slot 0)) entries e)
 swapping c r phase s entries f e = absurd (cc)
 
 -- the split of the root, to which an ascent has come
@@ -212,8 +213,8 @@ parts-top b t a key entries s y l up-to come =
       above = r.slot 0;
       left = r.slot 1;
       right = r.slot 2;
-      cut = f.0.parts.cut;
-      separator = f.0.sep;
+      cut = f.0.ready.parts.cut;
+      separator = f.0.ready.sep;
       splits = parts-root b r s y l.good quiet f.0 stand swaps;
       left_roomy = left-roomy b r s y l.good quiet f.0 stand swaps;
       right_roomy = right-roomy b r s y l.good quiet f.0 stand swaps;

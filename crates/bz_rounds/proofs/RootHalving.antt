@@ -31,9 +31,10 @@ use Rattle.bz_renew.specs.Renewals.{renewal}
 use Rattle.bz_renew.specs.Turning.{TurnsAt, RootLinksTurn}
 use Rattle.bz_renew.proofs.FreshSlots.{durable-is}
 use Rattle.bz_tally.specs.FromSplit.Duties.{split_of}
-use Rattle.bz_tally.specs.FromSplit.Facts.{Split, SPLIT_WORDS, SPLIT_LINES, IsSplitting, split_asks, split_facts}
-use Rattle.bz_tally.specs.FromSplit.Phase.{Phase}
-use Rattle.bz_tally.specs.FromSplit.Phase.TheVariants.{Swap}
+use Rattle.bz_tally.specs.FromSplit.Facts.{Split, split_plan, split_asks, split_facts}
+use Rattle.bz_writer.specs.Laws.{IsWritten}
+use Rattle.bz_writer.specs.declared.phase.WritePhase.{WritePhase}
+use Rattle.bz_writer.specs.declared.phase.WritePhase.TheVariants.{Swap}
 use Rattle.bz_stage.proofs.Leaves.{roomy-ready}
 use Rattle.bz_stage.specs.Made.{MadeLeavesAreRoomy}
 use Rattle.bz_stage.specs.Stages.{full_above}
@@ -114,7 +115,7 @@ module _ (c : Config) (y : Image) (key : List ℕ) (q l r : ℕ) (sep : List ℕ
         | inr e ↦ inr (to-leaf ∙ (ap (v.child q) e ∙ (has 1 ∙ two.child_r)))
       ]
 
-module _ (b : Laws) (r : Split) (s : Scene) (y : Instant) (good : IsScene s) (f : IsSplitting r SPLIT_WORDS SPLIT_LINES s) (stand : Stand (renewal r.link (r.slot 0)) (here s)) (swaps : SwapsTo s.past.config (renewal r.link (r.slot 0)) (here s) y) where
+module _ (b : Laws) (r : Split) (s : Scene) (y : Instant) (good : IsScene s) (f : IsWritten (split_plan r) s) (stand : Stand (renewal r.link (r.slot 0)) (here s)) (swaps : SwapsTo s.past.config (renewal r.link (r.slot 0)) (here s) y) where
   abbrev c : Config
   c = s.past.config
 
@@ -122,7 +123,7 @@ module _ (b : Laws) (r : Split) (s : Scene) (y : Instant) (good : IsScene s) (f 
   slot-below n h = f.writing.slots.within n h
 
   t : TurnsAt r.link (r.slot 0) (r.link.slot ∷ []) s y c.nodes 0 []
-  t = b.turn s y r.link (r.slot 0) (r.link.slot ∷ []) good f.parted.under (slot-below 0 (omega arith)) stand swaps
+  t = b.turn s y r.link (r.slot 0) (r.link.slot ∷ []) good f.ready.parted.under (slot-below 0 (omega arith)) stand swaps
 
   after : (n : ℕ) → n < SPLIT_SLOTS → durable c y (r.slot n) ≡ node_of (r.image n)
   after n h =
@@ -130,7 +131,7 @@ module _ (b : Laws) (r : Split) (s : Scene) (y : Instant) (good : IsScene s) (f 
       ∙ node-held r.slot r.image s f.plain f.writing n h
 
   over : IsRootOver c.nodes (r.slot 1) (r.slot 2) r.sep
-  over = b.over c.nodes (r.slot 1) (r.slot 2) r.sep good.config.nodes_in_range.at_most (slot-below 1 (omega arith)) (slot-below 2 (omega arith)) f.parted.separator
+  over = b.over c.nodes (r.slot 1) (r.slot 2) r.sep good.config.nodes_in_range.at_most (slot-below 1 (omega arith)) (slot-below 2 (omega arith)) f.ready.parted.separator
 
   root-words : durable c y (r.slot 0) ≡ node_of (r.image 0)
   root-words = after 0 (omega arith)
@@ -139,10 +140,10 @@ module _ (b : Laws) (r : Split) (s : Scene) (y : Instant) (good : IsScene s) (f 
   root-is = omega (arith, (t.turns.at_root refl).pointer)
 
   level : level_of (durable c y (r.slot 0)) ≡ 1
-  level = ap level_of (root-words ∙ ap node_of f.over) ∙ level-is b.leaves b.inners c.nodes 1 _ _ _ _ over.none
+  level = ap level_of (root-words ∙ ap node_of f.ready.over) ∙ level-is b.leaves b.inners c.nodes 1 _ _ _ _ over.none
 
   two : AreTwo (children_of (durable c y (r.slot 0))) (r.slot 1) (r.slot 2) r.sep
-  two = subst (λ n. AreTwo (children_of n) (r.slot 1) (r.slot 2) r.sep) (sym (root-words ∙ ap node_of f.over)) over.two
+  two = subst (λ n. AreTwo (children_of n) (r.slot 1) (r.slot 2) r.sep) (sym (root-words ∙ ap node_of f.ready.over)) over.two
 
   roomy : (n : ℕ) → n < SPLIT_SLOTS → HasRoom (r.image n) → IsRoomyLeaf c (image_of y.image) (r.slot n)
   roomy n h room = subst (λ m. IsRoomy (page m)) (sym (after n h)) room
@@ -154,7 +155,7 @@ module _ (b : Laws) (r : Split) (s : Scene) (y : Instant) (good : IsScene s) (f 
   ]
 
 -- a split that asks for a swap has its nodes ready
-swapping : (c : Config) (r : Split) (phase : Phase) (s : Scene) (entries : List Entry) → split_facts r phase Waiting s → split_asks c r phase ≡ Some (Swaps_for entries) → IsSplitting r SPLIT_WORDS SPLIT_LINES s × (renewal r.link (r.slot 0) ≡ entries)
+swapping : (c : Config) (r : Split) (phase : WritePhase) (s : Scene) (entries : List Entry) → split_facts r phase Waiting s → split_asks c r phase ≡ Some (Swaps_for entries) → IsWritten (split_plan r) s × (renewal r.link (r.slot 0) ≡ entries)
 swapping c r Swap s entries f e = (f.1, same-entries (renewal r.link (r.slot 0)) entries e)
 swapping c r phase s entries f e = absurd (cc)
 
@@ -166,6 +167,6 @@ root-halves b t key read words entries s y l was m few =
     let d = leaf-roomy b r s y l.good f.0 (subst (λ z. Stand z (here s)) (sym f.1) stand) (subst (λ z. SwapsTo s.past.config z (here s) y) (sym f.1) l.leads) key
     (left-has-room b.made b.part read t.halves.left.0 t.halves.right.0 t.halves.separator m) (right-has-room b.made b.part read t.halves.left.0 t.halves.right.0 t.halves.separator m) in
     record {
-      lacked = lacks-room b.basis s l.good key t.link.slot l.alone was (b.still s t.link.slot f.0.parted.moment l.good f.0.parted.leaf).frozen words;
+      lacked = lacks-room b.basis s l.good key t.link.slot l.alone was (b.still s t.link.slot f.0.ready.parted.moment l.good f.0.ready.parted.leaf).frozen words;
       room = roomy-ready b.settled (leaf_page s.past.config (image_of y.image) key) (full_above s.past.config (image_of y.image) key) words d few;
     }

@@ -6,8 +6,8 @@ use Rattle.bz_ascent.specs.FromBelow.SplitBelow.{SplitBelow}
 use Rattle.bz_consol.specs.Duties as consol
 use Rattle.bz_consol.specs.Facts.{Renewal, consol_asks, consol_needs}
 use Rattle.bz_consol.specs.declared.consolidate.Consolidate.{Consolidate}
-use Rattle.bz_consol.specs.declared.phase.Phase.{Phase as CopyPhase}
-use Rattle.bz_consol.specs.declared.phase.Phase.TheVariants as copy
+use Rattle.bz_writer.specs.declared.phase.WritePhase.{WritePhase}
+use Rattle.bz_writer.specs.declared.phase.WritePhase.TheVariants as write
 use Rattle.bz_crown.specs.Duties.{crown_of, asks_crown, end_crown, needs_crown}
 use Rattle.bz_crown.specs.Facts.{Crown, crown_asks, crown_needs}
 use Rattle.bz_crown.specs.declared.phase.Phase.{Phase as CrownPhase}
@@ -62,8 +62,8 @@ goes-on None needs some f = refl
 goes-on (Some o) zero some f = absurd (omega (arith, some))
 goes-on (Some o) (suc n) some f = absurd (f o refl)
 
-copy-takes : (c : Config) (r : Renewal) (p : CopyPhase) → Hears (consol_asks c r p) Start → 0 < consol_needs p
-copy-takes c r copy.Fresh h = omega arith
+copy-takes : (c : Config) (r : Renewal) (p : WritePhase) → Hears (consol_asks c r p) Start → 0 < consol_needs p
+copy-takes c r write.Fresh h = omega arith
 copy-takes c r p h = absurd h
 
 split-takes : (t : SplitRoot) → Hears (split.asks_of t) Start → 0 < split.needs_of t
@@ -74,10 +74,12 @@ below-takes t h = grind arith
 
 fork-takes : (c : Config) (r : Fork) (p : ForkPhase) → Hears (fork_asks c r p) Start → 0 < fork_needs p
 fork-takes c r fork.Fresh h = omega arith
+fork-takes c r (fork.Writing write.Fresh) h = omega arith
 fork-takes c r p h = absurd h
 
 crown-takes : (c : Config) (r : Crown) (p : CrownPhase) → Hears (crown_asks c r p) Start → 0 < crown_needs p
 crown-takes c r crown.Fresh h = omega arith
+crown-takes c r (crown.Writing write.Fresh) h = omega arith
 crown-takes c r p h = absurd h
 
 merge-takes : (c : Config) (r : Plan) (p : MergePhase) → Hears (merge_asks c r p) Start → 0 < merge_needs p

@@ -2,4 +2,3 @@
 pub use Rattle.bz_consol.specs.Duties
 pub use Rattle.bz_consol.specs.Facts
 pub use Rattle.bz_consol.specs.declared.consolidate.Consolidate
-pub use Rattle.bz_consol.specs.declared.phase.Phase

@@ -2,9 +2,7 @@ mod RootSplitting
 mod BelowSplitting
 mod Parting
 pub mod Staying
-mod Knowing
-pub mod Counting
+mod Making
 mod Acting
 mod Viewing
-mod Beginning
 pub mod Proved

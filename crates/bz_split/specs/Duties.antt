@@ -1,12 +1,14 @@
 -- The split of a root leaf as a task.
-use Rattle.std.specs.Prelude.{ℕ, zero, suc, List, [], ◌∷◌, Option, slice_index, false}
+use Rattle.std.specs.Prelude.{ℕ, zero, suc, List, Option, slice_index}
 use Rattle.bz_task.specs.Basis.{Basis}
 use Rattle.bz_task.specs.Scene.{Scene, Stage}
 use Rattle.bz_task.specs.TaskView.{TaskView}
 use Rattle.bz_task.specs.declared.todo.Outcome.{Outcome}
 use Rattle.bz_task.specs.declared.todo.Seen.{Seen}
 use Rattle.bz_task.specs.declared.todo.Todo.{Todo}
-use Rattle.bz_split.specs.Facts.{Split, split_asks, split_end, split_left, split_swaps, split_needs, split_facts, split_differs, split_change, split_means}
+use Rattle.bz_writer.specs.Facts.{write_ready, write_view}
+use Rattle.bz_writer.specs.Phases.{write_end}
+use Rattle.bz_split.specs.Facts.{Split, split_plan, split_asks, split_needs, split_facts, split_differs}
 use Rattle.bz_split.specs.declared.split_root.SplitRoot.{SplitRoot}
 
 -- the words of the root, of the left half and of the right half
@@ -22,13 +24,7 @@ abbrev pub asks_of : SplitRoot → Option Todo
 asks_of t = split_asks t.config (split_of t) t.phase
 
 abbrev pub end_of : SplitRoot → Option Outcome
-end_of t = split_end t.phase
-
-abbrev pub left_of : SplitRoot → ℕ
-left_of t = split_left t.phase
-
-abbrev pub swaps_of : SplitRoot → ℕ
-swaps_of t = split_swaps t.phase
+end_of t = write_end t.phase
 
 abbrev pub needs_of : SplitRoot → ℕ
 needs_of t = split_needs t.phase
@@ -39,25 +35,13 @@ facts_of t = split_facts (split_of t) t.phase
 abbrev pub differs_of : SplitRoot → Seen → Type 0
 differs_of t = split_differs t.link t.phase
 
--- the leaf to which the link leads, and the words of its halves, with the key between them
 abbrev pub basis_of : SplitRoot → Basis
-basis_of t = record { slot = t.link.slot; nodes = t.halves.left.0 ∷ t.halves.right.0 ∷ t.halves.separator ∷ [] }
+basis_of t = (split_plan (split_of t)).basis
+
+-- what is named is there
+abbrev pub IsReady : SplitRoot → Type 0
+IsReady t = write_ready t.config (split_plan (split_of t)) t.phase
 
 -- as its contract sees it
 abbrev pub split_view : SplitRoot → TaskView
-split_view t = record {
-  config = t.config;
-  asks = asks_of t;
-  end = end_of t;
-  left = left_of t;
-  swaps = swaps_of t;
-  -- its one swap is its last act where it takes effect: while it goes on it has made none
-  made = 0;
-  needs = needs_of t;
-  change = split_change;
-  basis = basis_of t;
-  publishing = false;
-  facts = facts_of t;
-  means = split_means t.link t.halves.left.0 t.halves.right.0 t.halves.separator;
-  differs = differs_of t;
-}
+split_view t = write_view t.config (split_plan (split_of t)) t.phase

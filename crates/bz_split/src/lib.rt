@@ -4,7 +4,6 @@
 mod due;
 pub mod laws;
 mod parts;
-mod phase;
 mod split_root;
 
 pub use due::{is_due, is_large};

@@ -1,41 +1,32 @@
 //! The task that splits a frozen root leaf.
 
-ghost use Rattle.std.specs.Prelude.{◌≡◌, ◌≢◌, ◌↔◌, ◌-◌, ◌+◌, ◌<◌, ◌≤◌, ◌⊎◌, ℕ, List, Some, None, IsTrue, true, false, slice_get, length};
+ghost use Rattle.std.specs.Prelude.{◌≡◌, ◌≢◌, ◌-◌, ◌<◌, ◌≤◌, ℕ, List, Some, true, slice_get};
 ghost use Rattle.bz_layout.specs.Config.{IsConfig};
+ghost use Rattle.bz_layout.specs.declared.swaps.TheConstants.{RENEWAL_SWAPS};
 ghost use Rattle.bz_layout.specs.declared.thresholds.TheConstants.{SPLIT_ABOVE, SPLIT_SLOTS};
-ghost use Rattle.bz_renew.specs.FromPage.Pages.{IsLeafByItself};
 ghost use Rattle.bz_renew.specs.Due.{LeadsTo};
+ghost use Rattle.bz_renew.specs.FromPage.Pages.{IsLeafByItself};
 ghost use Rattle.bz_renew.specs.Nodes.{word_value};
 ghost use Rattle.bz_slotted.specs.Readers.{live_of};
 ghost use Rattle.bz_slotted.specs.ReadingLaws.{node_of};
-ghost use Rattle.bz_word.specs.Statuses.{status};
-ghost use Rattle.bz_task.specs.Contract.{IsBegun};
+ghost use Rattle.bz_task.specs.Contract.{IsBegun, MayHear, GoesOn, Learns};
 ghost use Rattle.bz_task.specs.Outcomes.{IsPath, IsView};
-ghost use Rattle.bz_task.specs.OwnActs.{AreTakenFrom, AreUnreached, gained};
-ghost use Rattle.bz_task.specs.Requests.{Hears, Tells, IsKnown, swaps_in, effects_in};
-ghost use Rattle.bz_task.specs.Scene.{Scene, Stage, Waiting, IsScene};
-ghost use Rattle.bz_layout.specs.declared.swaps.TheConstants.{RENEWAL_SWAPS};
-ghost use Rattle.bz_task.specs.declared.todo.Seen.TheVariants.{Start, Read as Was, Swapped, NoSwap as NoneLeft};
-ghost use Rattle.bz_split.specs.Duties.{split_of, asks_of, end_of, left_of, swaps_of, needs_of, facts_of, differs_of, split_view};
+ghost use Rattle.bz_task.specs.Scene.{Scene, Waiting, IsScene};
+ghost use Rattle.bz_word.specs.Statuses.{status};
+ghost use Rattle.bz_split.specs.Duties.{IsReady, asks_of, split_of, split_view};
+ghost use Rattle.bz_split.specs.Facts.{IsEndOfSplit, WasParted, nodes_in, split_acts, split_change};
 ghost use Rattle.bz_split.specs.Parts.{ArePartsOf};
-ghost use Rattle.bz_split.specs.Facts.{IsEndOfSplit, HasBegun, HasLooked, nodes_in, split_acts, split_end, split_left, split_steps, split_swaps, split_facts, split_change, IsReady, WasParted, next_store, next_flush};
 
-use crate::laws::root_leaf_splits_are_good;
 use crate::parts::parts_of;
-use crate::phase::Phase;
-use bz_call::Spent;
 use bz_halves::{Halves, root_over};
 use bz_key::PageBuf;
-use bz_layout::{Config, LINE_WORDS, NODE_WORDS, SPLIT_SLOTS, Slots};
+use bz_layout::{Config, NODE_WORDS, SPLIT_SLOTS, Slots};
 use bz_node::NodeImage;
-use bz_renew::{is_whole, last_link, swap_of, take_three};
-use bz_task::{LeafView, Link, Outcome, Path, Seen, Task, Todo, laws};
-
-const NODE_LINES: u32 = NODE_WORDS / LINE_WORDS;
+use bz_renew::{is_whole, last_link, swap_of};
+use bz_task::{LeafView, Link, Outcome, Path, Seen, Task, Todo};
+use bz_writer::{WritePhase, flush_at, look, store_at};
 
 const SPLIT_WORDS: u32 = NODE_WORDS * SPLIT_SLOTS;
-
-const SPLIT_LINES: u32 = NODE_LINES * SPLIT_SLOTS;
 
 /// The split of the frozen root leaf that a view shows. It ends with Done where a root over the leaf's halves has taken its
 /// place, with Restart where the root pointer or the root status was another one, and with Full where fewer than three slots or no
@@ -50,7 +41,7 @@ pub struct SplitRoot {
     root: NodeImage,
     // the slots of the root, of the left half and of the right half
     slots: [u16; 3],
-    phase: Phase,
+    phase: WritePhase,
 }
 
 impl SplitRoot {
@@ -81,106 +72,33 @@ impl SplitRoot {
             root: halves.left,
             halves,
             slots: [0; 3],
-            phase: Phase::Fresh,
+            phase: WritePhase::Fresh,
         }
     }
 }
 
 impl SplitRoot {
-    // The phase after what came of the last act.
-    fn after(&self, seen: Seen, moment: u32) -> Phase
-        requires begun { self.now.phase ≢ Phase.Fresh }
-        requires looked { self.now.phase ≢ Phase.Guard }
-        requires hears { Hears (asks_of self.now) seen }
-        requires known { IsKnown self.now.config (facts_of self.now) (asks_of self.now) seen moment }
-        ensures nearer { split_left result + split_steps result ≤ left_of self.now }
-        ensures fewer { split_swaps result + swaps_in (asks_of self.now) ≤ swaps_of self.now }
-        ensures counted { split_end result ≡ None → effects_in seen ≡ 0 }
-        ensures done { result ≡ Phase.Done → seen ≡ Swapped true }
-        ensures last { seen ≡ Swapped true → result ≡ Phase.Done }
-        ensures restart { result ≡ Phase.Restart → seen ≡ Swapped false }
-        ensures no_swap { (result ≡ Phase.NoSwap) ↔ (seen ≡ NoneLeft) }
-        ensures slots { result ≢ Phase.NoSlot }
-        ensures begun { result ≢ Phase.Fresh }
-        ensures looked { result ≢ Phase.Guard }
-        ensures config { IsConfig self.now.config }
-        ensures ready { IsReady self.now.config (split_of self.now) result }
-        ensures learns { (stage : Stage) (s : Scene) → s.past.config ≡ self.now.config → facts_of self.now stage s → Tells (asks_of self.now) stage seen s → split_facts (split_of self.now) result Waiting s }
+    // The next phase, whichever it is.
+    fn step(&mut self, seen: Seen, slots: &mut Slots, moment: u32)
+        requires { MayHear (split_view self.old) seen moment slots.old }
+        ensures known { IsConfig self.new.config }
+        ensures begun { self.new.phase ≢ WritePhase.Fresh }
+        ensures ready { IsReady self.new }
+        ensures goes { (todo : Todo) → asks_of self.new ≡ Some todo → GoesOn (split_view self.old) (split_view self.new) seen slots.old slots.new todo }
+        ensures learns { Learns (split_view self.old) (split_view self.new) seen moment slots.old slots.new }
     {
         let _moment = moment;
-        bz_renew::laws::links_turn();
-        match (self.phase, seen) {
-            (Phase::Store(j), Seen::Stored) => after_store(j),
-            (Phase::Flush(j), Seen::Flushed) => after_flush(j),
-            (Phase::Swap, Seen::Swapped(true)) => Phase::Done,
-            (Phase::Swap, Seen::NoSwap) => Phase::NoSwap,
-            _ => Phase::Restart,
-        }
-    }
-
-    // The phase with which the nodes are begun: the first store, where three slots are left.
-    fn begin(&mut self, slots: &mut Slots)
-        ensures config { self.new.config ≡ self.old.config }
-        ensures link { self.new.link ≡ self.old.link }
-        ensures halves { self.new.halves ≡ self.old.halves }
-        ensures begun { HasBegun (split_of self.new) self.new.phase slots.old slots.new }
-    {
-        match take_three(slots) {
-            Some(taken) => {
+        match self.phase {
+            WritePhase::Fresh => self.phase = WritePhase::Guard,
+            WritePhase::Guard => {
+                let begun = look(SPLIT_SLOTS, self.link.status, seen, slots);
+                let taken = begun.slots;
                 self.root = root_over(taken[1], taken[2], self.halves.separator);
                 is_whole(&self.root);
                 self.slots = taken;
-                self.phase = Phase::Store(0);
+                self.phase = begun.phase;
             }
-            None => self.phase = Phase::NoSlot,
-        }
-    }
-
-    // The phase after another look at the guard: the nodes are begun where it is as the path names it.
-    fn look(&mut self, seen: Seen, slots: &mut Slots)
-        ensures config { self.new.config ≡ self.old.config }
-        ensures link { self.new.link ≡ self.old.link }
-        ensures halves { self.new.halves ≡ self.old.halves }
-        ensures looked { HasLooked (split_of self.new) seen self.new.phase slots.old slots.new }
-    {
-        if is_read(seen, self.link.status) {
-            self.begin(slots);
-        } else {
-            self.phase = Phase::Restart;
-        }
-    }
-
-    // The next phase, whichever it is.
-    fn step(&mut self, seen: Seen, slots: &mut Slots, moment: u32)
-        requires hears { Hears (asks_of self.old) seen }
-        requires known { IsKnown self.old.config (facts_of self.old) (asks_of self.old) seen moment }
-        requires memory { 0 < needs_of self.old → slots.old.nodes ≡ self.old.config.nodes }
-        ensures config { self.new.config ≡ self.old.config }
-        ensures link { self.new.link ≡ self.old.link }
-        ensures halves { self.new.halves ≡ self.old.halves }
-        ensures known { IsConfig self.new.config }
-        ensures begun { self.new.phase ≢ Phase.Fresh }
-        ensures ready { IsReady self.new.config (split_of self.new) self.new.phase }
-        ensures nearer { left_of self.new + split_steps self.new.phase ≤ left_of self.old }
-        ensures fewer { swaps_of self.new + swaps_in (asks_of self.old) ≤ swaps_of self.old }
-        ensures counted { end_of self.new ≡ None → effects_in seen ≡ 0 }
-        ensures slots { AreTakenFrom (needs_of self.old) (needs_of self.new) slots.old slots.new }
-        ensures kept { (outcome : Outcome) → end_of self.new ≡ Some outcome → slots.new ≡ slots.old }
-        ensures begins { seen ≡ Start → end_of self.new ≡ None }
-        ensures done { end_of self.new ≡ Some Outcome.Done → seen ≡ Swapped true }
-        ensures last { seen ≡ Swapped true → end_of self.new ≡ Some Outcome.Done }
-        ensures restart { end_of self.new ≡ Some Outcome.Restart → (seen ≡ Swapped false) ⊎ differs_of self.old seen }
-        ensures no_swap { seen ≡ NoneLeft → end_of self.new ≡ Some (Outcome.Full Spent.Swaps) }
-        ensures full_swaps { end_of self.new ≡ Some (Outcome.Full Spent.Swaps) → seen ≡ NoneLeft }
-        ensures full_nodes { end_of self.new ≡ Some (Outcome.Full Spent.Nodes) → length slots.old.free < needs_of self.old }
-        ensures learns { (stage : Stage) (s : Scene) → s.past.config ≡ self.old.config → IsScene s → (0 < needs_of self.old → AreUnreached s slots.old) → facts_of self.old stage s → Tells (asks_of self.old) stage seen s → facts_of self.new Waiting (gained s slots.old slots.new) }
-    {
-        laws::nothing_is_gained();
-        bz_layout::slots_apart();
-        match self.phase {
-            Phase::Fresh => self.phase = Phase::Guard,
-            Phase::Guard => self.look(seen, slots),
-            _ => self.phase = self.after(seen, moment),
+            _ => self.phase = self.phase.after(SPLIT_SLOTS, seen),
         }
     }
 
@@ -199,59 +117,18 @@ impl SplitRoot {
 
     // What a phase asks for.
     fn asked(&self) -> Todo
-        requires begun { self.now.phase ≢ Phase.Fresh }
+        requires begun { self.now.phase ≢ WritePhase.Fresh }
         requires config { IsConfig self.now.config }
-        requires ready { IsReady self.now.config (split_of self.now) self.now.phase }
+        requires ready { IsReady self.now }
         ensures { asks_of self.now ≡ Some result }
     {
         match self.phase {
-            Phase::Guard => Todo::Read(self.link.guard),
-            Phase::Store(j) => {
-                let slot = self.slots[(j / NODE_WORDS) as usize] as u32;
-                Todo::Store(self.config.node_at(slot) + j % NODE_WORDS, self.word(j))
-            }
-            Phase::Flush(j) => {
-                let slot = self.slots[(j / NODE_LINES) as usize] as u32;
-                Todo::Flush(self.config.node_at(slot) / LINE_WORDS + j % NODE_LINES)
-            }
-            Phase::Swap => Todo::Swap(swap_of(&self.link, self.slots[0])),
-            Phase::Fresh | Phase::Done | Phase::Restart | Phase::NoSlot | Phase::NoSwap =>
-                Todo::Finish,
+            WritePhase::Guard => Todo::Read(self.link.guard),
+            WritePhase::Store(j) => store_at(&self.config, &self.slots, j, self.word(j)),
+            WritePhase::Flush(j) => flush_at(&self.config, &self.slots, j),
+            WritePhase::Swap => Todo::Swap(swap_of(&self.link, self.slots[0])),
+            _ => Todo::Finish,
         }
-    }
-}
-
-// Whether a load found this value.
-fn is_read(seen: Seen, value: u64) -> bool
-    ensures { IsTrue result ↔ (seen ≡ Was value) }
-{
-    match seen {
-        Seen::Read(found) => found == value,
-        _ => false,
-    }
-}
-
-// The phase after the store of a word: that of the next one, or the first flush.
-fn after_store(j: u32) -> Phase
-    requires { j < SPLIT_WORDS }
-    ensures { result ≡ next_store j }
-{
-    if j + 1 < SPLIT_WORDS {
-        Phase::Store(j + 1)
-    } else {
-        Phase::Flush(0)
-    }
-}
-
-// The phase after the flush of a line: that of the next one, or the swap.
-fn after_flush(j: u32) -> Phase
-    requires { j < SPLIT_LINES }
-    ensures { result ≡ next_flush j }
-{
-    if j + 1 < SPLIT_LINES {
-        Phase::Flush(j + 1)
-    } else {
-        Phase::Swap
     }
 }
 
@@ -263,13 +140,7 @@ impl Task for SplitRoot {
     }
 
     fn ended(&self) -> Option<Outcome> {
-        match self.phase {
-            Phase::Done => Some(Outcome::Done),
-            Phase::Restart => Some(Outcome::Restart),
-            Phase::NoSlot => Some(Outcome::Full(Spent::Nodes)),
-            Phase::NoSwap => Some(Outcome::Full(Spent::Swaps)),
-            _ => None,
-        }
+        self.phase.ended()
     }
 
     fn next(&mut self, seen: Seen, slots: &mut Slots, moment: u32) -> Todo {
@@ -277,15 +148,7 @@ impl Task for SplitRoot {
         self.asked()
     }
 
-    fn learnt(&self) {
-        bz_renew::laws::links_turn();
-        bz_word::laws::statuses();
-    }
+    fn learnt(&self) {}
 
-    fn acted(&self) {
-        bz_renew::laws::links_turn();
-        bz_halves::laws::roots_stand_over_two();
-        bz_layout::slots_apart();
-        root_leaf_splits_are_good();
-    }
+    fn acted(&self) {}
 }

@@ -2,14 +2,15 @@
 use Rattle.std.proofs.Common.{◌≡◌, ◌≢◌, ℕ, ◌+◌, ◌<◌, List, [], ◌∷◌, Some, arith, refl, sym, ap, subst, ◌∙◌, inl, inr}
 use Rattle.std.specs.Prelude.{All}
 use Rattle.bz_branch.specs.FromSplit.BelowSplits.{AreLinksDown, parent_freezing}
-use Rattle.bz_branch.specs.FromSplit.Facts.{SPLIT_WORDS, SPLIT_LINES}
 use Rattle.bz_branch.specs.InnerSplits.{both_freezings, inner_swap}
 use Rattle.bz_branch.specs.Nodes.{IsOpenLink}
 use Rattle.bz_branch.proofs.Standing.{node-below}
 use Rattle.bz_running.specs.FromFork.Duties.{fork_of}
-use Rattle.bz_running.specs.FromFork.Facts.{Fork, IsSplitting, fork_asks, fork_facts, parent_words}
+use Rattle.bz_running.specs.FromFork.Facts.{Fork, fork_plan, fork_asks, fork_facts, parent_words}
 use Rattle.bz_running.specs.FromFork.Phase.{Phase}
-use Rattle.bz_running.specs.FromFork.Phase.TheVariants.{Swap}
+use Rattle.bz_running.specs.FromFork.Phase.TheVariants.{Writing}
+use Rattle.bz_writer.specs.Laws.{IsWritten}
+use Rattle.bz_writer.specs.declared.phase.WritePhase.TheVariants.{Swap}
 use Rattle.bz_halves.specs.Parents.{HasRoomToPart, IsPartedParent, ParentsOfHalvesAreWhole}
 use Rattle.bz_layout.specs.Addresses.{node_address}
 use Rattle.bz_layout.specs.declared.config.Config.{Config}
@@ -56,7 +57,7 @@ pub record Laws : Type 0 where
   pub grows : SplitsKeepTheContent
   pub count : LeafSplitsAddOne
 
-module _ (b : Laws) (r : Fork) (s : Scene) (y : Instant) (good : IsScene s) (f : IsSplitting r SPLIT_WORDS SPLIT_LINES s) (stand : Stand (inner_swap s.past.config r.upper r.middle r.lower (r.slot 0)) (here s)) where
+module _ (b : Laws) (r : Fork) (s : Scene) (y : Instant) (good : IsScene s) (f : IsWritten (fork_plan r) s) (stand : Stand (inner_swap s.past.config r.upper r.middle r.lower (r.slot 0)) (here s)) where
   abbrev c : Config
   c = s.past.config
 
@@ -67,13 +68,13 @@ module _ (b : Laws) (r : Fork) (s : Scene) (y : Instant) (good : IsScene s) (f :
   a = r.middle.slot
 
   abbrev d : AreLinksDown r.upper r.middle s.past
-  d = f.planned.links.down
+  d = f.ready.planned.links.down
 
   abbrev above : IsOpenLink r.upper.slot r.middle s.past
-  above = in-parent s r.upper r.middle f.planned.links.down
+  above = in-parent s r.upper r.middle f.ready.planned.links.down
 
   abbrev inside : IsOpenLink r.middle.slot r.lower s.past
-  inside = f.planned.links.node
+  inside = f.ready.planned.links.node
 
   abbrev stands : Entry → Type 0
   stands e = (here s).value e.target ≡ e.expected
@@ -95,54 +96,54 @@ module _ (b : Laws) (r : Fork) (s : Scene) (y : Instant) (good : IsScene s) (f :
   leads = node-leads b.links s p r.middle good above parent-status
 
   -- the parent, and the node, as they were read
-  parent-place : SamePlace c (s.past.at f.planned.links.guarded) (here s) p
-  parent-place = subst (λ m. SamePlace c (s.past.at m) (here s) p) f.planned.links.is_guarded (node-place b.links s p r.middle good above parent-status)
+  parent-place : SamePlace c (s.past.at f.ready.planned.links.guarded) (here s) p
+  parent-place = subst (λ m. SamePlace c (s.past.at m) (here s) p) f.ready.planned.links.is_guarded (node-place b.links s p r.middle good above parent-status)
 
   parent-now : durable c (here s) p ≡ node_of r.above
-  parent-now = node-words b.links s p r.middle good above parent-status ∙ (ap (λ m. words c (s.past.at m) p) f.planned.links.is_guarded ∙ f.planned.parent.were)
+  parent-now = node-words b.links s p r.middle good above parent-status ∙ (ap (λ m. words c (s.past.at m) p) f.ready.planned.links.is_guarded ∙ f.ready.planned.parent.were)
 
-  own-place : SamePlace c (s.past.at f.planned.links.counted) (here s) a
-  own-place = subst (λ m. SamePlace c (s.past.at m) (here s) a) f.planned.links.is_counted (node-place b.links s a r.lower good inside node-status)
+  own-place : SamePlace c (s.past.at f.ready.planned.links.counted) (here s) a
+  own-place = subst (λ m. SamePlace c (s.past.at m) (here s) a) f.ready.planned.links.is_counted (node-place b.links s a r.lower good inside node-status)
 
   own-now : durable c (here s) a ≡ node_of r.read
-  own-now = node-words b.links s a r.lower good inside node-status ∙ (ap (λ m. words c (s.past.at m) a) f.planned.links.is_counted ∙ f.planned.node.were)
+  own-now = node-words b.links s a r.lower good inside node-status ∙ (ap (λ m. words c (s.past.at m) a) f.ready.planned.links.is_counted ∙ f.ready.planned.node.were)
 
-  level : (form_at c (here s)).level a ≡ f.planned.node.level
-  level = own-place.level ∙ f.planned.node.level_is
+  level : (form_at c (here s)).level a ≡ f.ready.planned.node.level
+  level = own-place.level ∙ f.ready.planned.node.level_is
 
   pub high : 0 < (form_at c (here s)).level r.middle.slot
-  high = omega (arith, level, f.planned.node.node.inner)
+  high = omega (arith, level, f.ready.planned.node.node.inner)
 
   pub above-is : 0 < (form_at s.past.config (here s)).level ((form_at s.past.config (here s)).up r.middle.slot)
   above-is = subst (λ (j : ℕ). 0 < (form_at c (here s)).level j) (sym leads.stands.up) (omega (arith, leads.stands.level))
 
-  room : HasRoomToPart c.nodes (children_in r.above) f.planned.parent.level (r.slot 1) (r.slot 2) f.planned.sep
+  room : HasRoomToPart c.nodes (children_in r.above) f.ready.planned.parent.level (r.slot 1) (r.slot 2) f.ready.planned.sep
   room = record {
-    few = f.planned.parent.parent.few;
-    slots = f.planned.parent.parent.partable.slots;
+    few = f.ready.planned.parent.parent.few;
+    slots = f.ready.planned.parent.parent.partable.slots;
     left_slot = f.writing.slots.within 1 (omega arith);
     right_slot = f.writing.slots.within 2 (omega arith);
-    inner = f.planned.parent.parent.inner;
-    few_levels = f.planned.parent.parent.lowest;
-    room = f.planned.room;
+    inner = f.ready.planned.parent.parent.inner;
+    few_levels = f.ready.planned.parent.parent.lowest;
+    room = f.ready.planned.room;
   }
 
-  made : IsPartedParent c.nodes (node_of r.above) (children_in r.above) f.planned.parent.low f.planned.parent.high f.planned.parent.level f.planned.links.child (r.slot 1) (r.slot 2) f.planned.sep
-  made = b.wholes c.nodes (node_of r.above) (children_in r.above) f.planned.parent.low f.planned.parent.high f.planned.parent.level f.planned.links.child (r.slot 1) (r.slot 2) f.planned.sep f.planned.parent.parent.partable.may room f.planned.parent.parent.partable.has
+  made : IsPartedParent c.nodes (node_of r.above) (children_in r.above) f.ready.planned.parent.low f.ready.planned.parent.high f.ready.planned.parent.level f.ready.planned.links.child (r.slot 1) (r.slot 2) f.ready.planned.sep
+  made = b.wholes c.nodes (node_of r.above) (children_in r.above) f.ready.planned.parent.low f.ready.planned.parent.high f.ready.planned.parent.level f.ready.planned.links.child (r.slot 1) (r.slot 2) f.ready.planned.sep f.ready.planned.parent.parent.partable.may room f.ready.planned.parent.parent.partable.has
 
-  wider : Wider (children_of (durable c (here s) p)) (children_of (node_of (r.image 0))) d.under.child.child (r.slot 1) (r.slot 2) f.planned.sep
-  wider = subst (λ n. Wider (children_of n) (children_of (node_of (r.image 0))) d.under.child.child (r.slot 1) (r.slot 2) f.planned.sep) (sym parent-now)
-      (subst (λ w. Wider (children_of (node_of r.above)) (children_of (node_of w)) d.under.child.child (r.slot 1) (r.slot 2) f.planned.sep) (sym f.over)
-      (subst (λ i. Wider (children_of (node_of r.above)) (children_of (node_of (parent_words r f.planned.sep f.planned.links.child f.planned.parent.level f.planned.parent.low f.planned.parent.high))) i (r.slot 1) (r.slot 2) f.planned.sep)
-      (sym f.planned.links.is_child) made.wider))
+  wider : Wider (children_of (durable c (here s) p)) (children_of (node_of (r.image 0))) d.under.child.child (r.slot 1) (r.slot 2) f.ready.planned.sep
+  wider = subst (λ n. Wider (children_of n) (children_of (node_of (r.image 0))) d.under.child.child (r.slot 1) (r.slot 2) f.ready.planned.sep) (sym parent-now)
+      (subst (λ w. Wider (children_of (node_of r.above)) (children_of (node_of w)) d.under.child.child (r.slot 1) (r.slot 2) f.ready.planned.sep) (sym f.ready.over)
+      (subst (λ i. Wider (children_of (node_of r.above)) (children_of (node_of (parent_words r f.ready.planned.sep f.ready.planned.links.child f.ready.planned.parent.level f.ready.planned.parent.low f.ready.planned.parent.high))) i (r.slot 1) (r.slot 2) f.ready.planned.sep)
+      (sym f.ready.planned.links.is_child) made.wider))
 
-  halves : Halves (children_of (durable c (here s) a)) (children_of (node_of (r.image 1))) (children_of (node_of (r.image 2))) f.halves.cut f.planned.sep
-  halves = subst (λ n. Halves (children_of n) (children_of (node_of (r.image 1))) (children_of (node_of (r.image 2))) f.halves.cut f.planned.sep) (sym own-now) f.halves.halves
+  halves : Halves (children_of (durable c (here s) a)) (children_of (node_of (r.image 1))) (children_of (node_of (r.image 2))) f.ready.halves.cut f.ready.planned.sep
+  halves = subst (λ n. Halves (children_of n) (children_of (node_of (r.image 1))) (children_of (node_of (r.image 2))) f.ready.halves.cut f.ready.planned.sep) (sym own-now) f.ready.halves.halves
 
   stored : (n : ℕ) → n < SPLIT_SLOTS → Holds s (r.slot n) (node_of (r.image n))
   stored n h = record { fresh = node-fresh r.slot r.image s f.plain f.writing n h; has = node-held r.slot r.image s f.plain f.writing n h }
 
-  ready : IsReady s p a d.under.child.child (r.slot 0) (r.slot 1) (r.slot 2) f.halves.cut f.planned.sep (node_of (r.image 0)) (node_of (r.image 1)) (node_of (r.image 2))
+  ready : IsReady s p a d.under.child.child (r.slot 0) (r.slot 1) (r.slot 2) f.ready.halves.cut f.ready.planned.sep (node_of (r.image 0)) (node_of (r.image 1)) (node_of (r.image 2))
   ready = record {
     stands = leads.stands;
     parent = node-below s p r.middle good above;
@@ -151,9 +152,9 @@ module _ (b : Laws) (r : Fork) (s : Scene) (y : Instant) (good : IsScene s) (f :
     above = stored 0 (omega arith);
     left = stored 1 (omega arith);
     right = stored 2 (omega arith);
-    whole = (λ e. node_fault c.nodes (node_of (f.over e)) (node_of (f.over e)) ((parent-place.level ∙ f.planned.parent.level_is) e) ((parent-place.low ∙ f.planned.parent.low_is) e) ((parent-place.high ∙ f.planned.parent.high_is) e)) ∙ made.inner.none;
-    left_whole = (λ e. node_fault c.nodes (node_of (r.image 1)) (node_of (r.image 1)) (level e) ((own-place.low ∙ f.planned.node.low_is) e) (Some f.planned.sep)) ∙ f.halves.left_whole;
-    right_whole = (λ e. node_fault c.nodes (node_of (r.image 2)) (node_of (r.image 2)) (level e) (Some f.planned.sep) ((own-place.high ∙ f.planned.node.high_is) e)) ∙ f.halves.right_whole;
+    whole = (λ e. node_fault c.nodes (node_of (f.ready.over e)) (node_of (f.ready.over e)) ((parent-place.level ∙ f.ready.planned.parent.level_is) e) ((parent-place.low ∙ f.ready.planned.parent.low_is) e) ((parent-place.high ∙ f.ready.planned.parent.high_is) e)) ∙ made.inner.none;
+    left_whole = (λ e. node_fault c.nodes (node_of (r.image 1)) (node_of (r.image 1)) (level e) ((own-place.low ∙ f.ready.planned.node.low_is) e) (Some f.ready.planned.sep)) ∙ f.ready.halves.left_whole;
+    right_whole = (λ e. node_fault c.nodes (node_of (r.image 2)) (node_of (r.image 2)) (level e) (Some f.ready.planned.sep) ((own-place.high ∙ f.ready.planned.node.high_is) e)) ∙ f.ready.halves.right_whole;
     wider = wider;
     halves = λ deep. halves;
     before = λ flat key e. absurd (omega (arith, flat, high));
@@ -182,12 +183,12 @@ module _ (b : Laws) (r : Fork) (s : Scene) (y : Instant) (good : IsScene s) (f :
 
   module _ (swaps : SwapsTo c (inner_swap c r.upper r.middle r.lower (r.slot 0)) (here s) y) where
     halved-at : (top j : ℕ) (changed : List ℕ) → TurnsWith r.upper (r.slot 0) (both_freezings r.upper r.middle r.lower) (a ∷ p ∷ []) s y top j changed
-        → Splits c (image_of (here s).image) (image_of y.image) a (r.slot 0) (r.slot 1) (r.slot 2) f.halves.cut f.planned.sep
+        → Splits c (image_of (here s).image) (image_of y.image) a (r.slot 0) (r.slot 1) (r.slot 2) f.ready.halves.cut f.ready.planned.sep
     halved-at top j changed t =
-        splits b.plain s y good r.upper (both_freezings r.upper r.middle r.lower) (r.slot 0) (a ∷ p ∷ []) top j changed t swaps a d.under.child.child (r.slot 1) (r.slot 2) f.halves.cut f.planned.sep (node_of (r.image 0)) (node_of (r.image 1)) (node_of (r.image 2)) ready refl
+        splits b.plain s y good r.upper (both_freezings r.upper r.middle r.lower) (r.slot 0) (a ∷ p ∷ []) top j changed t swaps a d.under.child.child (r.slot 1) (r.slot 2) f.ready.halves.cut f.ready.planned.sep (node_of (r.image 0)) (node_of (r.image 1)) (node_of (r.image 2)) ready refl
 
     -- where the upper link stands
-    pub halved : Splits c (image_of (here s).image) (image_of y.image) r.middle.slot (r.slot 0) (r.slot 1) (r.slot 2) f.halves.cut f.planned.sep
+    pub halved : Splits c (image_of (here s).image) (image_of y.image) r.middle.slot (r.slot 0) (r.slot 1) (r.slot 2) f.ready.halves.cut f.ready.planned.sep
     halved = elim d.upper_guard.under [
       | inl root ↦ halved-at c.nodes 0 (a ∷ p ∷ []) (b.root s y r.upper (r.slot 0) (both_freezings r.upper r.middle r.lower) (a ∷ p ∷ []) good root (f.writing.slots.within 0 (omega arith)) going stand swaps)
       | inr node ↦ halved-at node.parent node.child.child (node.parent ∷ a ∷ p ∷ [])
@@ -196,8 +197,8 @@ module _ (b : Laws) (r : Fork) (s : Scene) (y : Instant) (good : IsScene s) (f :
 
 -- a split that asks for a swap has its nodes ready
 swapping : (c : Config) (r : Fork) (phase : Phase) (s : Scene) (entries : List Entry) → fork_facts r phase Waiting s → fork_asks c r phase ≡ Some (Swaps_for entries)
-    → IsSplitting r SPLIT_WORDS SPLIT_LINES s × (inner_swap c r.upper r.middle r.lower (r.slot 0) ≡ entries)
-swapping c r Swap s entries f e = (f.1, same-entries (inner_swap c r.upper r.middle r.lower (r.slot 0)) entries e)
+    → IsWritten (fork_plan r) s × (inner_swap c r.upper r.middle r.lower (r.slot 0) ≡ entries)
+swapping c r (Writing Swap) s entries f e = (f.1, same-entries (inner_swap c r.upper r.middle r.lower (r.slot 0)) entries e)
 swapping c r phase s entries f e = absurd (cc)
 
 pub halves-inner : Laws → InnerSplitsKeepTheLeaves
@@ -210,9 +211,9 @@ halves-inner b t entries s y l =
     let high-up : 0 < (form_at s.past.config (here s)).level t.middle.slot = high b r s y l.good f.0 stand in
     let above : 0 < (form_at s.past.config (here s)).level ((form_at s.past.config (here s)).up t.middle.slot) = above-is b r s y l.good f.0 stand in
     let fresh : AreFresh s (r.slot 0 ∷ r.slot 1 ∷ r.slot 2 ∷ []) = three-fresh s (r.slot 0) (r.slot 1) (r.slot 2) (node-fresh r.slot r.image s f.0.plain f.0.writing 0 (omega arith)) (node-fresh r.slot r.image s f.0.plain f.0.writing 1 (omega arith)) (node-fresh r.slot r.image s f.0.plain f.0.writing 2 (omega arith)) in
-    let grows = b.grows s.past.config (image_of (here s).image) (image_of y.image) t.middle.slot (r.slot 0) (r.slot 1) (r.slot 2) f.0.halves.cut f.0.planned.sep (tree-now b.formed s l.good) d in
+    let grows = b.grows s.past.config (image_of (here s).image) (image_of y.image) t.middle.slot (r.slot 0) (r.slot 1) (r.slot 2) f.0.ready.halves.cut f.0.ready.planned.sep (tree-now b.formed s l.good) d in
     record {
-      same = (b.count s.past.config (image_of (here s).image) (image_of y.image) t.middle.slot (r.slot 0) (r.slot 1) (r.slot 2) f.0.halves.cut f.0.planned.sep (tree-now b.formed s l.good) d).inner (high b r s y l.good f.0 stand);
+      same = (b.count s.past.config (image_of (here s).image) (image_of y.image) t.middle.slot (r.slot 0) (r.slot 1) (r.slot 2) f.0.ready.halves.cut f.0.ready.planned.sep (tree-now b.formed s l.good) d).inner (high b r s y l.good f.0 stand);
       back = none-back s y (t.middle.slot ∷ (form_at s.past.config (here s)).up t.middle.slot ∷ []) (r.slot 0 ∷ r.slot 1 ∷ r.slot 2 ∷ []) l.good grows fresh;
       stay = leaves-stay s y (t.middle.slot ∷ (form_at s.past.config (here s)).up t.middle.slot ∷ []) (r.slot 0 ∷ r.slot 1 ∷ r.slot 2 ∷ []) l.good grows fresh (λ k e. elim (two-cases t.middle.slot ((form_at s.past.config (here s)).up t.middle.slot) k e) [
         | inl p ↦ subst (λ (j : ℕ). 0 < (form_at s.past.config (here s)).level j) (sym p) high-up

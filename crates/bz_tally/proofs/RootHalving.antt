@@ -20,9 +20,10 @@ use Rattle.bz_slotted.specs.ReadingLaws.{node_of}
 use Rattle.bz_slotted.specs.Readers.{level_of, found_of}
 use Rattle.bz_slotted.specs.Rules.{node_fault}
 use Rattle.bz_split.specs.Duties.{split_of}
-use Rattle.bz_split.specs.Facts.{Split, SPLIT_WORDS, SPLIT_LINES, IsSplitting, split_asks, split_facts}
-use Rattle.bz_split.specs.declared.phase.Phase.{Phase}
-use Rattle.bz_split.specs.declared.phase.Phase.TheVariants.{Swap}
+use Rattle.bz_split.specs.Facts.{Split, split_plan, split_asks, split_facts}
+use Rattle.bz_writer.specs.Laws.{IsWritten}
+use Rattle.bz_writer.specs.declared.phase.WritePhase.{WritePhase}
+use Rattle.bz_writer.specs.declared.phase.WritePhase.TheVariants.{Swap}
 use Rattle.bz_word.specs.declared.entry.Entry.{Entry}
 use Rattle.bz_content.proofs.Reached.{level-at}
 use Rattle.bz_content.specs.Content.{image_of, view_in}
@@ -57,7 +58,7 @@ pub record Laws : Type 0 where
   pub grows : RootSplitsKeepTheContent
   pub count : RootLeafSplitsAddOne
 
-module _ (b : Laws) (r : Split) (s : Scene) (y : Instant) (good : IsScene s) (f : IsSplitting r SPLIT_WORDS SPLIT_LINES s) (stand : Stand (renewal r.link (r.slot 0)) (here s)) (swaps : SwapsTo s.past.config (renewal r.link (r.slot 0)) (here s) y) where
+module _ (b : Laws) (r : Split) (s : Scene) (y : Instant) (good : IsScene s) (f : IsWritten (split_plan r) s) (stand : Stand (renewal r.link (r.slot 0)) (here s)) (swaps : SwapsTo s.past.config (renewal r.link (r.slot 0)) (here s) y) where
   abbrev c : Config
   c = s.past.config
 
@@ -74,11 +75,11 @@ module _ (b : Laws) (r : Split) (s : Scene) (y : Instant) (good : IsScene s) (f 
   g = good.history.good s.past.now good.begun (omega arith)
 
   t : TurnsAt r.link (r.slot 0) (a ∷ []) s y c.nodes 0 []
-  t = b.turn s y r.link (r.slot 0) (a ∷ []) good f.parted.under (f.writing.slots.within 0 (omega arith)) stand swaps
+  t = b.turn s y r.link (r.slot 0) (a ∷ []) good f.ready.parted.under (f.writing.slots.within 0 (omega arith)) stand swaps
 
   -- the leaf is the root
   led : (here s).value ROOT_AT ≡ a + 1
-  led = ap (here s).value (sym f.parted.under.pointer) ∙ (both-stand (link_entry r.link (r.slot 0)) (guard_entry r.link) (here s) stand).0
+  led = ap (here s).value (sym f.ready.parted.under.pointer) ∙ (both-stand (link_entry r.link (r.slot 0)) (guard_entry r.link) (here s) stand).0
 
   pub root-is : root (resolve (here s).image) ≡ a
   root-is = omega (arith, g.root, led)
@@ -88,10 +89,10 @@ module _ (b : Laws) (r : Split) (s : Scene) (y : Instant) (good : IsScene s) (f 
       let at : (here s).value ROOT_AT - 1 ≡ a = omega (arith, led) in
       subst (HasRoot c (here s)) at (b.roots c (here s) g)
 
-  leaf : StandsStill a f.parted.moment s
-  leaf = b.still s a f.parted.moment good f.parted.leaf
+  leaf : StandsStill a f.ready.parted.moment s
+  leaf = b.still s a f.ready.parted.moment good f.ready.parted.leaf
 
-  place : SamePlace c (s.past.at f.parted.moment) (here s) a
+  place : SamePlace c (s.past.at f.ready.parted.moment) (here s) a
   place = leaf.place t.inside
 
   flat : (form_at c (here s)).level a ≡ 0
@@ -100,17 +101,17 @@ module _ (b : Laws) (r : Split) (s : Scene) (y : Instant) (good : IsScene s) (f 
   level : level_of (durable c (here s) (root (resolve (here s).image))) ≡ 0
   level =
       ap (λ k. level_of (durable c (here s) k)) root-is
-      ∙ (level-at b.leaves b.inners c x a (fits (view_in c (here s).image) (tree-now b.formed s good)) t.inside (λ e. absurd (omega (arith, e, f.parted.leaf.slot))) ∙ flat)
+      ∙ (level-at b.leaves b.inners c x a (fits (view_in c (here s).image) (tree-now b.formed s good)) t.inside (λ e. absurd (omega (arith, e, f.ready.parted.leaf.slot))) ∙ flat)
 
-  no-low : None ≡ (form_at c (s.past.at f.parted.moment)).low a
+  no-low : None ≡ (form_at c (s.past.at f.ready.parted.moment)).low a
   no-low = sym holds-all.low ∙ place.low
 
-  no-high : None ≡ (form_at c (s.past.at f.parted.moment)).high a
+  no-high : None ≡ (form_at c (s.past.at f.ready.parted.moment)).high a
   no-high = sym holds-all.high ∙ place.high
 
   -- the new nodes
   made : IsRootOver c.nodes (r.slot 1) (r.slot 2) r.sep
-  made = b.over c.nodes (r.slot 1) (r.slot 2) r.sep good.config.nodes_in_range.at_most (f.writing.slots.within 1 (omega arith)) (f.writing.slots.within 2 (omega arith)) f.parted.separator
+  made = b.over c.nodes (r.slot 1) (r.slot 2) r.sep good.config.nodes_in_range.at_most (f.writing.slots.within 1 (omega arith)) (f.writing.slots.within 2 (omega arith)) f.ready.parted.separator
 
   fresh : (n : ℕ) → n < SPLIT_SLOTS → IsFresh s (r.slot n)
   fresh n h = node-fresh r.slot r.image s f.plain f.writing n h
@@ -123,8 +124,8 @@ module _ (b : Laws) (r : Split) (s : Scene) (y : Instant) (good : IsScene s) (f 
 
   says : SaysInHalves c x z a (r.slot 1) (r.slot 2) r.sep
   says = record {
-    before = λ key e. ap (λ n. found_of n key) (has 1 (omega arith)) ∙ (f.parted.before key e ∙ sym (leaf.says t.inside key));
-    from = λ key e. ap (λ n. found_of n key) (has 2 (omega arith)) ∙ (f.parted.from key e ∙ sym (leaf.says t.inside key));
+    before = λ key e. ap (λ n. found_of n key) (has 1 (omega arith)) ∙ (f.ready.parted.before key e ∙ sym (leaf.says t.inside key));
+    from = λ key e. ap (λ n. found_of n key) (has 2 (omega arith)) ∙ (f.ready.parted.from key e ∙ sym (leaf.says t.inside key));
   }
 
   pub halved : SplitsRoot c (image_of (here s).image) (image_of y.image) (r.slot 0) (r.slot 1) (r.slot 2) 0 r.sep
@@ -134,12 +135,12 @@ module _ (b : Laws) (r : Split) (s : Scene) (y : Instant) (good : IsScene s) (f 
     fresh_r = outside-tree s (r.slot 2) good (fresh 2 (omega arith));
     three = are-three r.slot r.image s f.plain f.writing;
     link = subst (λ k. TurnsLink c x z c.nodes 0 (r.slot 0) (k ∷ [])) (sym root-is) t.turns;
-    two = subst (λ n. AreTwo (children_of n) (r.slot 1) (r.slot 2) r.sep) (sym (has 0 (omega arith) ∙ ap node_of f.over)) made.two;
+    two = subst (λ n. AreTwo (children_of n) (r.slot 1) (r.slot 2) r.sep) (sym (has 0 (omega arith) ∙ ap node_of f.ready.over)) made.two;
     halves = λ deep. absurd (omega (arith, deep, level));
     says = λ e. subst (λ k. SaysInHalves c x z k (r.slot 1) (r.slot 2) r.sep) (sym root-is) says;
-    whole_q = (λ e. node_fault c.nodes ((has-raw 0 (omega arith) ∙ ap node_of f.over) e) ((has 0 (omega arith) ∙ ap node_of f.over) e) (level e + 1) None None) ∙ made.none;
-    whole_l = (λ e. node_fault c.nodes (has-raw 1 (omega arith) e) (has 1 (omega arith) e) (level e) (no-low e) (Some r.sep)) ∙ f.parted.left_whole;
-    whole_r = (λ e. node_fault c.nodes (has-raw 2 (omega arith) e) (has 2 (omega arith) e) (level e) (Some r.sep) (no-high e)) ∙ f.parted.right_whole;
+    whole_q = (λ e. node_fault c.nodes ((has-raw 0 (omega arith) ∙ ap node_of f.ready.over) e) ((has 0 (omega arith) ∙ ap node_of f.ready.over) e) (level e + 1) None None) ∙ made.none;
+    whole_l = (λ e. node_fault c.nodes (has-raw 1 (omega arith) e) (has 1 (omega arith) e) (level e) (no-low e) (Some r.sep)) ∙ f.ready.parted.left_whole;
+    whole_r = (λ e. node_fault c.nodes (has-raw 2 (omega arith) e) (has 2 (omega arith) e) (level e) (Some r.sep) (no-high e)) ∙ f.ready.parted.right_whole;
   }
 
   pub at-foot : level_of (durable s.past.config (here s) (root (resolve (here s).image))) ≡ 0
@@ -152,7 +153,7 @@ module _ (b : Laws) (r : Split) (s : Scene) (y : Instant) (good : IsScene s) (f 
   is-leaf = leaf-now s a t.inside flat
 
 -- a split that asks for a swap has its nodes ready
-swapping : (c : Config) (r : Split) (phase : Phase) (s : Scene) (entries : List Entry) → split_facts r phase Waiting s → split_asks c r phase ≡ Some (Swaps_for entries) → IsSplitting r SPLIT_WORDS SPLIT_LINES s × (renewal r.link (r.slot 0) ≡ entries)
+swapping : (c : Config) (r : Split) (phase : WritePhase) (s : Scene) (entries : List Entry) → split_facts r phase Waiting s → split_asks c r phase ≡ Some (Swaps_for entries) → IsWritten (split_plan r) s × (renewal r.link (r.slot 0) ≡ entries)
 swapping c r Swap s entries f e = (f.1, same-entries (renewal r.link (r.slot 0)) entries e)
 swapping c r phase s entries f e = absurd (cc)
 
@@ -168,7 +169,7 @@ root-halves b t entries s y l =
     record {
       more = (b.count s.past.config (image_of (here s).image) (image_of y.image) (r.slot 0) (r.slot 1) (r.slot 2) 0 r.sep (tree-now b.formed s l.good) d).leaf (at-foot b r s y l.good f.0 stand swaps);
       leaf = is-leaf b r s y l.good f.0 stand swaps;
-      crowded = record { moment = f.0.parted.moment; frozen = f.0.parted.leaf; many = f.0.parted.many };
+      crowded = record { moment = f.0.ready.parted.moment; frozen = f.0.ready.parted.leaf; many = f.0.ready.parted.many };
       gone = is-gone s y (root (resolve (here s).image) ∷ []) (r.slot 0 ∷ r.slot 1 ∷ r.slot 2 ∷ []) l.good grows fresh t.link.slot (still-inside b r s y l.good f.0 stand swaps) (among-first (root (resolve (here s).image)) t.link.slot [] (sym (root-is b r s y l.good f.0 stand swaps)));
       back = none-back s y (root (resolve (here s).image) ∷ []) (r.slot 0 ∷ r.slot 1 ∷ r.slot 2 ∷ []) l.good grows fresh;
     }

@@ -1,5 +1,5 @@
 -- Nodes that a task has stored whole, each into a slot of its own: the slots are fresh, and hold the words.
-use Rattle.std.proofs.Common.{◌≡◌, ℕ, ◌*◌, ◌<◌, List, length, arith, sym, ◌∙◌, inl, inr}
+use Rattle.std.proofs.Common.{◌≡◌, ℕ, ◌*◌, ◌<◌, List, arith, sym, ◌∙◌, inl, inr}
 use Rattle.std.proofs.lemmas.Bool.{cases_lt}
 use Rattle.std.proofs.lemmas.List.{get_or_past}
 use Rattle.bz_layout.specs.declared.sizes.TheConstants.{NODE_WORDS, NODE_LINES}
@@ -10,23 +10,8 @@ use Rattle.bz_task.specs.Instant.{words}
 use Rattle.bz_task.specs.Scene.{Scene, here}
 use Rattle.bz_renew.specs.LinkSwaps.{IsFresh}
 use Rattle.bz_renew.specs.Nodes.{ArePlain, AreWriting}
-use Rattle.bz_renew.specs.Writing.{IsWritingNode}
 use Rattle.bz_renew.proofs.Words.{node-at, node-past}
 use Rattle.bz_split.specs.Facts.{SPLIT_WORDS, SPLIT_LINES}
-
--- one node
-module _ (k : ℕ) (image : List ℕ) (s : Scene) (size : length image ≡ NODE_WORDS) (w : IsWritingNode k image NODE_WORDS NODE_LINES s) where
-  pub one-held : words s.past.config (here s) k ≡ node_of image
-  one-held = λ t i. each i t
-    where
-      each : (i : ℕ) → words s.past.config (here s) k i ≡ node_of image i
-      each i = elim (cases_lt i NODE_WORDS) [
-        | inl l ↦ node-at s.past.config (here s).value k i l ∙ w.stored i l l
-        | inr l ↦ node-past s.past.config (here s).value k i l ∙ sym (get_or_past image i 0 (omega (arith, l, size)))
-      ]
-
-  pub one-fresh : IsFresh s k
-  one-fresh = record { slot = w.slot; own = λ i l. record { mine = w.mine i l; flushed = w.flushed i l (omega (arith, l)) } }
 
 -- several nodes
 module _ (count : ℕ) (slot : ℕ → ℕ) (image : ℕ → List ℕ) (s : Scene) (plain : ArePlain (record { count = count; slot = slot; image = image })) (w : AreWriting (record { count = count; slot = slot; image = image }) (NODE_WORDS * count) (NODE_LINES * count) s) where

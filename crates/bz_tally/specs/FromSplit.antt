@@ -3,5 +3,4 @@ pub use Rattle.bz_branch.specs.FromSplit.BelowSplits
 pub use Rattle.bz_branch.specs.FromSplit.Duties
 pub use Rattle.bz_branch.specs.FromSplit.Facts
 pub use Rattle.bz_branch.specs.FromSplit.Parts
-pub use Rattle.bz_branch.specs.FromSplit.Phase
 pub use Rattle.bz_branch.specs.FromSplit.SplitRoot

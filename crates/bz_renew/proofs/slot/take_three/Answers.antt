@@ -1,6 +1,6 @@
 use Rattle.std.proofs.Common.{refl}
-use Rattle.bz_renew.proofs.Slots.{three-taken}
+use Rattle.bz_renew.proofs.Slots.{many-taken}
 use Rattle.bz_renew.proofs.slot.take_three.Goals as goal
 
 pub returns-then-take-clause-taken : goal.returns-then-take-clause-taken
-returns-then-take-clause-taken c image = three-taken c.taken_slots_are_gone.ensures c.args.slots.now c.take.new.out _ c.take.new.self c.take.ensures.ordered (c.if-take.ensures.enough.0 refl) c.if-take.ensures.taken c.if-take.ensures.kept image
+returns-then-take-clause-taken c image = many-taken c.taken_slots_are_gone.ensures 3 c.args.slots.now c.take.new.out _ c.take.new.self c.take.ensures.ordered (c.if-take.ensures.enough.0 refl) c.if-take.ensures.taken c.if-take.ensures.kept image

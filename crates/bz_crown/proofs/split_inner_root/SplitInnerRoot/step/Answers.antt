@@ -1,4 +1,4 @@
-use Rattle.std.proofs.Common.{◌≡◌, true, ◌<◌, ℕ, slice_index, slice_set, sym, ap, subst, ◌∙◌, refl, arith, inl, Some}
+use Rattle.std.proofs.Common.{◌≡◌, true, ◌<◌, ℕ, length, inr, slice_index, slice_set, sym, ap, subst, ◌∙◌, refl, arith, inl}
 use Rattle.bz_task.specs.Requests.{Hears, Tells, swaps_in}
 use Rattle.bz_layout.specs.Config.{IsConfig}
 use Rattle.bz_layout.specs.declared.sizes.TheConstants.{NODE_WORDS}
@@ -6,29 +6,33 @@ use Rattle.bz_layout.specs.declared.thresholds.TheConstants.{SPLIT_SLOTS}
 use Rattle.bz_task.specs.OwnActs.{AreTakenFrom, gained}
 use Rattle.bz_task.specs.Scene.{Waiting}
 use Rattle.bz_task.specs.declared.todo.Seen.TheVariants.{Start, Swapped}
-use Rattle.bz_task.specs.declared.todo.Todo.TheVariants.{Read as Reads}
 use Rattle.bz_crown.specs.Duties.{crown_of, three}
-use Rattle.bz_crown.specs.Facts.{Crown, crown_facts, crown_asks, crown_needs, crown_left, crown_swaps, word_after, IsReadyCrown, crown_end}
-use Rattle.bz_crown.specs.declared.phase.Phase.TheVariants.{Fresh, Word, Again, Guard}
+use Rattle.bz_crown.specs.Facts.{Crown, crown_plan, crown_differs, crown_facts, crown_asks, crown_needs, crown_left, crown_swaps, word_after, IsReadyCrown}
+use Rattle.bz_crown.specs.declared.phase.Phase.TheVariants.{Fresh, Word, Again, Writing}
 use Rattle.bz_crown.specs.declared.split_inner_root.SplitInnerRoot.{SplitInnerRoot}
-use Rattle.bz_crown.proofs.Beginning.{heard-in, begins-fresh}
+use Rattle.bz_crown.proofs.Beginning.{heard-in, asked-steps, one-left, ends-later}
 use Rattle.bz_crown.proofs.Counting.{Counts, counts}
-use Rattle.bz_crown.proofs.Ending.{EndsWell, ends-well, first-ends, takes-none}
+use Rattle.bz_crown.proofs.Ending.{EndsWell, first-ends, takes-none}
 use Rattle.bz_crown.proofs.Telling.{Tolds, tolds, told-learns}
-use Rattle.bz_crown.proofs.Looking.{Looks, looks, looked-learns, planned-node, looked-kept}
 use Rattle.bz_crown.proofs.Reading.{Words, fresh-ready, word-within, words-on, fresh-known, word-known, word-ready}
 use Rattle.bz_crown.proofs.Staying.{no-slot}
+use Rattle.bz_writer.proofs.Sizes.{asks-some, no-end}
+use Rattle.bz_writer.specs.Phases.{write_end}
 use Rattle.bz_crown.proofs.split_inner_root.SplitInnerRoot.step.Goals as goal
 
 -- the task with one word more
 abbrev kept-of : SplitInnerRoot → ℕ → ℕ → Crown
 kept-of t i v = record { upper = t.upper; lower = t.lower; slot = slice_index t.slots; image = three t.root.0 t.left.0 t.right.0; read = slice_set t.read.0 i v }
 
-pub look-requires : goal.look-requires
-look-requires c =
+pub write-next-requires : goal.write-next-requires
+write-next-requires c =
     let t = c.args.self.now in
     let k = c.requires.known in
-    planned-node (crown_of t) k.stage k.scene (subst (λ z. crown_facts (crown_of t) z k.stage k.scene) c.in-Guard.is k.holds)
+    record {
+      hears = subst (λ z. Hears (crown_asks t.config (crown_of t) z) c.args.seen) c.in-Writing.is c.requires.hears;
+      known = record { stage = k.stage; scene = k.scene; config = k.config; now = k.now; good = k.good; holds = subst (λ z. crown_facts (crown_of t) z k.stage k.scene) c.in-Writing.is k.holds; tells = subst (λ z. Tells (crown_asks t.config (crown_of t) z) k.stage c.args.seen k.scene) c.in-Writing.is k.tells };
+      memory = subst (λ z. 0 < crown_needs z → c.args.slots.now.nodes ≡ t.config.nodes) c.in-Writing.is c.requires.memory;
+    }
 
 pub returns-in-Again : goal.returns-in-Again
 returns-in-Again c =
@@ -57,75 +61,38 @@ returns-in-Again c =
       no_swap = ends.no_swap;
       full_swaps = ends.full_swaps;
       full_nodes = ends.full_nodes;
-      learns = λ stage s same good free facts tells. no-slot c.nothing_is_gained.ensures (crown_of t) s c.args.slots.now c.told-self.result
+      learns = λ stage s now same good free facts tells. no-slot (crown_of t) s c.args.slots.now c.told-self.result
           (told-learns c.read_nodes_were.ensures t.config (crown_of t) c.told-self.result c.args.seen stage s c.told-self.ensures same good
           (subst (λ z. crown_facts (crown_of t) z stage s) c.in-Again.is facts)
           (subst (λ z. Tells (crown_asks t.config (crown_of t) z) stage c.args.seen s) c.in-Again.is tells));
     }
 
-pub returns-in-Guard : goal.returns-in-Guard
-returns-in-Guard c =
+pub returns-in-Writing : goal.returns-in-Writing
+returns-in-Writing c =
     let t = c.args.self.now in
-    let new = c.look.new.self in
-    let left = c.look.new.slots in
     let k = c.requires.known in
-    let e = c.look.ensures in
-    let needed : crown_needs t.phase ≡ SPLIT_SLOTS = ap crown_needs c.in-Guard.is in
-    let nodes : c.args.slots.now.nodes ≡ t.config.nodes = c.requires.memory (omega (arith, needed)) in
-    let hears : Hears (crown_asks t.config (crown_of t) Guard) c.args.seen = subst (λ z. Hears (crown_asks t.config (crown_of t) z) c.args.seen) c.in-Guard.is c.requires.hears in
-    let b : Looks (crown_of new) new.config c.args.seen new.phase c.args.slots.now left = looks (crown_of new) new.config c.args.seen new.phase c.args.slots.now left
-    (subst (λ z. Hears (Some (Reads z.guard)) c.args.seen) (sym e.upper) hears) e.looked (nodes ∙ ap (λ z. z.nodes) (sym e.config)) in
-    let ends : EndsWell t.upper t.lower c.args.seen t.phase new.phase c.args.slots.now = subst (λ z. EndsWell t.upper t.lower c.args.seen z new.phase c.args.slots.now) (sym c.in-Guard.is)
-    (subst (λ z. EndsWell z t.lower c.args.seen Guard new.phase c.args.slots.now) e.upper (subst (λ z. EndsWell new.upper z c.args.seen Guard new.phase c.args.slots.now) e.lower b.ends)) in
-    let m : Counts t.config (crown_of t) t.phase new.phase c.args.seen = counts t.config (crown_of t) t.phase new.phase c.args.seen (ap crown_swaps c.in-Guard.is) (ap (λ z. swaps_in (crown_asks t.config (crown_of t) z)) c.in-Guard.is) c.requires.hears in
+    let e = c.write-next.ensures in
+    let some = asks-some c.write-next.new.self.config (crown_plan (crown_of c.write-next.new.self)) c.write-next.result e.begun in
+    let g = e.goes some.0 some.1 in
     record {
       config = e.config;
       upper = e.upper;
       known = subst IsConfig (k.config ∙ sym e.config) k.good.config;
-      begun = b.begun;
-      ready = b.ready;
-      nearer = omega (arith, b.nearer, ap crown_left c.in-Guard.is);
-      fewer = m.fewer;
-      counted = λ z. m.counted;
-      slots = subst (λ z. AreTakenFrom z (crown_needs new.phase) c.args.slots.now left) (sym needed) b.taken;
-      kept = λ outcome q. looked-kept (crown_of new) c.args.seen new.phase c.args.slots.now left outcome e.looked q;
-      begins = λ q. absurd (heard-in t.config (crown_of t) t.phase Guard c.args.seen Start c.in-Guard.is q c.requires.hears);
-      done = ends.done;
-      last = λ q. absurd (heard-in t.config (crown_of t) t.phase Guard c.args.seen (Swapped true) c.in-Guard.is q c.requires.hears);
-      restart = ends.restart;
-      no_swap = ends.no_swap;
-      full_swaps = ends.full_swaps;
-      full_nodes = ends.full_nodes;
-      learns = λ stage s same good free facts tells. looked-learns c.slots_apart.ensures c.nothing_is_gained.ensures t.config (crown_of t) (crown_of new) new.phase c.args.seen c.args.slots.now left
-          (record { upper = e.upper; lower = e.lower; read = ap (λ z. z.0) e.read }) e.looked nodes stage s same good (free (omega (arith, needed)))
-          (subst (λ z. crown_facts (crown_of t) z stage s) c.in-Guard.is facts)
-          (subst (λ z. Tells (crown_asks t.config (crown_of t) z) stage c.args.seen s) c.in-Guard.is tells);
-    }
-
-pub returns-in_default : goal.returns-in_default
-returns-in_default c =
-    let t = c.args.self.now in
-    let a = c.after-self.ensures in
-    let e : EndsWell t.upper t.lower c.args.seen t.phase c.after-self.result c.args.slots.now = ends-well t.upper t.lower c.args.seen t.phase c.after-self.result c.args.slots.now a.done (λ q. inl (a.restart q)) a.no_swap a.slots in
-    record {
-      config = refl;
-      upper = refl;
-      known = a.config;
-      begun = a.begun;
-      ready = a.ready;
-      nearer = a.nearer;
-      fewer = a.fewer;
-      counted = a.counted;
-      slots = takes-none t.phase c.after-self.result c.args.slots.now (omega (arith, a.needs));
-      kept = λ outcome q. refl;
-      begins = λ q. absurd (c.in_default.not-Fresh (begins-fresh t.config (crown_of t) t.phase (subst (Hears (crown_asks t.config (crown_of t) t.phase)) q c.requires.hears)));
-      done = e.done;
-      last = λ q. ap crown_end (a.last q);
-      restart = e.restart;
-      no_swap = e.no_swap;
-      full_swaps = e.full_swaps;
-      full_nodes = e.full_nodes;
-      learns = λ stage s same good free facts tells. no-slot c.nothing_is_gained.ensures (crown_of t) s c.args.slots.now c.after-self.result (a.learns stage s same facts tells);
+      begun = λ z. absurd (cc);
+      ready = (e.begun, e.ready);
+      nearer = omega (arith, g.nearer, ap crown_left c.in-Writing.is, asked-steps c.write-next.new.self.config (crown_of c.write-next.new.self) (Writing c.write-next.result));
+      fewer = omega (arith, g.fewer, ap crown_swaps c.in-Writing.is, ap (λ z. swaps_in (crown_asks t.config (crown_of t) z)) c.in-Writing.is);
+      counted = λ z. omega (arith, g.counted z);
+      slots = subst (λ z. AreTakenFrom (crown_needs z) (crown_needs (Writing c.write-next.result)) c.args.slots.now c.write-next.new.slots) (sym c.in-Writing.is) g.slots;
+      kept = g.kept;
+      begins = λ q. no-end (write_end c.write-next.result) (λ outcome z. ends-later t.config (crown_of t) t.phase c.in-Writing.phase c.args.seen outcome c.in-Writing.is q c.requires.hears (g.begins outcome q z));
+      done = g.done;
+      last = λ q. g.last q (ap crown_swaps (sym c.in-Writing.is) ∙ one-left t.config (crown_of t) t.phase (subst (Hears (crown_asks t.config (crown_of t) t.phase)) q c.requires.hears));
+      restart = λ q. elim (g.restart q) [ inl a ↦ inl a | inr a ↦ inr (subst (λ z. crown_differs t.upper t.lower z c.args.seen) (sym c.in-Writing.is) a) ];
+      no_swap = g.no_swap;
+      full_swaps = g.full_swaps;
+      full_nodes = λ q. subst (λ z. length c.args.slots.now.free < crown_needs z) (sym c.in-Writing.is) (g.full_nodes q);
+      learns = λ stage s now same good free facts tells. e.learns stage s now same good (λ n. free (subst (λ z. 0 < crown_needs z) (sym c.in-Writing.is) n)) (subst (λ z. crown_facts (crown_of t) z stage s) c.in-Writing.is facts) (subst (λ z. Tells (crown_asks t.config (crown_of t) z) stage c.args.seen s) c.in-Writing.is tells);
     }
 
 pub returns-in-Fresh : goal.returns-in-Fresh
@@ -153,7 +120,7 @@ returns-in-Fresh c =
       no_swap = e.no_swap;
       full_swaps = e.full_swaps;
       full_nodes = e.full_nodes;
-      learns = λ stage s same good free facts tells. no-slot c.nothing_is_gained.ensures (crown_of t) s c.args.slots.now (Word 1)
+      learns = λ stage s now same good free facts tells. no-slot (crown_of t) s c.args.slots.now (Word 1)
           (fresh-known t.config (crown_of t) c.args.seen stage s (subst (λ z. crown_facts (crown_of t) z stage s) c.in-Fresh.is facts) (subst (λ z. Tells (crown_asks t.config (crown_of t) z) stage c.args.seen s) c.in-Fresh.is tells));
     }
 
@@ -189,7 +156,7 @@ returns-in-Word c =
       no_swap = e.no_swap;
       full_swaps = e.full_swaps;
       full_nodes = e.full_nodes;
-      learns = λ stage s same good free facts tells. subst (λ z. crown_facts (kept-of t i v) z Waiting (gained s c.args.slots.now c.args.slots.now)) (sym c.after_word-self.ensures)
-          (no-slot c.nothing_is_gained.ensures (kept-of t i v) s c.args.slots.now (word_after n.result)
+      learns = λ stage s now same good free facts tells. subst (λ z. crown_facts (kept-of t i v) z Waiting (gained s c.args.slots.now c.args.slots.now)) (sym c.after_word-self.ensures)
+          (no-slot (kept-of t i v) s c.args.slots.now (word_after n.result)
           (word-known t.config (crown_of t) i n.result v c.args.seen stage s same good n.ensures.after n.ensures.within n.ensures.skipped (λ w q. c.word_in.ensures w q) (subst (λ z. crown_facts (crown_of t) z stage s) c.in-Word.is facts) (subst (λ z. Tells (crown_asks t.config (crown_of t) z) stage c.args.seen s) c.in-Word.is tells)));
     }

@@ -6,7 +6,7 @@ use Rattle.bz_crown.proofs.Beginning.{asked-steps, one-left}
 use Rattle.bz_crown.proofs.split_inner_root.SplitInnerRootTask.next.Goals as goal
 
 pub returns-clause-learns : goal.returns-clause-learns
-returns-clause-learns c stage s now same good free facts tells = c.step.ensures.learns stage s same good free facts tells
+returns-clause-learns c = c.step.ensures.learns
 
 pub returns-clause-goes : goal.returns-clause-goes
 returns-clause-goes c = record {

@@ -7,8 +7,8 @@ pub unreachable-requires : goal.unreachable-requires
 unreachable-requires c =
     let no = c.in_default.ensures.room.1 (c.requires.room c.parts_of-halves.result.left.0 c.parts_of-halves.result.right.0 c.parts_of-halves.result.separator c.parts_of-halves.ensures) in absurd (cc)
 
-pub returns-clause-made : goal.returns-clause-made
-returns-clause-made c = record {
+pub returns : goal.returns
+returns c = record {
   sep = c.parts_of-halves.result.separator;
   parts = c.parts_of-halves.ensures;
   over = c.in-Some.ensures.words c.args.self.now.config.nodes;

@@ -1,4 +1,4 @@
-use Rattle.std.proofs.Common.{◌≡◌, true, ◌<◌, ℕ, slice_index, slice_set, sym, ap, subst, ◌∙◌, refl, arith, inl, Some}
+use Rattle.std.proofs.Common.{◌≡◌, true, ◌<◌, ℕ, length, inr, slice_index, slice_set, sym, ap, subst, ◌∙◌, refl, arith, inl}
 use Rattle.bz_task.specs.Requests.{Hears, Tells, swaps_in}
 use Rattle.bz_layout.specs.Config.{IsConfig}
 use Rattle.bz_layout.specs.declared.sizes.TheConstants.{NODE_WORDS}
@@ -6,17 +6,15 @@ use Rattle.bz_layout.specs.declared.thresholds.TheConstants.{SPLIT_SLOTS}
 use Rattle.bz_task.specs.OwnActs.{AreTakenFrom, gained}
 use Rattle.bz_task.specs.Scene.{Waiting}
 use Rattle.bz_task.specs.declared.todo.Seen.TheVariants.{Start, Swapped}
-use Rattle.bz_task.specs.declared.todo.Todo.TheVariants.{Read as Reads}
 use Rattle.bz_fork.specs.Duties.{fork_of, three}
-use Rattle.bz_fork.specs.Facts.{Fork, fork_facts, fork_asks, fork_needs, fork_left, fork_swaps, word_after, above_after, IsReadyFork, fork_end}
-use Rattle.bz_fork.specs.declared.phase.Phase.TheVariants.{Fresh, Unread, Tight, Word, Again, Room, Above, Check, Guard}
+use Rattle.bz_fork.specs.Facts.{Fork, fork_plan, fork_differs, fork_facts, fork_asks, fork_needs, fork_left, fork_swaps, word_after, above_after, IsReadyFork}
+use Rattle.bz_fork.specs.declared.phase.Phase.TheVariants.{Fresh, Unread, Tight, Word, Again, Room, Above, Check, Writing}
 use Rattle.bz_fork.specs.declared.split_inner.SplitInner.{SplitInner}
-use Rattle.bz_fork.proofs.Beginning.{heard-in, begins-fresh}
+use Rattle.bz_fork.proofs.Beginning.{heard-in, asked-steps, one-left, ends-later}
 use Rattle.bz_fork.proofs.Counting.{Counts, counts}
-use Rattle.bz_fork.proofs.Ending.{EndsWell, ends-well, takes-none}
+use Rattle.bz_fork.proofs.Ending.{EndsWell, takes-none}
 use Rattle.bz_fork.proofs.Opening.{Opens, opens, opened-learns, found, full-node}
 use Rattle.bz_fork.proofs.Telling.{Tolds, tolds, told-learns}
-use Rattle.bz_fork.proofs.Looking.{Looks, looks, looked-learns, planned-place, looked-kept}
 use Rattle.bz_fork.proofs.Passing.{Passes, passes, passed-learns}
 use Rattle.bz_fork.proofs.Refusing.{Refuses, refuses, refused-learns}
 use Rattle.bz_fork.proofs.Starting.{Firsts, plain, firsts, first-learns}
@@ -24,6 +22,8 @@ use Rattle.bz_fork.proofs.Reading.{Words, word-within, words-on, word-known, wor
 use Rattle.bz_fork.proofs.ReadingAbove.{Aboves, above-within, aboves-on, above-known, above-ready}
 use Rattle.bz_fork.proofs.ReadingOn.{Ons, reads, read-learns}
 use Rattle.bz_fork.proofs.Staying.{no-slot}
+use Rattle.bz_writer.proofs.Sizes.{asks-some, no-end}
+use Rattle.bz_writer.specs.Phases.{write_end}
 use Rattle.bz_fork.proofs.split_inner.SplitInner.step.Goals as goal
 
 -- the task with one word more
@@ -49,11 +49,15 @@ opened-self-requires c =
       plain = λ e. (found t.config (fork_of t) c.args.seen k.stage k.scene (subst (λ z. Tells (fork_asks t.config (fork_of t) z) k.stage c.args.seen k.scene) c.in-Room.is k.tells) e).plain;
     }
 
-pub look-requires : goal.look-requires
-look-requires c =
+pub write-next-requires : goal.write-next-requires
+write-next-requires c =
     let t = c.args.self.now in
     let k = c.requires.known in
-    planned-place t.config (fork_of t) k.stage k.scene k.config (subst (λ z. fork_facts (fork_of t) z k.stage k.scene) c.in-Guard.is k.holds)
+    record {
+      hears = subst (λ z. Hears (fork_asks t.config (fork_of t) z) c.args.seen) c.in-Writing.is c.requires.hears;
+      known = record { stage = k.stage; scene = k.scene; config = k.config; now = k.now; good = k.good; holds = subst (λ z. fork_facts (fork_of t) z k.stage k.scene) c.in-Writing.is k.holds; tells = subst (λ z. Tells (fork_asks t.config (fork_of t) z) k.stage c.args.seen k.scene) c.in-Writing.is k.tells };
+      memory = subst (λ z. 0 < fork_needs z → c.args.slots.now.nodes ≡ t.config.nodes) c.in-Writing.is c.requires.memory;
+    }
 
 pub returns-in-Unread : goal.returns-in-Unread
 returns-in-Unread c =
@@ -82,7 +86,7 @@ returns-in-Unread c =
       no_swap = e.no_swap;
       full_swaps = e.full_swaps;
       full_nodes = e.full_nodes;
-      learns = λ stage s same good free facts tells. no-slot c.nothing_is_gained.ensures (fork_of t) s c.args.slots.now c.passed-self.result
+      learns = λ stage s now same good free facts tells. no-slot (fork_of t) s c.args.slots.now c.passed-self.result
           (passed-learns c.read_nodes_were.ensures t.config (fork_of t) c.passed-self.result c.args.seen stage s c.passed-self.ensures good
           (subst (λ z. fork_facts (fork_of t) z stage s) c.in-Unread.is facts)
           (subst (λ z. Tells (fork_asks t.config (fork_of t) z) stage c.args.seen s) c.in-Unread.is tells));
@@ -115,7 +119,7 @@ returns-in-Tight c =
       no_swap = e.no_swap;
       full_swaps = e.full_swaps;
       full_nodes = e.full_nodes;
-      learns = λ stage s same good free facts tells. no-slot c.nothing_is_gained.ensures (fork_of t) s c.args.slots.now c.refused-self.result
+      learns = λ stage s now same good free facts tells. no-slot (fork_of t) s c.args.slots.now c.refused-self.result
           (refused-learns c.parents_of_nodes_were.ensures c.read_nodes_have_children.ensures c.full_nodes_have_halves.ensures t.config (fork_of t) c.refused-self.result c.args.seen stage s c.refused-self.ensures good
           (subst (λ z. fork_facts (fork_of t) z stage s) c.in-Tight.is facts)
           (subst (λ z. Tells (fork_asks t.config (fork_of t) z) stage c.args.seen s) c.in-Tight.is tells));
@@ -148,7 +152,7 @@ returns-in-Again c =
       no_swap = e.no_swap;
       full_swaps = e.full_swaps;
       full_nodes = e.full_nodes;
-      learns = λ stage s same good free facts tells. no-slot c.nothing_is_gained.ensures (fork_of t) s c.args.slots.now c.read_on-self.result
+      learns = λ stage s now same good free facts tells. no-slot (fork_of t) s c.args.slots.now c.read_on-self.result
           (read-learns c.read_nodes_were.ensures t.config (fork_of t) c.read_on-self.result c.args.seen stage s c.read_on-self.ensures good
           (subst (λ z. fork_facts (fork_of t) z stage s) c.in-Again.is facts)
           (subst (λ z. Tells (fork_asks t.config (fork_of t) z) stage c.args.seen s) c.in-Again.is tells));
@@ -181,7 +185,7 @@ returns-in-Room c =
       no_swap = e.no_swap;
       full_swaps = e.full_swaps;
       full_nodes = e.full_nodes;
-      learns = λ stage s same good free facts tells. no-slot c.nothing_is_gained.ensures (fork_of t) s c.args.slots.now c.opened-self.result
+      learns = λ stage s now same good free facts tells. no-slot (fork_of t) s c.args.slots.now c.opened-self.result
           (opened-learns c.parents_of_nodes_were.ensures c.read_nodes_have_children.ensures t.config (fork_of t) c.opened-self.result c.args.seen stage s c.opened-self.ensures good
           (subst (λ z. fork_facts (fork_of t) z stage s) c.in-Room.is facts)
           (subst (λ z. Tells (fork_asks t.config (fork_of t) z) stage c.args.seen s) c.in-Room.is tells));
@@ -215,77 +219,39 @@ returns-in-Check c =
       no_swap = ends.no_swap;
       full_swaps = ends.full_swaps;
       full_nodes = ends.full_nodes;
-      learns = λ stage s same good free facts tells. no-slot c.nothing_is_gained.ensures (fork_of t) s c.args.slots.now c.told-self.result
+      learns = λ stage s now same good free facts tells. no-slot (fork_of t) s c.args.slots.now c.told-self.result
           (told-learns c.parents_of_nodes_were.ensures c.guarded_links_stand.ensures c.ranges_stay.ensures c.read_nodes_have_children.ensures t.config (fork_of t) c.told-self.result c.args.seen stage s c.told-self.ensures good
           (subst (λ z. fork_facts (fork_of t) z stage s) c.in-Check.is facts)
           (subst (λ z. Tells (fork_asks t.config (fork_of t) z) stage c.args.seen s) c.in-Check.is tells));
     }
 
-pub returns-in-Guard : goal.returns-in-Guard
-returns-in-Guard c =
+pub returns-in-Writing : goal.returns-in-Writing
+returns-in-Writing c =
     let t = c.args.self.now in
-    let new = c.look.new.self in
-    let left = c.look.new.slots in
     let k = c.requires.known in
-    let e = c.look.ensures in
-    let needed : fork_needs t.phase ≡ SPLIT_SLOTS = ap fork_needs c.in-Guard.is in
-    let nodes : c.args.slots.now.nodes ≡ t.config.nodes = c.requires.memory (omega (arith, needed)) in
-    let hears : Hears (fork_asks t.config (fork_of t) Guard) c.args.seen = subst (λ z. Hears (fork_asks t.config (fork_of t) z) c.args.seen) c.in-Guard.is c.requires.hears in
-    let b : Looks (fork_of new) new.config c.args.seen new.phase c.args.slots.now left = looks t.config.nodes (fork_of new) new.config c.args.seen new.phase c.args.slots.now left
-    (subst (λ z. Hears (Some (Reads z.guard)) c.args.seen) (sym e.upper) hears) e.looked (nodes ∙ ap (λ z. z.nodes) (sym e.config)) in
-    let ends : EndsWell t.upper t.middle t.lower c.args.seen t.phase new.phase c.args.slots.now = subst (λ z. EndsWell t.upper t.middle t.lower c.args.seen z new.phase c.args.slots.now) (sym c.in-Guard.is)
-    (subst (λ z. EndsWell z t.middle t.lower c.args.seen Guard new.phase c.args.slots.now) e.upper (subst (λ z. EndsWell new.upper z t.lower c.args.seen Guard new.phase c.args.slots.now) e.middle (subst (λ z. EndsWell new.upper new.middle z c.args.seen Guard new.phase c.args.slots.now) e.lower b.ends))) in
-    let m : Counts t.config (fork_of t) t.phase new.phase c.args.seen = counts t.config (fork_of t) t.phase new.phase c.args.seen (ap fork_swaps c.in-Guard.is) (ap (λ z. swaps_in (fork_asks t.config (fork_of t) z)) c.in-Guard.is) c.requires.hears in
+    let e = c.write-next.ensures in
+    let some = asks-some c.write-next.new.self.config (fork_plan (fork_of c.write-next.new.self)) c.write-next.result e.begun in
+    let g = e.goes some.0 some.1 in
     record {
       config = e.config;
       upper = e.upper;
       middle = e.middle;
       known = subst IsConfig (k.config ∙ sym e.config) k.good.config;
-      begun = b.begun;
-      ready = b.ready;
-      nearer = omega (arith, b.nearer, ap fork_left c.in-Guard.is);
-      fewer = m.fewer;
-      counted = λ z. m.counted;
-      slots = subst (λ z. AreTakenFrom z (fork_needs new.phase) c.args.slots.now left) (sym needed) b.taken;
-      kept = λ outcome q. looked-kept t.config.nodes (fork_of new) c.args.seen new.phase c.args.slots.now left outcome e.looked q;
-      begins = λ q. absurd (heard-in t.config (fork_of t) t.phase Guard c.args.seen Start c.in-Guard.is q c.requires.hears);
-      done = ends.done;
-      last = λ q. absurd (heard-in t.config (fork_of t) t.phase Guard c.args.seen (Swapped true) c.in-Guard.is q c.requires.hears);
-      restart = ends.restart;
-      no_swap = ends.no_swap;
-      full_swaps = ends.full_swaps;
-      full_nodes = ends.full_nodes;
-      learns = λ stage s same good free facts tells. looked-learns (record { apart = c.slots_apart.ensures; may = c.children_may_be_parted.ensures; turned = c.links_turn.ensures.asked; stand = c.guarded_links_stand.ensures; ranges = c.ranges_stay.ensures; nothing = c.nothing_is_gained.ensures }) t.config (fork_of t) (fork_of new) new.phase c.args.seen c.args.slots.now left
-          (record { upper = e.upper; middle = e.middle; lower = e.lower; read = ap (λ z. z.0) e.read; above = ap (λ z. z.0) e.above }) e.looked nodes stage s same good (free (omega (arith, needed)))
-          (subst (λ z. fork_facts (fork_of t) z stage s) c.in-Guard.is facts)
-          (subst (λ z. Tells (fork_asks t.config (fork_of t) z) stage c.args.seen s) c.in-Guard.is tells);
-    }
-
-pub returns-in_default : goal.returns-in_default
-returns-in_default c =
-    let t = c.args.self.now in
-    let a = c.after-self.ensures in
-    let e : EndsWell t.upper t.middle t.lower c.args.seen t.phase c.after-self.result c.args.slots.now = ends-well t.upper t.middle t.lower c.args.seen t.phase c.after-self.result c.args.slots.now a.done (λ q. inl (a.restart q)) a.no_swap a.slots in
-    record {
-      config = refl;
-      upper = refl;
-      middle = refl;
-      known = a.config;
-      begun = a.begun;
-      ready = a.ready;
-      nearer = a.nearer;
-      fewer = a.fewer;
-      counted = a.counted;
-      slots = takes-none t.phase c.after-self.result c.args.slots.now (omega (arith, a.needs));
-      kept = λ outcome q. refl;
-      begins = λ q. absurd (c.in_default.not-Fresh (begins-fresh t.config (fork_of t) t.phase (subst (Hears (fork_asks t.config (fork_of t) t.phase)) q c.requires.hears)));
-      done = e.done;
-      last = λ q. ap fork_end (a.last q);
-      restart = e.restart;
-      no_swap = e.no_swap;
-      full_swaps = e.full_swaps;
-      full_nodes = e.full_nodes;
-      learns = λ stage s same good free facts tells. no-slot c.nothing_is_gained.ensures (fork_of t) s c.args.slots.now c.after-self.result (a.learns stage s same facts tells);
+      begun = λ z. absurd (cc);
+      ready = (e.begun, e.ready);
+      nearer = omega (arith, g.nearer, ap fork_left c.in-Writing.is, asked-steps c.write-next.new.self.config (fork_of c.write-next.new.self) (Writing c.write-next.result));
+      fewer = omega (arith, g.fewer, ap fork_swaps c.in-Writing.is, ap (λ z. swaps_in (fork_asks t.config (fork_of t) z)) c.in-Writing.is);
+      counted = λ z. omega (arith, g.counted z);
+      slots = subst (λ z. AreTakenFrom (fork_needs z) (fork_needs (Writing c.write-next.result)) c.args.slots.now c.write-next.new.slots) (sym c.in-Writing.is) g.slots;
+      kept = g.kept;
+      begins = λ q. no-end (write_end c.write-next.result) (λ outcome z. ends-later t.config (fork_of t) t.phase c.in-Writing.phase c.args.seen outcome c.in-Writing.is q c.requires.hears (g.begins outcome q z));
+      done = g.done;
+      last = λ q. g.last q (ap fork_swaps (sym c.in-Writing.is) ∙ one-left t.config (fork_of t) t.phase (subst (Hears (fork_asks t.config (fork_of t) t.phase)) q c.requires.hears));
+      restart = λ q. elim (g.restart q) [ inl a ↦ inl a | inr a ↦ inr (subst (λ z. fork_differs t.upper t.middle t.lower z c.args.seen) (sym c.in-Writing.is) a) ];
+      no_swap = g.no_swap;
+      full_swaps = g.full_swaps;
+      full_nodes = λ q. subst (λ z. length c.args.slots.now.free < fork_needs z) (sym c.in-Writing.is) (g.full_nodes q);
+      learns = λ stage s now same good free facts tells. e.learns stage s now same good (λ n. free (subst (λ z. 0 < fork_needs z) (sym c.in-Writing.is) n)) (subst (λ z. fork_facts (fork_of t) z stage s) c.in-Writing.is facts) (subst (λ z. Tells (fork_asks t.config (fork_of t) z) stage c.args.seen s) c.in-Writing.is tells);
     }
 
 pub returns-in-Fresh : goal.returns-in-Fresh
@@ -315,7 +281,7 @@ returns-in-Fresh c =
       no_swap = e.no_swap;
       full_swaps = e.full_swaps;
       full_nodes = e.full_nodes;
-      learns = λ stage s same good free facts tells. no-slot c.nothing_is_gained.ensures (fork_of t) s c.args.slots.now c.first-self.result
+      learns = λ stage s now same good free facts tells. no-slot (fork_of t) s c.args.slots.now c.first-self.result
           (first-learns t.config (fork_of t) c.first-self.result c.args.seen stage s c.first-self.ensures (subst (λ z. fork_facts (fork_of t) z stage s) c.in-Fresh.is facts) (subst (λ z. Tells (fork_asks t.config (fork_of t) z) stage c.args.seen s) c.in-Fresh.is tells));
     }
 
@@ -352,8 +318,8 @@ returns-in-Word c =
       no_swap = e.no_swap;
       full_swaps = e.full_swaps;
       full_nodes = e.full_nodes;
-      learns = λ stage s same good free facts tells. subst (λ z. fork_facts (kept-of t i v) z Waiting (gained s c.args.slots.now c.args.slots.now)) (sym c.after_word-self.ensures)
-          (no-slot c.nothing_is_gained.ensures (kept-of t i v) s c.args.slots.now (word_after n.result)
+      learns = λ stage s now same good free facts tells. subst (λ z. fork_facts (kept-of t i v) z Waiting (gained s c.args.slots.now c.args.slots.now)) (sym c.after_word-self.ensures)
+          (no-slot (kept-of t i v) s c.args.slots.now (word_after n.result)
           (word-known t.config (fork_of t) i n.result v c.args.seen stage s same good n.ensures.after n.ensures.within n.ensures.skipped (λ w q. c.word_in.ensures w q) (subst (λ z. fork_facts (fork_of t) z stage s) c.in-Word.is facts) (subst (λ z. Tells (fork_asks t.config (fork_of t) z) stage c.args.seen s) c.in-Word.is tells)));
     }
 
@@ -390,7 +356,7 @@ returns-in-Above c =
       no_swap = e.no_swap;
       full_swaps = e.full_swaps;
       full_nodes = e.full_nodes;
-      learns = λ stage s same good free facts tells. subst (λ z. fork_facts (kept-above t i v) z Waiting (gained s c.args.slots.now c.args.slots.now)) (sym c.after_above-self.ensures)
-          (no-slot c.nothing_is_gained.ensures (kept-above t i v) s c.args.slots.now (above_after n.result)
+      learns = λ stage s now same good free facts tells. subst (λ z. fork_facts (kept-above t i v) z Waiting (gained s c.args.slots.now c.args.slots.now)) (sym c.after_above-self.ensures)
+          (no-slot (kept-above t i v) s c.args.slots.now (above_after n.result)
           (above-known t.config (fork_of t) i n.result v c.args.seen stage s same good n.ensures.after n.ensures.within n.ensures.skipped (λ w q. c.word_in-in-Above.ensures w q) (subst (λ z. fork_facts (fork_of t) z stage s) c.in-Above.is facts) (subst (λ z. Tells (fork_asks t.config (fork_of t) z) stage c.args.seen s) c.in-Above.is tells)));
     }

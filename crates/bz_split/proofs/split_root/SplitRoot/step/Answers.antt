@@ -1,113 +1,22 @@
-use Rattle.std.proofs.Common.{◌≡◌, true, sym, ap, subst, ◌∙◌, refl, arith, inr, Some}
-use Rattle.bz_task.specs.Requests.{Hears, Tells, swaps_in}
+use Rattle.std.proofs.Common.{refl, subst}
 use Rattle.bz_layout.specs.Config.{IsConfig}
-use Rattle.bz_layout.specs.declared.thresholds.TheConstants.{SPLIT_SLOTS}
-use Rattle.bz_task.specs.OwnActs.{AreTakenFrom}
-use Rattle.bz_task.specs.declared.path.Link.{Link}
-use Rattle.bz_task.specs.declared.todo.Seen.TheVariants.{Start, Swapped}
-use Rattle.bz_task.specs.declared.todo.Todo.TheVariants.{Read as Reads}
+use Rattle.bz_writer.proofs.Stepping.{steps-after, steps-look}
 use Rattle.bz_split.specs.Duties.{split_of}
-use Rattle.bz_split.specs.Facts.{split_facts, split_asks, split_needs, split_left, split_swaps, split_end}
-use Rattle.bz_split.specs.declared.phase.Phase.TheVariants.{Fresh, Guard}
-use Rattle.bz_split.proofs.Beginning.{heard-in, begins-fresh}
-use Rattle.bz_split.proofs.Counting.{Counts, counts}
-use Rattle.bz_split.proofs.Knowing.{EndsWell, Looks, ends-well, first-ends, takes-none, looks, looked-learns, fresh-known, looked-kept}
-use Rattle.bz_split.proofs.Staying.{no-slot}
+use Rattle.bz_split.specs.Facts.{split_plan}
+use Rattle.bz_split.specs.declared.split_root.SplitRoot.{SplitRoot}
+use Rattle.bz_split.proofs.Acting.{looks-well, sound}
 use Rattle.bz_split.proofs.split_root.SplitRoot.step.Goals as goal
 
 pub returns-in_default : goal.returns-in_default
 returns-in_default c =
-    let a = c.after-self.ensures in
-    let e : EndsWell c.args.self.now.link c.args.seen c.args.self.now.phase c.after-self.result c.args.slots.now = ends-well c.args.self.now.link c.args.seen c.args.self.now.phase c.after-self.result c.args.slots.now a.done a.restart a.no_swap a.slots in
-    record {
-      config = refl;
-      link = refl;
-      halves = refl;
-      known = a.config;
-      begun = a.begun;
-      ready = a.ready;
-      nearer = a.nearer;
-      fewer = a.fewer;
-      counted = a.counted;
-      slots = takes-none c.args.self.now.phase c.after-self.result c.args.slots.now a.begun a.looked;
-      kept = λ outcome q. refl;
-      begins = λ q. absurd (c.in_default.not-Fresh (begins-fresh c.args.self.now.config (split_of c.args.self.now) c.args.self.now.phase (subst (Hears (split_asks c.args.self.now.config (split_of c.args.self.now) c.args.self.now.phase)) q c.requires.hears)));
-      done = e.done;
-      last = λ q. ap split_end (a.last q);
-      restart = e.restart;
-      no_swap = e.no_swap;
-      full_swaps = e.full_swaps;
-      full_nodes = e.full_nodes;
-      learns = λ stage s same good free facts tells. no-slot c.nothing_is_gained.ensures (split_of c.args.self.now) s c.args.slots.now c.after-self.result (a.learns stage s same facts tells);
-    }
-
-pub returns-in-Fresh : goal.returns-in-Fresh
-returns-in-Fresh c =
-    let k = c.requires.known in
     let t = c.args.self.now in
-    let e : EndsWell t.link c.args.seen t.phase Guard c.args.slots.now = subst (λ z. EndsWell t.link c.args.seen z Guard c.args.slots.now) (sym c.in-Fresh.is) (first-ends t.config (split_of t) c.args.seen c.args.slots.now
-    (subst (λ z. Hears (split_asks t.config (split_of t) z) c.args.seen) c.in-Fresh.is c.requires.hears)) in
-    let n : Counts t.config (split_of t) t.phase Guard c.args.seen = counts t.config (split_of t) t.phase Guard c.args.seen (ap split_swaps c.in-Fresh.is) (ap (λ z. swaps_in (split_asks t.config (split_of t) z)) c.in-Fresh.is) c.requires.hears in
-    record {
-      config = refl;
-      link = refl;
-      halves = refl;
-      known = subst IsConfig k.config k.good.config;
-      begun = λ z. absurd (cc);
-      ready = tt;
-      nearer = omega (arith, ap split_left c.in-Fresh.is);
-      fewer = n.fewer;
-      counted = λ z. n.counted;
-      slots = inr (record { fewer = omega (arith, ap split_needs c.in-Fresh.is); slots = refl });
-      kept = λ outcome q. refl;
-      begins = λ q. refl;
-      done = e.done;
-      last = λ q. absurd (heard-in t.config (split_of t) t.phase Fresh c.args.seen (Swapped true) c.in-Fresh.is q c.requires.hears);
-      restart = e.restart;
-      no_swap = e.no_swap;
-      full_swaps = e.full_swaps;
-      full_nodes = e.full_nodes;
-      learns = λ stage s same good free facts tells. (
-          let f = fresh-known t.config (split_of t) c.args.seen stage s (subst (λ z. split_facts (split_of t) z stage s) c.in-Fresh.is facts) (subst (λ z. Tells (split_asks t.config (split_of t) z) stage c.args.seen s) c.in-Fresh.is tells) in
-          no-slot c.nothing_is_gained.ensures (split_of t) s c.args.slots.now Guard f
-          );
-    }
+    let k = steps-after t.config (split_plan (split_of t)) (sound (split_of t)) t.phase c.after-self.result c.args.seen c.args.moment c.args.slots.now c.in_default.not-Fresh c.in_default.not-Guard c.requires c.after-self.ensures in
+    record { known = subst IsConfig c.requires.known.config c.requires.known.good.config; begun = k.begun; ready = k.ready; goes = k.goes; learns = k.learns }
 
 pub returns-in-Guard : goal.returns-in-Guard
 returns-in-Guard c =
     let t = c.args.self.now in
-    let new = c.look.new.self in
-    let left = c.look.new.slots in
-    let k = c.requires.known in
-    let e = c.look.ensures in
-    let needed : split_needs t.phase ≡ SPLIT_SLOTS = ap split_needs c.in-Guard.is in
-    let nodes : c.args.slots.now.nodes ≡ t.config.nodes = c.requires.memory (omega (arith, needed)) in
-    let hears : Hears (split_asks t.config (split_of t) Guard) c.args.seen = subst (λ z. Hears (split_asks t.config (split_of t) z) c.args.seen) c.in-Guard.is c.requires.hears in
-    let b : Looks (split_of new) new.config c.args.seen new.phase c.args.slots.now left = looks (split_of new) new.config c.args.seen new.phase c.args.slots.now left
-    (subst (λ (z : Link). Hears (Some (Reads z.guard)) c.args.seen) (sym e.link) hears) e.looked (nodes ∙ ap (λ z. z.nodes) (sym e.config)) in
-    let ends : EndsWell t.link c.args.seen t.phase new.phase c.args.slots.now = subst (λ z. EndsWell t.link c.args.seen z new.phase c.args.slots.now) (sym c.in-Guard.is) (subst (λ z. EndsWell z c.args.seen Guard new.phase c.args.slots.now) e.link b.ends) in
-    let n : Counts t.config (split_of t) t.phase new.phase c.args.seen = counts t.config (split_of t) t.phase new.phase c.args.seen (ap split_swaps c.in-Guard.is) (ap (λ z. swaps_in (split_asks t.config (split_of t) z)) c.in-Guard.is) c.requires.hears in
-    record {
-      config = e.config;
-      link = e.link;
-      halves = e.halves;
-      known = subst IsConfig (k.config ∙ sym e.config) k.good.config;
-      begun = b.begun;
-      ready = b.ready;
-      nearer = omega (arith, b.nearer, ap split_left c.in-Guard.is);
-      fewer = n.fewer;
-      counted = λ z. n.counted;
-      slots = subst (λ z. AreTakenFrom z (split_needs new.phase) c.args.slots.now left) (sym needed) b.taken;
-      kept = λ outcome q. looked-kept (split_of new) c.args.seen new.phase c.args.slots.now left outcome e.looked q;
-      begins = λ q. absurd (heard-in t.config (split_of t) t.phase Guard c.args.seen Start c.in-Guard.is q c.requires.hears);
-      done = ends.done;
-      last = λ q. absurd (heard-in t.config (split_of t) t.phase Guard c.args.seen (Swapped true) c.in-Guard.is q c.requires.hears);
-      restart = ends.restart;
-      no_swap = ends.no_swap;
-      full_swaps = ends.full_swaps;
-      full_nodes = ends.full_nodes;
-      learns = λ stage s same good free facts tells. looked-learns c.slots_apart.ensures c.nothing_is_gained.ensures t.config (split_of t) (split_of new) new.phase c.args.seen c.args.slots.now left
-          (record { link = e.link; left = ap (λ z. z.left.0) e.halves; right = ap (λ z. z.right.0) e.halves; sep = ap (λ z. z.separator) e.halves }) e.looked nodes stage s same good (free (omega (arith, needed)))
-          (subst (λ z. split_facts (split_of t) z stage s) c.in-Guard.is facts)
-          (subst (λ z. Tells (split_asks t.config (split_of t) z) stage c.args.seen s) c.in-Guard.is tells);
-    }
+    let u : SplitRoot = record t { root = c.root_over-self.result; slots = c.look-begun.result.slots; phase = c.look-begun.result.phase } in
+    let k = steps-look t.config (split_plan (split_of t)) (split_plan (split_of u)) (sound (split_of t)) (record { count = refl; basis = refl; done = λ p d. d; none = λ p d. d }) t.phase u.phase c.args.seen c.args.moment c.args.slots.now c.look-begun.new.slots
+    (looks-well (split_of t) (split_of u) (λ p v. v) (λ s a. a) c.root_over-self.ensures c.is_whole.ensures c.args.slots.now c.look-begun.new.slots) c.in-Guard.is c.requires c.look-begun.ensures in
+    record { known = subst IsConfig c.requires.known.config c.requires.known.good.config; begun = k.begun; ready = k.ready; goes = k.goes; learns = k.learns }

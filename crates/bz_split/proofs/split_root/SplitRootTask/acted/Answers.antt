@@ -1,11 +1,8 @@
 use Rattle.bz_split.specs.Duties.{split_of}
-use Rattle.bz_split.proofs.Acting.{effect, took, stored, flushed}
+use Rattle.bz_split.specs.Facts.{split_plan}
+use Rattle.bz_split.proofs.Acting.{good, sound}
+use Rattle.bz_writer.proofs.Acting.{acts-well}
 use Rattle.bz_split.proofs.split_root.SplitRootTask.acted.Goals as goal
 
 pub returns : goal.returns
-returns c = record {
-  effect = λ s y entries same f good e stand swaps. let t = c.args.self.now in effect c.root_leaf_splits_are_good.ensures c.roots_stand_over_two.ensures t.config (split_of t) t.phase s y entries f good e stand swaps;
-  took = λ s after entries same f good later e stand takes. let t = c.args.self.now in took c.links_turn.ensures.asked c.roots_stand_over_two.ensures t.config (split_of t) t.phase s after entries f good e takes;
-  stored = λ s after a v same f good later e made. let t = c.args.self.now in stored c.slots_apart.ensures t.config (split_of t) t.phase s after a v same f e made;
-  flushed = λ s after line same f good later e made. let t = c.args.self.now in flushed t.config (split_of t) t.phase s after line same f e made;
-}
+returns c = let t = c.args.self.now in acts-well t.config (split_plan (split_of t)) (sound (split_of t)) (good (split_of t)) t.phase

@@ -1,15 +1,8 @@
-use Rattle.std.proofs.Common.{rules}
 use Rattle.bz_split.specs.Duties.{split_of}
-use Rattle.bz_split.proofs.Acting.{askable, cause}
-use Rattle.bz_split.proofs.Staying.{stable}
+use Rattle.bz_split.specs.Facts.{split_plan}
+use Rattle.bz_split.proofs.Acting.{sound}
+use Rattle.bz_writer.proofs.Acting.{is-sound}
 use Rattle.bz_split.proofs.split_root.SplitRootTask.learnt.Goals as goal
 
 pub returns : goal.returns
-returns c = record {
-  stable = λ stage s after same f good l. stable (split_of c.args.self.now) s after l c.args.self.now.phase stage f;
-  askable = λ s todo same f good e. let t = c.args.self.now in askable c.links_turn.ensures.asked c.statuses.ensures t.config (split_of t) t.phase s todo same f good e;
-  cause = λ s seen same f d. let t = c.args.self.now in cause t.config (split_of t) t.phase s seen f d;
-  few = search rules;
-  once = search rules;
-  ends = search rules;
-}
+returns c = let t = c.args.self.now in is-sound (split_plan (split_of t)) (sound (split_of t)) t.config t.phase

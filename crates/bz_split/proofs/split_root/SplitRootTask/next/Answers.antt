@@ -1,32 +1,7 @@
-use Rattle.std.proofs.Common.{◌≡◌, sym, subst, ◌∙◌, arith, Some, None, rules}
-use Rattle.bz_task.specs.Requests.{Hears}
-use Rattle.bz_split.specs.Duties.{split_of}
-use Rattle.bz_split.specs.Facts.{split_asks}
-use Rattle.bz_split.proofs.Beginning.{asked-steps, one-left}
 use Rattle.bz_split.proofs.split_root.SplitRootTask.next.Goals as goal
 
-pub returns-clause-learns : goal.returns-clause-learns
-returns-clause-learns c stage s now same good free facts tells = c.step.ensures.learns stage s same good free facts tells
-
 pub returns-clause-goes : goal.returns-clause-goes
-returns-clause-goes c = record {
-  asked = search rules;
-  nearer = let u = c.step.new.self in omega (arith, c.step.ensures.nearer, asked-steps u.config (split_of u) u.phase);
-  fewer = search rules;
-  counted = search rules;
-  config = search rules;
-  change = search rules;
-  basis = search rules;
-  meant = search rules;
-  slots = search rules;
-  kept = search rules;
-  begins = λ outcome s e. let q : None ≡ Some outcome = sym (c.step.ensures.begins s) ∙ e in absurd (cc);
-  last = search rules;
-  only_last = λ e. let t = c.args.self.now in one-left t.config (split_of t) t.phase (subst (Hears (split_asks t.config (split_of t) t.phase)) (c.step.ensures.done e) c.requires.hears);
-  done = search rules;
-  published = search rules;
-  restart = search rules;
-  no_swap = search rules;
-  full_swaps = search rules;
-  full_nodes = search rules;
-}
+returns-clause-goes c = c.step.ensures.goes c.asked.result c.asked.ensures
+
+pub returns-clause-learns : goal.returns-clause-learns
+returns-clause-learns c = c.step.ensures.learns

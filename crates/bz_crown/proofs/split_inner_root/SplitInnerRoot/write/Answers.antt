@@ -1,0 +1,35 @@
+use Rattle.std.proofs.Common.{refl, subst}
+use Rattle.bz_task.specs.Requests.{Tells}
+use Rattle.bz_writer.specs.Facts.{write_asks, write_facts}
+use Rattle.bz_writer.proofs.Learning.{learns-first}
+use Rattle.bz_writer.proofs.Stepping.{steps-after, steps-look}
+use Rattle.bz_crown.specs.Duties.{crown_of}
+use Rattle.bz_crown.specs.Facts.{crown_plan}
+use Rattle.bz_crown.specs.declared.split_inner_root.SplitInnerRoot.{SplitInnerRoot}
+use Rattle.bz_crown.proofs.Acting.{at-guard, looks-well, planned-node, sound}
+use Rattle.bz_crown.proofs.split_inner_root.SplitInnerRoot.write.Goals as goal
+
+pub make-made-requires : goal.make-made-requires
+make-made-requires c =
+    let t = c.args.self.now in
+    let k = c.requires.known in
+    planned-node (crown_of t) k.scene (at-guard (crown_of t) k.stage k.scene (subst (λ z. write_facts (crown_plan (crown_of t)) z k.stage k.scene) c.in-Guard.is k.holds))
+
+pub returns-in-Fresh-clause-learns : goal.returns-in-Fresh-clause-learns
+returns-in-Fresh-clause-learns c stage s now same good unreached facts tells =
+    let t = c.args.self.now in
+    learns-first t.config (crown_plan (crown_of t)) c.args.seen c.args.slots.now stage s (subst (λ z. write_facts (crown_plan (crown_of t)) z stage s) c.in-Fresh.is facts) (subst (λ z. Tells (write_asks t.config (crown_plan (crown_of t)) z) stage c.args.seen s) c.in-Fresh.is tells)
+
+pub returns-in-Guard : goal.returns-in-Guard
+returns-in-Guard c =
+    let t = c.args.self.now in
+    let u : SplitInnerRoot = record t { root = c.make-made.result.root; left = c.make-made.result.left; right = c.make-made.result.right; slots = c.look-begun.result.slots } in
+    let k = steps-look t.config (crown_plan (crown_of t)) (crown_plan (crown_of u)) (sound (crown_of t)) (record { count = refl; basis = refl; done = λ p d. d; none = λ p d. d }) c.args.phase c.look-begun.result.phase c.args.seen c.args.moment c.args.slots.now c.look-begun.new.slots
+    (looks-well (crown_of t) (crown_of u) (λ p v. v) (λ s a. a) c.make-made.ensures c.args.slots.now c.look-begun.new.slots) c.in-Guard.is c.requires c.look-begun.ensures in
+    record { config = refl; upper = refl; begun = k.begun; ready = k.ready; goes = k.goes; learns = k.learns }
+
+pub returns-in_default : goal.returns-in_default
+returns-in_default c =
+    let t = c.args.self.now in
+    let k = steps-after t.config (crown_plan (crown_of t)) (sound (crown_of t)) c.args.phase c.after.result c.args.seen c.args.moment c.args.slots.now c.in_default.not-Fresh c.in_default.not-Guard c.requires c.after.ensures in
+    record { config = refl; upper = refl; begun = k.begun; ready = k.ready; goes = k.goes; learns = k.learns }

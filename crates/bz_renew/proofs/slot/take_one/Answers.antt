@@ -1,6 +1,0 @@
-use Rattle.std.proofs.Common.{refl}
-use Rattle.bz_renew.proofs.Slots.{first-taken}
-use Rattle.bz_renew.proofs.slot.take_one.Goals as goal
-
-pub returns-then-take-clause-taken : goal.returns-then-take-clause-taken
-returns-then-take-clause-taken c = first-taken c.taken_slots_are_gone.ensures c.args.slots.now c.take.new.out _ c.take.new.self c.take.ensures.ordered (c.if-take.ensures.enough.0 refl) c.if-take.ensures.taken c.if-take.ensures.kept
