@@ -1,0 +1,4 @@
+pub mod Settling
+pub mod Changing
+pub mod Listing
+pub mod Proved

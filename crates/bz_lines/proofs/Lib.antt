@@ -1,0 +1,6 @@
+mod Again
+mod Plain
+mod HeadLemmas
+mod FloatLemmas
+mod LineLemmas
+mod WriteLemmas

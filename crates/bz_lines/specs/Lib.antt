@@ -1,0 +1,6 @@
+pub mod Objects
+pub mod Lines
+pub mod Writes
+pub mod Ranges
+pub mod Reading
+pub mod Heads

@@ -1,0 +1,9 @@
+pub mod Cells
+pub mod Contents
+pub mod Changes
+pub mod Keeping
+pub mod Growing
+pub mod EachMoment
+pub mod FreshRings
+pub mod Examples
+pub mod Proved

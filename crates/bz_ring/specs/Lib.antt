@@ -1,0 +1,13 @@
+pub mod Content
+pub mod Lists
+pub mod ContentLaws
+pub mod Journal
+pub mod Kept
+pub mod Calls
+pub mod Follows
+pub mod Replies
+pub mod Sound
+pub mod Example
+pub mod Moments
+pub mod Growth
+pub mod Fresh
