@@ -6,15 +6,15 @@ use Rattle.bz_content.specs.Resolving.{resolve}
 use Rattle.bz_running.specs.FromFind.Facts.{find_reads}
 use Rattle.bz_layout.specs.declared.config.Config.{Config}
 use Rattle.bz_machine.specs.Allowed.{sum_below, counted}
-use Rattle.bz_rivals.specs.Laws.{RivalsFall}
 use Rattle.bz_rivals.specs.Rivals.{is_pending, is_rival, is_own, foreign}
+use Rattle.bz_rivals.proofs.Proved.{rivals_fall}
 use Rattle.bz_running.specs.Duties.{asks_of, change_of}
 use Rattle.bz_running.specs.LookingUp.{ForWay, ForKey, NoLook, look_of, reads_asked, IsReadOrEnd}
 use Rattle.bz_running.specs.declared.running.AnyTask.{AnyTask}
 use Rattle.bz_running.specs.declared.running.AnyTask.TheVariants.{Seeking, Finding, Reading as ReadsLeaf, Inserting, Updating, Deleting, Freezing, Consolidating, Splitting, SplittingBelow, SplittingInner, SplittingInnerRoot, Merging}
 use Rattle.bz_swap.specs.Alone.{allowed_while, allowed_to_all, left_to}
-use Rattle.bz_swap.specs.LoneRuns.{LoneStepsAreAllowed}
 use Rattle.bz_swap.specs.SwapMemory.{SwapMemory, Doing, Reading, doing_of}
+use Rattle.bz_swap.proofs.Proved.{lone_steps_are_allowed}
 use Rattle.bz_task.specs.Requests.{Tells}
 use Rattle.bz_task.specs.Scene.{Scene, Waiting}
 use Rattle.bz_task.specs.declared.path.Path.{Path}
@@ -24,8 +24,9 @@ use Rattle.bz_task.specs.declared.todo.Todo.TheVariants.{Read, Load, Store, Flus
 use Rattle.bz_alone.specs.Alone.{IsAlone}
 use Rattle.bz_alone.specs.Brief.{AllIdle, LooksFor, LookUpsAreBrief, WaysAreBrief, BriefLookUpsGoOn, GetsAreBrief}
 use Rattle.bz_running.specs.Duties.{made_of, view_of}
-use Rattle.bz_alone.specs.Reads.{get_reads, PathsReadFew}
-use Rattle.bz_alone.specs.Tasks.{LonersGoOn}
+use Rattle.bz_alone.specs.Reads.{get_reads}
+use Rattle.bz_alone.proofs.Tasks.{loners-go-on}
+use Rattle.bz_alone.proofs.Ways.{paths-read-few}
 
 sum-none : (f : ℕ → ℕ) (n : ℕ) → ((v : ℕ) → f v ≡ 0) → sum_below f n ≡ 0
 sum-none f zero h = refl
@@ -40,10 +41,10 @@ no-rival m w v h = go (not (v == w)) (is_pending m (doing_of m v)) (ap (is_pendi
     go false b e = refl
 
 -- nobody else has a swap under way where nobody does anything, and nothing is left to anybody
-none-left : LoneStepsAreAllowed → (m : SwapMemory) (w : ℕ) → AllIdle m → left_to m w ≡ 0
-none-left b m w h =
+none-left : (m : SwapMemory) (w : ℕ) → AllIdle m → left_to m w ≡ 0
+none-left m w h =
     let all : allowed_to_all m ≡ 0 = sum-none (λ v. allowed_while (doing_of m v)) (length m.workers) (λ v. ap allowed_while (h v)) in
-    omega (arith, b.most m w, all)
+    omega (arith, lone_steps_are_allowed.most m w, all)
 
 -- an effect that is told to a worker which reads is foreign
 untold : (m : SwapMemory) (w : ℕ) (doing : Doing) (a : ℕ) (told : Option ℕ) → doing_of m w ≡ doing → doing ≡ Reading a → foreign m w told ≡ 0 → told ≡ None
@@ -61,15 +62,15 @@ looks-on : (key : List ℕ) (way : Option Path) (t u : AnyTask) → look_of u �
 looks-on key None t u l c h = l ∙ h
 looks-on key (Some path) t u l c h = (l ∙ h.0, ap (λ x. x.key) c ∙ h.1, h.2)
 
-pub look-ups-are-brief : LoneStepsAreAllowed → RivalsFall → LookUpsAreBrief
-look-ups-are-brief b r = record {
+pub look-ups-are-brief : LookUpsAreBrief
+look-ups-are-brief = record {
   begins = λ m w a key t idle look one. record {
     looks = look;
-    calm = r.start m w (Reading a) ∙ sum-none (λ v. counted (is_rival m w v) 1) (length m.workers) (λ v. no-rival m w v idle);
-    few = omega (arith, b.start m w (Reading a), none-left b m w idle, one);
+    calm = rivals_fall.start m w (Reading a) ∙ sum-none (λ v. counted (is_rival m w v) 1) (length m.workers) (λ v. no-rival m w v idle);
+    few = omega (arith, lone_steps_are_allowed.start m w (Reading a), none-left m w idle, one);
   };
   step = λ old new w a made done told acts key way t reads st h.
-      let fall = r.step old new w made done told st in (
+      let fall = rivals_fall.step old new w made done told st in (
         untold old w (Reading a) a told reads refl (omega (arith, fall, h.calm)),
         record {
           looks = h.looks;
@@ -78,12 +79,12 @@ look-ups-are-brief b r = record {
         },
       );
   eviction = λ old new w a c told acts key way t on reads ev h.
-      let fall = r.eviction old new w a told on ev in (
+      let fall = rivals_fall.eviction old new w a told on ev in (
         untold old w (Reading c) c told reads refl (omega (arith, fall, h.calm)),
         record {
           looks = h.looks;
           calm = omega (arith, fall, h.calm);
-          few = omega (arith, h.few, b.eviction old new w a told ev);
+          few = omega (arith, h.few, lone_steps_are_allowed.eviction old new w a told ev);
         },
       );
   told = λ m w acts key way t u todo counts change h. record {
@@ -93,8 +94,8 @@ look-ups-are-brief b r = record {
   };
   reads = λ m w acts key way t u a counts change h. record {
     looks = looks-on key way t u counts.look change h.looks;
-    calm = r.start m w (Reading a) ∙ h.calm;
-    few = omega (arith, h.few, b.start m w (Reading a), counts.reads (looks-some key way t h.looks));
+    calm = rivals_fall.start m w (Reading a) ∙ h.calm;
+    few = omega (arith, h.few, lone_steps_are_allowed.start m w (Reading a), counts.reads (looks-some key way t h.looks));
   };
 }
 
@@ -132,18 +133,18 @@ no-swap (Some (Flush line)) s h t = t
 no-swap (Some (Swap entries)) s h t = h (Swap entries) refl
 no-swap (Some Finish) s h t = t
 
-pub brief-look-ups-go-on : LonersGoOn → BriefLookUpsGoOn
-brief-look-ups-go-on loners t u seen moment free left todo s config good facts alone look few tells heard e = elim (heard.goes.restart e) [
+pub brief-look-ups-go-on : BriefLookUpsGoOn
+brief-look-ups-go-on t u seen moment free left todo s config good facts alone look few tells heard e = elim (heard.goes.restart e) [
   | inl q ↦ no-swap (asks_of t) s (λ x a. few.asks x look a) (subst (λ x. Tells (asks_of t) Waiting x s) q tells)
-  | inr d ↦ (loners t s config good facts (subst (λ n. IsAlone n s.past) (sym (none-made t look)) alone)).same seen tells d
+  | inr d ↦ (loners-go-on t s config good facts (subst (λ n. IsAlone n s.past) (sym (none-made t look)) alone)).same seen tells d
 ]
 
-pub gets-are-brief : PathsReadFew → GetsAreBrief
+pub gets-are-brief : GetsAreBrief
 unfolding get_reads
-gets-are-brief ways m w acts key path t view s h few good alone facts e is on =
+gets-are-brief m w acts key path t view s h few good alone facts e is on =
     let c : Config = s.past.config in
     let raw : ℕ → ℕ = (s.past.at view.at).image in
-    let way = ways s key path h.looks.2.0 view.at good alone on h.looks.2.1 (record { from = is.since; to = is.now }) in
+    let way = paths-read-few s key path h.looks.2.0 view.at good alone on h.looks.2.1 (record { from = is.since; to = is.now }) in
     let found : reads_asked t ≤ find_reads (node c (resolve raw) (leaf_in c raw key)) key =
     subst (λ k. reads_asked t ≤ find_reads (node c (resolve raw) k) key) (sym is.leaf) (subst (λ k. reads_asked t ≤ find_reads (node c (resolve raw) view.slot) k) h.looks.1 (few.found view s facts e)) in
     omega (arith, h.few, way, found)

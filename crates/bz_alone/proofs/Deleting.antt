@@ -10,15 +10,15 @@ use Rattle.bz_mutate.specs.declared.delete_phase.DeletePhase.TheVariants.{Remove
 use Rattle.bz_alone.specs.Alone.{GoesOn}
 use Rattle.bz_alone.specs.Laws.{DeletesGoOn}
 use Rattle.bz_alone.specs.Quiet.{IsQuietSince}
-use Rattle.bz_alone.proofs.Basis.{Laws}
 use Rattle.bz_alone.proofs.Going.{idles, swaps}
 use Rattle.bz_alone.proofs.Records.{swap-stands}
+use Rattle.bz_alone.proofs.Quiet.{lonely}
 
-goes : Laws → (s : Scene) → IsScene s → IsQuietSince s.past.since s.past → (key : List ℕ) (v : KeyView) (phase : DeletePhase) → delete_facts key v phase Waiting s → GoesOn (delete_asks s.past.config v phase) (λ seen. ⊥) s
-goes b s good q key v (Remove f) h =
+goes : (s : Scene) → IsScene s → IsQuietSince s.past.since s.past → (key : List ℕ) (v : KeyView) (phase : DeletePhase) → delete_facts key v phase Waiting s → GoesOn (delete_asks s.past.config v phase) (λ seen. ⊥) s
+goes s good q key v (Remove f) h =
     let w = removal v.slot v.status f.place f.extent in
-    swaps (entries_of s.past.config w) (λ seen. ⊥) s (swap-stands b s good s.past.since q w key h.1.payload f.extent h.1.was h.1.was.leaf.leaf.since refl) (λ seen d. d)
-goes b s good q key v phase h = idles _ (λ seen. ⊥) s (λ entries e. absurd (cc)) (λ seen d. d)
+    swaps (entries_of s.past.config w) (λ seen. ⊥) s (swap-stands s good s.past.since q w key h.1.payload f.extent h.1.was h.1.was.leaf.leaf.since refl) (λ seen d. d)
+goes s good q key v phase h = idles _ (λ seen. ⊥) s (λ entries e. absurd (cc)) (λ seen d. d)
 
-pub deletes-go-on : Laws → DeletesGoOn
-deletes-go-on b t s same good f a = subst (λ z. GoesOn (delete_asks z t.view t.phase) (λ seen. ⊥) s) same (goes b s good (b.lonely.whole s good a) t.key t.view t.phase f)
+pub deletes-go-on : DeletesGoOn
+deletes-go-on t s same good f a = subst (λ z. GoesOn (delete_asks z t.view t.phase) (λ seen. ⊥) s) same (goes s good (lonely.whole s good a) t.key t.view t.phase f)

@@ -9,22 +9,23 @@ use Rattle.bz_freeze.specs.declared.phase.Phase.{Phase}
 use Rattle.bz_freeze.specs.declared.phase.Phase.TheVariants.{Swap}
 use Rattle.bz_alone.specs.Alone.{GoesOn}
 use Rattle.bz_alone.specs.Laws.{FreezesGoOn}
-use Rattle.bz_alone.specs.Quiet.{IsQuietSince, ReadValuesStand, LonelyTimesAreQuiet}
+use Rattle.bz_alone.specs.Quiet.{IsQuietSince}
 use Rattle.bz_alone.proofs.Going.{idles, swaps}
 use Rattle.bz_alone.proofs.Standing.{reached-in, status-stands}
+use Rattle.bz_alone.proofs.Quiet.{lonely}
 
 pub one-stands : (e : Entry) (s : Scene) → (here s).value e.target ≡ e.expected → Stand (e ∷ []) (here s)
 one-stands e s h = All-cons (λ (z : Entry). (here s).value z.target ≡ z.expected) e [] h (λ i d l. absurd (omega (arith, l)))
 
-module _ (values : ReadValuesStand) (s : Scene) (good : IsScene s) (q : IsQuietSince s.past.since s.past) where
+module _ (s : Scene) (good : IsScene s) (q : IsQuietSince s.past.since s.past) where
   leaf-stands : (k st : ℕ) → WasLeaf k st s.past → Stand (entry_of s.past.config k st ∷ []) (here s)
   leaf-stands k st w =
       one-stands (entry_of s.past.config k st) s
-      (status-stands values s good s.past.since q k w.moment st w.since w.now (reached-in values s good s.past.since q w.moment k w.since w.now w.slot w.inside) w.was)
+      (status-stands s good s.past.since q k w.moment st w.since w.now (reached-in s good s.past.since q w.moment k w.since w.now w.slot w.inside) w.was)
 
   goes : (k st : ℕ) (phase : Phase) → freeze_facts k st phase Waiting s → GoesOn (freeze_asks s.past.config k st phase) (λ seen. ⊥) s
   goes k st Swap f = swaps (entry_of s.past.config k st ∷ []) (λ seen. ⊥) s (leaf-stands k st f.1) (λ seen d. d)
   goes k st phase f = idles _ (λ seen. ⊥) s (λ entries e. absurd (cc)) (λ seen d. d)
 
-pub freezes-go-on : ReadValuesStand → LonelyTimesAreQuiet → FreezesGoOn
-freezes-go-on values lonely t s same good f a = subst (λ z. GoesOn (freeze_asks z t.slot t.status t.phase) (λ seen. ⊥) s) same (goes values s good (lonely.whole s good a) t.slot t.status t.phase f)
+pub freezes-go-on : FreezesGoOn
+freezes-go-on t s same good f a = subst (λ z. GoesOn (freeze_asks z t.slot t.status t.phase) (λ seen. ⊥) s) same (goes s good (lonely.whole s good a) t.slot t.status t.phase f)

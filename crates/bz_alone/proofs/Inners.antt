@@ -5,27 +5,21 @@ use Rattle.std.proofs.lemmas.Bool.Decides.{nat_tests}
 use Rattle.bz_layout.specs.declared.config.Config.{Config}
 use Rattle.bz_layout.specs.declared.sizes.TheConstants.{STATUS_AT, ROOT_AT, ROOT_STATUS_AT}
 use Rattle.bz_shape.specs.Form.{Fits}
-use Rattle.bz_shape.specs.TreeLaws.{TreesHaveForms}
 use Rattle.bz_shape.specs.declared.rule.ShapeRule.TheVariants.{Root}
-use Rattle.bz_slotted.specs.Laws.{InnerRulesAreFacts}
+use Rattle.bz_shape.proofs.Proved.{trees_have_forms}
 use Rattle.bz_slotted.specs.Page.{page}
 use Rattle.bz_slotted.specs.Rules.{node_fault}
 use Rattle.bz_slotted.specs.Whole.{WholeInner}
+use Rattle.bz_slotted.proofs.Proved.{inner_rules_are_facts}
 use Rattle.bz_word.specs.Statuses.{status}
 use Rattle.bz_content.specs.Content.{IsWellFormed, view_in}
 use Rattle.bz_content.specs.Image.{node}
-use Rattle.bz_content.specs.Laws.{WellFormedImagesHaveNoFault}
 use Rattle.bz_content.specs.Resolving.{resolve}
 use Rattle.bz_content.specs.View.{root_fault}
+use Rattle.bz_content.proofs.Proved.{well_formed_images_have_no_fault}
 use Rattle.bz_task.specs.Good.{IsGood}
 use Rattle.bz_task.specs.Instant.{Instant, words, durable, page_at, form_at, is_inside}
-use Rattle.bz_task.specs.Laws.{HeadersSayTheLevel}
-
-pub record Rules : Type 0 where
-  pub formed : WellFormedImagesHaveNoFault
-  pub forms : TreesHaveForms
-  pub inner : InnerRulesAreFacts
-  pub headers : HeadersSayTheLevel
+use Rattle.bz_task.proofs.Proved.{headers_say_the_level}
 
 is : (a : ℕ) → (a == a) ≡ true
 is a = grind (arith, nat_tests)
@@ -34,20 +28,20 @@ apart : (a b : ℕ) → a ≢ b → (a == b) ≡ false
 apart a b ne = grind (arith, nat_tests)
 
 -- a good memory is a tree, which has a form
-pub fits : Rules → (c : Config) (x : Instant) → IsGood c x → Fits (view_in c x.image) (form_at c x)
-fits b c x g =
-    let w : IsWellFormed c x.image = (b.formed c x.image).0 g.form in
-    b.forms (view_in c x.image) w.tree.one w.tree.tall w.tree.none
+pub fits : (c : Config) (x : Instant) → IsGood c x → Fits (view_in c x.image) (form_at c x)
+fits c x g =
+    let w : IsWellFormed c x.image = (well_formed_images_have_no_fault c x.image).0 g.form in
+    trees_have_forms (view_in c x.image) w.tree.one w.tree.tall w.tree.none
 
-module _ (b : Rules) (c : Config) (x : Instant) (k : ℕ) (g : IsGood c x) (l : k < c.nodes) (i : is_inside c x k ≡ true) (high : 0 < (page_at c x k).level) where
+module _ (c : Config) (x : Instant) (k : ℕ) (g : IsGood c x) (l : k < c.nodes) (i : is_inside c x k ≡ true) (high : 0 < (page_at c x k).level) where
   below : k ≢ c.nodes
   below e = absurd (omega (arith, e, l))
 
   no-fault : node_fault c.nodes (node c x.image k) (durable c x k) ((form_at c x).level k) ((form_at c x).low k) ((form_at c x).high k) ≡ None
-  no-fault = rw (apart k c.nodes below) at ((fits b c x g).whole k i below)
+  no-fault = rw (apart k c.nodes below) at ((fits c x g).whole k i below)
 
   whole : WholeInner c.nodes (node c x.image k) (page (durable c x k)) ((form_at c x).level k) ((form_at c x).low k) ((form_at c x).high k)
-  whole = (b.inner c.nodes (node c x.image k) (durable c x k) ((form_at c x).level k) ((form_at c x).low k) ((form_at c x).high k) (omega (arith, (b.headers c x k g below i).level, high))).0 no-fault
+  whole = (inner_rules_are_facts c.nodes (node c x.image k) (durable c x k) ((form_at c x).level k) ((form_at c x).low k) ((form_at c x).high k) (omega (arith, (headers_say_the_level c x k g below i).level, high))).0 no-fault
 
   pub inner-thawed : (status (words c x k STATUS_AT)).frozen ≡ false
   inner-thawed = subst (λ z. (status z).frozen ≡ false) (g.shown k STATUS_AT (g.inside k i below) (inl (omega arith))) whole.settled.thawed
@@ -71,7 +65,7 @@ stamp-alone : (st : ℕ) → st < 2 ^ 32 → (status st).frozen ≡ false
 unfolding status
 stamp-alone st l = let e : st / 2 ^ 60 % 2 ^ 1 ≡ 0 = omega (arith, l) in rw e refl
 
-pub root-thawed : Rules → (c : Config) (x : Instant) → IsGood c x → (status (x.value ROOT_STATUS_AT)).frozen ≡ false
-root-thawed b c x g =
-    let e : root_fault c.nodes (resolve x.image ROOT_AT) (resolve x.image ROOT_STATUS_AT) ≡ None = rw (is c.nodes) at (fits b c x g).super in
+pub root-thawed : (c : Config) (x : Instant) → IsGood c x → (status (x.value ROOT_STATUS_AT)).frozen ≡ false
+root-thawed c x g =
+    let e : root_fault c.nodes (resolve x.image ROOT_AT) (resolve x.image ROOT_STATUS_AT) ≡ None = rw (is c.nodes) at (fits c x g).super in
     stamp-alone (x.value ROOT_STATUS_AT) (subst (λ z. z < 2 ^ 32) g.root_status (root-tested c.nodes (resolve x.image ROOT_AT) (resolve x.image ROOT_STATUS_AT) e))

@@ -17,18 +17,19 @@ use Rattle.bz_task.specs.declared.path.Link.{Link}
 use Rattle.bz_task.specs.declared.path.Path.{Path}
 use Rattle.bz_leaf.specs.Facts.{IsLastLink, IsKnownLeaf, Reading}
 use Rattle.bz_renew.proofs.Words.{node-at}
-use Rattle.bz_alone.specs.Quiet.{IsQuietSince, ReadValuesStand}
-use Rattle.bz_alone.proofs.Inners.{Rules, inner-thawed, root-thawed}
+use Rattle.bz_alone.specs.Quiet.{IsQuietSince}
+use Rattle.bz_alone.proofs.Inners.{inner-thawed, root-thawed}
 use Rattle.bz_alone.proofs.Standing.{good-at, reached-in, now-as, status-stands}
+use Rattle.bz_alone.proofs.Quiet.{read-values}
 
-module _ (values : ReadValuesStand) (s : Scene) (good : IsScene s) (q : IsQuietSince s.past.since s.past) (key : List ℕ) (link : Link) where
+module _ (s : Scene) (good : IsScene s) (q : IsQuietSince s.past.since s.past) (key : List ℕ) (link : Link) where
   -- the status that was read first
   pub status-again : (ws : List ℕ) (place : ℕ) → Reading key link ws place s.past → (here s).value (node_address s.past.config link.slot + STATUS_AT) ≡ slice_index ws 0
   status-again ws place r =
       let k = r.known in
       let read : IsRead s.past.config (s.past.at k.moment) (node_address s.past.config link.slot + STATUS_AT) =
-      inr (inr (record { slot = link.slot; place = STATUS_AT; address = refl; within = omega arith; reached = reached-in values s good s.past.since q k.moment link.slot k.since k.now k.slot k.inside; shown = inl (omega arith) })) in
-      now-as values s good s.past.since q k.moment r.read_at (node_address s.past.config link.slot + STATUS_AT) k.since k.now read (omega (arith, k.since, r.order)) r.until
+      inr (inr (record { slot = link.slot; place = STATUS_AT; address = refl; within = omega arith; reached = reached-in s good s.past.since q k.moment link.slot k.since k.now k.slot k.inside; shown = inl (omega arith) })) in
+      now-as s good s.past.since q k.moment r.read_at (node_address s.past.config link.slot + STATUS_AT) k.since k.now read (omega (arith, k.since, r.order)) r.until
       ∙ (sym (node-at s.past.config (s.past.at r.read_at).value link.slot STATUS_AT (omega arith)) ∙ r.was)
 
   -- the link that led to the leaf
@@ -39,19 +40,19 @@ module _ (values : ReadValuesStand) (s : Scene) (good : IsScene s) (q : IsQuietS
         | inl u ↦ inl u.pointer
         | inr u ↦ inr (inr (record { slot = u.parent; place = u.place; address = u.pointer; within = u.within; reached = u.reached; shown = inr (inr (inl u.child.inner)) }))
       ] in
-      now-as values s good s.past.since q k.hung k.moment link.link k.hung_since k.hung_now read k.since k.now ∙ k.led
+      now-as s good s.past.since q k.hung k.moment link.link k.hung_since k.hung_now read k.since k.now ∙ k.led
 
-module _ (b : Rules) (values : ReadValuesStand) (s : Scene) (good : IsScene s) (q : IsQuietSince s.past.since s.past) (link : Link) (v : ℕ) (a : Answers s link.guard v) where
+module _ (s : Scene) (good : IsScene s) (q : IsQuietSince s.past.since s.past) (link : Link) (v : ℕ) (a : Answers s link.guard v) where
   -- the root's link
   under-root : IsUnderRoot link → (status v).frozen ≡ false
   under-root u =
       let is : (here s).value ROOT_STATUS_AT ≡ v = subst (λ z. (here s).value z ≡ v) u.guard a.value in
-      subst (λ z. (status z).frozen ≡ false) is (root-thawed b s.past.config (here s) (good-at values s good s.past.since q s.past.now q.now (omega arith)))
+      subst (λ z. (status z).frozen ≡ false) is (root-thawed s.past.config (here s) (good-at s good s.past.since q s.past.now q.now (omega arith)))
 
   -- a link in a node that was in the tree: that was an inner node then, and not frozen
   under-node : (key : List ℕ) (above : Link) → IsLink key s.past above → link.guard ≡ node_address s.past.config above.slot + STATUS_AT → (g : ℕ) → s.past.since ≤ g → g ≤ s.past.now → IsUnderNode s.past link g → (status v).frozen ≡ false
   under-node key above l at g from to u =
-      subst (λ z. (status z).frozen ≡ false) (sym now) (inner-thawed b s.past.config (s.past.at l.was) above.slot (good-at values s good s.past.since q l.was l.since l.now) l.slot l.inside inner)
+      subst (λ z. (status z).frozen ≡ false) (sym now) (inner-thawed s.past.config (s.past.at l.was) above.slot (good-at s good s.past.since q l.was l.since l.now) l.slot l.inside inner)
     where
       same : u.parent ≡ above.slot
       same = omega (arith, u.guard, at)
@@ -65,7 +66,7 @@ module _ (b : Rules) (values : ReadValuesStand) (s : Scene) (good : IsScene s) (
       header-same : words s.past.config (s.past.at l.was) above.slot HEADER_AT ≡ words s.past.config (s.past.at g) above.slot HEADER_AT
       header-same =
           node-at s.past.config (s.past.at l.was).value above.slot HEADER_AT (omega arith)
-          ∙ (values s s.past.since g (node_address s.past.config above.slot + HEADER_AT) good q (record { from = from; to = to }) header-read l.was g (record { from = l.since; to = l.now }) (record { from = from; to = to })
+          ∙ (read-values s s.past.since g (node_address s.past.config above.slot + HEADER_AT) good q (record { from = from; to = to }) header-read l.was g (record { from = l.since; to = l.now }) (record { from = from; to = to })
           ∙ sym (node-at s.past.config (s.past.at g).value above.slot HEADER_AT (omega arith)))
 
       was-inner : 0 < (page_at s.past.config (s.past.at g) above.slot).level
@@ -77,7 +78,7 @@ module _ (b : Rules) (values : ReadValuesStand) (s : Scene) (good : IsScene s) (
       now : v ≡ words s.past.config (s.past.at l.was) above.slot STATUS_AT
       now =
           sym a.value
-          ∙ (ap (here s).value at ∙ status-stands values s good s.past.since q above.slot l.was (words s.past.config (s.past.at l.was) above.slot STATUS_AT) l.since l.now (reached-in values s good s.past.since q l.was above.slot l.since l.now l.slot l.inside) refl)
+          ∙ (ap (here s).value at ∙ status-stands s good s.past.since q above.slot l.was (words s.past.config (s.past.at l.was) above.slot STATUS_AT) l.since l.now (reached-in s good s.past.since q l.was above.slot l.since l.now l.slot l.inside) refl)
 
   -- the guard of the last link of a path
   pub guard-thawed : (key : List ℕ) (path : Path) → IsPath key path s.past → IsLastLink path link → (status v).frozen ≡ false

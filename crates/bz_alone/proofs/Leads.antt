@@ -5,21 +5,24 @@ use Rattle.bz_layout.specs.declared.sizes.TheConstants.{HEADER_AT}
 use Rattle.bz_renew.proofs.Words.{node-at, and-left, and-right}
 use Rattle.bz_shape.specs.Form.{Holds}
 use Rattle.bz_shape.specs.Order.{is_at_least, is_below}
-use Rattle.bz_shape.specs.TreeLaws.{LeavesTileTheKeys}
 use Rattle.bz_shape.specs.Walk.{IsTree}
+use Rattle.bz_shape.proofs.Proved.{leaves_tile_the_keys}
 use Rattle.bz_word.specs.Headers.{header}
 use Rattle.bz_content.specs.Content.{view_in, leaf_in}
+use Rattle.bz_content.proofs.Proved.{well_formed_images_have_no_fault}
 use Rattle.bz_task.specs.Good.{IsGood}
 use Rattle.bz_task.specs.Instant.{words, page_at, form_at}
 use Rattle.bz_task.specs.Outcomes.{IsLink, EndsAtLeaf}
 use Rattle.bz_task.specs.Scene.{Past}
 use Rattle.bz_task.specs.Shown.{IsRead}
-use Rattle.bz_alone.specs.Quiet.{IsQuietSince, ReadValuesStand, LonelyTimesAreQuiet}
-use Rattle.bz_alone.specs.Trees.{TreesStand, PathsLeadToLeaves}
-use Rattle.bz_alone.proofs.Inners.{Rules}
+use Rattle.bz_task.proofs.Proved.{headers_say_the_level}
+use Rattle.bz_alone.specs.Quiet.{IsQuietSince}
+use Rattle.bz_alone.specs.Trees.{PathsLeadToLeaves}
+use Rattle.bz_alone.proofs.Quiet.{lonely, read-values}
+use Rattle.bz_alone.proofs.Trees.{trees-stand}
 
-pub paths-lead : Rules → LeavesTileTheKeys → ReadValuesStand → TreesStand → LonelyTimesAreQuiet → PathsLeadToLeaves
-paths-lead b tiles values trees lonely s key path link good alone is last = now
+pub paths-lead : PathsLeadToLeaves
+paths-lead s key path link good alone is last = now
   where
     p : Past
     p = s.past
@@ -42,7 +45,7 @@ paths-lead b tiles values trees lonely s key path link good alone is last = now
     header-same : words s.past.config (s.past.at on.was) link.slot HEADER_AT ≡ words s.past.config (s.past.at end.was) link.slot HEADER_AT
     header-same =
         node-at s.past.config (s.past.at on.was).value link.slot HEADER_AT (omega arith)
-        ∙ (values s s.past.since end.was (node_address s.past.config link.slot + HEADER_AT) good q (record { from = end.since; to = end.now }) header-read on.was end.was (record { from = on.since; to = on.now }) (record { from = end.since; to = end.now })
+        ∙ (read-values s s.past.since end.was (node_address s.past.config link.slot + HEADER_AT) good q (record { from = end.since; to = end.now }) header-read on.was end.was (record { from = on.since; to = on.now }) (record { from = end.since; to = end.now })
         ∙ sym (node-at s.past.config (s.past.at end.was).value link.slot HEADER_AT (omega arith)))
 
     flat : (page_at s.past.config (s.past.at on.was) link.slot).level ≡ 0
@@ -51,16 +54,16 @@ paths-lead b tiles values trees lonely s key path link good alone is last = now
     holds : Holds (form_at s.past.config (s.past.at on.was)) key link.slot
     holds = record {
       inside = on.inside;
-      leaf = sym (b.headers s.past.config (s.past.at on.was) link.slot good-then (λ e. absurd (omega (arith, e, on.slot))) on.inside).level ∙ flat;
+      leaf = sym (headers_say_the_level s.past.config (s.past.at on.was) link.slot good-then (λ e. absurd (omega (arith, e, on.slot))) on.inside).level ∙ flat;
       low = and-left (is_at_least key ((form_at s.past.config (s.past.at on.was)).low link.slot)) (is_below key ((form_at s.past.config (s.past.at on.was)).high link.slot)) on.range;
       high = and-right (is_at_least key ((form_at s.past.config (s.past.at on.was)).low link.slot)) (is_below key ((form_at s.past.config (s.past.at on.was)).high link.slot)) on.range;
     }
 
     tree : IsTree (view_in s.past.config (s.past.at on.was).image)
-    tree = ((b.formed s.past.config (s.past.at on.was).image).0 good-then.form).tree
+    tree = ((well_formed_images_have_no_fault s.past.config (s.past.at on.was).image).0 good-then.form).tree
 
     then-leaf : leaf_in s.past.config (s.past.at on.was).image key ≡ link.slot
-    then-leaf = (tiles (view_in s.past.config (s.past.at on.was).image) tree key link.slot).0 holds
+    then-leaf = (leaves_tile_the_keys (view_in s.past.config (s.past.at on.was).image) tree key link.slot).0 holds
 
     now : leaf_in s.past.config (s.past.at s.past.now).image key ≡ link.slot
-    now = (trees s s.past.since on.was s.past.now good q (record { from = on.since; to = on.now }) (record { from = good.begun; to = omega arith })).leaf key ∙ then-leaf
+    now = (trees-stand s s.past.since on.was s.past.now good q (record { from = on.since; to = on.now }) (record { from = good.begun; to = omega arith })).leaf key ∙ then-leaf

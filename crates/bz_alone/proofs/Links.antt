@@ -15,23 +15,23 @@ use Rattle.bz_renew.specs.Renewals.{link_entry, guard_entry, renewal}
 use Rattle.bz_below.specs.FromSplit.BelowSplits.{AreLinksDown, parent_freezing, below_swap}
 use Rattle.bz_running.specs.FromBranch.InnerSplits.{inner_swap}
 use Rattle.bz_running.specs.FromBranch.Nodes.{IsOpenLink}
-use Rattle.bz_alone.specs.Quiet.{IsQuietSince, ReadValuesStand}
+use Rattle.bz_alone.specs.Quiet.{IsQuietSince}
 use Rattle.bz_alone.proofs.Standing.{guard-stands, link-stands}
 
-module _ (values : ReadValuesStand) (s : Scene) (good : IsScene s) (q : IsQuietSince s.past.since s.past) where
+module _ (s : Scene) (good : IsScene s) (q : IsQuietSince s.past.since s.past) where
   abbrev pub Stands : Entry → Type 0
   Stands e = (here s).value e.target ≡ e.expected
 
   -- a guard that is looked at again is as it was read
   pub guard-same : (link : Link) (v : ℕ) → IsGuarded s.past link → Answers s link.guard v → v ≡ link.status
-  guard-same link v g a = sym a.value ∙ guard-stands values s good s.past.since q link g g.since
+  guard-same link v g a = sym a.value ∙ guard-stands s good s.past.since q link g g.since
 
   pub renewal-stands : (link : Link) (to : ℕ) → IsGuarded s.past link → Stand (renewal link to) (here s)
-  renewal-stands link to g = all-two Stands (link_entry link to) (guard_entry link) (link-stands values s good s.past.since q link g g.since) (guard-stands values s good s.past.since q link g g.since)
+  renewal-stands link to g = all-two Stands (link_entry link to) (guard_entry link) (link-stands s good s.past.since q link g g.since) (guard-stands s good s.past.since q link g g.since)
 
   -- the status of the node in which a link stands is the guard of the link
   parent-stands : (upper link : Link) (g : IsGuarded s.past link) (u : IsUnderNode s.past link g.guarded) → u.parent ≡ upper.slot → Stands (freezing_entry s.past.config (parent_freezing upper link))
-  parent-stands upper link g u e = ap (here s).value (sym (u.guard ∙ ap (λ z. node_address s.past.config z + STATUS_AT) e)) ∙ guard-stands values s good s.past.since q link g g.since
+  parent-stands upper link g u e = ap (here s).value (sym (u.guard ∙ ap (λ z. node_address s.past.config z + STATUS_AT) e)) ∙ guard-stands s good s.past.since q link g g.since
 
   -- the link to a parent, which is frozen with it
   pub below-stands : (upper lower : Link) (to : ℕ) → IsGuarded s.past upper → IsOpenLink upper.slot lower s.past → Stand (below_swap s.past.config upper lower to) (here s)

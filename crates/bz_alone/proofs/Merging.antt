@@ -11,6 +11,7 @@ use Rattle.bz_renew.specs.Renewals.{link_entry, guard_entry, renewal}
 use Rattle.bz_task.specs.Scene.{Scene, Waiting, IsScene, here}
 use Rattle.bz_task.specs.Shown.{IsRead}
 use Rattle.bz_task.specs.Swaps.{Stand}
+use Rattle.bz_task.proofs.Proved.{fronts_stay}
 use Rattle.bz_freeze.specs.Facts.{entry_of}
 use Rattle.bz_below.specs.FromSplit.BelowSplits.{AreLinksDown, parent_freezing, below_swap}
 use Rattle.bz_running.specs.FromMerge.Counts.{merge_made}
@@ -23,36 +24,36 @@ use Rattle.bz_running.specs.FromMerge.Phase.TheVariants.{Again, Parent, Still, F
 use Rattle.bz_alone.specs.Alone.{IsAlone, GoesOn}
 use Rattle.bz_alone.specs.Changes.{MergesGoOn}
 use Rattle.bz_alone.specs.Quiet.{IsQuietSince}
-use Rattle.bz_alone.proofs.Basis.{Laws}
 use Rattle.bz_alone.proofs.Freezing.{one-stands}
 use Rattle.bz_alone.proofs.Going.{idles, reads, swaps}
 use Rattle.bz_alone.proofs.Links.{guard-same}
-use Rattle.bz_alone.proofs.Named.{WasSeenOnce, both-seen, AsRead, FreezeLaws, leaf-as-seen}
+use Rattle.bz_alone.proofs.Named.{WasSeenOnce, both-seen, AsRead, leaf-as-seen}
 use Rattle.bz_alone.proofs.OwnFreezes.{beside-as-read, both-as-read}
 use Rattle.bz_alone.proofs.Standing.{status-stands}
+use Rattle.bz_alone.proofs.Quiet.{lonely}
 
 -- before it has frozen anything
-module _ (b : Laws) (s : Scene) (good : IsScene s) (q : IsQuietSince s.past.since s.past) where
+module _ (s : Scene) (good : IsScene s) (q : IsQuietSince s.past.since s.past) where
   freeze-stands : (l : SeenLeaf) → WasSeenOnce l s.past → Stand (entry_of s.past.config l.slot l.status ∷ []) (here s)
-  freeze-stands l w = one-stands (entry_of s.past.config l.slot l.status) s (leaf-as-seen b s good q l w)
+  freeze-stands l w = one-stands (entry_of s.past.config l.slot l.status) s (leaf-as-seen s good q l w)
 
   again-goes : (r : Merging) → merge_facts r Again Waiting s → GoesOn (merge_asks s.past.config r Again) (merge_differs r Again) s
-  again-goes r f = reads r.lower.guard (merge_differs r Again) s (λ v a d. d (guard-same b.values s good q r.lower v f.1.viewed.links.guard a))
+  again-goes r f = reads r.lower.guard (merge_differs r Again) s (λ v a d. d (guard-same s good q r.lower v f.1.viewed.links.guard a))
 
   parent-goes : (r : Merging) → merge_facts r Parent Waiting s → GoesOn (merge_asks s.past.config r Parent) (merge_differs r Parent) s
-  parent-goes r f = reads r.lower.guard (merge_differs r Parent) s (λ v a d. d (guard-same b.values s good q r.lower v f.1.0.viewed.links.guard a))
+  parent-goes r f = reads r.lower.guard (merge_differs r Parent) s (λ v a d. d (guard-same s good q r.lower v f.1.0.viewed.links.guard a))
 
   still-goes : (r : Merging) → merge_facts r Still Waiting s → GoesOn (merge_asks s.past.config r Still) (merge_differs r Still) s
   still-goes r f =
       let o = f.1.reading in
       reads (node_address s.past.config r.beside_slot + STATUS_AT) (merge_differs r Still) s
-      (λ v a d. d (sym a.value ∙ status-stands b.values s good s.past.since q r.beside_slot o.at (slice_index r.beside STATUS_AT) o.since o.now o.reached o.was))
+      (λ v a d. d (sym a.value ∙ status-stands s good s.past.since q r.beside_slot o.at (slice_index r.beside STATUS_AT) o.since o.now o.reached o.was))
 
   freeze-goes : (r : Merging) → merge_facts r Freeze Waiting s → GoesOn (merge_asks s.past.config r Freeze) (merge_differs r Freeze) s
   freeze-goes r f = swaps (entry_of s.past.config r.lower.slot r.status ∷ []) (merge_differs r Freeze) s (freeze-stands (viewed_leaf r) (both-seen r s.past f.1.0).0) (λ seen d. d)
 
 -- what its swaps name
-module _ (b : FreezeLaws) (s : Scene) (good : IsScene s) (r : Merging) where
+module _ (s : Scene) (good : IsScene s) (r : Merging) where
   swap-stands : AreLinksDown r.upper r.lower s.past → AsRead r (here s) → Stand (below_swap s.past.config r.upper r.lower (r.slot 0)) (here s)
   swap-stands d x =
       let P : Entry → Type 0 = λ (e : Entry). (here s).value e.target ≡ e.expected in
@@ -66,32 +67,32 @@ module _ (b : FreezeLaws) (s : Scene) (good : IsScene s) (r : Merging) where
       let o = seen.seen.stood in
       let then : (s.past.at seen.at).reached r.beside_slot ≡ true = (good.history.good seen.at o.since o.now).inside r.beside_slot o.inside (λ e. omega (arith, e, o.slot)) in
       let reached : (here s).reached r.beside_slot ≡ true =
-      (b.fronts s.past.config s.past.at s.past.since s.past.now seen.at s.past.now r.beside_slot good.history (record { since = o.since; order = o.now; until = omega arith }) then).reached in
+      (fronts_stay s.past.config s.past.at s.past.since s.past.now seen.at s.past.now r.beside_slot good.history (record { since = o.since; order = o.now; until = omega arith }) then).reached in
       inr (inr (record { slot = r.beside_slot; place = STATUS_AT; address = refl; within = omega arith; reached = reached; shown = inl (omega arith) }))
 
   beside-goes : merge_facts r FreezeBeside Waiting s → IsAlone (merge_made r FreezeBeside) s.past → GoesOn (merge_asks s.past.config r FreezeBeside) (merge_differs r FreezeBeside) s
   beside-goes f a =
       let seen : WasSeenOnce (beside_leaf r) s.past = (both-seen r s.past f.1.0).1 in
       swaps (entry_of s.past.config r.beside_slot (slice_index r.beside STATUS_AT) ∷ []) (merge_differs r FreezeBeside) s
-      (one-stands (entry_of s.past.config r.beside_slot (slice_index r.beside STATUS_AT)) s (beside-as-read b s good r f.1.1.1.1 a seen (beside-read seen))) (λ seen d. d)
+      (one-stands (entry_of s.past.config r.beside_slot (slice_index r.beside STATUS_AT)) s (beside-as-read s good r f.1.1.1.1 a seen (beside-read seen))) (λ seen d. d)
 
   guard-goes : merge_facts r Guard Waiting s → IsAlone (merge_made r Guard) s.past → GoesOn (merge_asks s.past.config r Guard) (merge_differs r Guard) s
-  guard-goes f a = reads r.upper.guard (merge_differs r Guard) s (λ v h d. d (sym h.value ∙ (both-as-read b s good r f.1.planned.paired.viewed.links f.1.froze a).guard))
+  guard-goes f a = reads r.upper.guard (merge_differs r Guard) s (λ v h d. d (sym h.value ∙ (both-as-read s good r f.1.planned.paired.viewed.links f.1.froze a).guard))
 
   swap-goes : merge_facts r Swap Waiting s → IsAlone (merge_made r Swap) s.past → GoesOn (merge_asks s.past.config r Swap) (merge_differs r Swap) s
   swap-goes f a =
       let d = f.1.frozen.planned.paired.viewed.links in
-      swaps (below_swap s.past.config r.upper r.lower (r.slot 0)) (merge_differs r Swap) s (swap-stands d (both-as-read b s good r d f.1.frozen.froze a)) (λ seen d. d)
+      swaps (below_swap s.past.config r.upper r.lower (r.slot 0)) (merge_differs r Swap) s (swap-stands d (both-as-read s good r d f.1.frozen.froze a)) (λ seen d. d)
 
-merge-goes : FreezeLaws → (s : Scene) → IsScene s → (r : Merging) (phase : Phase) → merge_facts r phase Waiting s → IsAlone (merge_made r phase) s.past → GoesOn (merge_asks s.past.config r phase) (merge_differs r phase) s
-merge-goes b s good r Again f a = again-goes b.base s good (b.base.lonely.whole s good a) r f
-merge-goes b s good r Parent f a = parent-goes b.base s good (b.base.lonely.whole s good a) r f
-merge-goes b s good r Still f a = still-goes b.base s good (b.base.lonely.whole s good a) r f
-merge-goes b s good r Freeze f a = freeze-goes b.base s good (b.base.lonely.whole s good a) r f
-merge-goes b s good r FreezeBeside f a = beside-goes b s good r f a
-merge-goes b s good r Guard f a = guard-goes b s good r f a
-merge-goes b s good r Swap f a = swap-goes b s good r f a
-merge-goes b s good r phase f a = idles _ (merge_differs r phase) s (λ entries e. absurd (cc)) (λ seen d. d)
+merge-goes : (s : Scene) → IsScene s → (r : Merging) (phase : Phase) → merge_facts r phase Waiting s → IsAlone (merge_made r phase) s.past → GoesOn (merge_asks s.past.config r phase) (merge_differs r phase) s
+merge-goes s good r Again f a = again-goes s good (lonely.whole s good a) r f
+merge-goes s good r Parent f a = parent-goes s good (lonely.whole s good a) r f
+merge-goes s good r Still f a = still-goes s good (lonely.whole s good a) r f
+merge-goes s good r Freeze f a = freeze-goes s good (lonely.whole s good a) r f
+merge-goes s good r FreezeBeside f a = beside-goes s good r f a
+merge-goes s good r Guard f a = guard-goes s good r f a
+merge-goes s good r Swap f a = swap-goes s good r f a
+merge-goes s good r phase f a = idles _ (merge_differs r phase) s (λ entries e. absurd (cc)) (λ seen d. d)
 
-pub merges-go-on : FreezeLaws → MergesGoOn
-merges-go-on b t s same good f a = subst (λ z. GoesOn (merge_asks z (merging_of t) t.phase) (merge_differs (merging_of t) t.phase) s) same (merge-goes b s good (merging_of t) t.phase f a)
+pub merges-go-on : MergesGoOn
+merges-go-on t s same good f a = subst (λ z. GoesOn (merge_asks z (merging_of t) t.phase) (merge_differs (merging_of t) t.phase) s) same (merge-goes s good (merging_of t) t.phase f a)

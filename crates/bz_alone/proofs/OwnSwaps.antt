@@ -22,19 +22,19 @@ use Rattle.bz_running.specs.declared.running.AnyTask.{AnyTask}
 use Rattle.bz_running.specs.declared.running.AnyTask.TheVariants as running
 use Rattle.bz_alone.specs.Counts.{OwnSwapsAreCounted}
 use Rattle.bz_alone.specs.Quiet.{HadEffects}
-use Rattle.bz_alone.proofs.Named.{FreezeLaws}
 use Rattle.bz_alone.proofs.OwnFreezes.{none-lost, had-then, own-least}
+use Rattle.bz_alone.proofs.Quiet.{never-fall}
 
-module _ (b : FreezeLaws) (s : Scene) (good : IsScene s) where
+module _ (s : Scene) (good : IsScene s) where
   -- none is undone
   none : (s.past.at s.past.since).effects + 0 ≤ (here s).effects
   none =
-      let up : (s.past.at s.past.since).effects ≤ (here s).effects = b.fall s.past.config s.past.at s.past.since s.past.now s.past.since s.past.now good.history (record { since = omega arith; order = good.begun; until = omega arith }) in
+      let up : (s.past.at s.past.since).effects ≤ (here s).effects = never-fall s.past.config s.past.at s.past.since s.past.now s.past.since s.past.now good.history (record { since = omega arith; order = good.begun; until = omega arith }) in
       omega (arith, up)
 
   since-then : (made m : ℕ) → HadEffects made m s.past → (s.past.at s.past.since).effects + made ≤ (here s).effects
   since-then made m h =
-      let up : (s.past.at m).effects ≤ (here s).effects = b.fall s.past.config s.past.at s.past.since s.past.now m s.past.now good.history (record { since = h.since; order = h.now; until = omega arith }) in
+      let up : (s.past.at m).effects ≤ (here s).effects = never-fall s.past.config s.past.at s.past.since s.past.now m s.past.now good.history (record { since = h.since; order = h.now; until = omega arith }) in
       omega (arith, up, h.effects)
 
   reserved : (r : NewRecord) → WasReserved r s.past → (s.past.at s.past.since).effects + 1 ≤ (here s).effects
@@ -54,17 +54,17 @@ module _ (b : FreezeLaws) (s : Scene) (good : IsScene s) where
 
   both-counts : (r : Merging) → BothWereFrozen r s.past → (s.past.at s.past.since).effects + both_freezes r ≤ (here s).effects
   both-counts r (inl e) =
-      let own : (s.past.at s.past.since).effects + freezes_of r.status ≤ (here s).effects = own-least b s good r e.1 none in
+      let own : (s.past.at s.past.since).effects + freezes_of r.status ≤ (here s).effects = own-least s good r e.1 none in
       subst (λ t. (s.past.at s.past.since).effects + (freezes_of r.status + (if t then 0 else 1)) ≤ (here s).effects) (sym e.0) (omega (arith, own))
   both-counts r (inr w) =
       let z = w.before in
-      let least : (z.past.at z.past.since).effects + freezes_of r.status ≤ (here z).effects = own-least b z w.froze.earlier.good r w.viewed (none-lost b s good r (beside_leaf r) z w.froze) in
+      let least : (z.past.at z.past.since).effects + freezes_of r.status ≤ (here z).effects = own-least z w.froze.earlier.good r w.viewed (none-lost s good r (beside_leaf r) z w.froze) in
       let both : (s.past.at s.past.since).effects + (freezes_of r.status + 1) ≤ (here s).effects =
-      since-then (freezes_of r.status + 1) (z.past.now + 1) (had-then b s good r (beside_leaf r) z w.froze (freezes_of r.status) least) in
+      since-then (freezes_of r.status + 1) (z.past.now + 1) (had-then s good r (beside_leaf r) z w.froze (freezes_of r.status) least) in
       subst (λ t. (s.past.at s.past.since).effects + (freezes_of r.status + (if t then 0 else 1)) ≤ (here s).effects) (sym w.froze.thawed) both
 
   merge-counts : (r : Merging) (phase : MergePhase) → merge_facts r phase Waiting s → (s.past.at s.past.since).effects + merge_made r phase ≤ (here s).effects
-  merge-counts r merge.FreezeBeside f = own-least b s good r f.1.1.1.1 none
+  merge-counts r merge.FreezeBeside f = own-least s good r f.1.1.1.1 none
   merge-counts r merge.Guard f = both-counts r f.1.froze
   merge-counts r (merge.Store j) f = both-counts r f.1.1.frozen.froze
   merge-counts r (merge.Flush j) f = both-counts r f.1.1.frozen.froze
@@ -78,7 +78,7 @@ module _ (b : FreezeLaws) (s : Scene) (good : IsScene s) where
   counts (running.Merging t) f = merge-counts (merging_of t) t.phase f
   counts t f = none
 
-pub own-counted : FreezeLaws → OwnSwapsAreCounted
-own-counted b t s good f =
-    let least : (s.past.at s.past.since).effects + made_of t ≤ (here s).effects = counts b s good t f in
+pub own-counted : OwnSwapsAreCounted
+own-counted t s good f =
+    let least : (s.past.at s.past.since).effects + made_of t ≤ (here s).effects = counts s good t f in
     ((here s).effects - ((s.past.at s.past.since).effects + made_of t), omega (arith, least))

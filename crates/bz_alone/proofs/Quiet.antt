@@ -4,9 +4,10 @@ use Rattle.bz_layout.specs.declared.config.Config.{Config}
 use Rattle.bz_layout.specs.declared.sizes.TheConstants.{STATUS_AT}
 use Rattle.bz_word.specs.Statuses.{status}
 use Rattle.bz_task.specs.Instant.{Instant, words}
-use Rattle.bz_task.specs.Laws.{AreMoments, NodesStay, SameRecordsShowTheSame}
+use Rattle.bz_task.specs.Laws.{AreMoments}
 use Rattle.bz_task.specs.Shown.{IsRead, SameWords, SameRecords, SameRoot}
 use Rattle.bz_task.specs.Steps.{IsQuiet, IsStep, IsHistory}
+use Rattle.bz_task.proofs.Proved.{nodes_stay, same_records_show_the_same}
 use Rattle.bz_renew.proofs.Words.{node-at}
 use Rattle.bz_alone.specs.Quiet.{EffectsNeverFall, QuietTimesStay, ReadValuesStand, LonelyTimesAreQuiet}
 
@@ -52,15 +53,15 @@ module _ (c : Config) (at : ℕ → Instant) (first last m : ℕ) (h : IsHistory
 pub never-fall : EffectsNeverFall
 never-fall c at first last m j h o = elim (went c at first last m h o.since j o.order o.until) [ inl s ↦ omega (arith, s.effects) | inr l ↦ omega (arith, l) ]
 
-pub quiet-times : NodesStay → QuietTimesStay
-quiet-times stay c at first last m i j h o from to e =
+pub quiet-times : QuietTimesStay
+quiet-times c at first last m i j h o from to e =
     let rest : (at i).effects ≤ (at j).effects = never-fall c at first last i j h (record { since = omega (arith, o.since, from); order = to; until = o.until }) in
     elim (went c at first last m h o.since i from (omega (arith, to, o.until))) [
       | inr l ↦ absurd (omega (arith, l, rest, e))
       | inl s ↦ record {
         effects = s.effects;
         reached = s.reached;
-        nodes = λ k r. stay c at first last m i i k h (record { since = o.since; order = from; until = omega (arith, to, o.until) }) from (omega arith) r (s.status k r);
+        nodes = λ k r. nodes_stay c at first last m i i k h (record { since = o.since; order = from; until = omega (arith, to, o.until) }) from (omega arith) r (s.status k r);
         root = s.root;
       }
     ]
@@ -80,10 +81,10 @@ same-records n m s = record {
 }
 
 -- what readers read afterwards they read before
-back : SameRecordsShowTheSame → (c : Config) (x y : Instant) (a : ℕ) → IsQuiet c x y → IsRead c y a → IsRead c x a
-back alike c x y a q (inl r) = inl r
-back alike c x y a q (inr (inl r)) = inr (inl r)
-back alike c x y a q (inr (inr w)) =
+back : (c : Config) (x y : Instant) (a : ℕ) → IsQuiet c x y → IsRead c y a → IsRead c x a
+back c x y a q (inl r) = inl r
+back c x y a q (inr (inl r)) = inr (inl r)
+back c x y a q (inr (inr w)) =
     let r : x.reached w.slot ≡ true = sym (q.reached w.slot) ∙ w.reached in
     inr (inr (record {
       slot = w.slot;
@@ -91,32 +92,32 @@ back alike c x y a q (inr (inr w)) =
       address = w.address;
       within = w.within;
       reached = r;
-      shown = (alike (words c x w.slot) (words c y w.slot) (same-records (words c x w.slot) (words c y w.slot) (q.nodes w.slot r)) w.place).1 w.shown;
+      shown = (same_records_show_the_same (words c x w.slot) (words c y w.slot) (same-records (words c x w.slot) (words c y w.slot) (q.nodes w.slot r)) w.place).1 w.shown;
     }))
 
 -- and nothing changes the other way either
-pub quiet-back : SameRecordsShowTheSame → (c : Config) (x y : Instant) → IsQuiet c x y → IsQuiet c y x
-quiet-back alike c x y q = record {
+pub quiet-back : (c : Config) (x y : Instant) → IsQuiet c x y → IsQuiet c y x
+quiet-back c x y q = record {
   effects = sym q.effects;
   reached = λ k. sym (q.reached k);
   nodes = λ k r i h.
       let was : x.reached k ≡ true = sym (q.reached k) ∙ r in
-      sym (q.nodes k was i ((alike (words c x k) (words c y k) (same-records (words c x k) (words c y k) (q.nodes k was)) i).1 h));
+      sym (q.nodes k was i ((same_records_show_the_same (words c x k) (words c y k) (same-records (words c x k) (words c y k) (q.nodes k was)) i).1 h));
   root = record { pointer = sym q.root.pointer; status = sym q.root.status };
 }
 
-pub read-values : QuietTimesStay → SameRecordsShowTheSame → ReadValuesStand
-read-values quiet alike s m k a good q in-k r i j in-i in-j =
+pub read-values : ReadValuesStand
+read-values s m k a good q in-k r i j in-i in-j =
     let p = s.past in
     let o : AreMoments p.since p.now m p.now = record { since = q.since; order = q.now; until = omega arith } in
-    let at-m : IsRead p.config (p.at m) a = back alike p.config (p.at m) (p.at k) a (quiet p.config p.at p.since p.now m k p.now good.history o in-k.from in-k.to q.effects) r in
-    stands p.config (p.at m) (p.at i) a (quiet p.config p.at p.since p.now m i p.now good.history o in-i.from in-i.to q.effects) at-m
-    ∙ sym (stands p.config (p.at m) (p.at j) a (quiet p.config p.at p.since p.now m j p.now good.history o in-j.from in-j.to q.effects) at-m)
+    let at-m : IsRead p.config (p.at m) a = back p.config (p.at m) (p.at k) a (quiet-times p.config p.at p.since p.now m k p.now good.history o in-k.from in-k.to q.effects) r in
+    stands p.config (p.at m) (p.at i) a (quiet-times p.config p.at p.since p.now m i p.now good.history o in-i.from in-i.to q.effects) at-m
+    ∙ sym (stands p.config (p.at m) (p.at j) a (quiet-times p.config p.at p.since p.now m j p.now good.history o in-j.from in-j.to q.effects) at-m)
 
-pub lonely : EffectsNeverFall → LonelyTimesAreQuiet
-lonely fall = record {
+pub lonely : LonelyTimesAreQuiet
+lonely = record {
   later = λ s made m good a h.
-      let up : (s.past.at m).effects ≤ (s.past.at s.past.now).effects = fall s.past.config s.past.at s.past.since s.past.now m s.past.now good.history (record { since = h.since; order = h.now; until = omega arith }) in
+      let up : (s.past.at m).effects ≤ (s.past.at s.past.now).effects = never-fall s.past.config s.past.at s.past.since s.past.now m s.past.now good.history (record { since = h.since; order = h.now; until = omega arith }) in
       record { since = h.since; now = h.now; effects = omega (arith, a, h.effects, up) };
   whole = λ s good a. record { since = omega arith; now = good.begun; effects = omega (arith, a) };
 }

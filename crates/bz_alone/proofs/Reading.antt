@@ -13,18 +13,18 @@ use Rattle.bz_leaf.specs.declared.phase.Phase.{Phase}
 use Rattle.bz_leaf.specs.declared.phase.Phase.TheVariants.{Again, Link as Of_link, Guard}
 use Rattle.bz_alone.specs.Alone.{GoesOn}
 use Rattle.bz_alone.specs.Lookups.{ReadingsGoOn}
-use Rattle.bz_alone.specs.Quiet.{IsQuietSince, ReadValuesStand, LonelyTimesAreQuiet}
+use Rattle.bz_alone.specs.Quiet.{IsQuietSince}
 use Rattle.bz_alone.proofs.Going.{idles, reads}
-use Rattle.bz_alone.proofs.Inners.{Rules}
 use Rattle.bz_alone.proofs.LastLinks.{status-again, link-again, guard-thawed}
+use Rattle.bz_alone.proofs.Quiet.{lonely}
 
-module _ (b : Rules) (values : ReadValuesStand) (s : Scene) (good : IsScene s) (q : IsQuietSince s.past.since s.past) (key : List ℕ) (path : Path) (link : Link) (is : IsPath key path s.past) (last : IsLastLink path link) where
+module _ (s : Scene) (good : IsScene s) (q : IsQuietSince s.past.since s.past) (key : List ℕ) (path : Path) (link : Link) (is : IsPath key path s.past) (last : IsLastLink path link) where
   goes : (image : NodeImage) (phase : Phase) → leaf_facts key link image.0 phase Waiting s → GoesOn (leaf_asks s.past.config link image phase) (leaf_differs link image.0 phase) s
-  goes image Again f = reads (node_address s.past.config link.slot + STATUS_AT) (leaf_differs link image.0 Again) s (λ v a d. d (sym a.value ∙ status-again values s good q key link image.0 _ f.1.all))
-  goes image Of_link f = reads link.link (leaf_differs link image.0 Of_link) s (λ v a d. d (sym a.value ∙ link-again values s good q key link f.1.all.known))
-  goes image (Guard at) f = reads link.guard (leaf_differs link image.0 (Guard at)) s (λ v a d. true≢false (sym d ∙ guard-thawed b values s good q link v a key path is last))
+  goes image Again f = reads (node_address s.past.config link.slot + STATUS_AT) (leaf_differs link image.0 Again) s (λ v a d. d (sym a.value ∙ status-again s good q key link image.0 _ f.1.all))
+  goes image Of_link f = reads link.link (leaf_differs link image.0 Of_link) s (λ v a d. d (sym a.value ∙ link-again s good q key link f.1.all.known))
+  goes image (Guard at) f = reads link.guard (leaf_differs link image.0 (Guard at)) s (λ v a d. true≢false (sym d ∙ guard-thawed s good q link v a key path is last))
   goes image phase f = idles _ (leaf_differs link image.0 phase) s (λ entries e. absurd (cc)) (λ seen d. d)
 
-pub readings-go-on : Rules → ReadValuesStand → LonelyTimesAreQuiet → ReadingsGoOn
-readings-go-on b values lonely t s same good f a =
-    subst (λ z. GoesOn (leaf_asks z t.link t.image t.phase) (leaf_differs t.link t.image.0 t.phase) s) same (goes b values s good (lonely.whole s good a) t.key t.path t.link f.1 f.2 t.image t.phase f.0)
+pub readings-go-on : ReadingsGoOn
+readings-go-on t s same good f a =
+    subst (λ z. GoesOn (leaf_asks z t.link t.image t.phase) (leaf_differs t.link t.image.0 t.phase) s) same (goes s good (lonely.whole s good a) t.key t.path t.link f.1 f.2 t.image t.phase f.0)

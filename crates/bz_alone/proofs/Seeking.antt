@@ -14,22 +14,23 @@ use Rattle.bz_descend.specs.declared.sight.Way.{Way}
 use Rattle.bz_descend.specs.declared.sight.Way.TheVariants.{Status}
 use Rattle.bz_alone.specs.Alone.{GoesOn}
 use Rattle.bz_alone.specs.Lookups.{SeeksGoOn}
-use Rattle.bz_alone.specs.Quiet.{IsQuietSince, ReadValuesStand, LonelyTimesAreQuiet}
+use Rattle.bz_alone.specs.Quiet.{IsQuietSince}
 use Rattle.bz_alone.proofs.Going.{idles, reads}
-use Rattle.bz_alone.proofs.Inners.{Rules, inner-thawed}
+use Rattle.bz_alone.proofs.Inners.{inner-thawed}
 use Rattle.bz_alone.proofs.Standing.{good-at, reached-in, status-stands}
+use Rattle.bz_alone.proofs.Quiet.{lonely}
 
-module _ (b : Rules) (values : ReadValuesStand) (s : Scene) (good : IsScene s) (q : IsQuietSince s.past.since s.past) where
+module _ (s : Scene) (good : IsScene s) (q : IsQuietSince s.past.since s.past) where
   arrived-thawed : (key : List ℕ) (path : Path) (k v : ℕ) → ArrivesAtInner key path k s.past → Answers s (node_address s.past.config k + STATUS_AT) v → (status v).frozen ≡ false
   arrived-thawed key path k v h a =
       let n = h.node in
       let now : v ≡ words s.past.config (s.past.at n.met) k STATUS_AT =
-      sym a.value ∙ status-stands values s good s.past.since q k n.met (words s.past.config (s.past.at n.met) k STATUS_AT) n.since n.until (reached-in values s good s.past.since q n.met k n.since n.until n.has.slot n.has.inside) refl in
-      subst (λ z. (status z).frozen ≡ false) (sym now) (inner-thawed b s.past.config (s.past.at n.met) k (good-at values s good s.past.since q n.met n.since n.until) n.has.slot n.has.inside h.inner)
+      sym a.value ∙ status-stands s good s.past.since q k n.met (words s.past.config (s.past.at n.met) k STATUS_AT) n.since n.until (reached-in s good s.past.since q n.met k n.since n.until n.has.slot n.has.inside) refl in
+      subst (λ z. (status z).frozen ≡ false) (sym now) (inner-thawed s.past.config (s.past.at n.met) k (good-at s good s.past.since q n.met n.since n.until) n.has.slot n.has.inside h.inner)
 
   goes : (key : List ℕ) (path : Path) (height : ℕ) (ws : List ℕ) (phase : Way) → seek_facts key path height ws phase Waiting s → GoesOn (seek_asks s.past.config phase) (seek_differs phase) s
   goes key path height ws (Status k) f = reads (node_address s.past.config k + STATUS_AT) (seek_differs (Status k)) s (λ v a d. true≢false (sym d ∙ arrived-thawed key path k v f.1.0 a))
   goes key path height ws phase f = idles _ (seek_differs phase) s (λ entries e. absurd (cc)) (λ seen d. d)
 
-pub seeks-go-on : Rules → ReadValuesStand → LonelyTimesAreQuiet → SeeksGoOn
-seeks-go-on b values lonely t s same good f a = subst (λ z. GoesOn (seek_asks z t.phase) (seek_differs t.phase) s) same (goes b values s good (lonely.whole s good a) t.key t.path t.height t.words t.phase f.0)
+pub seeks-go-on : SeeksGoOn
+seeks-go-on t s same good f a = subst (λ z. GoesOn (seek_asks z t.phase) (seek_differs t.phase) s) same (goes s good (lonely.whole s good a) t.key t.path t.height t.words t.phase f.0)

@@ -9,9 +9,10 @@ use Rattle.bz_task.specs.Scene.{Scene, IsScene, here}
 use Rattle.bz_task.specs.Shown.{IsRead, IsShown}
 use Rattle.bz_task.specs.declared.path.Link.{Link}
 use Rattle.bz_renew.proofs.Words.{node-at}
-use Rattle.bz_alone.specs.Quiet.{IsQuietSince, ReadValuesStand}
+use Rattle.bz_alone.specs.Quiet.{IsQuietSince}
+use Rattle.bz_alone.proofs.Quiet.{read-values}
 
-module _ (values : ReadValuesStand) (s : Scene) (good : IsScene s) (m : ℕ) (q : IsQuietSince m s.past) where
+module _ (s : Scene) (good : IsScene s) (m : ℕ) (q : IsQuietSince m s.past) where
   pub good-at : (i : ℕ) → m ≤ i → i ≤ s.past.now → IsGood s.past.config (s.past.at i)
   good-at i from to = good.history.good i (omega (arith, q.since, from)) to
 
@@ -21,7 +22,7 @@ module _ (values : ReadValuesStand) (s : Scene) (good : IsScene s) (m : ℕ) (q 
 
   -- an address that was read at one moment has one value, and has it now
   pub now-as : (k i a : ℕ) → m ≤ k → k ≤ s.past.now → IsRead s.past.config (s.past.at k) a → m ≤ i → i ≤ s.past.now → (here s).value a ≡ (s.past.at i).value a
-  now-as k i a from to r later until = values s m k a good q (record { from = from; to = to }) r s.past.now i (record { from = q.now; to = omega arith }) (record { from = later; to = until })
+  now-as k i a from to r later until = read-values s m k a good q (record { from = from; to = to }) r s.past.now i (record { from = q.now; to = omega arith }) (record { from = later; to = until })
 
   -- a word that readers read
   pub word-stands : (k place i v : ℕ) → m ≤ i → i ≤ s.past.now → (s.past.at i).reached k ≡ true → place < NODE_WORDS → IsShown (words s.past.config (s.past.at i) k) place

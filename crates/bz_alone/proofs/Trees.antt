@@ -6,22 +6,24 @@ use Rattle.bz_layout.specs.declared.config.Config.{Config}
 use Rattle.bz_layout.specs.declared.sizes.TheConstants.{HEADER_AT}
 use Rattle.bz_shape.specs.Form.{Fits, Stands, Hangs, Holds}
 use Rattle.bz_shape.specs.Order.{is_at_least, is_below}
-use Rattle.bz_shape.specs.TreeLaws.{LeavesTileTheKeys}
 use Rattle.bz_shape.specs.Walk.{IsTree}
+use Rattle.bz_shape.proofs.Proved.{leaves_tile_the_keys}
 use Rattle.bz_slotted.specs.Readers.{count_of, child_of}
 use Rattle.bz_word.specs.Headers.{header}
 use Rattle.bz_content.specs.Content.{view_in, leaf_in}
 use Rattle.bz_content.specs.Image.{root}
 use Rattle.bz_content.specs.Resolving.{resolve}
+use Rattle.bz_content.proofs.Proved.{well_formed_images_have_no_fault}
 use Rattle.bz_task.specs.Good.{IsGood}
 use Rattle.bz_task.specs.Instant.{Instant, words, durable, page_at, form_at, is_inside}
-use Rattle.bz_task.specs.Laws.{RangesStay, SamePlace, SameRecordsShowTheSame}
+use Rattle.bz_task.specs.Laws.{SamePlace}
 use Rattle.bz_task.specs.Scene.{Scene, IsScene}
 use Rattle.bz_task.specs.Steps.{IsQuiet}
-use Rattle.bz_alone.specs.Quiet.{EffectsNeverFall, QuietTimesStay, IsQuietSince}
+use Rattle.bz_task.proofs.Proved.{headers_say_the_level, ranges_stay}
+use Rattle.bz_alone.specs.Quiet.{IsQuietSince}
 use Rattle.bz_alone.specs.Trees.{SameTree, TreesStand}
-use Rattle.bz_alone.proofs.Inners.{Rules, fits}
-use Rattle.bz_alone.proofs.Quiet.{quiet-back}
+use Rattle.bz_alone.proofs.Inners.{fits}
+use Rattle.bz_alone.proofs.Quiet.{quiet-back, never-fall, quiet-times}
 
 is : (a : ℕ) → (a == a) ≡ true
 is a = grind (arith, nat_tests)
@@ -29,12 +31,12 @@ is a = grind (arith, nat_tests)
 apart : (a b : ℕ) → a ≢ b → (a == b) ≡ false
 apart a b ne = grind (arith, nat_tests)
 
-module _ (b : Rules) (c : Config) (x y : Instant) (gx : IsGood c x) (gy : IsGood c y) (q : IsQuiet c x y) where
+module _ (c : Config) (x y : Instant) (gx : IsGood c x) (gy : IsGood c y) (q : IsQuiet c x y) where
   fx : Fits (view_in c x.image) (form_at c x)
-  fx = fits b c x gx
+  fx = fits c x gx
 
   fy : Fits (view_in c y.image) (form_at c y)
-  fy = fits b c y gy
+  fy = fits c y gy
 
   root-same : root (resolve y.image) ≡ root (resolve x.image)
   root-same = ap (λ z. z - 1) (gy.root ∙ (q.root.pointer ∙ sym gx.root))
@@ -45,7 +47,7 @@ module _ (b : Rules) (c : Config) (x y : Instant) (gx : IsGood c x) (gy : IsGood
     reached = gx.inside k ins ne
 
     inner-x : 0 < (page_at c x k).level
-    inner-x = omega (arith, (b.headers c x k gx ne ins).level, high)
+    inner-x = omega (arith, (headers_say_the_level c x k gx ne ins).level, high)
 
     level-same : (page_at c y k).level ≡ (page_at c x k).level
     level-same = ap (λ z. (header z).level) (q.nodes k reached HEADER_AT (inl (omega arith)))
@@ -63,7 +65,7 @@ module _ (b : Rules) (c : Config) (x y : Instant) (gx : IsGood c x) (gy : IsGood
     node-child i = rw (apart k c.nodes ne) (ap (λ n. child_of n i) node-same)
 
     node-high : is_inside c y k ≡ true → 0 < (form_at c y).level k
-    node-high j = omega (arith, (b.headers c y k gy ne j).level, level-same, inner-x)
+    node-high j = omega (arith, (headers_say_the_level c y k gy ne j).level, level-same, inner-x)
 
   top-count : (view_in c y.image).count c.nodes ≡ (view_in c x.image).count c.nodes
   top-count = rw (is c.nodes) refl
@@ -117,36 +119,27 @@ same-truth true t f g = f refl
 same-truth false true f g = sym (g refl)
 same-truth false false f g = refl
 
-module _ (b : Rules) (tiles : LeavesTileTheKeys) (c : Config) (x y : Instant) (gx : IsGood c x) (gy : IsGood c y) (inside : (k : ℕ) → is_inside c y k ≡ is_inside c x k) (place : (k : ℕ) → k ≢ c.nodes → is_inside c x k ≡ true → SamePlace c x y k) where
+module _ (c : Config) (x y : Instant) (gx : IsGood c x) (gy : IsGood c y) (inside : (k : ℕ) → is_inside c y k ≡ is_inside c x k) (place : (k : ℕ) → k ≢ c.nodes → is_inside c x k ≡ true → SamePlace c x y k) where
   pub leaf-same : (key : List ℕ) → leaf_in c y.image key ≡ leaf_in c x.image key
   leaf-same key =
       let k = leaf_in c x.image key in
-      let tree-x : IsTree (view_in c x.image) = ((b.formed c x.image).0 gx.form).tree in
-      let tree-y : IsTree (view_in c y.image) = ((b.formed c y.image).0 gy.form).tree in
-      let h : Holds (form_at c x) key k = (tiles (view_in c x.image) tree-x key k).1 refl in
-      let f : Fits (view_in c x.image) (form_at c x) = fits b c x gx in
+      let tree-x : IsTree (view_in c x.image) = ((well_formed_images_have_no_fault c x.image).0 gx.form).tree in
+      let tree-y : IsTree (view_in c y.image) = ((well_formed_images_have_no_fault c y.image).0 gy.form).tree in
+      let h : Holds (form_at c x) key k = (leaves_tile_the_keys (view_in c x.image) tree-x key k).1 refl in
+      let f : Fits (view_in c x.image) (form_at c x) = fits c x gx in
       let ne : k ≢ c.nodes = λ e. absurd (omega (arith, h.leaf, f.height, f.tall, ap (form_at c x).level e)) in
       let p : SamePlace c x y k = place k ne h.inside in
-      (tiles (view_in c y.image) tree-y key k).0 (record {
+      (leaves_tile_the_keys (view_in c y.image) tree-y key k).0 (record {
         inside = inside k ∙ h.inside;
         leaf = p.level ∙ h.leaf;
         low = subst (λ z. is_at_least key z ≡ true) (sym p.low) h.low;
         high = subst (λ z. is_below key z ≡ true) (sym p.high) h.high;
       })
 
--- the laws on which this rests
-pub record TreeLaws : Type 0 where
-  pub rules : Rules
-  pub tiles : LeavesTileTheKeys
-  pub quiet : QuietTimesStay
-  pub fall : EffectsNeverFall
-  pub alike : SameRecordsShowTheSame
-  pub ranges : RangesStay
-
-module _ (b : TreeLaws) (s : Scene) (m : ℕ) (good : IsScene s) (q : IsQuietSince m s.past) where
+module _ (s : Scene) (m : ℕ) (good : IsScene s) (q : IsQuietSince m s.past) where
   -- of two moments the second one is the later one
   in-order : (i j : ℕ) → m ≤ i → i ≤ j → j ≤ s.past.now → SameTree s.past.config (s.past.at i) (s.past.at j)
-  in-order i j from order to = record { inside = same; place = stays; leaf = leaf-same b.rules b.tiles c x y gx gy same stays }
+  in-order i j from order to = record { inside = same; place = stays; leaf = leaf-same c x y gx gy same stays }
     where
       c : Config
       c = s.past.config
@@ -164,24 +157,24 @@ module _ (b : TreeLaws) (s : Scene) (m : ℕ) (good : IsScene s) (q : IsQuietSin
       gy = good.history.good j (omega (arith, q.since, from, order)) to
 
       up : (s.past.at m).effects ≤ (s.past.at i).effects
-      up = b.fall s.past.config s.past.at s.past.since s.past.now m i good.history (record { since = q.since; order = from; until = omega (arith, order, to) })
+      up = never-fall s.past.config s.past.at s.past.since s.past.now m i good.history (record { since = q.since; order = from; until = omega (arith, order, to) })
 
       on : (s.past.at i).effects ≤ (s.past.at s.past.now).effects
-      on = b.fall s.past.config s.past.at s.past.since s.past.now i s.past.now good.history (record { since = omega (arith, q.since, from); order = omega (arith, order, to); until = omega arith })
+      on = never-fall s.past.config s.past.at s.past.since s.past.now i s.past.now good.history (record { since = omega (arith, q.since, from); order = omega (arith, order, to); until = omega arith })
 
       silent : IsQuiet s.past.config (s.past.at i) (s.past.at j)
       silent =
-          b.quiet s.past.config s.past.at s.past.since s.past.now i j s.past.now good.history (record { since = omega (arith, q.since, from); order = omega (arith, order, to); until = omega arith }) order to (omega (arith, up, on, q.effects))
+          quiet-times s.past.config s.past.at s.past.since s.past.now i j s.past.now good.history (record { since = omega (arith, q.since, from); order = omega (arith, order, to); until = omega arith }) order to (omega (arith, up, on, q.effects))
 
       same : (k : ℕ) → is_inside s.past.config (s.past.at j) k ≡ is_inside s.past.config (s.past.at i) k
       same k =
           same-truth (is_inside s.past.config (s.past.at i) k) (is_inside s.past.config (s.past.at j) k)
-          (inside-there b.rules s.past.config (s.past.at i) (s.past.at j) gx gy silent k)
-          (inside-there b.rules s.past.config (s.past.at j) (s.past.at i) gy gx (quiet-back b.alike s.past.config (s.past.at i) (s.past.at j) silent) k)
+          (inside-there s.past.config (s.past.at i) (s.past.at j) gx gy silent k)
+          (inside-there s.past.config (s.past.at j) (s.past.at i) gy gx (quiet-back s.past.config (s.past.at i) (s.past.at j) silent) k)
 
       stays : (k : ℕ) → k ≢ s.past.config.nodes → is_inside s.past.config (s.past.at i) k ≡ true → SamePlace s.past.config (s.past.at i) (s.past.at j) k
       stays k ne ins =
-          b.ranges s.past.config s.past.at s.past.since s.past.now i j k good.history (record { since = omega (arith, q.since, from); order = order; until = to }) ne ins (same k ∙ ins)
+          ranges_stay s.past.config s.past.at s.past.since s.past.now i j k good.history (record { since = omega (arith, q.since, from); order = order; until = to }) ne ins (same k ∙ ins)
 
 turned : (c : Config) (x y : Instant) → SameTree c x y → SameTree c y x
 turned c x y t = record {
@@ -190,8 +183,8 @@ turned c x y t = record {
   leaf = λ key. sym (t.leaf key);
 }
 
-pub trees-stand : TreeLaws → TreesStand
-trees-stand b s m i j good q in-i in-j = elim (cases_lt j i) [
-  | inl l ↦ turned s.past.config (s.past.at j) (s.past.at i) (in-order b s m good q j i in-j.from (omega (arith, l)) in-i.to)
-  | inr l ↦ in-order b s m good q i j in-i.from l in-j.to
+pub trees-stand : TreesStand
+trees-stand s m i j good q in-i in-j = elim (cases_lt j i) [
+  | inl l ↦ turned s.past.config (s.past.at j) (s.past.at i) (in-order s m good q j i in-j.from (omega (arith, l)) in-i.to)
+  | inr l ↦ in-order s m good q i j in-i.from l in-j.to
 ]

@@ -23,13 +23,16 @@ use Rattle.bz_task.specs.Scene.{Scene, IsScene}
 use Rattle.bz_task.specs.Steps.{IsQuiet}
 use Rattle.bz_task.specs.declared.path.Link.{Link}
 use Rattle.bz_task.specs.declared.path.Path.{Path}
+use Rattle.bz_task.proofs.Proved.{headers_say_the_level}
 use Rattle.bz_renew.proofs.Words.{node-at}
 use Rattle.bz_descend.specs.SeekFacts.{reads_of, count_above, reads_through}
-use Rattle.bz_alone.specs.Quiet.{IsQuietSince, IsIn, QuietTimesStay, ReadValuesStand, LonelyTimesAreQuiet}
+use Rattle.bz_alone.specs.Quiet.{IsQuietSince, IsIn}
 use Rattle.bz_alone.specs.Reads.{reads_above, way_reads, PathsReadFew}
-use Rattle.bz_alone.specs.Trees.{TreesStand, PathsLeadToLeaves}
-use Rattle.bz_alone.proofs.Inners.{Rules, fits}
+use Rattle.bz_alone.proofs.Inners.{fits}
 use Rattle.bz_alone.proofs.Standing.{good-at, guard-stood, link-stood}
+use Rattle.bz_alone.proofs.Leads.{paths-lead}
+use Rattle.bz_alone.proofs.Quiet.{lonely, quiet-times}
+use Rattle.bz_alone.proofs.Trees.{trees-stand}
 
 apart : (a b : ℕ) → a ≢ b → (a == b) ≡ false
 apart a b ne = grind (arith, nat_tests)
@@ -55,18 +58,18 @@ record Hung (v : View) (f : Form) (above next : Link) : Type 0 where
   level : f.level next.slot + 1 ≡ f.level above.slot
   count : v.count above.slot ≡ (status next.status).count
 
-module _ (b : Rules) (quiet : QuietTimesStay) (values : ReadValuesStand) (trees : TreesStand) (s : Scene) (key : List ℕ) (path : Path) (j : ℕ) (good : IsScene s) (q : IsQuietSince s.past.since s.past) (is : IsPath key path s.past) (in-j : IsIn s.past.since s.past j) where
+module _ (s : Scene) (key : List ℕ) (path : Path) (j : ℕ) (good : IsScene s) (q : IsQuietSince s.past.since s.past) (is : IsPath key path s.past) (in-j : IsIn s.past.since s.past j) where
   gx : IsGood s.past.config (s.past.at j)
-  gx = good-at values s good s.past.since q j in-j.from in-j.to
+  gx = good-at s good s.past.since q j in-j.from in-j.to
 
   fx : Fits (view_in s.past.config (s.past.at j).image) (form_at s.past.config (s.past.at j))
-  fx = fits b s.past.config (s.past.at j) gx
+  fx = fits s.past.config (s.past.at j) gx
 
   silent : (i : ℕ) → s.past.since ≤ i → i ≤ s.past.now → IsQuiet s.past.config (s.past.at s.past.since) (s.past.at i)
-  silent i from to = quiet s.past.config s.past.at s.past.since s.past.now s.past.since i s.past.now good.history (record { since = omega arith; order = good.begun; until = omega arith }) from to q.effects
+  silent i from to = quiet-times s.past.config s.past.at s.past.since s.past.now s.past.since i s.past.now good.history (record { since = omega arith; order = good.begun; until = omega arith }) from to q.effects
 
   inside : (link : Link) → IsLink key s.past link → is_inside s.past.config (s.past.at j) link.slot ≡ true
-  inside link on = (trees s s.past.since on.was j good q (record { from = on.since; to = on.now }) in-j).inside link.slot ∙ on.inside
+  inside link on = (trees-stand s s.past.since on.was j good q (record { from = on.since; to = on.now }) in-j).inside link.slot ∙ on.inside
 
   -- an inner node is the same at each moment
   words-same : (k g : ℕ) → s.past.since ≤ g → g ≤ s.past.now → (s.past.at g).reached k ≡ true → 0 < (page_at s.past.config (s.past.at g) k).level → words s.past.config (s.past.at j) k ≡ words s.past.config (s.past.at g) k
@@ -110,7 +113,7 @@ module _ (b : Rules) (quiet : QuietTimesStay) (values : ReadValuesStand) (trees 
     place = subst (λ n. u.place ≡ pointer_at (page n) child.child) (sym ws) child.place
 
     level : (form_at s.past.config (s.past.at j)).level above.slot ≡ (page_at s.past.config (s.past.at j) above.slot).level
-    level = sym (b.headers s.past.config (s.past.at j) above.slot gx ne (inside above to)).level
+    level = sym (headers_say_the_level s.past.config (s.past.at j) above.slot gx ne (inside above to)).level
 
     durable-same : durable s.past.config (s.past.at j) above.slot ≡ words s.past.config (s.past.at j) above.slot
     durable-same = λ t i. gx.shown above.slot i (gx.inside above.slot (inside above to) ne) (inr (inr (inl inner))) t
@@ -118,12 +121,12 @@ module _ (b : Rules) (quiet : QuietTimesStay) (values : ReadValuesStand) (trees 
     pointer : words s.past.config (s.past.at j) above.slot u.place ≡ next.slot + 1
     pointer =
         node-at s.past.config (s.past.at j).value above.slot u.place u.within
-        ∙ (ap (s.past.at j).value (sym (u.pointer ∙ ap (λ z. node_address s.past.config z + u.place) same)) ∙ link-stood values s good s.past.since q next on.guarded on.guarded.since j in-j.from in-j.to)
+        ∙ (ap (s.past.at j).value (sym (u.pointer ∙ ap (λ z. node_address s.past.config z + u.place) same)) ∙ link-stood s good s.past.since q next on.guarded on.guarded.since j in-j.from in-j.to)
 
     guarded : words s.past.config (s.past.at j) above.slot STATUS_AT ≡ next.status
     guarded =
         node-at s.past.config (s.past.at j).value above.slot STATUS_AT (omega arith)
-        ∙ (ap (s.past.at j).value (sym at) ∙ guard-stood values s good s.past.since q next on.guarded on.guarded.since j in-j.from in-j.to)
+        ∙ (ap (s.past.at j).value (sym at) ∙ guard-stood s good s.past.since q next on.guarded on.guarded.since j in-j.from in-j.to)
 
     count-same : (view_in s.past.config (s.past.at j).image).count above.slot ≡ (page_at s.past.config (s.past.at j) above.slot).count
     count-same = rw (apart above.slot s.past.config.nodes ne) (ap count_of durable-same ∙ count-is (words s.past.config (s.past.at j) above.slot))
@@ -179,13 +182,13 @@ module _ (b : Rules) (quiet : QuietTimesStay) (values : ReadValuesStand) (trees 
           ap (λ z. reads_above (view_in s.past.config (s.past.at j).image) (form_at s.past.config (s.past.at j)) z n) (sym d.up) in
           record { low = omega (arith, d.level, r.low); reads = omega (arith, r.reads, of, up) }
 
-pub paths-read-few : Rules → QuietTimesStay → ReadValuesStand → TreesStand → LonelyTimesAreQuiet → PathsLeadToLeaves → PathsReadFew
+pub paths-read-few : PathsReadFew
 unfolding way_reads
-paths-read-few b quiet values trees lonely leads s key path link j good alone is last in-j =
+paths-read-few s key path link j good alone is last in-j =
     let q : IsQuietSince s.past.since s.past = lonely.whole s good alone in
     let v : View = view_in s.past.config (s.past.at j).image in
-    let r : Reaches b quiet values trees s key path j good q is in-j (path.depth - 1) link = reaches b quiet values trees s key path j good q is in-j (path.depth - 1) (omega (arith, is.some)) (slice_get_within path.links (path.depth - 1) link last) link last in
+    let r : Reaches s key path j good q is in-j (path.depth - 1) link = reaches s key path j good q is in-j (path.depth - 1) (omega (arith, is.some)) (slice_get_within path.links (path.depth - 1) link last) link last in
     let leaf : leaf_in s.past.config (s.past.at j).image key ≡ link.slot =
-    (trees s s.past.since s.past.now j good q (record { from = good.begun; to = omega arith }) in-j).leaf key ∙ leads s key path link good alone is last in
+    (trees-stand s s.past.since s.past.now j good q (record { from = good.begun; to = omega arith }) in-j).leaf key ∙ paths-lead s key path link good alone is last in
     let more = more-above v (form v) link.slot (path.depth - 1) (v.height - 1) (omega (arith, r.low)) in
     omega (arith, r.reads, more, ap (λ z. reads_above v (form v) z (v.height - 1)) leaf)

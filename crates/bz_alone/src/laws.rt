@@ -2,35 +2,20 @@
 
 ghost use Rattle.bz_alone.specs.Brief.{LookUpsAreBrief, WaysAreBrief, BriefLookUpsGoOn, GetsAreBrief};
 ghost use Rattle.bz_alone.specs.Counts.{OwnSwapsAreCounted};
-ghost use Rattle.bz_alone.specs.Quiet.{EffectsNeverFall, QuietTimesStay, ReadValuesStand};
+ghost use Rattle.bz_alone.specs.Quiet.{EffectsNeverFall};
 ghost use Rattle.bz_alone.specs.Reads.{PathsReadFew};
 ghost use Rattle.bz_alone.specs.Restarts.{LoneRestartsAreRefusals};
 ghost use Rattle.bz_alone.specs.Tasks.{LonersGoOn};
-ghost use Rattle.bz_alone.specs.Trees.{TreesStand, PathsLeadToLeaves};
+ghost use Rattle.bz_alone.specs.Trees.{TreesStand};
 
 /// No effect is ever undone.
 pub fn effects_never_fall()
     ensures { EffectsNeverFall }
 {}
 
-/// Between two moments with as many effects none came, and nothing changed for readers.
-pub fn quiet_times_stay()
-    ensures { QuietTimesStay }
-{}
-
-/// In a time without effects an address that readers read has one value.
-pub fn read_values_stand()
-    ensures { ReadValuesStand }
-{}
-
 /// In such a time the tree stands, and each key has the leaf that it had.
 pub fn trees_stand()
     ensures { TreesStand }
-{}
-
-/// So a path that was found while the worker was alone leads to the leaf of its key now.
-pub fn paths_lead_to_leaves()
-    ensures { PathsLeadToLeaves }
 {}
 
 /// And its reads are at most those of the way to that leaf.

@@ -7,7 +7,7 @@ use Rattle.bz_shape.specs.Order.{is_within}
 use Rattle.bz_content.specs.Content.{view_in}
 use Rattle.bz_task.specs.Good.{IsGood}
 use Rattle.bz_task.specs.Instant.{form_at}
-use Rattle.bz_task.specs.Laws.{RangesStay, SamePlace}
+use Rattle.bz_task.specs.Laws.{SamePlace}
 use Rattle.bz_task.specs.Outcomes.{IsLink, IsPath}
 use Rattle.bz_task.specs.Scene.{Scene, IsScene}
 use Rattle.bz_task.specs.declared.path.Link.{Link}
@@ -17,10 +17,10 @@ use Rattle.bz_ascent.specs.Ascents.{IsAscent, IsOneUp}
 use Rattle.bz_ascent.specs.Full.{WasFull, WasLevelFull, AreFullUpTo}
 use Rattle.bz_ascent.specs.Laws.{AscentsRise}
 use Rattle.bz_ascent.specs.declared.ascent.Ascent.{Ascent}
-use Rattle.bz_ascent.proofs.Parents.{Laws, has, stands, full}
+use Rattle.bz_ascent.proofs.Parents.{has, stands, full}
 use Rattle.bz_ascent.proofs.Places.{same-place}
 
-module _ (b : Laws) (ranges : RangesStay) (a next : Ascent) (s : Scene) (sep : List ℕ) (one : IsOneUp a next) (good : IsScene s) (is : IsAscent a s.past) (l : LackedRoom next.node a.node sep s.past) where
+module _ (a next : Ascent) (s : Scene) (sep : List ℕ) (one : IsOneUp a next) (good : IsScene s) (is : IsAscent a s.past) (l : LackedRoom next.node a.node sep s.past) where
   abbrev upper : Link
   upper = next.node
 
@@ -37,17 +37,17 @@ module _ (b : Laws) (ranges : RangesStay) (a next : Ascent) (s : Scene) (sep : L
   g = good.history.good l.moment l.since l.now
 
   below : Stands (view_in s.past.config (s.past.at l.moment).image) (form_at s.past.config (s.past.at l.moment)) upper.slot l.child lower.slot
-  below = stands b s.past upper lower l.moment l.child sep l.read g l.parent
+  below = stands s.past upper lower l.moment l.child sep l.read g l.parent
 
   -- it stood one level above the node
   level : (form_at s.past.config (s.past.at l.moment)).level upper.slot ≡ f.level + 1
   level =
-      let same : SamePlace s.past.config (s.past.at f.stood.moment) (s.past.at l.moment) lower.slot = same-place ranges s good lower.slot f.stood.moment l.moment f.within (record { since = f.stood.since; now = f.stood.now }) (record { since = l.since; now = l.now }) f.stood.inside below.inside in
+      let same : SamePlace s.past.config (s.past.at f.stood.moment) (s.past.at l.moment) lower.slot = same-place s good lower.slot f.stood.moment l.moment f.within (record { since = f.stood.since; now = f.stood.now }) (record { since = l.since; now = l.now }) f.stood.inside below.inside in
       omega (arith, below.level, same.level, f.stood.at_level)
 
   -- and had the key in its range
   place : SamePlace s.past.config (s.past.at link.was) (s.past.at l.moment) upper.slot
-  place = same-place ranges s good upper.slot link.was l.moment link.slot (record { since = link.since; now = link.now }) (record { since = l.since; now = l.now }) link.inside l.parent.inside
+  place = same-place s good upper.slot link.was l.moment link.slot (record { since = link.since; now = link.now }) (record { since = l.since; now = l.now }) link.inside l.parent.inside
 
   was-full : WasFull a.key upper.slot (f.level + 1) s.past
   was-full = record {
@@ -60,8 +60,8 @@ module _ (b : Laws) (ranges : RangesStay) (a next : Ascent) (s : Scene) (sep : L
     range = subst (λ z. is_within a.key z ((form_at s.past.config (s.past.at l.moment)).high upper.slot) ≡ true) (sym place.low) (subst (λ z. is_within a.key ((form_at s.past.config (s.past.at link.was)).low upper.slot) z ≡ true) (sym place.high) link.range);
     words = l.read;
     size = l.parent.parent.size;
-    has = λ i t. has b s.past upper lower l.moment l.child sep l.read g l.parent t i;
-    many = full b s.past upper lower l.moment l.child sep l.read g l.parent l.room;
+    has = λ i t. has s.past upper lower l.moment l.child sep l.read g l.parent t i;
+    many = full s.past upper lower l.moment l.child sep l.read g l.parent l.room;
   }
 
   each : (k : ℕ) → 0 < k → k ≤ f.level + 1 → WasLevelFull a.key k s.past
@@ -79,10 +79,10 @@ module _ (b : Laws) (ranges : RangesStay) (a next : Ascent) (s : Scene) (sep : L
     each = each;
   }
 
-pub rises : Laws → RangesStay → AscentsRise
-rises b ranges a next s sep one good is l = record {
+pub rises : AscentsRise
+rises a next s sep one good is l = record {
   path = subst (λ k. IsPath k next.path s.past) (sym one.key_is) (subst (λ z. IsPath a.key z s.past) (sym one.path_is) is.path);
   within = omega (arith, one.before, is.within, ap (λ (z : Path). z.depth) one.path_is);
   node = ap (λ (z : Path). slice_get z.links next.place) one.path_is ∙ one.node;
-  full = subst (λ k. AreFullUpTo k next.node.slot s.past) (sym one.key_is) (up-to b ranges a next s sep one good is l);
+  full = subst (λ k. AreFullUpTo k next.node.slot s.past) (sym one.key_is) (up-to a next s sep one good is l);
 }

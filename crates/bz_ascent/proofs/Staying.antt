@@ -1,7 +1,7 @@
 -- What was found on the way up stays.
 use Rattle.std.proofs.Common.{ℕ, ◌≤◌, List, arith}
-use Rattle.bz_task.specs.Laws.{PathsStay}
 use Rattle.bz_task.specs.Scene.{Past, Continues}
+use Rattle.bz_task.proofs.Proved.{paths_stay}
 use Rattle.bz_ascent.specs.Full.{StoodAt, WasFull, WasLevelFull, AreFullUpTo}
 use Rattle.bz_ascent.specs.Laws.{AscentsStay}
 
@@ -47,9 +47,9 @@ module _ (p q : Past) (n : Continues p q) where
     each = λ l some few. level-stays key l (f.each l some few);
   }
 
-pub stays : PathsStay → AscentsStay
-stays paths a p q is n = record {
-  path = paths a.key a.path p q is.path n;
+pub stays : AscentsStay
+stays a p q is n = record {
+  path = paths_stay a.key a.path p q is.path n;
   within = is.within;
   node = is.node;
   full = up-to-stays p q n a.key a.node.slot is.full;

@@ -3,7 +3,6 @@
 #![tactic(auto)]
 
 mod ascent;
-pub mod laws;
 
 pub use ascent::Ascent;
 pub use bz_branch::{SplitBelow, is_due_below};

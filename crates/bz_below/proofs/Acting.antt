@@ -83,7 +83,7 @@ may-swap turned codec r s good f w =
     let new : r.slot 0 < s.past.config.nodes = f.writing.slots.within 0 (omega arith) in
     let status_target : IsTarget s (node_address s.past.config r.upper.slot + STATUS_AT) = subst (IsTarget s) (guard-is r.upper r.lower (r.image 1) (r.image 2) r.sep s good v) u.guard_target in
     All-inserted (IsEntryToAsk s) (freezing_entry s.past.config (parent_freezing (with_guard r.upper r.guard) r.lower)) (renewal (with_guard r.upper r.guard) (r.slot 0))
-    (record { target = status_target; expected = u.plain; new = frozen-plain codec r.lower.status u.plain })
+    (record { target = status_target; expected = u.plain; new = frozen-plain r.lower.status u.plain })
     (all-two (IsEntryToAsk s) (link_entry (with_guard r.upper r.guard) (r.slot 0)) (guard_entry (with_guard r.upper r.guard))
     (record { target = t.link_target; expected = omega (arith, old, good.config.nodes_in_range.at_most); new = omega (arith, new, good.config.nodes_in_range.at_most) })
     (record { target = t.guard_target; expected = w.plain; new = restamped-plain codec r.guard w.plain }))

@@ -8,13 +8,15 @@ use Rattle.bz_node.specs.Reading.{children_in, HasHighFence, high_in}
 use Rattle.bz_node.specs.Records.{IsAbove, IsBelow}
 use Rattle.bz_node.specs.declared.child.Child.{Child}
 use Rattle.bz_shape.specs.Slots.{Halves}
-use Rattle.bz_slotted.specs.ReadingLaws.{node_of, HighFencesAreRead}
+use Rattle.bz_slotted.specs.ReadingLaws.{node_of}
 use Rattle.bz_slotted.specs.Rules.{node_fault}
+use Rattle.bz_slotted.proofs.Proved.{high_fences_are_read}
 use Rattle.bz_halves.specs.Parents.{children_told}
 use Rattle.bz_parted.specs.Parting.{child_words, separator_of, right_half, left_words, right_words}
-use Rattle.bz_parted.specs.Laws.{IsSplitInner, AreInnerHalves, AreParted, ChildrenPartInHalves, HalvesAreInner}
+use Rattle.bz_parted.specs.Laws.{IsSplitInner, AreInnerHalves, AreParted}
 use Rattle.bz_parted.specs.Made.{AreHalvesOf}
 use Rattle.bz_parted.specs.declared.halves.InnerHalves.{InnerHalves}
+use Rattle.bz_parted.proofs.Proved.{children_part_in_halves, halves_are_inner}
 use Rattle.bz_renew.proofs.Plainness.{IsPlain, inner-plain}
 use Rattle.bz_branch.specs.Nodes.{IsInnerNode}
 use Rattle.bz_branch.specs.Parts.{IsFullNode, AreHalvesOfNode}
@@ -29,9 +31,9 @@ pub record FrontIs (read : List ℕ) (level : ℕ) (low high : Option (List ℕ)
 pub is-split : (nodes : ℕ) (read : List ℕ) (level : ℕ) (low high : Option (List ℕ)) → IsInnerNode nodes read level low high → INNER_LIMIT < child_words (children_in read) → IsSplitInner (children_in read) low high
 is-split nodes read level low high n many = record { each = n.node.each; low_bound = n.node.low_bound; high_bound = n.node.high_bound; list = n.node.list; many = many; room = n.node.room }
 
-module _ (ends : HighFencesAreRead) (read : List ℕ) (level : ℕ) (low high : Option (List ℕ)) (front : FrontIs read level low high) where
+module _ (read : List ℕ) (level : ℕ) (low high : Option (List ℕ)) (front : FrontIs read level low high) where
   pub high-fence : IsFullNode read → HasHighFence read
-  high-fence f = (ends f.nodes f.node.raw read f.level f.low f.high f.node.size f.node.none).readable
+  high-fence f = (high_fences_are_read f.nodes f.node.raw read f.level f.low f.high f.node.size f.node.none).readable
 
   module _ (nodes l : ℕ) (lo hi : Option (List ℕ)) (n : IsInnerNode nodes read l lo hi) where
     pub level-is : level ≡ l
@@ -41,7 +43,7 @@ module _ (ends : HighFencesAreRead) (read : List ℕ) (level : ℕ) (low high : 
     low-is = front.low_is nodes n.raw l lo hi n.none
 
     high-is : high ≡ hi
-    high-is = front.high_is ∙ (ends nodes n.raw read l lo hi n.size n.none).high
+    high-is = front.high_is ∙ (high_fences_are_read nodes n.raw read l lo hi n.size n.none).high
 
     pub read-split : INNER_LIMIT < child_words (children_in read) → IsSplitInner (children_in read) low high
     read-split many = subst (λ z. IsSplitInner (children_in read) z high) (sym low-is) (subst (λ z. IsSplitInner (children_in read) lo z) (sym high-is) (is-split nodes read l lo hi n many))
@@ -51,7 +53,7 @@ module _ (ends : HighFencesAreRead) (read : List ℕ) (level : ℕ) (low high : 
         subst (λ z. AreHalvesOf (children_in read) lo hi z halves) level-is
         (subst (λ z. AreHalvesOf (children_in read) lo z level halves) high-is (subst (λ z. AreHalvesOf (children_in read) z high level halves) low-is h))
 
-module _ (part : ChildrenPartInHalves) (inners : HalvesAreInner) (nodes : ℕ) (read : List ℕ) (l : ℕ) (lo hi : Option (List ℕ)) (n : IsInnerNode nodes read l lo hi) (many : INNER_LIMIT < child_words (children_in read)) (halves : InnerHalves) (h : AreHalvesOf (children_in read) lo hi l halves)
+module _ (nodes : ℕ) (read : List ℕ) (l : ℕ) (lo hi : Option (List ℕ)) (n : IsInnerNode nodes read l lo hi) (many : INNER_LIMIT < child_words (children_in read)) (halves : InnerHalves) (h : AreHalvesOf (children_in read) lo hi l halves)
     (left_size : length halves.left.0 ≡ NODE_WORDS) (right_size : length halves.right.0 ≡ NODE_WORDS) where
   abbrev cs : List Child
   cs = children_in read
@@ -60,10 +62,10 @@ module _ (part : ChildrenPartInHalves) (inners : HalvesAreInner) (nodes : ℕ) (
   split = is-split nodes read l lo hi n many
 
   parts : AreInnerHalves cs lo hi h.cut
-  parts = part cs lo hi h.cut split h.is_cut
+  parts = children_part_in_halves cs lo hi h.cut split h.is_cut
 
   made : AreParted nodes (node_of read) cs lo hi l h.cut
-  made = inners nodes (node_of read) cs lo hi l h.cut split h.is_cut (record { few = n.few; slots = n.node.slots; inner = n.inner; lowest = n.lowest }) n.node.has
+  made = halves_are_inner nodes (node_of read) cs lo hi l h.cut split h.is_cut (record { few = n.few; slots = n.node.slots; inner = n.inner; lowest = n.lowest }) n.node.has
 
   left-plain : All IsPlain (left_words cs lo l h.cut)
   left-plain = inner-plain (take h.cut cs) lo (Some (separator_of cs h.cut)) l parts.left_each n.node.low_bound parts.separator (omega (arith, n.lowest)) (omega (arith, parts.left_room))

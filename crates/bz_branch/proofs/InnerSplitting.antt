@@ -13,43 +13,32 @@ use Rattle.bz_task.specs.FromSwap.SwapMemory.{is_target}
 use Rattle.bz_word.specs.declared.entry.Entry.{Entry}
 use Rattle.bz_content.specs.Content.{image_of, view_in, IsWellFormed}
 use Rattle.bz_content.specs.Image.{Image}
-use Rattle.bz_content.specs.Laws.{WellFormedImagesHaveNoFault, PlainWordsStandForThemselves, SplitsKeepTheContent}
 use Rattle.bz_content.specs.Restructures.{children_of, Splits, StandsWhole}
 use Rattle.bz_content.specs.Swaps.{TurnsLink}
+use Rattle.bz_content.proofs.Proved.{plain_words_stand_for_themselves, splits_keep_the_content, well_formed_images_have_no_fault}
 use Rattle.bz_task.specs.Good.{IsGood}
 use Rattle.bz_task.specs.Instant.{Instant, words, durable, page_at, form_at}
-use Rattle.bz_task.specs.Laws.{SamePlace, RangesStay}
+use Rattle.bz_task.specs.Laws.{SamePlace}
 use Rattle.bz_task.specs.Outcomes.{IsUnderNode}
 use Rattle.bz_task.specs.Scene.{Scene, IsScene, here}
 use Rattle.bz_task.specs.Swaps.{Stand, SwapsTo, IsGoodSwap}
 use Rattle.bz_task.specs.declared.path.Link.{Link}
 use Rattle.bz_renew.specs.Freezings.{Freezing, freezing_entry, renewal_with, slots_of}
-use Rattle.bz_renew.specs.LinkSwaps.{IsFresh, IsLinkSwap, LinkSwapsAreGood}
-use Rattle.bz_renew.specs.Renewals.{renewal, link_entry, guard_entry, LinksMayBeTurned}
-use Rattle.bz_renew.specs.Standing.{StillLeads, GuardedLinksStand}
-use Rattle.bz_renew.specs.Turning.{TurnsWith, AreGoing, RootLinksTurnWith, ChildLinksTurnWith}
+use Rattle.bz_renew.specs.LinkSwaps.{IsFresh, IsLinkSwap}
+use Rattle.bz_renew.specs.Renewals.{renewal, link_entry, guard_entry}
+use Rattle.bz_renew.specs.Standing.{StillLeads}
+use Rattle.bz_renew.specs.Turning.{TurnsWith, AreGoing}
 use Rattle.bz_renew.proofs.Freezings.{renewal-holds}
 use Rattle.bz_renew.proofs.FreshSlots.{outside-tree, fresh-unchanged, raw-stays, durable-stays}
 use Rattle.bz_renew.proofs.Inserting.{all-inserted-first, all-inserted-others}
 use Rattle.bz_renew.proofs.TwoEntries.{both-stand}
 use Rattle.bz_renew.proofs.Words.{or-right}
+use Rattle.bz_renew.proofs.Proved.{child_links_turn_with, guarded_links_stand, link_swaps_are_good, links_may_be_turned, root_links_turn_with}
 use Rattle.bz_below.specs.FromSplit.BelowSplits.{parent_freezing}
 use Rattle.bz_below.specs.FromSplit.RootSplits.{AreFreshThree}
 use Rattle.bz_branch.specs.Nodes.{IsOpenLink}
 use Rattle.bz_branch.specs.InnerSplits.{both_freezings, inner_swap, IsInnerSplit, InnerSplitsAreGood}
 use Rattle.bz_branch.proofs.Standing.{guard-is, node-below, same-place, same-words}
-
--- the laws on which the swap rests
-pub record Laws : Type 0 where
-  pub formed : WellFormedImagesHaveNoFault
-  pub plain : PlainWordsStandForThemselves
-  pub keep : SplitsKeepTheContent
-  pub may : LinksMayBeTurned
-  pub root : RootLinksTurnWith
-  pub child : ChildLinksTurnWith
-  pub stand : GuardedLinksStand
-  pub ranges : RangesStay
-  pub links : LinkSwapsAreGood
 
 pub first-in : (k : ℕ) (rest : List ℕ) → is_among (k ∷ rest) k ≡ true
 first-in k rest = let t : (k == k) ≡ true = grind (arith, nat_tests) in rw t refl
@@ -70,7 +59,7 @@ among-three q l r s f k e = go (q == k) refl (l == k) refl (r == k) refl e
     go false p false o true u h = let same : r ≡ k = grind (arith, nat_tests) in subst (IsFresh s) same f.right
     go false p false o false u h = absurd (cc)
 
-module _ (b : Laws) (s : Scene) (upper middle lower : Link) (q l r m : ℕ) (sep : List ℕ) (good : IsScene s) (f : IsInnerSplit upper middle lower q l r m sep s) (stand : Stand (inner_swap s.past.config upper middle lower q) (here s)) where
+module _ (s : Scene) (upper middle lower : Link) (q l r m : ℕ) (sep : List ℕ) (good : IsScene s) (f : IsInnerSplit upper middle lower q l r m sep s) (stand : Stand (inner_swap s.past.config upper middle lower q) (here s)) where
   abbrev p : ℕ
   p = upper.slot
 
@@ -105,22 +94,22 @@ module _ (b : Laws) (s : Scene) (upper middle lower : Link) (q l r m : ℕ) (sep
 
   -- so the node is the parent's child still, and an inner node as it was
   pub leads : StillLeads middle s f.down.guard.guarded p f.down.under.child.child
-  leads = subst (λ z. StillLeads middle s f.down.guard.guarded z f.down.under.child.child) f.down.parent (b.stand s middle good f.down.guard f.down.thawed f.down.under parent-now)
+  leads = subst (λ z. StillLeads middle s f.down.guard.guarded z f.down.under.child.child) f.down.parent (guarded_links_stand s middle good f.down.guard f.down.thawed f.down.under parent-now)
 
   pub node-leads : StillLeads lower s f.node.guard.guarded a f.node.under.child.child
-  node-leads = subst (λ z. StillLeads lower s f.node.guard.guarded z f.node.under.child.child) f.node.parent (b.stand s lower good f.node.guard f.node.thawed f.node.under node-now)
+  node-leads = subst (λ z. StillLeads lower s f.node.guard.guarded z f.node.under.child.child) f.node.parent (guarded_links_stand s lower good f.node.guard f.node.thawed f.node.under node-now)
 
   parent-place : SamePlace c (s.past.at f.down.guard.guarded) (here s) p
-  parent-place = same-place s p middle good above b.ranges f.down.under.child.child leads
+  parent-place = same-place s p middle good above f.down.under.child.child leads
 
   parent-words : durable c (here s) p ≡ words c (s.past.at f.down.guard.guarded) p
-  parent-words = same-words s p middle good above b.ranges f.down.under.child.child leads
+  parent-words = same-words s p middle good above f.down.under.child.child leads
 
   node-place : SamePlace c (s.past.at f.node.guard.guarded) (here s) a
-  node-place = same-place s a lower good f.node b.ranges f.node.under.child.child node-leads
+  node-place = same-place s a lower good f.node f.node.under.child.child node-leads
 
   node-words : durable c (here s) a ≡ words c (s.past.at f.node.guard.guarded) a
-  node-words = same-words s a lower good f.node b.ranges f.node.under.child.child node-leads
+  node-words = same-words s a lower good f.node f.node.under.child.child node-leads
 
   -- a node is none of those above it
   apart : p ≢ a
@@ -129,8 +118,8 @@ module _ (b : Laws) (s : Scene) (upper middle lower : Link) (q l r m : ℕ) (sep
   pub going : AreGoing frozen (a ∷ p ∷ []) s
   going = record {
     freezable = (
-      record { reached = node-leads.reached; plain = (b.may s lower good f.node.guard f.node.thawed).plain; thawed = f.node.thawed },
-      (out-one p a apart, (record { reached = leads.reached; plain = (b.may s middle good f.down.guard f.down.thawed).plain; thawed = f.down.thawed }, (refl, tt))),
+      record { reached = node-leads.reached; plain = (links_may_be_turned s lower good f.node.guard f.node.thawed).plain; thawed = f.node.thawed },
+      (out-one p a apart, (record { reached = leads.reached; plain = (links_may_be_turned s middle good f.down.guard f.down.thawed).plain; thawed = f.down.thawed }, (refl, tt))),
     );
     go = λ k e. e;
   }
@@ -149,11 +138,11 @@ module _ (b : Laws) (s : Scene) (upper middle lower : Link) (q l r m : ℕ) (sep
       unnamed j n = t.others k j (fresh-unchanged s y changed k good fresh t.changes) n
 
       after : durable c y k ≡ words c (here s) k
-      after = durable-stays b.plain (inner_swap c upper middle lower q) s y k good fresh unnamed swaps
+      after = durable-stays plain_words_stand_for_themselves (inner_swap c upper middle lower q) s y k good fresh unnamed swaps
 
       stands-after : (was now : ℕ) (low low_now high high_now : Option (List ℕ)) → now ≡ was → low_now ≡ low → high_now ≡ high → node_fault c.nodes (words c (here s) k) (words c (here s) k) was low high ≡ None → StandsWhole c z k now low_now high_now
       stands-after was now low low_now high high_now level lows highs e =
-          (λ j. node_fault c.nodes (raw-stays b.plain (inner_swap c upper middle lower q) s y k good fresh unnamed swaps j) (after j) (level j) (lows j) (highs j)) ∙ e
+          (λ j. node_fault c.nodes (raw-stays plain_words_stand_for_themselves (inner_swap c upper middle lower q) s y k good fresh unnamed swaps j) (after j) (level j) (lows j) (highs j)) ∙ e
 
     turns : TurnsLink c x z ((form_at c (here s)).up p) ((form_at c (here s)).index p) q (a ∷ p ∷ [])
     turns =
@@ -196,8 +185,8 @@ module _ (b : Laws) (s : Scene) (upper middle lower : Link) (q l r m : ℕ) (sep
 
     regrows : Regrows (view_in c (here s).image) (view_in c y.image) (a ∷ p ∷ []) (q ∷ l ∷ r ∷ [])
     regrows =
-        let w : IsWellFormed c (here s).image = (b.formed c (here s).image).0 g.form in
-        subst (λ j. Regrows (view_in c (here s).image) (view_in c y.image) (a ∷ j ∷ []) (q ∷ l ∷ r ∷ [])) up (b.keep c x z a q l r m sep w.tree splits)
+        let w : IsWellFormed c (here s).image = (well_formed_images_have_no_fault c (here s).image).0 g.form in
+        subst (λ j. Regrows (view_in c (here s).image) (view_in c y.image) (a ∷ j ∷ []) (q ∷ l ∷ r ∷ [])) up (splits_keep_the_content c x z a q l r m sep w.tree splits)
 
     parent-frozen : (page_at c y p).frozen ≡ true
     parent-frozen = t.freezes p (or-right (a == p) (is_among (p ∷ []) p) (first-in p []))
@@ -220,7 +209,7 @@ module _ (b : Laws) (s : Scene) (upper middle lower : Link) (q l r m : ℕ) (sep
     upper-now = (both-stand (link_entry upper q) (guard_entry upper) (here s) (renewal-holds c upper q stands frozen stand)).1
 
     over : StillLeads upper s f.down.upper_guard.guarded under.parent under.child.child
-    over = b.stand s upper good f.down.upper_guard f.down.upper_thawed under upper-now
+    over = guarded_links_stand s upper good f.down.upper_guard f.down.upper_thawed under upper-now
 
     not-parent : p ≢ under.parent
     not-parent e = absurd (omega (arith, ap (form_at c (here s)).level e, over.stands.level))
@@ -231,14 +220,14 @@ module _ (b : Laws) (s : Scene) (upper middle lower : Link) (q l r m : ℕ) (sep
     pub none-frozen : is_among (slots_of frozen) under.parent ≡ false
     none-frozen = out-two a p under.parent not-node not-parent
 
-pub inner-splits : Laws → InnerSplitsAreGood
-inner-splits b change s y upper middle lower q l r m sep good f stand swaps = elim f.down.upper_guard.under [
+pub inner-splits : InnerSplitsAreGood
+inner-splits change s y upper middle lower q l r m sep good f stand swaps = elim f.down.upper_guard.under [
   | inl root ↦ good-swap s.past.config.nodes 0 (middle.slot ∷ upper.slot ∷ [])
-      (b.root s y upper q (both_freezings upper middle lower) (middle.slot ∷ upper.slot ∷ []) good root f.ready.fresh.root.slot (going b s upper middle lower q l r m sep good f stand) stand swaps)
+      (root_links_turn_with s y upper q (both_freezings upper middle lower) (middle.slot ∷ upper.slot ∷ []) good root f.ready.fresh.root.slot (going s upper middle lower q l r m sep good f stand) stand swaps)
   | inr node ↦ good-swap node.parent node.child.child (node.parent ∷ middle.slot ∷ upper.slot ∷ [])
-      (b.child s y upper q (both_freezings upper middle lower) (middle.slot ∷ upper.slot ∷ []) good f.down.upper_guard f.down.upper_thawed node
-      (none-frozen b s upper middle lower q l r m sep good f stand node) f.ready.fresh.root.slot (going b s upper middle lower q l r m sep good f stand) stand swaps)
+      (child_links_turn_with s y upper q (both_freezings upper middle lower) (middle.slot ∷ upper.slot ∷ []) good f.down.upper_guard f.down.upper_thawed node
+      (none-frozen s upper middle lower q l r m sep good f stand node) f.ready.fresh.root.slot (going s upper middle lower q l r m sep good f stand) stand swaps)
 ]
   where
     good-swap : (top i : ℕ) (changed : List ℕ) → TurnsWith upper q (both_freezings upper middle lower) (middle.slot ∷ upper.slot ∷ []) s y top i changed → IsGoodSwap false change (inner_swap s.past.config upper middle lower q) s y
-    good-swap top i changed t = b.links change (inner_swap s.past.config upper middle lower q) s changed (middle.slot ∷ upper.slot ∷ []) (q ∷ l ∷ r ∷ []) y good (link-swap b s upper middle lower q l r m sep good f stand y top i changed t swaps)
+    good-swap top i changed t = link_swaps_are_good change (inner_swap s.past.config upper middle lower q) s changed (middle.slot ∷ upper.slot ∷ []) (q ∷ l ∷ r ∷ []) y good (link-swap s upper middle lower q l r m sep good f stand y top i changed t swaps)

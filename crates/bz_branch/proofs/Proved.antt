@@ -1,10 +1,9 @@
 -- What this crate proves, as lemmas that other crates cite by these names.
-use Rattle.bz_content.proofs.Proved.{plain_words_stand_for_themselves, root_splits_keep_the_content, splits_keep_the_content, well_formed_images_have_no_fault}
+use Rattle.bz_content.proofs.Proved.{well_formed_images_have_no_fault}
 use Rattle.bz_parted.proofs.Proved.{read_nodes_have_children}
-use Rattle.bz_renew.proofs.Proved.{child_links_turn_with, guarded_links_stand, link_swaps_are_good, links_may_be_turned, root_links_turn_with}
 use Rattle.bz_shape.proofs.Proved.{trees_have_forms}
 use Rattle.bz_slotted.proofs.Proved.{inner_rules_are_facts}
-use Rattle.bz_task.proofs.Proved.{headers_say_the_level, nodes_stay, ranges_stay, roots_are_reached}
+use Rattle.bz_task.proofs.Proved.{headers_say_the_level, nodes_stay}
 use Rattle.bz_branch.proofs.InnerSplitting.{inner-splits}
 use Rattle.bz_branch.proofs.ReadingNodes.{nodes-were}
 use Rattle.bz_branch.proofs.RootSplitting.{inner-root-splits}
@@ -27,29 +26,8 @@ read_nodes_were = nodes-were (record {
 
 -- the swap by which a new parent takes its place, with the halves of an inner node in the node's, and the old parent and the node are frozen, is lawful for everybody and changes no content
 pub inner_splits_are_good : InnerSplitsAreGood
-inner_splits_are_good = inner-splits (record {
-  formed = well_formed_images_have_no_fault;
-  plain = plain_words_stand_for_themselves;
-  keep = splits_keep_the_content;
-  may = links_may_be_turned;
-  root = root_links_turn_with;
-  child = child_links_turn_with;
-  stand = guarded_links_stand;
-  ranges = ranges_stay;
-  links = link_swaps_are_good;
-})
+inner_splits_are_good = inner-splits
 
 -- the swap by which a new root over the halves of an inner root takes its place, and that is frozen, is lawful for everybody and changes no content
 pub inner_root_splits_are_good : InnerRootSplitsAreGood
-inner_root_splits_are_good = inner-root-splits (record {
-  formed = well_formed_images_have_no_fault;
-  plain = plain_words_stand_for_themselves;
-  keep = root_splits_keep_the_content;
-  may = links_may_be_turned;
-  turn = root_links_turn_with;
-  stand = guarded_links_stand;
-  ranges = ranges_stay;
-  roots = roots_are_reached;
-  headers = headers_say_the_level;
-  links = link_swaps_are_good;
-})
+inner_root_splits_are_good = inner-root-splits

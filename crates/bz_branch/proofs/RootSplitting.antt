@@ -13,44 +13,33 @@ use Rattle.bz_task.specs.FromSwap.SwapMemory.{is_target}
 use Rattle.bz_word.specs.declared.entry.Entry.{Entry}
 use Rattle.bz_content.specs.Content.{image_of, view_in, IsWellFormed}
 use Rattle.bz_content.specs.Image.{Image, node, root}
-use Rattle.bz_content.specs.Laws.{WellFormedImagesHaveNoFault, PlainWordsStandForThemselves, RootSplitsKeepTheContent}
 use Rattle.bz_content.specs.Resolving.{resolve}
 use Rattle.bz_content.specs.Restructures.{children_of, SplitsRoot, StandsWhole}
 use Rattle.bz_content.specs.Swaps.{TurnsLink}
+use Rattle.bz_content.proofs.Proved.{plain_words_stand_for_themselves, root_splits_keep_the_content, well_formed_images_have_no_fault}
 use Rattle.bz_task.specs.Good.{IsGood}
 use Rattle.bz_task.specs.Instant.{Instant, words, durable, page_at, form_at}
-use Rattle.bz_task.specs.Laws.{SamePlace, RangesStay, HasRoot, RootsAreReached, HeadersSayTheLevel}
+use Rattle.bz_task.specs.Laws.{SamePlace, HasRoot}
 use Rattle.bz_task.specs.Scene.{Scene, IsScene, here}
 use Rattle.bz_task.specs.Swaps.{Stand, SwapsTo}
 use Rattle.bz_task.specs.declared.path.Link.{Link}
+use Rattle.bz_task.proofs.Proved.{headers_say_the_level, roots_are_reached}
 use Rattle.bz_renew.specs.Freezings.{Freezing, freezing_entry}
-use Rattle.bz_renew.specs.LinkSwaps.{IsFresh, IsLinkSwap, LinkSwapsAreGood}
-use Rattle.bz_renew.specs.Renewals.{renewal, link_entry, guard_entry, LinksMayBeTurned}
-use Rattle.bz_renew.specs.Standing.{StillLeads, GuardedLinksStand}
-use Rattle.bz_renew.specs.Turning.{TurnsWith, AreGoing, RootLinksTurnWith}
+use Rattle.bz_renew.specs.LinkSwaps.{IsFresh, IsLinkSwap}
+use Rattle.bz_renew.specs.Renewals.{renewal, link_entry, guard_entry}
+use Rattle.bz_renew.specs.Standing.{StillLeads}
+use Rattle.bz_renew.specs.Turning.{TurnsWith, AreGoing}
 use Rattle.bz_renew.proofs.Freezings.{renewal-holds}
 use Rattle.bz_renew.proofs.FreshSlots.{outside-tree, fresh-unchanged, raw-stays, durable-stays}
 use Rattle.bz_renew.proofs.Inserting.{all-inserted-first}
 use Rattle.bz_renew.proofs.TwoEntries.{both-stand}
+use Rattle.bz_renew.proofs.Proved.{guarded_links_stand, link_swaps_are_good, links_may_be_turned, root_links_turn_with}
 use Rattle.bz_below.specs.FromSplit.BelowSplits.{parent_freezing, below_swap}
 use Rattle.bz_branch.specs.RootSplits.{IsInnerRootSplit, InnerRootSplitsAreGood}
 use Rattle.bz_branch.proofs.InnerSplitting.{among-three, first-in}
 use Rattle.bz_branch.proofs.Standing.{guard-is, node-below, then-good, then-inside, same-place, same-words}
 
--- the laws on which the swap rests
-pub record Laws : Type 0 where
-  pub formed : WellFormedImagesHaveNoFault
-  pub plain : PlainWordsStandForThemselves
-  pub keep : RootSplitsKeepTheContent
-  pub may : LinksMayBeTurned
-  pub turn : RootLinksTurnWith
-  pub stand : GuardedLinksStand
-  pub ranges : RangesStay
-  pub roots : RootsAreReached
-  pub headers : HeadersSayTheLevel
-  pub links : LinkSwapsAreGood
-
-module _ (b : Laws) (s : Scene) (y : Instant) (upper lower : Link) (q l r m : ℕ) (sep : List ℕ) (good : IsScene s) (f : IsInnerRootSplit upper lower q l r m sep s) (stand : Stand (below_swap s.past.config upper lower q) (here s)) (swaps : SwapsTo s.past.config (below_swap s.past.config upper lower q) (here s) y) where
+module _ (s : Scene) (y : Instant) (upper lower : Link) (q l r m : ℕ) (sep : List ℕ) (good : IsScene s) (f : IsInnerRootSplit upper lower q l r m sep s) (stand : Stand (below_swap s.past.config upper lower q) (here s)) (swaps : SwapsTo s.past.config (below_swap s.past.config upper lower q) (here s) y) where
   abbrev a : ℕ
   a = upper.slot
 
@@ -71,25 +60,25 @@ module _ (b : Laws) (s : Scene) (y : Instant) (upper lower : Link) (q l r m : �
   node-now = ap (here s).value (guard-is s a lower good f.node) ∙ all-inserted-first stands (freezing_entry c (parent_freezing upper lower)) (renewal upper q) stand
 
   leads : StillLeads lower s f.node.guard.guarded a f.node.under.child.child
-  leads = subst (λ z. StillLeads lower s f.node.guard.guarded z f.node.under.child.child) f.node.parent (b.stand s lower good f.node.guard f.node.thawed f.node.under node-now)
+  leads = subst (λ z. StillLeads lower s f.node.guard.guarded z f.node.under.child.child) f.node.parent (guarded_links_stand s lower good f.node.guard f.node.thawed f.node.under node-now)
 
   place : SamePlace c (s.past.at f.node.guard.guarded) (here s) a
-  place = same-place s a lower good f.node b.ranges f.node.under.child.child leads
+  place = same-place s a lower good f.node f.node.under.child.child leads
 
   same : durable c (here s) a ≡ words c (s.past.at f.node.guard.guarded) a
-  same = same-words s a lower good f.node b.ranges f.node.under.child.child leads
+  same = same-words s a lower good f.node f.node.under.child.child leads
 
   below-top : a ≢ c.nodes
   below-top e = absurd (omega (arith, e, node-below s a lower good f.node))
 
   going : AreGoing frozen (a ∷ []) s
   going = record {
-    freezable = (record { reached = leads.reached; plain = (b.may s lower good f.node.guard f.node.thawed).plain; thawed = f.node.thawed }, (refl, tt));
+    freezable = (record { reached = leads.reached; plain = (links_may_be_turned s lower good f.node.guard f.node.thawed).plain; thawed = f.node.thawed }, (refl, tt));
     go = λ k e. e;
   }
 
   t : TurnsWith upper q frozen (a ∷ []) s y c.nodes 0 (a ∷ [])
-  t = b.turn s y upper q frozen (a ∷ []) good f.under f.ready.fresh.root.slot going stand swaps
+  t = root_links_turn_with s y upper q frozen (a ∷ []) good f.under f.ready.fresh.root.slot going stand swaps
 
   -- the node is the root
   root-is : root (resolve (here s).image) ≡ a
@@ -101,7 +90,7 @@ module _ (b : Laws) (s : Scene) (y : Instant) (upper lower : Link) (q l r m : �
   all-keys : HasRoot c (here s) a
   all-keys =
       let at : (here s).value ROOT_AT - 1 ≡ a = omega (arith, root-is, g.root) in
-      subst (HasRoot c (here s)) at (b.roots c (here s) g)
+      subst (HasRoot c (here s)) at (roots_are_reached c (here s) g)
 
   abbrev level_then : ℕ
   level_then = (form_at c (s.past.at f.node.guard.guarded)).level a
@@ -113,7 +102,7 @@ module _ (b : Laws) (s : Scene) (y : Instant) (upper lower : Link) (q l r m : �
   level : level_of (node c (resolve (here s).image) (root (resolve (here s).image))) ≡ level_then
   level =
       subst (λ z. level_of (node c (resolve (here s).image) z) ≡ level_then) (sym root-is)
-      (header-level (durable c (here s) a) (words c (s.past.at f.node.guard.guarded) a) same ∙ (b.headers c (s.past.at f.node.guard.guarded) a (then-good s a lower good f.node) below-top (then-inside s a lower good f.node)).level)
+      (header-level (durable c (here s) a) (words c (s.past.at f.node.guard.guarded) a) same ∙ (headers_say_the_level c (s.past.at f.node.guard.guarded) a (then-good s a lower good f.node) below-top (then-inside s a lower good f.node)).level)
 
   level-some : 0 < level_then
   level-some = omega (arith, place.level, leads.stands.level)
@@ -130,11 +119,11 @@ module _ (b : Laws) (s : Scene) (y : Instant) (upper lower : Link) (q l r m : �
     unnamed j n = t.others k j (fresh-unchanged s y (a ∷ []) k good fresh t.changes) n
 
     after : durable c y k ≡ words c (here s) k
-    after = durable-stays b.plain (below_swap c upper lower q) s y k good fresh unnamed swaps
+    after = durable-stays plain_words_stand_for_themselves (below_swap c upper lower q) s y k good fresh unnamed swaps
 
     stands-after : (was now : ℕ) (low low_now high high_now : Option (List ℕ)) → now ≡ was → low_now ≡ low → high_now ≡ high → node_fault c.nodes (words c (here s) k) (words c (here s) k) was low high ≡ None → StandsWhole c z k now low_now high_now
     stands-after was now low low_now high high_now levels lows highs e =
-        (λ j. node_fault c.nodes (raw-stays b.plain (below_swap c upper lower q) s y k good fresh unnamed swaps j) (after j) (levels j) (lows j) (highs j)) ∙ e
+        (λ j. node_fault c.nodes (raw-stays plain_words_stand_for_themselves (below_swap c upper lower q) s y k good fresh unnamed swaps j) (after j) (levels j) (lows j) (highs j)) ∙ e
 
   halves : Halves (children_of (durable c (here s) a)) (children_of (durable c y l)) (children_of (durable c y r)) m sep
   halves = subst (λ n. Halves (children_of n) (children_of (durable c y l)) (children_of (durable c y r)) m sep) (sym same)
@@ -164,8 +153,8 @@ module _ (b : Laws) (s : Scene) (y : Instant) (upper lower : Link) (q l r m : �
 
   regrows : Regrows (view_in c (here s).image) (view_in c y.image) (a ∷ []) (q ∷ l ∷ r ∷ [])
   regrows =
-      let w : IsWellFormed c (here s).image = (b.formed c (here s).image).0 g.form in
-      subst (λ j. Regrows (view_in c (here s).image) (view_in c y.image) (j ∷ []) (q ∷ l ∷ r ∷ [])) root-is (b.keep c x z q l r m sep w.tree splits)
+      let w : IsWellFormed c (here s).image = (well_formed_images_have_no_fault c (here s).image).0 g.form in
+      subst (λ j. Regrows (view_in c (here s).image) (view_in c y.image) (j ∷ []) (q ∷ l ∷ r ∷ [])) root-is (root_splits_keep_the_content c x z q l r m sep w.tree splits)
 
   root-frozen : (page_at c y a).frozen ≡ true
   root-frozen = t.freezes a (first-in a [])
@@ -182,6 +171,6 @@ module _ (b : Laws) (s : Scene) (y : Instant) (upper lower : Link) (q l r m : �
     regrows = regrows;
   }
 
-pub inner-root-splits : Laws → InnerRootSplitsAreGood
-inner-root-splits b change s y upper lower q l r m sep good f stand swaps =
-    b.links change (below_swap s.past.config upper lower q) s (upper.slot ∷ []) (upper.slot ∷ []) (q ∷ l ∷ r ∷ []) y good (link-swap b s y upper lower q l r m sep good f stand swaps)
+pub inner-root-splits : InnerRootSplitsAreGood
+inner-root-splits change s y upper lower q l r m sep good f stand swaps =
+    link_swaps_are_good change (below_swap s.past.config upper lower q) s (upper.slot ∷ []) (upper.slot ∷ []) (q ∷ l ∷ r ∷ []) y good (link-swap s y upper lower q l r m sep good f stand swaps)

@@ -6,9 +6,10 @@ use Rattle.bz_layout.specs.declared.sizes.TheConstants.{STATUS_AT}
 use Rattle.bz_word.specs.Statuses.{status}
 use Rattle.bz_task.specs.Good.{IsGood}
 use Rattle.bz_task.specs.Instant.{words, durable, page_at, is_inside}
-use Rattle.bz_task.specs.Laws.{SamePlace, RangesStay}
+use Rattle.bz_task.specs.Laws.{SamePlace}
 use Rattle.bz_task.specs.Scene.{Scene, IsScene, here}
 use Rattle.bz_task.specs.declared.path.Link.{Link}
+use Rattle.bz_task.proofs.Proved.{ranges_stay}
 use Rattle.bz_renew.specs.Standing.{StillLeads}
 use Rattle.bz_renew.proofs.Words.{node-at}
 use Rattle.bz_branch.specs.Nodes.{IsOpenLink}
@@ -37,12 +38,12 @@ module _ (s : Scene) (k : ℕ) (link : Link) (good : IsScene s) (o : IsOpenLink 
   pub then-inside : is_inside s.past.config (s.past.at o.guard.guarded) k ≡ true
   then-inside = elim (then-good.placed k then-reached) [ inl t ↦ t | inr f ↦ absurd (true≢false (sym f ∙ then-thawed)) ]
 
-  module _ (ranges : RangesStay) (child : ℕ) (leads : StillLeads link s o.guard.guarded k child) where
+  module _ (child : ℕ) (leads : StillLeads link s o.guard.guarded k child) where
     g : IsGood s.past.config (here s)
     g = good.history.good s.past.now good.begun (omega arith)
 
     pub same-place : SamePlace s.past.config (s.past.at o.guard.guarded) (here s) k
-    same-place = ranges s.past.config s.past.at s.past.since s.past.now o.guard.guarded s.past.now k good.history
+    same-place = ranges_stay s.past.config s.past.at s.past.since s.past.now o.guard.guarded s.past.now k good.history
         (record { since = o.guard.since; order = omega (arith, o.guard.order, o.guard.now); until = omega arith }) (λ e. absurd (omega (arith, e, node-below))) then-inside leads.inside
 
     -- its words in the image are those that were read

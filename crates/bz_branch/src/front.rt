@@ -10,7 +10,6 @@ use bz_key::Key;
 use bz_layout::{BYTES_IN_WORD, HEADER_AT, LOW_FENCE_AT};
 use bz_node::NodeImage;
 use bz_renew::is_whole;
-use bz_slotted::laws as slotted;
 use bz_word::Header;
 
 // The key of so many bytes that stands at a place, if there is one.
@@ -29,9 +28,6 @@ pub fn low_fence(image: &NodeImage) -> Option<Key>
     ensures { (nodes : ℕ) (raw : ℕ → ℕ) (level : ℕ) (low high : Option (List ℕ)) → node_fault nodes raw (node_of image.now.0) level low high ≡ None → result ≡ low }
 {
     is_whole(image);
-    slotted::leaf_rules_are_facts();
-    slotted::inner_rules_are_facts();
-    bz_word::laws::headers();
     let words = &image.0;
     match Header::unpack(words[HEADER_AT as usize]) {
         Some(header) => key_at(words, LOW_FENCE_AT, header.low),
@@ -44,9 +40,6 @@ pub fn level_of(image: &NodeImage) -> u32
     ensures { (nodes : ℕ) (raw : ℕ → ℕ) (level : ℕ) (low high : Option (List ℕ)) → node_fault nodes raw (node_of image.now.0) level low high ≡ None → result ≡ level }
 {
     is_whole(image);
-    slotted::leaf_rules_are_facts();
-    slotted::inner_rules_are_facts();
-    bz_word::laws::headers();
     match Header::unpack(image.0[HEADER_AT as usize]) {
         Some(header) => header.level,
         None => 0,

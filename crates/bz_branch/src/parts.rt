@@ -28,10 +28,6 @@ pub fn parts_of(read: &NodeImage) -> InnerHalves
     requires { IsFullNode read.now.0 }
     ensures { ArePartsOfNode read.now.0 result.left.0 result.right.0 result.separator }
 {
-    bz_parted::laws::children_part_in_halves();
-    bz_parted::laws::halves_are_inner();
-    bz_slotted::laws::high_fences_are_read();
-    bz_slotted::laws::inner_rules_are_facts();
     is_whole(read);
     let low = low_fence(read);
     let high = read.high();

@@ -5,23 +5,22 @@ use Rattle.std.proofs.lemmas.Bool.{cases_eq, cases_lt}
 use Rattle.std.proofs.lemmas.Bool.Decides.{nat_tests}
 use Rattle.bz_layout.specs.Addresses.{node_address}
 use Rattle.bz_layout.specs.Config.{IsConfig}
-use Rattle.bz_layout.specs.Fresh.{fresh_words, SaysFresh, FreshWordsSay}
+use Rattle.bz_layout.specs.Fresh.{fresh_words, SaysFresh}
 use Rattle.bz_layout.specs.declared.config.Config.{Config}
 use Rattle.bz_layout.specs.declared.sizes.TheConstants.{FORMAT_AT, ROOT_AT, FORMAT, FIRST_ROOT, NODE_WORDS}
-use Rattle.bz_shape.specs.TreeLaws.{FormsFitTrees, LeavesTileTheKeys}
-use Rattle.bz_slotted.specs.Laws.{LeafRulesAreFacts, InnerRulesAreFacts}
+use Rattle.bz_layout.proofs.Laws.{fresh_words_say}
 use Rattle.bz_slotted.specs.Page.{page}
 use Rattle.bz_slotted.specs.Readers.{found_of}
 use Rattle.bz_slotted.specs.Records.{live_block, search_to}
 use Rattle.bz_slotted.specs.Rules.{node_fault}
 use Rattle.bz_slotted.specs.Tests.{every}
 use Rattle.bz_slotted.specs.Whole.{Whole}
+use Rattle.bz_slotted.proofs.Proved.{leaf_rules_are_facts}
 use Rattle.bz_word.specs.Headers.{header}
-use Rattle.bz_word.specs.Statements.{ValuesAreTheirWords}
 use Rattle.bz_word.specs.Statuses.{status}
 use Rattle.bz_content.specs.Content.{image_of, is_super, IsWellFormed}
 use Rattle.bz_content.specs.Image.{node}
-use Rattle.bz_content.specs.Laws.{ViewsAreHonest, FreshMemoryIsEmpty, FreshMemoryReachesSlotZero}
+use Rattle.bz_content.specs.Laws.{FreshMemoryIsEmpty, FreshMemoryReachesSlotZero}
 use Rattle.bz_content.specs.Resolving.{resolve}
 use Rattle.bz_content.proofs.Honesty.{no}
 use Rattle.bz_content.proofs.Reached.{is}
@@ -97,16 +96,16 @@ fresh-super c raw f =
     let unused : every 11 (λ i. raw (5 + i) == 0) ≡ true = every-passes 11 (λ i. raw (5 + i) == 0) (λ i l. let e : raw (5 + i) ≡ 0 = f.rest (5 + i) (omega arith) in grind (arith, nat_tests)) in
     rw (f.says.0, f.says.3, f.says.4, is c.nodes, is c.swaps, unused) refl
 
-fresh-leaf : ValuesAreTheirWords → LeafRulesAreFacts → (c : Config) (raw : ℕ → ℕ) → IsFresh c raw → HasRootLeaf c (image_of raw)
-fresh-leaf values leaf c raw f = record {
+fresh-leaf : (c : Config) (raw : ℕ → ℕ) → IsFresh c raw → HasRootLeaf c (image_of raw)
+fresh-leaf c raw f = record {
   some = omega (arith, f.config.nodes_in_range.at_least);
   pointer = stays 1 ∙ f.says.1;
   status = omega (arith, stays 2, f.says.2);
-  whole = (λ t. node_fault c.nodes (zeros_raw t) (zeros t) 0 None None) ∙ (leaf c.nodes (λ i. 0) (λ i. 0) None None).1 zero-whole;
+  whole = (λ t. node_fault c.nodes (zeros_raw t) (zeros t) 0 None None) ∙ (leaf_rules_are_facts c.nodes (λ i. 0) (λ i. 0) None None).1 zero-whole;
 }
   where
     stays : (a : ℕ) → resolve raw a ≡ raw a
-    stays a = resolve-value values raw a (fresh-small c raw a f)
+    stays a = resolve-value raw a (fresh-small c raw a f)
 
     far : (i : ℕ) → 5 ≤ node_address c 0 + i
     far i = omega arith
@@ -117,42 +116,32 @@ fresh-leaf values leaf c raw f = record {
     zeros : node c (resolve raw) 0 ≡ (λ i. 0)
     zeros = zero-node c (resolve raw) 0 (λ i. stays (node_address c 0 + i) ∙ f.rest (node_address c 0 + i) (far i))
 
-fresh-holds : ValuesAreTheirWords → LeafRulesAreFacts → (c : Config) (raw : ℕ → ℕ) (key : List ℕ) → IsFresh c raw → found_of (node c (resolve raw) 0) key ≡ None
-fresh-holds values leaf c raw key f =
+fresh-holds : (c : Config) (raw : ℕ → ℕ) (key : List ℕ) → IsFresh c raw → found_of (node c (resolve raw) 0) key ≡ None
+fresh-holds c raw key f =
     let zeros : node c (resolve raw) 0 ≡ (λ i. 0) =
-    zero-node c (resolve raw) 0 (λ i. resolve-value values raw (node_address c 0 + i) (fresh-small c raw (node_address c 0 + i) f) ∙ f.rest (node_address c 0 + i) (omega arith)) in
+    zero-node c (resolve raw) 0 (λ i. resolve-value raw (node_address c 0 + i) (fresh-small c raw (node_address c 0 + i) f) ∙ f.rest (node_address c 0 + i) (omega arith)) in
     ap (λ n. found_of n key) zeros ∙ zero-found key
 
--- what the laws below say, from which those of fresh memory follow
-pub record Given : Type 0 where
-  pub words : FreshWordsSay
-  pub values : ValuesAreTheirWords
-  pub forms : FormsFitTrees
-  pub tile : LeavesTileTheKeys
-  pub honest : ViewsAreHonest
-  pub leaf : LeafRulesAreFacts
-  pub inner : InnerRulesAreFacts
-
-module _ (b : Given) (c : Config) (config : IsConfig c) where
+module _ (c : Config) (config : IsConfig c) where
   abbrev raw : ℕ → ℕ
   raw = slice_index (fresh_words c)
 
   fresh : IsFresh c raw
-  fresh = let s : SaysFresh c (fresh_words c) = b.words c in record { config = config; says = (s.format, s.root, s.root_status, s.nodes, s.swaps); rest = s.rest }
+  fresh = let s : SaysFresh c (fresh_words c) = fresh_words_say c in record { config = config; says = (s.format, s.root, s.root_status, s.nodes, s.swaps); rest = s.rest }
 
   held : HoldsLeaf c (image_of raw)
-  held = root-leaf b.forms b.tile b.honest b.leaf b.inner c (image_of raw) (fresh-leaf b.values b.leaf c raw fresh)
+  held = root-leaf c (image_of raw) (fresh-leaf c raw fresh)
 
   rules : IsWellFormed c raw
   rules = record {
     super = fresh-super c raw fresh;
-    lawful = λ a l. value-lawful b.values c raw a (fresh-small c raw a fresh) (λ g. fresh.rest a (omega arith));
+    lawful = λ a l. value-lawful c raw a (fresh-small c raw a fresh) (λ g. fresh.rest a (omega arith));
     tree = held.tree;
   }
 
-pub fresh-empty : Given → FreshMemoryIsEmpty
-fresh-empty b c config =
-    ((well-formed b.honest c (raw b c config)).1 (rules b c config), λ key. (held b c config).content key ∙ fresh-holds b.values b.leaf c (raw b c config) key (fresh b c config))
+pub fresh-empty : FreshMemoryIsEmpty
+fresh-empty c config =
+    ((well-formed c (raw c config)).1 (rules c config), λ key. (held c config).content key ∙ fresh-holds c (raw c config) key (fresh c config))
 
-pub fresh-reaches : Given → FreshMemoryReachesSlotZero
-fresh-reaches b c k config l = (held b c config).inside k ∙ rw (no k c.nodes (λ e. absurd (omega (arith, l, e)))) refl
+pub fresh-reaches : FreshMemoryReachesSlotZero
+fresh-reaches c k config l = (held c config).inside k ∙ rw (no k c.nodes (λ e. absurd (omega (arith, l, e)))) refl

@@ -12,12 +12,13 @@ use Rattle.std.proofs.lemmas.List.FromFn.{get_or-map-range_with_len, length-map-
 use Rattle.bz_layout.specs.declared.config.Config.{Config}
 use Rattle.bz_layout.specs.declared.sizes.TheConstants.{NODE_WORDS}
 use Rattle.bz_shape.specs.Form.{Fits}
-use Rattle.bz_shape.specs.TreeLaws.{TreesHaveForms, MapIsTheContent as ViewMap}
+use Rattle.bz_shape.proofs.Proved.{map_is_the_content}
 use Rattle.bz_slotted.specs.Page.{page}
 use Rattle.bz_slotted.specs.Readers.{found_of}
-use Rattle.bz_slotted.specs.ReadingLaws.{node_of, ReadsAsPairs, WholeLeavesAreReadable}
+use Rattle.bz_slotted.specs.ReadingLaws.{node_of, ReadsAsPairs}
 use Rattle.bz_slotted.specs.Records.{records}
 use Rattle.bz_slotted.specs.Rules.{node_fault}
+use Rattle.bz_slotted.proofs.Proved.{whole_leaves_are_readable}
 use Rattle.bz_content.specs.Image.{Image, node}
 use Rattle.bz_content.specs.Laws.{MapIsTheContent}
 use Rattle.bz_content.specs.Map.{records_in}
@@ -46,24 +47,24 @@ listed-same c words k = λ t i. at i t
     ]
 
 -- the records of a leaf that breaks no rule say of a key what the leaf says
-records-say : WholeLeavesAreReadable → (c : Config) (x : Image) (k : ℕ) (lo hi : Option (List ℕ)) (key : List ℕ) → node_fault c.nodes (node c x.raw k) (node c x.words k) 0 lo hi ≡ None
+records-say : (c : Config) (x : Image) (k : ℕ) (lo hi : Option (List ℕ)) (key : List ℕ) → node_fault c.nodes (node c x.raw k) (node c x.words k) 0 lo hi ≡ None
     → find (slice_cmp nat_cmp) key (records_in c x k) ≡ found_of (node c x.words k) key
-records-say readable c x k lo hi key e =
+records-say c x k lo hi key e =
     let same : node_of (listed (node c x.words k)) ≡ node c x.words k = listed-same c x.words k in
     let r : ReadsAsPairs (listed (node c x.words k)) =
-    readable c.nodes (node c x.raw k) (listed (node c x.words k)) lo hi (length-map-range_with_len (node c x.words k) 0 NODE_WORDS)
+    whole_leaves_are_readable c.nodes (node c x.raw k) (listed (node c x.words k)) lo hi (length-map-range_with_len (node c x.words k) 0 NODE_WORDS)
     (subst (λ n. node_fault c.nodes (node c x.raw k) n 0 lo hi ≡ None) (sym same) e) in
     ap (λ n. find (slice_cmp nat_cmp) key (records (page n))) (sym same) ∙ ap (λ pairs. find (slice_cmp nat_cmp) key pairs) (sym r.pairs) ∙ r.says key ∙ ap (λ n. found_of n key) same
 
-pub map-is-content : TreesHaveForms → ViewMap → WholeLeavesAreReadable → MapIsTheContent
-map-is-content forms law readable c x t key = law (view_of c x) (records_in c x) key t says
+pub map-is-content : MapIsTheContent
+map-is-content c x t key = map_is_the_content (view_of c x) (records_in c x) key t says
   where
     g : Fits (view_of c x) (form_in c x)
-    g = fits forms c x t
+    g = fits c x t
 
     says : (k : ℕ) → (form_in c x).inside k ≡ true → (form_in c x).level k ≡ 0 → find (slice_cmp nat_cmp) key (records_in c x k) ≡ (view_of c x).found k key
     says k i l =
         let below : k ≢ c.nodes = (λ e. absurd (omega (arith, g.tall, g.height, l, ap (form_in c x).level e))) in
         let none : node_fault c.nodes (node c x.raw k) (node c x.words k) ((form_in c x).level k) ((form_in c x).low k) ((form_in c x).high k) ≡ None =
         rw (no k c.nodes below) at (g.whole k i below) in
-        rw (no k c.nodes below) (records-say readable c x k _ _ key (rw l at none))
+        rw (no k c.nodes below) (records-say c x k _ _ key (rw l at none))

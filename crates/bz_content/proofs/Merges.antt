@@ -5,29 +5,27 @@ use Rattle.std.proofs.lemmas.Bool.Decides.{nat_tests}
 use Rattle.bz_shape.specs.Form.{Form, Fits, Hangs}
 use Rattle.bz_shape.specs.Slots.{Wider}
 use Rattle.bz_shape.specs.Merge.{Merge}
-use Rattle.bz_shape.specs.SwapLaws.{MergesKeepTheContent as ViewMerges}
 use Rattle.bz_shape.specs.Walk.{is_among}
-use Rattle.bz_slotted.specs.InnerChanges.{PointerSwapChangesChild}
+use Rattle.bz_shape.proofs.Proved.{merges_keep_the_content}
 use Rattle.bz_content.specs.Image.{node, root}
 use Rattle.bz_content.specs.Laws.{Turned, MergesKeepTheContent}
 use Rattle.bz_content.specs.Swaps.{form_in}
 use Rattle.bz_content.specs.View.{view_of}
 use Rattle.bz_content.proofs.Restructures.{seen, moved, not-top, heights}
-use Rattle.bz_content.proofs.Honesty.{no}
+use Rattle.bz_content.proofs.Honesty.{no, honest}
 use Rattle.bz_content.proofs.Reached.{fits, root-stands, level-is}
-use Rattle.bz_content.proofs.Swaps.{Below}
 use Rattle.bz_content.proofs.Turns.{links-turned}
 
-pub merges : Below → PointerSwapChangesChild → ViewMerges → MergesKeepTheContent
-merges b pointer law c x y a d q m sep t s =
-    law (view_of c x) (view_of c y) a d q m sep t (b.honest c y) swap s.two
+pub merges : MergesKeepTheContent
+merges c x y a d q m sep t s =
+    merges_keep_the_content (view_of c x) (view_of c y) a d q m sep t (honest c y) swap s.two
     (λ key h. rw (no m c.nodes m_below, no a c.nodes a_below) (s.says_a key h), λ key h. rw (no m c.nodes m_below, no d c.nodes d_below) (s.says_b key h))
   where
     f : Form
     f = form_in c x
 
     g : Fits (view_of c x) f
-    g = fits b.forms c x t
+    g = fits c x t
 
     a_below : a ≢ c.nodes
     a_below e = absurd (omega (arith, g.tall, g.height, s.leaf, ap f.level e))
@@ -40,7 +38,7 @@ merges b pointer law c x y a d q m sep t s =
     d_below e = s.deep (sym s.same_up ∙ ap f.up e ∙ g.top_up)
 
     turned : Turned c x y (f.up (f.up a)) (f.index (f.up a)) q (a ∷ d ∷ f.up a ∷ [])
-    turned = links-turned b.forms b.nodes pointer c x y (f.up (f.up a)) (f.index (f.up a)) q (a ∷ d ∷ f.up a ∷ []) t s.link
+    turned = links-turned c x y (f.up (f.up a)) (f.index (f.up a)) q (a ∷ d ∷ f.up a ∷ []) t s.link
 
     q_below : q ≢ c.nodes
     q_below = not-top c x q g s.fresh_q
@@ -57,8 +55,8 @@ merges b pointer law c x y a d q m sep t s =
 
     swap : Merge (view_of c x) (view_of c y) f a d q m sep
     swap = record {
-      same_top = heights b c x y (f.up a) (f.up (f.up a)) (f.index (f.up a)) q (a ∷ d ∷ f.up a ∷ []) g turned oa.inside s.deep refl (root_far (cases_eq (root x.words) (f.up a))) refl
-          (level-is b.nodes.leaf b.nodes.inner c.nodes _ (node c y.raw q) (node c y.words q) _ _ s.whole_q);
+      same_top = heights c x y (f.up a) (f.up (f.up a)) (f.index (f.up a)) q (a ∷ d ∷ f.up a ∷ []) g turned oa.inside s.deep refl (root_far (cases_eq (root x.words) (f.up a))) refl
+          (level-is c.nodes _ (node c y.raw q) (node c y.words q) _ _ s.whole_q);
       inside = s.inside;
       inside_b = s.inside_b;
       not_top = a_below;

@@ -7,18 +7,16 @@ use Rattle.bz_shape.specs.Form.{Form, Fits, Hangs}
 use Rattle.bz_shape.specs.Order.{is_before}
 use Rattle.bz_shape.specs.Slots.{SameTop, Children, children, Wider, Halves}
 use Rattle.bz_shape.specs.Split.{Split}
-use Rattle.bz_shape.specs.SwapLaws.{SplitsKeepTheContent as ViewSplits}
 use Rattle.bz_shape.specs.Walk.{is_among}
-use Rattle.bz_slotted.specs.InnerChanges.{PointerSwapChangesChild}
+use Rattle.bz_shape.proofs.Proved.{splits_keep_the_content}
 use Rattle.bz_slotted.specs.Readers.{level_of, count_of, child_of, key_of}
 use Rattle.bz_content.specs.Image.{Image, node, root}
 use Rattle.bz_content.specs.Laws.{Turned, SplitsKeepTheContent}
 use Rattle.bz_content.specs.Restructures.{children_of}
 use Rattle.bz_content.specs.Swaps.{form_in}
 use Rattle.bz_content.specs.View.{view_of}
-use Rattle.bz_content.proofs.Honesty.{no}
+use Rattle.bz_content.proofs.Honesty.{no, honest}
 use Rattle.bz_content.proofs.Reached.{is, fits, root-stands, level-is, level-at}
-use Rattle.bz_content.proofs.Swaps.{Below}
 use Rattle.bz_content.proofs.Turns.{links-turned}
 
 -- what the words of a slot tell of its children is what the view does
@@ -38,10 +36,10 @@ pub not-top : (c : Config) (x : Image) (k : ℕ) → Fits (view_of c x) (form_in
 not-top c x k g fresh e = absurd (grind (arith, sym fresh ∙ ap (form_in c x).inside e ∙ g.top))
 
 -- where a node that takes another's place stands at its level, the trees have one height
-pub heights : (b : Below) (c : Config) (x y : Image) (p g i q : ℕ) (gone : List ℕ) → Fits (view_of c x) (form_in c x) → Turned c x y g i q gone
+pub heights : (c : Config) (x y : Image) (p g i q : ℕ) (gone : List ℕ) → Fits (view_of c x) (form_in c x) → Turned c x y g i q gone
     → (form_in c x).inside p ≡ true → p ≢ c.nodes → (form_in c x).up p ≡ g → is_among gone (root x.words) ≡ false ⊎ (root x.words ≡ p) → i ≡ (form_in c x).index p
     → level_of (node c y.words q) ≡ (form_in c x).level p → SameTop (view_of c x) (view_of c y)
-heights b c x y p g i q gone fit turned ins ne up stays at level = go (cases_eq g c.nodes)
+heights c x y p g i q gone fit turned ins ne up stays at level = go (cases_eq g c.nodes)
   where
     hangs : Hangs (view_of c x) (form_in c x) p
     hangs = fit.hangs p ins ne
@@ -54,27 +52,27 @@ heights b c x y p g i q gone fit turned ins ne up stays at level = go (cases_eq 
         sym (rw (is c.nodes) refl) ∙ (λ z. (view_of c x).child (sym top z) (sym first z)) ∙ hangs.child
 
     go : (g ≡ c.nodes) ⊎ (g ≢ c.nodes) → SameTop (view_of c x) (view_of c y)
-    go (inl e) = turned.at_root e (level ∙ sym (ap (λ k. level_of (node c x.words k)) (root_is e) ∙ level-at b.nodes.leaf b.nodes.inner c x p fit ins ne))
+    go (inl e) = turned.at_root e (level ∙ sym (ap (λ k. level_of (node c x.words k)) (root_is e) ∙ level-at c x p fit ins ne))
     go (inr n) = turned.below_root n (elim stays [
       | inl far ↦ far
       | inr e ↦ absurd (n (sym up ∙ ap (form_in c x).up (sym e) ∙ (root-stands c x fit).up))
     ])
 
-pub splits : Below → PointerSwapChangesChild → ViewSplits → SplitsKeepTheContent
-splits b pointer law c x y a q l r m sep t s =
-    law (view_of c x) (view_of c y) a q l r m sep t (b.honest c y) swap s.three (λ key leaf before. left key leaf before, λ key leaf from. right key leaf from)
+pub splits : SplitsKeepTheContent
+splits c x y a q l r m sep t s =
+    splits_keep_the_content (view_of c x) (view_of c y) a q l r m sep t (honest c y) swap s.three (λ key leaf before. left key leaf before, λ key leaf from. right key leaf from)
   where
     f : Form
     f = form_in c x
 
     g : Fits (view_of c x) f
-    g = fits b.forms c x t
+    g = fits c x t
 
     oa : Hangs (view_of c x) f a
     oa = g.hangs a s.inside s.not_top
 
     turned : Turned c x y (f.up (f.up a)) (f.index (f.up a)) q (a ∷ f.up a ∷ [])
-    turned = links-turned b.forms b.nodes pointer c x y (f.up (f.up a)) (f.index (f.up a)) q (a ∷ f.up a ∷ []) t s.link
+    turned = links-turned c x y (f.up (f.up a)) (f.index (f.up a)) q (a ∷ f.up a ∷ []) t s.link
 
     q_below : q ≢ c.nodes
     q_below = not-top c x q g s.fresh_q
@@ -91,8 +89,8 @@ splits b pointer law c x y a q l r m sep t s =
 
     swap : Split (view_of c x) (view_of c y) f a q l r m sep
     swap = record {
-      same_top = heights b c x y (f.up a) (f.up (f.up a)) (f.index (f.up a)) q (a ∷ f.up a ∷ []) g turned oa.inside s.deep refl (root_far (cases_eq (root x.words) (f.up a))) refl
-          (level-is b.nodes.leaf b.nodes.inner c.nodes _ (node c y.raw q) (node c y.words q) _ _ s.whole_q);
+      same_top = heights c x y (f.up a) (f.up (f.up a)) (f.index (f.up a)) q (a ∷ f.up a ∷ []) g turned oa.inside s.deep refl (root_far (cases_eq (root x.words) (f.up a))) refl
+          (level-is c.nodes _ (node c y.raw q) (node c y.words q) _ _ s.whole_q);
       inside = s.inside;
       not_top = s.not_top;
       deep = s.deep;

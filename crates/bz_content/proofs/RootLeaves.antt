@@ -6,16 +6,14 @@ use Rattle.std.proofs.lemmas.Bool.Decides.{nat_tests}
 use Rattle.bz_layout.specs.declared.config.Config.{Config}
 use Rattle.bz_shape.specs.Descent.{leaf_of, content}
 use Rattle.bz_shape.specs.Form.{Form, Fits, Stands}
-use Rattle.bz_shape.specs.TreeLaws.{FormsFitTrees, LeavesTileTheKeys}
 use Rattle.bz_shape.specs.Walk.{IsTree, form}
 use Rattle.bz_shape.specs.Outcomes.{Agree, Moved}
-use Rattle.bz_slotted.specs.Laws.{LeafRulesAreFacts, InnerRulesAreFacts}
+use Rattle.bz_shape.proofs.Proved.{forms_fit_trees, leaves_tile_the_keys}
 use Rattle.bz_slotted.specs.Readers.{level_of, found_of}
 use Rattle.bz_slotted.specs.Rules.{node_fault}
 use Rattle.bz_content.specs.Image.{Image, node, root}
-use Rattle.bz_content.specs.Laws.{ViewsAreHonest}
 use Rattle.bz_content.specs.View.{view_of}
-use Rattle.bz_content.proofs.Honesty.{no}
+use Rattle.bz_content.proofs.Honesty.{no, honest}
 use Rattle.bz_content.proofs.Reached.{is, level-is}
 use Rattle.bz_content.proofs.Turns.{root-whole}
 
@@ -37,8 +35,8 @@ lone c = record {
   index = λ k. 0;
 }
 
-pub lone-fits : LeafRulesAreFacts → InnerRulesAreFacts → (c : Config) (x : Image) → HasRootLeaf c x → Fits (view_of c x) (lone c)
-lone-fits leaf inner c x h = record {
+pub lone-fits : (c : Config) (x : Image) → HasRootLeaf c x → Fits (view_of c x) (lone c)
+lone-fits c x h = record {
   top = rw (is c.nodes) refl;
   top_up = refl;
   top_low = refl;
@@ -68,7 +66,7 @@ lone-fits leaf inner c x h = record {
     zero_is k ins ne = let t : (k == c.nodes) ≡ false = no k c.nodes ne in grind (arith, nat_tests)
 
     height : level_of (node c x.words (root x.words)) + 1 ≡ 1
-    height = ap (λ k. level_of (node c x.words k) + 1) root_is ∙ ap (λ l. l + 1) (level-is leaf inner c.nodes 0 (node c x.raw 0) (node c x.words 0) None None h.whole)
+    height = ap (λ k. level_of (node c x.words k) + 1) root_is ∙ ap (λ l. l + 1) (level-is c.nodes 0 (node c x.raw 0) (node c x.words 0) None None h.whole)
 
     stands : (k i : ℕ) → ((k == c.nodes) || (k == 0)) ≡ true → 0 < (if k == c.nodes then 1 else 0) → i < (view_of c x).count k → Stands (view_of c x) (lone c) k i ((view_of c x).child k i)
     stands k i ins l lt = elim (cases_eq k c.nodes) [
@@ -85,17 +83,17 @@ pub record HoldsLeaf (c : Config) (x : Image) : Type 0 where
   pub content : (key : List ℕ) → content (view_of c x) key ≡ found_of (node c x.words 0) key
   pub inside : (k : ℕ) → (form (view_of c x)).inside k ≡ (k == c.nodes) || (k == 0)
 
-pub root-leaf : FormsFitTrees → LeavesTileTheKeys → ViewsAreHonest → LeafRulesAreFacts → InnerRulesAreFacts → (c : Config) (x : Image) → HasRootLeaf c x → HoldsLeaf c x
-root-leaf forms tile honest leaf inner c x h = record { tree = tree; content = said; inside = agree.inside }
+pub root-leaf : (c : Config) (x : Image) → HasRootLeaf c x → HoldsLeaf c x
+root-leaf c x h = record { tree = tree; content = said; inside = agree.inside }
   where
     g : Fits (view_of c x) (lone c)
-    g = lone-fits leaf inner c x h
+    g = lone-fits c x h
 
     tree : IsTree (view_of c x)
-    tree = record { honest = honest c x; one = g.top_one; tall = g.tall; none = (forms (view_of c x) (lone c) g).0 }
+    tree = record { honest = honest c x; one = g.top_one; tall = g.tall; none = (forms_fit_trees (view_of c x) (lone c) g).0 }
 
     agree : Agree (view_of c x) (lone c) (form (view_of c x))
-    agree = (forms (view_of c x) (lone c) g).1
+    agree = (forms_fit_trees (view_of c x) (lone c) g).1
 
     zero_not : (0 == c.nodes) ≡ false
     zero_not = no 0 c.nodes (λ e. absurd (omega (arith, h.some)))
@@ -104,7 +102,7 @@ root-leaf forms tile honest leaf inner c x h = record { tree = tree; content = s
     moved = agree.moved 0 (rw zero_not refl)
 
     at : (key : List ℕ) → leaf_of (view_of c x) key ≡ 0
-    at key = (tile (view_of c x) tree key 0).0 (record { inside = moved.inside; leaf = moved.level ∙ rw zero_not refl; low = rw moved.low refl; high = rw moved.high refl })
+    at key = (leaves_tile_the_keys (view_of c x) tree key 0).0 (record { inside = moved.inside; leaf = moved.level ∙ rw zero_not refl; low = rw moved.low refl; high = rw moved.high refl })
 
     said : (key : List ℕ) → content (view_of c x) key ≡ found_of (node c x.words 0) key
     said key = ap (λ k. (view_of c x).found k key) (at key) ∙ rw zero_not refl

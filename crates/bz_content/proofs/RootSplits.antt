@@ -6,8 +6,7 @@ use Rattle.bz_shape.specs.Form.{Form, Fits, Stands}
 use Rattle.bz_shape.specs.Order.{is_before}
 use Rattle.bz_shape.specs.Slots.{children, Halves, AreTwo}
 use Rattle.bz_shape.specs.RootSplit.{RootSplit}
-use Rattle.bz_shape.specs.SwapLaws.{RootSplitsKeepTheContent as ViewRootSplits}
-use Rattle.bz_slotted.specs.InnerChanges.{PointerSwapChangesChild}
+use Rattle.bz_shape.proofs.Proved.{root_splits_keep_the_content}
 use Rattle.bz_slotted.specs.Readers.{level_of}
 use Rattle.bz_content.specs.Image.{node, root}
 use Rattle.bz_content.specs.Laws.{Turned, RootSplitsKeepTheContent}
@@ -15,20 +14,19 @@ use Rattle.bz_content.specs.Restructures.{children_of, StandsWhole}
 use Rattle.bz_content.specs.Swaps.{form_in, TurnsRoot}
 use Rattle.bz_content.specs.View.{view_of}
 use Rattle.bz_content.proofs.Restructures.{seen, moved, not-top}
-use Rattle.bz_content.proofs.Honesty.{no}
+use Rattle.bz_content.proofs.Honesty.{no, honest}
 use Rattle.bz_content.proofs.Reached.{is, fits, root-stands, root-below, level-is, level-at}
-use Rattle.bz_content.proofs.Swaps.{Below}
 use Rattle.bz_content.proofs.Turns.{links-turned}
 
-pub root-splits : Below → PointerSwapChangesChild → ViewRootSplits → RootSplitsKeepTheContent
-root-splits b pointer law c x y q l r m sep t s =
-    law (view_of c x) (view_of c y) (root x.words) q l r m sep t (b.honest c y) swap s.three (λ key leaf before. left key leaf before, λ key leaf from. right key leaf from)
+pub root-splits : RootSplitsKeepTheContent
+root-splits c x y q l r m sep t s =
+    root_splits_keep_the_content (view_of c x) (view_of c y) (root x.words) q l r m sep t (honest c y) swap s.three (λ key leaf before. left key leaf before, λ key leaf from. right key leaf from)
   where
     f : Form
     f = form_in c x
 
     g : Fits (view_of c x) f
-    g = fits b.forms c x t
+    g = fits c x t
 
     a : ℕ
     a = root x.words
@@ -40,10 +38,10 @@ root-splits b pointer law c x y q l r m sep t s =
     a_below = root-below c x g
 
     level : level_of (node c x.words a) ≡ f.level a
-    level = level-at b.nodes.leaf b.nodes.inner c x a g stands.inside a_below
+    level = level-at c x a g stands.inside a_below
 
     turned : Turned c x y c.nodes 0 q (a ∷ [])
-    turned = links-turned b.forms b.nodes pointer c x y c.nodes 0 q (a ∷ []) t s.link
+    turned = links-turned c x y c.nodes 0 q (a ∷ []) t s.link
 
     q_below : q ≢ c.nodes
     q_below = not-top c x q g s.fresh_q
@@ -58,7 +56,7 @@ root-splits b pointer law c x y q l r m sep t s =
     q_root = let p : TurnsRoot c y q = s.link.at_root refl in omega (arith, p.pointer)
 
     q_level : level_of (node c y.words q) ≡ level_of (node c x.words a) + 1
-    q_level = level-is b.nodes.leaf b.nodes.inner c.nodes _ (node c y.raw q) (node c y.words q) _ _ s.whole_q
+    q_level = level-is c.nodes _ (node c y.raw q) (node c y.words q) _ _ s.whole_q
 
     swap : RootSplit (view_of c x) (view_of c y) f a q l r m sep
     swap = record {

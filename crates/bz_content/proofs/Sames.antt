@@ -7,21 +7,15 @@ use Rattle.bz_layout.specs.Addresses.{node_address}
 use Rattle.bz_layout.specs.declared.config.Config.{Config}
 use Rattle.bz_layout.specs.declared.sizes.TheConstants.{NODE_WORDS}
 use Rattle.bz_shape.specs.Slots.{SameSlot}
-use Rattle.bz_slotted.specs.InnerChanges.{StandsAlike, StandingIsQuiet}
-use Rattle.bz_slotted.specs.Laws.{LeafRulesAreFacts, InnerRulesAreFacts}
+use Rattle.bz_slotted.specs.InnerChanges.{StandsAlike}
 use Rattle.bz_slotted.specs.Readers.{level_of, count_of, child_of, key_of, found_of}
 use Rattle.bz_slotted.specs.Rules.{node_fault}
+use Rattle.bz_slotted.proofs.Proved.{standing_is_quiet}
 use Rattle.bz_content.specs.Image.{Image, node}
 use Rattle.bz_content.specs.Changes.{SameNode, SameRoot}
 use Rattle.bz_content.specs.View.{root_fault, view_of}
 use Rattle.bz_content.proofs.Honesty.{no}
 use Rattle.bz_content.proofs.Reached.{level-is}
-
--- the laws of nodes that these proofs stand on
-pub record Nodes : Type 0 where
-  pub leaf : LeafRulesAreFacts
-  pub inner : InnerRulesAreFacts
-  pub standing : StandingIsQuiet
 
 -- the words of a slot, as a function
 pub node-same : (c : Config) (k : ℕ) (f g : ℕ → ℕ) → ((i : ℕ) → i < NODE_WORDS → g (node_address c k + i) ≡ f (node_address c k + i)) → node c g k ≡ node c f k
@@ -34,8 +28,8 @@ node-same c k f g same = λ t i. at i t
       | inr g ↦ let a : nat_lt i NODE_WORDS ≡ false = grind (arith, nat_tests) in rw a refl
     ]
 
-pub same-slot : Nodes → (c : Config) (x y : Image) (k : ℕ) → k ≢ c.nodes → SameNode c x y k → SameSlot (view_of c x) (view_of c y) k
-same-slot b c x y k ne s = record {
+pub same-slot : (c : Config) (x y : Image) (k : ℕ) → k ≢ c.nodes → SameNode c x y k → SameSlot (view_of c x) (view_of c y) k
+same-slot c x y k ne s = record {
   count = rw (no k c.nodes ne) (ap count_of same);
   child = λ i. rw (no k c.nodes ne) (ap (λ n. child_of n i) same);
   key = λ i. rw (no k c.nodes ne) (ap (λ n. key_of n i) same);
@@ -48,8 +42,8 @@ same-slot b c x y k ne s = record {
 
     kept : (l : ℕ) (lo hi : Option (List ℕ)) → node_fault c.nodes (node c x.raw k) (node c x.words k) l lo hi ≡ None → node_fault c.nodes (node c y.raw k) (node c x.words k) l lo hi ≡ None
     kept l lo hi e =
-        let level : level_of (node c x.words k) ≡ l = level-is b.leaf b.inner c.nodes l (node c x.raw k) (node c x.words k) lo hi e in
-        b.standing c.nodes (node c x.raw k) (node c y.raw k) (node c x.words k) l lo hi e
+        let level : level_of (node c x.words k) ≡ l = level-is c.nodes l (node c x.raw k) (node c x.words k) lo hi e in
+        standing_is_quiet c.nodes (node c x.raw k) (node c y.raw k) (node c x.words k) l lo hi e
         (subst (λ z. StandsAlike (node c x.raw k) (node c y.raw k) (node c x.words k) z) level s.stands)
 
 pub same-super : (c : Config) (x y : Image) → SameRoot x y → SameSlot (view_of c x) (view_of c y) c.nodes

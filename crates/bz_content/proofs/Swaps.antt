@@ -7,35 +7,27 @@ use Rattle.bz_shape.specs.Consolidation.{Consolidation}
 use Rattle.bz_shape.specs.Form.{Form, Fits, Hangs}
 use Rattle.bz_shape.specs.LeafSwap.{LeafSwap}
 use Rattle.bz_shape.specs.Slots.{SameSlot, SameTop}
-use Rattle.bz_shape.specs.SwapLaws.{UnreachedSlotsDoNotMatter, LeafSwapsKeepTheTree as ViewLeafSwaps, ConsolidationsKeepTheContent as ViewConsolidations}
-use Rattle.bz_shape.specs.TreeLaws.{TreesHaveForms}
-use Rattle.bz_slotted.specs.InnerChanges.{PointerSwapChangesChild}
+use Rattle.bz_shape.proofs.Proved.{consolidations_keep_the_content, leaf_swaps_keep_the_tree, unreached_slots_do_not_matter}
 use Rattle.bz_slotted.specs.Readers.{level_of}
 use Rattle.bz_content.specs.Changes.{SameNode, SameRoot}
 use Rattle.bz_content.specs.Image.{Image, node, root}
-use Rattle.bz_content.specs.Laws.{ViewsAreHonest, Turned, UnreachedWordsDoNotMatter, LeafSwapsKeepTheTree, ConsolidationsKeepTheContent}
+use Rattle.bz_content.specs.Laws.{Turned, UnreachedWordsDoNotMatter, LeafSwapsKeepTheTree, ConsolidationsKeepTheContent}
 use Rattle.bz_content.specs.Swaps.{form_in}
 use Rattle.bz_content.specs.View.{view_of}
-use Rattle.bz_content.proofs.Honesty.{no}
+use Rattle.bz_content.proofs.Honesty.{no, honest}
 use Rattle.bz_content.proofs.Reached.{is, fits, root-stands, root-below, level-is, level-at}
-use Rattle.bz_content.proofs.Sames.{Nodes, node-same, same-slot, same-super}
+use Rattle.bz_content.proofs.Sames.{node-same, same-slot, same-super}
 use Rattle.bz_content.proofs.Turns.{links-turned}
-
--- the laws of slots and of nodes from which those of images follow
-pub record Below : Type 0 where
-  pub forms : TreesHaveForms
-  pub nodes : Nodes
-  pub honest : ViewsAreHonest
 
 -- where the root's slot stays, both trees have one height
 same-height : (c : Config) (x y : Image) → SameRoot x y → level_of (node c y.words (root x.words)) ≡ level_of (node c x.words (root x.words)) → SameTop (view_of c x) (view_of c y)
 same-height c x y r same = record { top = refl; height = ap (λ l. l + 1) (ap (λ p. level_of (node c y.words (p - 1))) r.pointer ∙ same) }
 
-pub unreached-words : Below → UnreachedSlotsDoNotMatter → UnreachedWordsDoNotMatter
-unreached-words b law c x y t r same = law (view_of c x) (view_of c y) t (b.honest c y) top each
+pub unreached-words : UnreachedWordsDoNotMatter
+unreached-words c x y t r same = unreached_slots_do_not_matter (view_of c x) (view_of c y) t (honest c y) top each
   where
     g : Fits (view_of c x) (form_in c x)
-    g = fits b.forms c x t
+    g = fits c x t
 
     top : SameTop (view_of c x) (view_of c y)
     top =
@@ -45,23 +37,23 @@ unreached-words b law c x y t r same = law (view_of c x) (view_of c y) t (b.hone
     each : (j : ℕ) → (form_in c x).inside j ≡ true → SameSlot (view_of c x) (view_of c y) j
     each j i = elim (cases_eq j c.nodes) [
       | inl e ↦ subst (λ k. SameSlot (view_of c x) (view_of c y) k) (sym e) (same-super c x y r)
-      | inr ne ↦ same-slot b.nodes c x y j ne (same j i ne)
+      | inr ne ↦ same-slot c x y j ne (same j i ne)
     ]
 
-pub leaf-swaps : Below → ViewLeafSwaps → LeafSwapsKeepTheTree
-leaf-swaps b law c x y k t s whole =
-    let said = law (view_of c x) (view_of c y) k t (b.honest c y) swap in
+pub leaf-swaps : LeafSwapsKeepTheTree
+leaf-swaps c x y k t s whole =
+    let said = leaf_swaps_keep_the_tree (view_of c x) (view_of c y) k t (honest c y) swap in
     (said.0, λ key. said.1 key ∙ rw (no k c.nodes below) refl)
   where
     g : Fits (view_of c x) (form_in c x)
-    g = fits b.forms c x t
+    g = fits c x t
 
     below : k ≢ c.nodes
     below e = absurd (omega (arith, g.tall, g.height, s.leaf, ap (form_in c x).level e))
 
     height : (root x.words ≡ k) ⊎ (root x.words ≢ k) → level_of (node c y.words (root x.words)) ≡ level_of (node c x.words (root x.words))
     height (inl e) = subst (λ z. level_of (node c y.words z) ≡ level_of (node c x.words z)) (sym e)
-        (level-is b.nodes.leaf b.nodes.inner c.nodes 0 (node c y.raw k) (node c y.words k) _ _ whole ∙ sym s.leaf ∙ sym (level-at b.nodes.leaf b.nodes.inner c x k g s.inside below))
+        (level-is c.nodes 0 (node c y.raw k) (node c y.words k) _ _ whole ∙ sym s.leaf ∙ sym (level-at c x k g s.inside below))
     height (inr ne) =
         let same : SameNode c x y (root x.words) = s.others (root x.words) (root-stands c x g).inside (root-below c x g) ne in
         ap level_of (node-same c (root x.words) x.words y.words same.words)
@@ -74,22 +66,22 @@ leaf-swaps b law c x y k t s whole =
       whole = rw (no k c.nodes below) whole;
       others = λ j i far. elim (cases_eq j c.nodes) [
         | inl e ↦ subst (λ z. SameSlot (view_of c x) (view_of c y) z) (sym e) (same-super c x y s.root)
-        | inr ne ↦ same-slot b.nodes c x y j ne (s.others j i ne far)
+        | inr ne ↦ same-slot c x y j ne (s.others j i ne far)
       ];
     }
 
-pub consolidations : Below → PointerSwapChangesChild → ViewConsolidations → ConsolidationsKeepTheContent
-consolidations b pointer law c x y old new t s =
-    law (view_of c x) (view_of c y) old new t (b.honest c y) swap (λ key. rw (no old c.nodes old_below, no new c.nodes new_below) (s.same key))
+pub consolidations : ConsolidationsKeepTheContent
+consolidations c x y old new t s =
+    consolidations_keep_the_content (view_of c x) (view_of c y) old new t (honest c y) swap (λ key. rw (no old c.nodes old_below, no new c.nodes new_below) (s.same key))
   where
     f : Form
     f = form_in c x
 
     g : Fits (view_of c x) f
-    g = fits b.forms c x t
+    g = fits c x t
 
     turned : Turned c x y (f.up old) (f.index old) new (old ∷ [])
-    turned = links-turned b.forms b.nodes pointer c x y (f.up old) (f.index old) new (old ∷ []) t s.link
+    turned = links-turned c x y (f.up old) (f.index old) new (old ∷ []) t s.link
 
     old_below : old ≢ c.nodes
     old_below e = absurd (omega (arith, g.tall, g.height, s.leaf, ap f.level e))
@@ -112,8 +104,8 @@ consolidations b pointer law c x y old new t s =
     root_other ne e = ne (sym (ap f.up e) ∙ (root-stands c x g).up)
 
     top : (f.up old ≡ c.nodes) ⊎ (f.up old ≢ c.nodes) → SameTop (view_of c x) (view_of c y)
-    top (inl e) = turned.at_root e (level-is b.nodes.leaf b.nodes.inner c.nodes 0 (node c y.raw new) (node c y.words new) _ _ s.whole
-        ∙ sym (ap (λ k. level_of (node c x.words k)) (root_old e) ∙ level-at b.nodes.leaf b.nodes.inner c x old g s.inside old_below ∙ s.leaf))
+    top (inl e) = turned.at_root e (level-is c.nodes 0 (node c y.raw new) (node c y.words new) _ _ s.whole
+        ∙ sym (ap (λ k. level_of (node c x.words k)) (root_old e) ∙ level-at c x old g s.inside old_below ∙ s.leaf))
     top (inr ne) = turned.below_root ne (let far : root x.words ≢ old = root_other ne in grind (arith, nat_tests))
 
     swap : Consolidation (view_of c x) (view_of c y) f old new

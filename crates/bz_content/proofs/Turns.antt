@@ -6,10 +6,10 @@ use Rattle.std.proofs.lemmas.Bool.Decides.{nat_tests}
 use Rattle.bz_layout.specs.declared.config.Config.{Config}
 use Rattle.bz_shape.specs.Form.{Fits}
 use Rattle.bz_shape.specs.Slots.{SameSlot, Relinked}
-use Rattle.bz_shape.specs.TreeLaws.{TreesHaveForms}
 use Rattle.bz_shape.specs.Walk.{is_among}
-use Rattle.bz_slotted.specs.InnerChanges.{ChangesChild, PointerSwapChangesChild}
+use Rattle.bz_slotted.specs.InnerChanges.{ChangesChild}
 use Rattle.bz_slotted.specs.Readers.{level_of, child_of}
+use Rattle.bz_slotted.proofs.Proved.{pointer_swap_changes_child}
 use Rattle.bz_content.specs.Changes.{SameNode}
 use Rattle.bz_content.specs.Image.{Image, node, root}
 use Rattle.bz_content.specs.Laws.{LinksAreTurned}
@@ -17,7 +17,7 @@ use Rattle.bz_content.specs.Swaps.{form_in, TurnsRoot}
 use Rattle.bz_content.specs.View.{root_fault, view_of}
 use Rattle.bz_content.proofs.Honesty.{no}
 use Rattle.bz_content.proofs.Reached.{is, fits, root-stands, root-below, level-is, level-at}
-use Rattle.bz_content.proofs.Sames.{Nodes, node-same, same-slot, same-super}
+use Rattle.bz_content.proofs.Sames.{node-same, same-slot, same-super}
 
 pub root-whole : (nodes pointer status : ℕ) → 0 < pointer → pointer < nodes + 1 → status < 2 ^ 32 → root_fault nodes pointer status ≡ None
 unfolding root_fault
@@ -54,8 +54,8 @@ turned-child c x y p i to ne t = record {
     child : (j : ℕ) → child_of (node c y.words p) j ≡ (if j == i then to else child_of (node c x.words p) j)
     child j = elim (cases_eq j i) [ inl e ↦ rw (e, is i) t.child | inr far ↦ rw (no j i far) (t.others j far) ]
 
-pub links-turned : TreesHaveForms → Nodes → PointerSwapChangesChild → LinksAreTurned
-links-turned forms b pointer c x y p i to gone t s = record {
+pub links-turned : LinksAreTurned
+links-turned c x y p i to gone t s = record {
   link = elim (cases_eq p c.nodes) [
     | inl e ↦ subst (λ k. Relinked (view_of c x) (view_of c y) (form_in c x) k i to) (sym e)
         (subst (λ k. Relinked (view_of c x) (view_of c y) (form_in c x) c.nodes k to) (sym (s.first e)) (turned-root c x y to (s.at_root e)))
@@ -63,17 +63,17 @@ links-turned forms b pointer c x y p i to gone t s = record {
   ];
   others = λ j ins far kept. elim (cases_eq j c.nodes) [
     | inl e ↦ subst (λ k. SameSlot (view_of c x) (view_of c y) k) (sym e) (same-super c x y (s.below_root (λ q. far (e ∙ sym q))).1)
-    | inr ne ↦ same-slot b c x y j ne (s.others j ins ne far kept)
+    | inr ne ↦ same-slot c x y j ne (s.others j ins ne far kept)
   ];
   below_root = λ ne kept. record { top = refl; height = ap (λ l. l + 1) (below ne kept (cases_eq (root x.words) p)) };
   at_root = λ e same. record { top = refl; height = ap (λ l. l + 1) ((ap (λ k. level_of (node c y.words k)) (root_to (s.at_root e))) ∙ same) };
 }
   where
     g : Fits (view_of c x) (form_in c x)
-    g = fits forms c x t
+    g = fits c x t
 
     turns : p ≢ c.nodes → Turns c x y p i to
-    turns ne = pointer c.nodes (node c x.raw p) (node c y.raw p) (node c x.words p) (node c y.words p) _ _ _ i to s.inner (rw (no p c.nodes ne) at (g.whole p s.inside ne)) (s.below_root ne).0
+    turns ne = pointer_swap_changes_child c.nodes (node c x.raw p) (node c y.raw p) (node c x.words p) (node c y.words p) _ _ _ i to s.inner (rw (no p c.nodes ne) at (g.whole p s.inside ne)) (s.below_root ne).0
 
     root_to : TurnsRoot c y to → root y.words ≡ to
     root_to r = omega (arith, r.pointer)
@@ -84,8 +84,8 @@ links-turned forms b pointer c x y p i to gone t s = record {
         ap (λ k. level_of (node c y.words k)) r ∙ elim w [
           | inl e ↦
               subst (λ k. level_of (node c y.words k) ≡ level_of (node c x.words k)) (sym e)
-              (level-is b.leaf b.inner c.nodes ((form_in c x).level p) (node c y.raw p) (node c y.words p) _ _ (turns ne).none
-              ∙ sym (level-at b.leaf b.inner c x p g s.inside ne))
+              (level-is c.nodes ((form_in c x).level p) (node c y.raw p) (node c y.words p) _ _ (turns ne).none
+              ∙ sym (level-at c x p g s.inside ne))
           | inr far ↦
               let same : SameNode c x y (root x.words) = s.others (root x.words) (root-stands c x g).inside (root-below c x g) far kept in
               ap level_of (node-same c (root x.words) x.words y.words same.words)

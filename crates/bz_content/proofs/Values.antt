@@ -6,14 +6,14 @@ use Rattle.bz_layout.specs.Addresses.{swap_word_of}
 use Rattle.bz_layout.specs.declared.config.Config.{Config}
 use Rattle.bz_layout.specs.declared.sizes.TheConstants.{SUPERBLOCK_WORDS}
 use Rattle.bz_word.specs.Kinds.{kind}
-use Rattle.bz_word.specs.Statements.{ValuesAreTheirWords}
+use Rattle.bz_word.proofs.Lemmas.{values}
 use Rattle.bz_content.specs.Lawful.{is_word, is_value, is_lawful, is_named, is_in_descriptor, is_fixed}
 use Rattle.bz_content.specs.Resolving.{resolve, stands_for}
 
 -- a plain value resolves to itself
-pub resolve-value : ValuesAreTheirWords → (raw : ℕ → ℕ) (a : ℕ) → raw a < 2 ^ 61 → resolve raw a ≡ raw a
+pub resolve-value : (raw : ℕ → ℕ) (a : ℕ) → raw a < 2 ^ 61 → resolve raw a ≡ raw a
 unfolding resolve
-resolve-value values raw a small = ap (stands_for raw a) (values (raw a) small).1
+resolve-value raw a small = ap (stands_for raw a) (values (raw a) small).1
 
 value-word : (x : ℕ) → x < 2 ^ 61 → is_word x ≡ true
 value-word x small =
@@ -30,9 +30,9 @@ by-place false q true s v n a b d = a
 by-place false q false s v n a b d = b
 
 -- plain values are lawful, where descriptors have none but 0
-pub value-lawful : ValuesAreTheirWords → (c : Config) (raw : ℕ → ℕ) (a : ℕ) → raw a < 2 ^ 61 → (SUPERBLOCK_WORDS ≤ a → raw a ≡ 0) → is_lawful c raw a ≡ true
+pub value-lawful : (c : Config) (raw : ℕ → ℕ) (a : ℕ) → raw a < 2 ^ 61 → (SUPERBLOCK_WORDS ≤ a → raw a ≡ 0) → is_lawful c raw a ≡ true
 unfolding is_lawful
-value-lawful values c raw a small free =
+value-lawful c raw a small free =
     rw (value-word (raw a) small) (by-place (is_in_descriptor c a) (swap_word_of a == 0) (is_fixed a) (nat_le (raw a % 2 ^ 63) 3) (is_value (raw a)) (is_named c raw a (kind (raw a)))
     (grind (arith, nat_tests)) (rw (values (raw a) small).1 refl) status)
   where

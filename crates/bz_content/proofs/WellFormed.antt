@@ -8,8 +8,9 @@ use Rattle.bz_shape.specs.Walk.{IsTree, fault_of}
 use Rattle.bz_shape.specs.declared.rule.ShapeRule.TheVariants.{Super}
 use Rattle.bz_content.specs.Content.{image_fault, image_of, is_super, or_word, view_in, IsWellFormed}
 use Rattle.bz_content.specs.Lawful.{is_lawful, first_unlawful}
-use Rattle.bz_content.specs.Laws.{ViewsAreHonest, WellFormedImagesHaveNoFault}
+use Rattle.bz_content.specs.Laws.{WellFormedImagesHaveNoFault}
 use Rattle.bz_content.proofs.Reached.{is}
+use Rattle.bz_content.proofs.Honesty.{honest}
 
 lawful-all : (c : Config) (raw : ℕ → ℕ) (a n : ℕ) → first_unlawful c raw a n ≡ None → (i : ℕ) → a ≤ i → i < a + n → is_lawful c raw i ≡ true
 unfolding first_unlawful
@@ -27,16 +28,16 @@ all-lawful c raw a zero each = refl
 all-lawful c raw a (suc n) each = rw (each a (omega arith) (omega arith)) (all-lawful c raw (a + 1) n (λ i p q. each i (omega arith) (omega arith)))
 
 -- the tree of an image without fault
-tree : ViewsAreHonest → (c : Config) (raw : ℕ → ℕ) → fault_of (view_in c raw) ≡ None → IsTree (view_in c raw)
-tree honest c raw none = record { honest = honest c (image_of raw); one = rw (is c.nodes) refl; tall = omega arith; none = none }
+tree : (c : Config) (raw : ℕ → ℕ) → fault_of (view_in c raw) ≡ None → IsTree (view_in c raw)
+tree c raw none = record { honest = honest c (image_of raw); one = rw (is c.nodes) refl; tall = omega arith; none = none }
 
-sound : ViewsAreHonest → (c : Config) (raw : ℕ → ℕ) → image_fault c raw ≡ None → IsWellFormed c raw
+sound : (c : Config) (raw : ℕ → ℕ) → image_fault c raw ≡ None → IsWellFormed c raw
 unfolding image_fault
-sound honest c raw e = go (is_super c raw) refl (first_unlawful c raw 0 (words_of c)) refl e
+sound c raw e = go (is_super c raw) refl (first_unlawful c raw 0 (words_of c)) refl e
   where
     go : (b : Bool) → is_super c raw ≡ b → (o : Option ℕ) → first_unlawful c raw 0 (words_of c) ≡ o
         → (if b then or_word o (fault_of (view_in c raw)) else Some (record { rule = Super; place = 0 })) ≡ None → IsWellFormed c raw
-    go true p None q e = record { super = p; lawful = λ a l. lawful-all c raw 0 (words_of c) q a (omega arith) (omega arith); tree = tree honest c raw e }
+    go true p None q e = record { super = p; lawful = λ a l. lawful-all c raw 0 (words_of c) q a (omega arith) (omega arith); tree = tree c raw e }
     go true p (Some a) q e = absurd (cc)
     go false p o q e = absurd (cc)
 
@@ -44,5 +45,5 @@ complete : (c : Config) (raw : ℕ → ℕ) → IsWellFormed c raw → image_fau
 unfolding image_fault
 complete c raw w = rw (w.super, all-lawful c raw 0 (words_of c) (λ i a b. w.lawful i (omega arith))) w.tree.none
 
-pub well-formed : ViewsAreHonest → WellFormedImagesHaveNoFault
-well-formed honest c raw = (sound honest c raw, complete c raw)
+pub well-formed : WellFormedImagesHaveNoFault
+well-formed c raw = (sound c raw, complete c raw)

@@ -1,8 +1,7 @@
 //! Laws of images. Each function does nothing but call the laws that it follows from: its contract is the law.
 
-ghost use Rattle.bz_content.specs.Laws.{PlainWordsStandForThemselves, WellFormedImagesHaveNoFault, FreshMemoryIsEmpty, FreshMemoryReachesSlotZero, MapIsTheContent};
-ghost use Rattle.bz_content.specs.Laws.{LeafSwapsKeepTheTree, RewritesChangeOneKey};
-ghost use Rattle.bz_content.specs.Laws.{ConsolidationsKeepTheContent, SplitsKeepTheContent};
+ghost use Rattle.bz_content.specs.Laws.{PlainWordsStandForThemselves, WellFormedImagesHaveNoFault, FreshMemoryIsEmpty, MapIsTheContent};
+ghost use Rattle.bz_content.specs.Laws.{ConsolidationsKeepTheContent};
 
 /// A plain value resolves to itself.
 pub fn plain_words_stand_for_themselves()
@@ -19,33 +18,12 @@ pub fn fresh_memory_is_empty()
     ensures { FreshMemoryIsEmpty }
 {}
 
-/// Of fresh memory slot 0 is reached, and no other.
-pub fn fresh_memory_reaches_slot_zero()
-    ensures { FreshMemoryReachesSlotZero }
-{}
-
 /// The content as a map answers each key as the descent does.
 pub fn map_is_the_content()
     ensures { MapIsTheContent }
 {}
 
-/// A swap on one leaf that stays whole leaves the tree, and changes what is said of the keys of that leaf
-/// alone.
-pub fn leaf_swaps_keep_the_tree()
-    ensures { LeafSwapsKeepTheTree }
-{}
-
-/// A publication, a delete and the second swap of an update change what is said of their record's key alone.
-pub fn rewrites_change_one_key()
-    ensures { RewritesChangeOneKey }
-{}
-
 /// A consolidation, at the root or below an inner node, keeps the content.
 pub fn consolidations_keep_the_content()
     ensures { ConsolidationsKeepTheContent }
-{}
-
-/// A split of a leaf or an inner node below an inner node keeps the content.
-pub fn splits_keep_the_content()
-    ensures { SplitsKeepTheContent }
 {}

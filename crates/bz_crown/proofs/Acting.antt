@@ -89,7 +89,7 @@ may-swap r s good f new =
     let old : r.upper.slot < s.past.config.nodes = upper-slot r.upper r.lower s good v in
     let status_target : IsTarget s (node_address s.past.config r.upper.slot + STATUS_AT) = subst (IsTarget s) (guard-is s r.upper.slot r.lower good v.node) u.guard_target in
     All-inserted (IsEntryToAsk s) (freezing_entry s.past.config (parent_freezing r.upper r.lower)) (renewal r.upper (r.slot 0))
-    (record { target = status_target; expected = u.plain; new = frozen-plain statuses r.lower.status u.plain })
+    (record { target = status_target; expected = u.plain; new = frozen-plain r.lower.status u.plain })
     (all-two (IsEntryToAsk s) (link_entry r.upper (r.slot 0)) (guard_entry r.upper)
     (record { target = t.link_target; expected = omega (arith, old, good.config.nodes_in_range.at_most); new = omega (arith, new, good.config.nodes_in_range.at_most) })
     (record { target = t.guard_target; expected = t.plain; new = restamped-plain statuses r.upper.status t.plain }))

@@ -16,7 +16,7 @@ module _ (apart : SlotsApart) (key : List ℕ) (path : Path) (p : Past) (is : Is
   are = due.links upper lower first second
 
   node : IsOpenLink upper.slot lower p
-  node = open-link apart key path p is 0 (omega (arith, due.deep)) upper lower first second are.full.thawed.is
+  node = open-link key path p is 0 (omega (arith, due.deep)) upper lower first second are.full.thawed.is
 
   pub has-links : HasLinks upper lower p
   has-links = record {

@@ -8,17 +8,17 @@ use Rattle.bz_shape.specs.Order.{is_at_least, is_below}
 use Rattle.bz_word.specs.Statuses.{status}
 use Rattle.bz_task.specs.Good.{IsGood}
 use Rattle.bz_task.specs.Instant.{page_at}
-use Rattle.bz_task.specs.Laws.{HasRoot, RootsAreReached, SeparatorsStay}
+use Rattle.bz_task.specs.Laws.{HasRoot}
 use Rattle.bz_task.specs.Outcomes.{IsUnderRoot, IsLink}
 use Rattle.bz_task.specs.Requests.{Answers}
 use Rattle.bz_task.specs.Scene.{Scene, IsScene, here}
 use Rattle.bz_task.specs.declared.path.Link.{Link}
 use Rattle.bz_task.specs.declared.path.Path.{Path}
+use Rattle.bz_task.proofs.Proved.{roots_are_reached}
 use Rattle.bz_descend.specs.Facts.{SawGuard}
 use Rattle.bz_descend.specs.Inners.{HasChosen}
 use Rattle.bz_descend.specs.Ways.{AreThawed, IsWay, Arrives}
 use Rattle.bz_descend.specs.declared.sight.Probe.{Probe}
-use Rattle.bz_descend.specs.Grounds.{Laws}
 use Rattle.bz_descend.proofs.Inners.{level-few}
 use Rattle.bz_descend.proofs.Leading.{link_to, Led, led, is-link}
 
@@ -29,13 +29,13 @@ some-same a b e = cc
 abbrev pub root_link : ℕ → ℕ → Link
 root_link st k = record { slot = k; link = ROOT_AT; guard = ROOT_STATUS_AT; status = st }
 
-module _ (b : Laws) (key : List ℕ) (s : Scene) (good : IsScene s) where
-  module _ (roots : RootsAreReached) (st v : ℕ) (g : SawGuard st s.past) (a : Answers s ROOT_AT v) where
+module _ (key : List ℕ) (s : Scene) (good : IsScene s) where
+  module _ (st v : ℕ) (g : SawGuard st s.past) (a : Answers s ROOT_AT v) where
     here-good : IsGood s.past.config (here s)
     here-good = good.history.good s.past.now good.begun (omega arith)
 
     pub root-is : HasRoot s.past.config (here s) (v - 1)
-    root-is = subst (λ z. HasRoot s.past.config (here s) (z - 1)) a.value (roots s.past.config (here s) here-good)
+    root-is = subst (λ z. HasRoot s.past.config (here s) (z - 1)) a.value (roots_are_reached s.past.config (here s) here-good)
 
     root-is-link : IsLink key s.past (root_link st (v - 1))
     root-is-link = record {
@@ -74,7 +74,7 @@ module _ (b : Laws) (key : List ℕ) (s : Scene) (good : IsScene s) where
 
       pub root-arrives : Arrives key path (v - 1) s.past
       root-arrives =
-          let few = level-few b s.past.config (here s) (v - 1) here-good (λ e. omega (arith, e, root-is.slot)) root-is.inside in record {
+          let few = level-few s.past.config (here s) (v - 1) here-good (λ e. omega (arith, e, root-is.slot)) root-is.inside in record {
             way = root-way;
             met = s.past.now;
             since = good.begun;
@@ -89,7 +89,7 @@ module _ (b : Laws) (key : List ℕ) (s : Scene) (good : IsScene s) where
             low = omega (arith, few, deep);
           }
 
-  module _ (separators : SeparatorsStay) (path : Path) (r : Probe) (h : HasChosen key path r s.past) (v : ℕ) (told : Answers s (node_address s.past.config r.slot + r.pointer) v) where
+  module _ (path : Path) (r : Probe) (h : HasChosen key path r s.past) (v : ℕ) (told : Answers s (node_address s.past.config r.slot + r.pointer) v) where
     module _ (next : Path) (deep : next.depth ≡ path.depth + 1) (at : slice_get next.links path.depth ≡ Some (link_to s.past.config r (v - 1)))
         (others : (i : ℕ) → i < path.depth → slice_get next.links i ≡ slice_get path.links i) where
       is-new : (i : ℕ) (link : Link) → i ≡ path.depth → slice_get next.links i ≡ Some link → link_to s.past.config r (v - 1) ≡ link
@@ -104,7 +104,7 @@ module _ (b : Laws) (key : List ℕ) (s : Scene) (good : IsScene s) where
       child-links : (i : ℕ) (link : Link) → i < next.depth → slice_get next.links i ≡ Some link → IsLink key s.past link
       child-links i link l e = elim (cases_lt i path.depth) [
         | inl before ↦ old.links i link before (is-old i link before e)
-        | inr after ↦ subst (λ z. IsLink key s.past z) (is-new i link (omega (arith, l, after, deep)) e) (is-link b key path s good separators r h v told)
+        | inr after ↦ subst (λ z. IsLink key s.past z) (is-new i link (omega (arith, l, after, deep)) e) (is-link key path s good r h v told)
       ]
 
       child-below : (i : ℕ) (link new : Link) → i + 1 < next.depth → slice_get next.links i ≡ Some link → slice_get next.links (i + 1) ≡ Some new → new.guard ≡ node_address s.past.config link.slot + STATUS_AT
@@ -135,7 +135,7 @@ module _ (b : Laws) (key : List ℕ) (s : Scene) (good : IsScene s) where
       -- a level lower than the node above it
       pub child-met : (a : Arrives key next (v - 1) s.past) × ((page_at s.past.config (s.past.at a.met) (v - 1)).level + 1 ≡ (page_at s.past.config (s.past.at h.opened.at_inner.node.met) r.slot).level)
       child-met =
-          let d : Led key s (node_address s.past.config r.slot + r.pointer) _ v = led b key path s good separators r h v told in (
+          let d : Led key s (node_address s.past.config r.slot + r.pointer) _ v = led key path s good r h v told in (
             record {
               way = child-way;
               met = d.was;

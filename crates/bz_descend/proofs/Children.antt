@@ -6,24 +6,24 @@ use Rattle.bz_layout.specs.declared.config.Config.{Config}
 use Rattle.bz_shape.specs.Form.{Fits, Stands}
 use Rattle.bz_shape.specs.Order.{is_before, is_at_least, is_below}
 use Rattle.bz_slotted.specs.Readers.{count_of, child_of, key_of}
-use Rattle.bz_shape.specs.TreeLaws.{TreesHaveForms}
+use Rattle.bz_shape.proofs.Proved.{trees_have_forms}
 use Rattle.bz_slotted.specs.Page.{page}
 use Rattle.bz_slotted.specs.Records.{pointer_at}
 use Rattle.bz_content.specs.Content.{IsWellFormed, view_in}
-use Rattle.bz_content.specs.Laws.{WellFormedImagesHaveNoFault}
+use Rattle.bz_content.proofs.Proved.{well_formed_images_have_no_fault}
 use Rattle.bz_task.specs.Good.{IsGood}
-use Rattle.bz_task.specs.Laws.{HeadersSayTheLevel}
 use Rattle.bz_task.specs.Instant.{Instant, words, durable, page_at, form_at}
+use Rattle.bz_task.proofs.Proved.{headers_say_the_level}
 use Rattle.bz_descend.specs.Ways.{HasKey, Chooses}
 
 pub no : (a b : ℕ) → a ≢ b → (a == b) ≡ false
 no a b ne = grind (arith, nat_tests)
 
 -- a tree has a form
-pub fits : WellFormedImagesHaveNoFault → TreesHaveForms → (c : Config) (x : Instant) → IsGood c x → Fits (view_in c x.image) (form_at c x)
-fits formed forms c x g =
-    let w : IsWellFormed c x.image = (formed c x.image).0 g.form in
-    forms (view_in c x.image) w.tree.one w.tree.tall w.tree.none
+pub fits : (c : Config) (x : Instant) → IsGood c x → Fits (view_in c x.image) (form_at c x)
+fits c x g =
+    let w : IsWellFormed c x.image = (well_formed_images_have_no_fault c x.image).0 g.form in
+    trees_have_forms (view_in c x.image) w.tree.one w.tree.tall w.tree.none
 
 count-is : (n : ℕ → ℕ) → count_of n ≡ (page n).count
 unfolding count_of
@@ -59,13 +59,13 @@ pub record HasChild (key : List ℕ) (c : Config) (x : Instant) (k to : ℕ) : T
   pub has : HasKey key c x to
   pub level : (page_at c x to).level + 1 ≡ (page_at c x k).level
 
-pub child-has-key : WellFormedImagesHaveNoFault → TreesHaveForms → HeadersSayTheLevel → (key : List ℕ) (c : Config) (x : Instant) (k i to : ℕ) → IsGood c x →
+pub child-has-key : (key : List ℕ) (c : Config) (x : Instant) (k i to : ℕ) → IsGood c x →
     HasKey key c x k → 0 < (page_at c x k).level → Chooses key (words c x k) i → words c x k (pointer_at (page_at c x k) i) ≡ to + 1 → HasChild key c x k to
-child-has-key formed forms headers key c x k i to g h inner ch e =
+child-has-key key c x k i to g h inner ch e =
     let v = view_in c x.image in
-    let f : Fits (view_in c x.image) (form_at c x) = fits formed forms c x g in
+    let f : Fits (view_in c x.image) (form_at c x) = fits c x g in
     let ne : k ≢ c.nodes = λ q. omega (arith, q, h.slot) in
-    let level : (form_at c x).level k ≡ (page_at c x k).level = sym (headers c x k g ne h.inside).level in
+    let level : (form_at c x).level k ≡ (page_at c x k).level = sym (headers_say_the_level c x k g ne h.inside).level in
     let same : durable c x k ≡ words c x k = inner-same c x k g (g.inside k h.inside ne) inner in
     let count : v.count k ≡ (page_at c x k).count = rw (no k c.nodes ne) (ap count_of same ∙ count-is (words c x k)) in
     let child : v.child k i ≡ to = rw (no k c.nodes ne) (ap (λ n. child_of n i) same ∙ child-is (words c x k) i to ch.counted e) in
@@ -80,5 +80,5 @@ child-has-key formed forms headers key c x k i to g h inner ch e =
         low = subst (λ b. is_at_least key b ≡ true) (sym s.low) (low-part key (v.key k i) ((form_at c x).low k) i h.low (λ p. ap (is_before key) (own i) ∙ ch.from p));
         high = subst (λ b. is_below key b ≡ true) (sym s.high) (high-part key (v.key k (i + 1)) ((form_at c x).high k) i (v.count k) (omega (arith, ch.counted, count)) h.high (λ p. ap (is_before key) (own (i + 1)) ∙ ch.to (omega (arith, p, count))));
       };
-      level = omega (arith, (headers c x to g below s.inside).level, s.level, level);
+      level = omega (arith, (headers_say_the_level c x to g below s.inside).level, s.level, level);
     }

@@ -12,6 +12,7 @@ use Rattle.bz_slotted.specs.Page.{words_at, meta_of, extent_of, Page, page}
 use Rattle.bz_slotted.specs.Records.{key_words, weight, shown, live_block}
 use Rattle.bz_slotted.specs.Rules.{node_fault}
 use Rattle.bz_slotted.specs.Whole.{Disjoint, IsInBlock, IsInnerRecord, WholeInner}
+use Rattle.bz_slotted.proofs.Proved.{inner_rules_are_facts}
 use Rattle.bz_word.specs.Headers.{header}
 use Rattle.bz_content.specs.Image.{node}
 use Rattle.bz_task.specs.Good.{IsGood}
@@ -19,35 +20,35 @@ use Rattle.bz_task.specs.Instant.{Instant, words, durable, page_at, form_at, is_
 use Rattle.bz_task.specs.Laws.{KeepsFront, SamePlace, WasInside}
 use Rattle.bz_task.specs.Scene.{Scene, IsScene}
 use Rattle.bz_task.specs.Shown.{SameRecords}
-use Rattle.bz_descend.specs.Grounds.{Laws}
+use Rattle.bz_task.proofs.Proved.{fronts_stay, headers_say_the_level, nodes_were_inside, ranges_stay}
 use Rattle.bz_descend.specs.Ways.{HasKey}
 use Rattle.bz_descend.specs.Inners.{most_records, IsInner}
 use Rattle.bz_descend.proofs.Children.{fits, no, inner-same}
 
 -- a node of the tree breaks no rule
-pub whole-node : Laws → (c : Config) (x : Instant) (k : ℕ) → IsGood c x → k ≢ c.nodes → is_inside c x k ≡ true
+pub whole-node : (c : Config) (x : Instant) (k : ℕ) → IsGood c x → k ≢ c.nodes → is_inside c x k ≡ true
     → node_fault c.nodes (node c x.image k) (durable c x k) ((form_at c x).level k) ((form_at c x).low k) ((form_at c x).high k) ≡ None
-whole-node b c x k g ne i = rw (no k c.nodes ne) at ((fits b.formed b.forms c x g).whole k i ne)
+whole-node c x k g ne i = rw (no k c.nodes ne) at ((fits c x g).whole k i ne)
 
 -- its level is one that a tree may have
-pub level-few : Laws → (c : Config) (x : Instant) (k : ℕ) → IsGood c x → k ≢ c.nodes → is_inside c x k ≡ true → (page_at c x k).level < MAX_LEVELS
-level-few b c x k g ne i =
-    let h : (page_at c x k).level ≡ (form_at c x).level k = (b.headers c x k g ne i).level in
+pub level-few : (c : Config) (x : Instant) (k : ℕ) → IsGood c x → k ≢ c.nodes → is_inside c x k ≡ true → (page_at c x k).level < MAX_LEVELS
+level-few c x k g ne i =
+    let h : (page_at c x k).level ≡ (form_at c x).level k = (headers_say_the_level c x k g ne i).level in
     omega (arith, h, few ((form_at c x).level k) refl)
   where
     few : (l : ℕ) → (form_at c x).level k ≡ l → (form_at c x).level k < MAX_LEVELS
     few zero e = omega (arith, e)
     few (suc l) e =
-        ((b.inner c.nodes (node c x.image k) (durable c x k) ((form_at c x).level k) ((form_at c x).low k) ((form_at c x).high k) (omega (arith, e))).0 (whole-node b c x k g ne i)).level.lowest
+        ((inner_rules_are_facts c.nodes (node c x.image k) (durable c x k) ((form_at c x).level k) ((form_at c x).low k) ((form_at c x).high k) (omega (arith, e))).0 (whole-node c x k g ne i)).level.lowest
 
 -- an inner node of the tree, as readers read it
-pub whole-inner : Laws → (c : Config) (x : Instant) (k : ℕ) → IsGood c x → k ≢ c.nodes → is_inside c x k ≡ true → 0 < (page_at c x k).level
+pub whole-inner : (c : Config) (x : Instant) (k : ℕ) → IsGood c x → k ≢ c.nodes → is_inside c x k ≡ true → 0 < (page_at c x k).level
     → WholeInner c.nodes (node c x.image k) (page_at c x k) ((form_at c x).level k) ((form_at c x).low k) ((form_at c x).high k)
-whole-inner b c x k g ne i l =
-    let h : (page_at c x k).level ≡ (form_at c x).level k = (b.headers c x k g ne i).level in
+whole-inner c x k g ne i l =
+    let h : (page_at c x k).level ≡ (form_at c x).level k = (headers_say_the_level c x k g ne i).level in
     let same : durable c x k ≡ words c x k = inner-same c x k g (g.inside k i ne) l in
-    (b.inner c.nodes (node c x.image k) (words c x k) ((form_at c x).level k) ((form_at c x).low k) ((form_at c x).high k) (omega (arith, h, l))).0
-    (subst (λ n. node_fault c.nodes (node c x.image k) n ((form_at c x).level k) ((form_at c x).low k) ((form_at c x).high k) ≡ None) same (whole-node b c x k g ne i))
+    (inner_rules_are_facts c.nodes (node c x.image k) (words c x k) ((form_at c x).level k) ((form_at c x).low k) ((form_at c x).high k) (omega (arith, h, l))).0
+    (subst (λ n. node_fault c.nodes (node c x.image k) n ((form_at c x).level k) ((form_at c x).low k) ((form_at c x).high k) ≡ None) same (whole-node c x k g ne i))
 
 -- a node that was met in the tree is, at a later moment, as it was at one between at which it was still in the tree
 pub record Was (key : List ℕ) (s : Scene) (m j k : ℕ) : Type 0 where
@@ -58,15 +59,15 @@ pub record Was (key : List ℕ) (s : Scene) (m j k : ℕ) : Type 0 where
   pub level : (page_at s.past.config (s.past.at was) k).level ≡ (page_at s.past.config (s.past.at m) k).level
   pub same : SameRecords (words s.past.config (s.past.at was) k) (words s.past.config (s.past.at j) k)
 
-pub was-inside : Laws → (key : List ℕ) (s : Scene) (m j k : ℕ) → IsScene s → s.past.since ≤ m → m ≤ j → j ≤ s.past.now → HasKey key s.past.config (s.past.at m) k → Was key s m j k
-was-inside b key s m j k good since order until h =
+pub was-inside : (key : List ℕ) (s : Scene) (m j k : ℕ) → IsScene s → s.past.since ≤ m → m ≤ j → j ≤ s.past.now → HasKey key s.past.config (s.past.at m) k → Was key s m j k
+was-inside key s m j k good since order until h =
     let c = s.past.config in
     let ne : k ≢ c.nodes = λ e. omega (arith, e, h.slot) in
-    let w : WasInside c s.past.at m j k = b.were c s.past.at s.past.since s.past.now m j k good.history (record { since = since; order = order; until = until }) ne h.inside in
+    let w : WasInside c s.past.at m j k = nodes_were_inside c s.past.at s.past.since s.past.now m j k good.history (record { since = since; order = order; until = until }) ne h.inside in
     let o : w.was ≤ s.past.now = omega (arith, w.until, until) in
-    let p : SamePlace c (s.past.at m) (s.past.at w.was) k = b.ranges c s.past.at s.past.since s.past.now m w.was k good.history (record { since = since; order = w.since; until = o }) ne h.inside w.inside in
+    let p : SamePlace c (s.past.at m) (s.past.at w.was) k = ranges_stay c s.past.at s.past.since s.past.now m w.was k good.history (record { since = since; order = w.since; until = o }) ne h.inside w.inside in
     let g : IsGood c (s.past.at m) = good.history.good m since (omega (arith, order, until)) in
-    let f : KeepsFront c (s.past.at m) (s.past.at w.was) k = b.fronts c s.past.at s.past.since s.past.now m w.was k good.history (record { since = since; order = w.since; until = o }) (g.inside k h.inside ne) in
+    let f : KeepsFront c (s.past.at m) (s.past.at w.was) k = fronts_stay c s.past.at s.past.since s.past.now m w.was k good.history (record { since = since; order = w.since; until = o }) (g.inside k h.inside ne) in
     record {
       was = w.was;
       since = w.since;

@@ -18,14 +18,13 @@ use Rattle.bz_task.specs.Scene.{Scene, IsScene, here}
 use Rattle.bz_task.specs.declared.path.Path.{Path}
 use Rattle.bz_descend.specs.Inners.{Opened}
 use Rattle.bz_descend.specs.Ways.{AreThawed, Arrives, ArrivesAtInner}
-use Rattle.bz_descend.specs.Grounds.{Laws}
 use Rattle.bz_descend.proofs.Leading.{word-of, front-later, level-later, inner-later}
 
-module _ (b : Laws) (key : List ℕ) (path : Path) (s : Scene) (good : IsScene s) where
+module _ (key : List ℕ) (path : Path) (s : Scene) (good : IsScene s) where
   -- the header that is read is that of the moment at which the node was met
   pub header-was : (k v : ℕ) (a : Arrives key path k s.past) → Answers s (node_address s.past.config k + HEADER_AT) v → (page_at s.past.config (s.past.at a.met) k).level ≡ (header v).level
   header-was k v a t =
-      sym (level-later b key path s good k s.past.now a a.until (omega arith)) ∙ ap (λ z. (header z).level) (sym (word-of s.past.config (here s) k HEADER_AT (omega arith)) ∙ t.value)
+      sym (level-later key path s good k s.past.now a a.until (omega arith)) ∙ ap (λ z. (header z).level) (sym (word-of s.past.config (here s) k HEADER_AT (omega arith)) ∙ t.value)
 
   -- a way to a leaf is a path
   pub leaf-met : (k : ℕ) (a : Arrives key path k s.past) → (page_at s.past.config (s.past.at a.met) k).level ≡ 0 → IsPath key path s.past × AreThawed path
@@ -40,8 +39,8 @@ module _ (b : Laws) (key : List ℕ) (path : Path) (s : Scene) (good : IsScene s
         was = s.past.now;
         since = good.begun;
         now = omega arith;
-        reached = subst (λ z. (here s).reached z ≡ true) q (front-later b key path s good k s.past.now a a.until (omega arith)).reached;
-        leaf = subst (λ z. (page_at s.past.config (here s) z).level ≡ 0) q (level-later b key path s good k s.past.now a a.until (omega arith) ∙ leaf);
+        reached = subst (λ z. (here s).reached z ≡ true) q (front-later key path s good k s.past.now a a.until (omega arith)).reached;
+        leaf = subst (λ z. (page_at s.past.config (here s) z).level ≡ 0) q (level-later key path s good k s.past.now a a.until (omega arith) ∙ leaf);
       };
     },
     a.way.thawed,
@@ -56,7 +55,7 @@ module _ (b : Laws) (key : List ℕ) (path : Path) (s : Scene) (good : IsScene s
     until = omega arith;
     value = sym (word-of s.past.config (here s) k STATUS_AT (omega arith)) ∙ t.value;
     thawed = thawed;
-    inner = inner-later b key path s good k s.past.now a a.node.until (omega arith);
+    inner = inner-later key path s good k s.past.now a a.node.until (omega arith);
   }
 
 pub words-are : (n : ℕ → ℕ) (from count : ℕ) (ws : List ℕ) → count ≤ length ws → ((i : ℕ) → i < count → slice_index ws i ≡ n (from + i)) → take count ws ≡ words_at n from count

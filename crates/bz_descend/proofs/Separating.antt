@@ -13,21 +13,19 @@ use Rattle.bz_slotted.specs.Records.{key_words}
 use Rattle.bz_slotted.specs.Rules.{POINTER_BYTES}
 use Rattle.bz_word.specs.declared.meta.Extent.{Extent}
 use Rattle.bz_task.specs.Instant.{words}
-use Rattle.bz_task.specs.Laws.{SeparatorsStay}
 use Rattle.bz_task.specs.Requests.{Answers}
 use Rattle.bz_task.specs.Scene.{Scene, IsScene, here}
 use Rattle.bz_task.specs.declared.path.Path.{Path}
-use Rattle.bz_descend.specs.Grounds.{Laws}
 use Rattle.bz_descend.specs.Inners.{Opened}
 use Rattle.bz_descend.proofs.Leading.{word-of, kept}
 use Rattle.bz_descend.proofs.Reading.{words-are, is-some}
 use Rattle.bz_descend.proofs.Separators.{key-is, meta-kept, word-kept}
 
-module _ (b : Laws) (separators : SeparatorsStay) (key : List ℕ) (path : Path) (s : Scene) (good : IsScene s) (k st : ℕ) (o : Opened key path k st s.past) (j : ℕ) (c : j < (page (words s.past.config (s.past.at o.guarded) k)).count) where
+module _ (key : List ℕ) (path : Path) (s : Scene) (good : IsScene s) (k st : ℕ) (o : Opened key path k st s.past) (j : ℕ) (c : j < (page (words s.past.config (s.past.at o.guarded) k)).count) where
   -- its metadata word says where it lies
   pub meta-at : (v : ℕ) → Answers s (node_address s.past.config k + (META_AT + j)) v → extent_of ((page (words s.past.config (s.past.at o.guarded) k)).meta j) ≡ extent_of (meta_of v)
   meta-at v t =
-      let m = meta-kept (words s.past.config (s.past.at o.guarded) k) (words s.past.config (here s) k) o.inner (kept b key path s good separators k st o) j c in
+      let m = meta-kept (words s.past.config (s.past.at o.guarded) k) (words s.past.config (here s) k) o.inner (kept key path s good k st o) j c in
       ap extent_of (sym m ∙ ap meta_of (sym (word-of s.past.config (here s) k (META_AT + j) (omega (arith, c, o.inner.room))) ∙ t.value))
 
   module _ (e : Extent) (says : extent_of ((page (words s.past.config (s.past.at o.guarded) k)).meta j) ≡ e) where
@@ -37,7 +35,7 @@ module _ (b : Laws) (separators : SeparatorsStay) (key : List ℕ) (path : Path)
         let n = words s.past.config (s.past.at o.guarded) k in
         let w : e.offset + i < NODE_WORDS = omega (arith, l, subst (λ z. z.offset + (packed_len z.key + packed_len (z.total - z.key)) ≤ NODE_WORDS) says (o.inner.inside j c).ends, subst (λ z. z.total ≡ z.key + POINTER_BYTES) says (o.inner.lengths j c).pointer) in
         sym t.value ∙ (word-of s.past.config (here s) k (e.offset + i) w
-        ∙ subst (λ z. i < packed_len z.key → words s.past.config (here s) k (z.offset + i) ≡ n (z.offset + i)) says (word-kept n (words s.past.config (here s) k) o.inner (kept b key path s good separators k st o) j i c) l)
+        ∙ subst (λ z. i < packed_len z.key → words s.past.config (here s) k (z.offset + i) ≡ n (z.offset + i)) says (word-kept n (words s.past.config (here s) k) o.inner (kept key path s good k st o) j i c) l)
 
     pub short-key : e.key ≤ KEY_BYTES
     short-key = subst (λ z. z.key ≤ KEY_BYTES) says (o.inner.lengths j c).short

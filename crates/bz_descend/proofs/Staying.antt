@@ -6,7 +6,6 @@ use Rattle.bz_layout.specs.declared.thresholds.TheConstants.{MAX_LEVELS}
 use Rattle.bz_slotted.specs.Page.{page}
 use Rattle.bz_slotted.specs.Records.{pointer_at}
 use Rattle.bz_task.specs.Instant.{Instant, words, page_at}
-use Rattle.bz_task.specs.Laws.{PathsStay}
 use Rattle.bz_task.specs.Outcomes.{IsUnderNode, IsGuarded, IsLink}
 use Rattle.bz_task.specs.Scene.{Past, Continues}
 use Rattle.bz_task.specs.declared.path.Link.{Link}
@@ -16,7 +15,7 @@ use Rattle.bz_descend.specs.Inners.{IsInner, Opened, HasChosen}
 use Rattle.bz_descend.specs.Ways.{HasKey, Chooses, IsWay, Arrives, ArrivesAtInner, MeetsFrozen}
 use Rattle.bz_descend.specs.declared.sight.Probe.{Probe}
 
-module _ (paths : PathsStay) (p q : Past) (n : Continues p q) where
+module _ (p q : Past) (n : Continues p q) where
   -- what held of the sizes and the memory at a past moment
   pub moved : (P : Config → Instant → Type 0) (m : ℕ) → m ≤ p.now → P p.config (p.at m) → P q.config (q.at m)
   moved P m h f = subst (λ c. P c (q.at m)) (sym n.config) (subst (λ x. P p.config x) (sym (n.at m h)) f)

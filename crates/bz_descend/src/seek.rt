@@ -15,7 +15,6 @@ ghost use Rattle.bz_task.specs.declared.todo.Outcome.{Outcome as Ends};
 ghost use Rattle.bz_task.specs.declared.todo.Seen.TheVariants.{Start};
 ghost use Rattle.bz_task.specs.declared.todo.Todo.TheVariants.{Read};
 ghost use Rattle.bz_descend.specs.Facts.{IsEndOfDescent, IsInNode};
-ghost use Rattle.bz_descend.specs.Grounds.{Laws};
 ghost use Rattle.bz_layout.specs.declared.thresholds.TheConstants.{MAX_LEVELS};
 ghost use Rattle.bz_descend.specs.Halving.{sight_in, settled};
 ghost use Rattle.bz_descend.specs.Inners.{most_records};
@@ -32,7 +31,7 @@ use bz_layout::{
     Config, FENCE_WORDS, HEADER_AT, META_AT, ROOT_AT, ROOT_STATUS_AT, STATUS_AT, Slots,
 };
 use bz_search::halved;
-use bz_task::{Link, Outcome, Path, Seen, Task, Todo, laws};
+use bz_task::{Link, Outcome, Path, Seen, Task, Todo};
 use bz_word::Extent;
 
 /// The way to the leaf of a key, by halving in each inner node. It ends with Path, or with Restart where the status of an inner
@@ -118,11 +117,7 @@ impl Seek {
         ensures config { IsConfig self.now.config }
         ensures heard { seek_heard self.now.config self.now.path.depth self.now.phase seen }
         ensures counted { IsCounted self.now.config self.now.path self.now.height self.now.phase self.now.asked }
-    {
-        on_trees();
-        laws::roots_are_reached();
-        laws::separators_stay();
-    }
+    {}
 
     // The phase after what came of the last act; a link that was followed and a word of a key are kept.
     fn after(&mut self, seen: Seen) -> Way
@@ -144,9 +139,6 @@ impl Seek {
         ensures learns { (stage : Stage) (s : Scene) → s.past.config ≡ self.old.config → IsScene s → seek_facts self.old.key self.old.path self.old.height self.old.words self.old.phase stage s → Tells (seek_asks self.old.config self.old.phase) stage seen s → HasFilled s × seek_learnt self.old.key self.new.path self.new.height self.new.words result s.past }
     {
         is_whole(&self.words);
-        on_trees();
-        laws::roots_are_reached();
-        laws::separators_stay();
         match (self.phase, seen) {
             (Way::Guard, Seen::Read(status)) => Way::Root(status),
             (Way::Root(status), Seen::Read(pointer)) => {
@@ -276,20 +268,6 @@ fn is_whole(words: &[u64; FENCE_WORDS as usize])
     ensures { length words.now ≡ FENCE_WORDS }
 {}
 
-// The laws of trees and their nodes that a descent stands on. Does nothing.
-fn on_trees()
-    ensures { Laws }
-{
-    bz_content::laws::well_formed_images_have_no_fault();
-    bz_shape::laws::trees_have_forms();
-    laws::headers_say_the_level();
-    laws::fronts_stay();
-    laws::ranges_stay();
-    laws::nodes_were_inside();
-    bz_slotted::laws::leaf_rules_are_facts();
-    bz_slotted::laws::inner_rules_are_facts();
-}
-
 // The phase at a part of a node's records.
 fn in_part(slot: u16, status: u64, count: u32, pointer: u32, low: u32, high: u32) -> Way
     requires { high ≤ SHARED_WORDS }
@@ -361,14 +339,12 @@ impl Task for Seek {
 
     fn next(&mut self, seen: Seen, slots: &mut Slots, moment: u32) -> Todo {
         let _slots = slots;
-        laws::nothing_is_gained();
         self.heard(seen, moment);
         self.phase = self.after(seen);
         self.asks_for()
     }
 
     fn learnt(&self) {
-        laws::paths_stay();
         bz_layout::addresses_fit();
         bz_layout::descriptors_stand_apart();
     }

@@ -9,6 +9,7 @@ use Rattle.bz_layout.specs.declared.sizes.TheConstants.{NODE_WORDS, STATUS_AT, H
 use Rattle.bz_node.specs.Reading.{payload_len}
 use Rattle.bz_slotted.specs.Page.{page}
 use Rattle.bz_slotted.specs.Whole.{Whole}
+use Rattle.bz_slotted.proofs.Proved.{leaf_rules_are_facts}
 use Rattle.bz_content.specs.Image.{node}
 use Rattle.bz_word.specs.Statuses.{status}
 use Rattle.bz_leaf.proofs.Learning.{word-at}
@@ -23,10 +24,10 @@ use Rattle.bz_task.specs.declared.todo.Outcome.TheVariants.{Restart}
 use Rattle.bz_task.specs.declared.todo.Seen.{Seen}
 use Rattle.bz_task.specs.declared.todo.Seen.TheVariants.{Start, Read as Was, Stored, Flushed, Swapped, NoSwap}
 use Rattle.bz_task.specs.declared.todo.Todo.TheVariants.{Read, Finish}
+use Rattle.bz_task.proofs.Proved.{fronts_stay, leaves_are_in_trees, nodes_were_inside, ranges_stay}
 use Rattle.bz_find.specs.Bounds.{IsSpot, IsStepOf}
 use Rattle.bz_find.specs.Duties.{end_of, facts_of}
 use Rattle.bz_find.specs.Facts.{HadCounts, GoesByLeaf, StopsIn, IsBounded, Opened, find_bounds, find_counts, find_facts, reads_at}
-use Rattle.bz_find.specs.Grounds.{Grounds}
 use Rattle.bz_find.specs.Phases.{find_asks, find_end, phase_after, search_of, told, counted}
 use Rattle.bz_find.specs.Steps.{place_of, passed, matched, key_order, ordered, heard_at, heard}
 use Rattle.bz_find.specs.Words.{lies, is_record, records_in, sorted_in}
@@ -42,36 +43,36 @@ use Rattle.bz_find.proofs.Advancing.{advances}
 use Rattle.bz_find.proofs.Begins.{count-is, sorted-is}
 
 -- a leaf that was met was in the tree at a moment at which it had the numbers that its status and its header say
-module _ (g : Grounds) (s : Scene) (good : IsScene s) (key : List ℕ) (link : Link) (ws : List ℕ) (r : Reading key link ws NODE_WORDS s.past) where
+module _ (s : Scene) (good : IsScene s) (key : List ℕ) (link : Link) (ws : List ℕ) (r : Reading key link ws NODE_WORDS s.past) where
   below : link.slot ≢ s.past.config.nodes
   below e = omega (arith, e, r.known.slot)
 
   was : WasInside s.past.config s.past.at r.known.moment r.read_at link.slot
-  was = g.were s.past.config s.past.at s.past.since s.past.now r.known.moment r.read_at link.slot good.history (record { since = r.known.since; order = r.order; until = r.until }) below r.known.inside
+  was = nodes_were_inside s.past.config s.past.at s.past.since s.past.now r.known.moment r.read_at link.slot good.history (record { since = r.known.since; order = r.order; until = r.until }) below r.known.inside
 
   was-good : IsGood s.past.config (s.past.at was.was)
   was-good = good.history.good was.was (omega (arith, r.known.since, was.since)) (omega (arith, was.until, r.until))
 
   leaf : IsLeafInTree s.past.config (s.past.at was.was) link.slot
   leaf =
-      let place = g.ranges s.past.config s.past.at s.past.since s.past.now r.known.moment was.was link.slot good.history (record { since = r.known.since; order = was.since; until = omega (arith, was.until, r.until) }) below r.known.inside was.inside in
-      g.leaves s.past.config (s.past.at was.was) link.slot was-good r.known.slot was.inside (place.level ∙ r.known.leaf)
+      let place = ranges_stay s.past.config s.past.at s.past.since s.past.now r.known.moment was.was link.slot good.history (record { since = r.known.since; order = was.since; until = omega (arith, was.until, r.until) }) below r.known.inside was.inside in
+      leaves_are_in_trees s.past.config (s.past.at was.was) link.slot was-good r.known.slot was.inside (place.level ∙ r.known.leaf)
 
   whole : Whole (node s.past.config (s.past.at was.was).image link.slot) (page (durable s.past.config (s.past.at was.was) link.slot)) ((form_at s.past.config (s.past.at was.was)).low link.slot) ((form_at s.past.config (s.past.at was.was)).high link.slot)
-  whole = (g.rules s.past.config.nodes (node s.past.config (s.past.at was.was).image link.slot) (durable s.past.config (s.past.at was.was) link.slot) _ _).0 leaf.whole
+  whole = (leaf_rules_are_facts s.past.config.nodes (node s.past.config (s.past.at was.was).image link.slot) (durable s.past.config (s.past.at was.was) link.slot) _ _).0 leaf.whole
 
   shown : (i : ℕ) → i < META_AT → durable s.past.config (s.past.at was.was) link.slot i ≡ words s.past.config (s.past.at was.was) link.slot i
   shown i l = was-good.shown link.slot i leaf.reached (inl (omega (arith, l)))
 
   met : KeepsFront s.past.config (s.past.at r.known.moment) (s.past.at r.read_at) link.slot
   met =
-      g.fronts s.past.config s.past.at s.past.since s.past.now r.known.moment r.read_at link.slot good.history (record { since = r.known.since; order = r.order; until = r.until })
+      fronts_stay s.past.config s.past.at s.past.since s.past.now r.known.moment r.read_at link.slot good.history (record { since = r.known.since; order = r.order; until = r.until })
       ((good.history.good r.known.moment r.known.since r.known.now).inside link.slot r.known.inside below)
 
   module _ (st v : ℕ) (first : slice_index ws 0 ≡ st) (a : Answers s (node_address s.past.config link.slot + HEADER_AT) v) where
     header-then : words s.past.config (s.past.at r.read_at) link.slot HEADER_AT ≡ v
     header-then =
-        let later = g.fronts s.past.config s.past.at s.past.since s.past.now r.read_at s.past.now link.slot good.history (record { since = omega (arith, r.known.since, r.order); order = r.until; until = omega arith }) met.reached in
+        let later = fronts_stay s.past.config s.past.at s.past.since s.past.now r.read_at s.past.now link.slot good.history (record { since = omega (arith, r.known.since, r.order); order = r.until; until = omega arith }) met.reached in
         sym (later.front HEADER_AT (λ e. omega (arith, e)) (omega arith)) ∙ (sym (word-at s.past.config (here s) link.slot HEADER_AT (omega arith)) ∙ a.value)
 
     head : durable s.past.config (s.past.at was.was) link.slot HEADER_AT ≡ v
@@ -133,7 +134,7 @@ after u Done st p c = go (status st).frozen
     go true = c
     go false = c
 
-module _ (g : Grounds) (t : Find) (s : Scene) (same : s.past.config ≡ t.config) (good : IsScene s) where
+module _ (t : Find) (s : Scene) (same : s.past.config ≡ t.config) (good : IsScene s) where
   abbrev Counts : Phase → Seen → ℕ → Type 0
   Counts phase seen now = find_counts (counted (told t phase seen now)) (told t phase seen now).phase s.past
 
@@ -142,7 +143,7 @@ module _ (g : Grounds) (t : Find) (s : Scene) (same : s.past.config ≡ t.config
       let o : Opened t.key t.link t.status s.past = f.1 in
       let u : Find = record t { search = search_of t v } in
       let at : Answers s (node_address s.past.config t.link.slot + HEADER_AT) v = subst (λ z. Answers s (node_address z t.link.slot + HEADER_AT) v) (sym same) a in
-      after (counted (told t Header (Was v) now)) u.search.step t.status s.past (record { had = had-counts g s good t.key t.link o.ws o.reading t.status v o.status at; met = omega arith })
+      after (counted (told t Header (Was v) now)) u.search.step t.status s.past (record { had = had-counts s good t.key t.link o.ws o.reading t.status v o.status at; met = omega arith })
 
   from-search : (v now : ℕ) → find_bounds t Searching → GoesByLeaf t s.past → Counts Searching (Was v) now
   from-search v now b c =

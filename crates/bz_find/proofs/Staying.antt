@@ -2,9 +2,9 @@
 use Rattle.std.proofs.Common.{ℕ, ◌≤◌, Bool, true, false, List, arith, sym, ◌∙◌}
 use Rattle.bz_layout.specs.declared.sizes.TheConstants.{NODE_WORDS}
 use Rattle.bz_leaf.proofs.Staying.{known, reading, has-link}
-use Rattle.bz_task.specs.Laws.{KeyViewsStay}
 use Rattle.bz_task.specs.Scene.{Past, Scene, Stage, Waiting, Took, Continues, IsLawful, HasFilled}
 use Rattle.bz_task.specs.declared.path.Link.{Link}
+use Rattle.bz_task.proofs.Proved.{key_views_stay}
 use Rattle.bz_find.specs.Facts.{IsStill, Opened, Searched, Ended, Linked, IsFoundAt, find_learnt, find_facts}
 use Rattle.bz_find.specs.Phases.{view_of}
 use Rattle.bz_find.specs.declared.find.Find.{Find}
@@ -40,31 +40,31 @@ module _ (p q : Past) (n : Continues p q) where
     found = λ s. o.found (earlier link o.ws o.led.leaf.all.read_at o.led.leaf.all.until s);
   }
 
-  found-at : KeyViewsStay → (key : List ℕ) (t : Find) (at : ℕ) → IsFoundAt key t at p → IsFoundAt key t at q
-  found-at views key t at o = record { view = views key (view_of t at) p q o.view n; reckoned = rw (n.config, n.at at o.view.now) o.reckoned }
+  found-at : (key : List ℕ) (t : Find) (at : ℕ) → IsFoundAt key t at p → IsFoundAt key t at q
+  found-at key t at o = record { view = key_views_stay key (view_of t at) p q o.view n; reckoned = rw (n.config, n.at at o.view.now) o.reckoned }
 
-  learnt : KeyViewsStay → (t : Find) (phase : Phase) → find_learnt t phase p → find_learnt t phase q
-  learnt views t Fresh f = known p q n t.key t.link f
-  learnt views t Status f = known p q n t.key t.link f
-  learnt views t Header f = opened t.key t.link t.status f
-  learnt views t Searching f = searched t.key t.link t.status t.search f
-  learnt views t Again f = ended t.key t.link t.status t.search false f
-  learnt views t Of_link f = ended t.key t.link t.status t.search true f
-  learnt views t (Guard at) f = linked t.key t.link t.status t.search at f
-  learnt views t (Viewed at) f = found-at views t.key t at f
-  learnt views t Changed f = tt
+  learnt : (t : Find) (phase : Phase) → find_learnt t phase p → find_learnt t phase q
+  learnt t Fresh f = known p q n t.key t.link f
+  learnt t Status f = known p q n t.key t.link f
+  learnt t Header f = opened t.key t.link t.status f
+  learnt t Searching f = searched t.key t.link t.status t.search f
+  learnt t Again f = ended t.key t.link t.status t.search false f
+  learnt t Of_link f = ended t.key t.link t.status t.search true f
+  learnt t (Guard at) f = linked t.key t.link t.status t.search at f
+  learnt t (Viewed at) f = found-at t.key t at f
+  learnt t Changed f = tt
 
-both : KeyViewsStay → (t : Find) (phase : Phase) (s after : Scene) → IsLawful s after → HasFilled s × find_learnt t phase s.past → HasFilled after × find_learnt t phase after.past
-both views t phase s after step f = (λ k w. step.filled k ∙ f.0 k (sym (step.took k) ∙ w), learnt s.past after.past step.continues views t phase f.1)
+both : (t : Find) (phase : Phase) (s after : Scene) → IsLawful s after → HasFilled s × find_learnt t phase s.past → HasFilled after × find_learnt t phase after.past
+both t phase s after step f = (λ k w. step.filled k ∙ f.0 k (sym (step.took k) ∙ w), learnt s.past after.past step.continues t phase f.1)
 
-pub stable : KeyViewsStay → (t : Find) (phase : Phase) (stage : Stage) (s after : Scene) → find_facts t phase stage s → IsLawful s after → find_facts t phase stage after
-stable views t phase Took s after f step = f
-stable views t Fresh Waiting s after f step = known s.past after.past step.continues t.key t.link f
-stable views t Status Waiting s after f step = both views t Status s after step f
-stable views t Header Waiting s after f step = both views t Header s after step f
-stable views t Searching Waiting s after f step = both views t Searching s after step f
-stable views t Again Waiting s after f step = both views t Again s after step f
-stable views t Of_link Waiting s after f step = both views t Of_link s after step f
-stable views t (Guard at) Waiting s after f step = both views t (Guard at) s after step f
-stable views t (Viewed at) Waiting s after f step = both views t (Viewed at) s after step f
-stable views t Changed Waiting s after f step = both views t Changed s after step f
+pub stable : (t : Find) (phase : Phase) (stage : Stage) (s after : Scene) → find_facts t phase stage s → IsLawful s after → find_facts t phase stage after
+stable t phase Took s after f step = f
+stable t Fresh Waiting s after f step = known s.past after.past step.continues t.key t.link f
+stable t Status Waiting s after f step = both t Status s after step f
+stable t Header Waiting s after f step = both t Header s after step f
+stable t Searching Waiting s after f step = both t Searching s after step f
+stable t Again Waiting s after f step = both t Again s after step f
+stable t Of_link Waiting s after f step = both t Of_link s after step f
+stable t (Guard at) Waiting s after f step = both t (Guard at) s after step f
+stable t (Viewed at) Waiting s after f step = both t (Viewed at) s after step f
+stable t Changed Waiting s after f step = both t Changed s after step f

@@ -7,10 +7,8 @@ use Rattle.bz_layout.specs.Slots.{FreeSlots}
 use Rattle.bz_layout.specs.declared.sizes.TheConstants.{STATUS_AT, HEADER_AT}
 use Rattle.bz_slotted.specs.ReadingLaws.{node_of}
 use Rattle.bz_word.specs.Statuses.{status}
-use Rattle.bz_leaf.proofs.Learning.{Links, linked, word-at}
-use Rattle.bz_leaf.proofs.Viewing.{Laws}
+use Rattle.bz_leaf.proofs.Learning.{linked, word-at}
 use Rattle.bz_task.specs.Instant.{durable, is_inside}
-use Rattle.bz_task.specs.Laws.{NothingIsGained}
 use Rattle.bz_task.specs.Outcomes.{IsKeyView}
 use Rattle.bz_task.specs.OwnActs.{gained}
 use Rattle.bz_task.specs.Requests.{Answers, Tells}
@@ -18,8 +16,8 @@ use Rattle.bz_task.specs.Scene.{Past, Scene, Stage, Waiting, Took, IsScene, HasF
 use Rattle.bz_task.specs.declared.todo.Seen.{Seen}
 use Rattle.bz_task.specs.declared.todo.Seen.TheVariants.{Start, Read as Was, Stored, Flushed, Swapped, NoSwap}
 use Rattle.bz_task.specs.declared.todo.Todo.TheVariants.{Read, Finish}
+use Rattle.bz_task.proofs.Proved.{nothing_is_gained}
 use Rattle.bz_find.specs.Facts.{IsBounded, IsStill, Opened, Ended, Linked, IsReckoned, IsFoundAt, find_bounds, find_learnt, find_facts}
-use Rattle.bz_find.specs.Grounds.{Grounds}
 use Rattle.bz_find.specs.Knowing.{KnowsAt, Knows, HasFound}
 use Rattle.bz_find.specs.Phases.{find_asks, phase_after, search_of, told, counted}
 use Rattle.bz_find.specs.Steps.{place_of, heard}
@@ -33,23 +31,6 @@ use Rattle.bz_find.proofs.Begins.{knows-first}
 use Rattle.bz_find.proofs.Learning.{learns}
 use Rattle.bz_find.proofs.Reading.{front-word, wanted, opens}
 use Rattle.bz_find.proofs.Viewing.{viewed, thawed-key, thawed-reckoned, frozen-key, frozen-reckoned}
-
-leaves : Grounds → Laws
-leaves g = record {
-  nodes = g.nodes;
-  frozen = g.frozen;
-  fronts = g.fronts;
-  ranges = g.ranges;
-  leaves = g.leaves;
-  seen = g.seen;
-  shown = g.shown;
-  rules = g.rules;
-  formed = g.formed;
-  tile = g.tile;
-}
-
-links : Grounds → Links
-links g = record { frozen = g.frozen; fronts = g.fronts; separators = g.separators; roots = g.roots; children = g.children }
 
 -- an answer that tells something is one to a read, and nothing has taken effect
 answered : (P : Seen → Type 0) (s : Scene) (a : ℕ) → ((v : ℕ) → Answers s a v → P (Was v)) → (seen : Seen) → Tells (Some (Read a)) Waiting seen s → P seen
@@ -91,7 +72,7 @@ goes t Done p e k o f = go (status t.status).frozen refl
     go true q = record { opened = o; same = k; found = found; is = q }
     go false q = record { opened = o; same = k; found = found; is = q }
 
-module _ (g : Grounds) (t : Find) (s : Scene) (same : s.past.config ≡ t.config) (good : IsScene s) where
+module _ (t : Find) (s : Scene) (same : s.past.config ≡ t.config) (good : IsScene s) where
   in-slot : (i v : ℕ) → Answers s (node_address t.config t.link.slot + i) v → Answers s (node_address s.past.config t.link.slot + i) v
   in-slot i v a = subst (λ z. Answers s (node_address z t.link.slot + i) v) (sym same) a
 
@@ -132,7 +113,7 @@ module _ (g : Grounds) (t : Find) (s : Scene) (same : s.past.config ≡ t.config
     where
       go : (key : List ℕ) → t.search.key ≡ key → Ended key t.link t.status t.search false s.past → IsKeyView key (viewed t.link t.status t.search s.past.now) s.past × IsReckoned (durable s.past.config (here s) t.link.slot) t.search key
       go key e = subst (λ z. Ended z t.link t.status t.search false s.past → IsKeyView z (viewed t.link t.status t.search s.past.now) s.past × IsReckoned (durable s.past.config (here s) t.link.slot) t.search z) e
-          (λ k. (thawed-key (leaves g) s good t.link t.status t.search k a, thawed-reckoned (leaves g) s good t.link t.status t.search k a))
+          (λ k. (thawed-key s good t.link t.status t.search k a, thawed-reckoned s good t.link t.status t.search k a))
 
   from-again : (v now : ℕ) → s.past.now ≡ now → find_facts t Again Waiting s → Answers s (node_address t.config t.link.slot + STATUS_AT) v → Learns (told t Again (Was v) now) s
   from-again v now is f a = go (v == t.status) refl
@@ -168,8 +149,8 @@ module _ (g : Grounds) (t : Find) (s : Scene) (same : s.past.config ≡ t.config
       go : (key : List ℕ) → t.search.key ≡ key → Linked key t.link t.status t.search at s.past → IsKeyView key (viewed t.link t.status t.search at) s.past × IsReckoned (durable s.past.config (s.past.at at) t.link.slot) t.search key
       go key e = subst (λ z. Linked z t.link t.status t.search at s.past → IsKeyView z (viewed t.link t.status t.search at) s.past × IsReckoned (durable s.past.config (s.past.at at) t.link.slot) t.search z) e
           (λ k.
-          let i : is_inside s.past.config (s.past.at at) t.link.slot ≡ true = linked (links g) s good t.search.key t.link k.ws at k.led v a f in
-          (frozen-key (leaves g) s good t.link t.status t.search at k i, frozen-reckoned (leaves g) s good t.link t.status t.search at k i))
+          let i : is_inside s.past.config (s.past.at at) t.link.slot ≡ true = linked s good t.search.key t.link k.ws at k.led v a f in
+          (frozen-key s good t.link t.status t.search at k i, frozen-reckoned s good t.link t.status t.search at k i))
 
   from-guard : (at v now : ℕ) → find_facts t (Guard at) Waiting s → Answers s t.link.guard v → Learns (told t (Guard at) (Was v) now) s
   from-guard at v now f a = go (status v).frozen refl
@@ -194,13 +175,13 @@ module _ (g : Grounds) (t : Find) (s : Scene) (same : s.past.config ≡ t.config
   tells stage seen now is b f h = tells-at t.phase stage seen now is b.bounds f h
 
 -- what is learnt is known when no slot was taken
-pub no-slot : NothingIsGained → (u : Find) (phase : Phase) (s : Scene) (free : FreeSlots) → HasFilled s × find_learnt u phase s.past → find_facts u phase Waiting (gained s free free)
-no-slot n u Fresh s free h = h.1
-no-slot n u Status s free h = (n s free h.0, h.1)
-no-slot n u Header s free h = (n s free h.0, h.1)
-no-slot n u Searching s free h = (n s free h.0, h.1)
-no-slot n u Again s free h = (n s free h.0, h.1)
-no-slot n u Of_link s free h = (n s free h.0, h.1)
-no-slot n u (Guard at) s free h = (n s free h.0, h.1)
-no-slot n u (Viewed at) s free h = (n s free h.0, h.1)
-no-slot n u Changed s free h = (n s free h.0, h.1)
+pub no-slot : (u : Find) (phase : Phase) (s : Scene) (free : FreeSlots) → HasFilled s × find_learnt u phase s.past → find_facts u phase Waiting (gained s free free)
+no-slot u Fresh s free h = h.1
+no-slot u Status s free h = (nothing_is_gained s free h.0, h.1)
+no-slot u Header s free h = (nothing_is_gained s free h.0, h.1)
+no-slot u Searching s free h = (nothing_is_gained s free h.0, h.1)
+no-slot u Again s free h = (nothing_is_gained s free h.0, h.1)
+no-slot u Of_link s free h = (nothing_is_gained s free h.0, h.1)
+no-slot u (Guard at) s free h = (nothing_is_gained s free h.0, h.1)
+no-slot u (Viewed at) s free h = (nothing_is_gained s free h.0, h.1)
+no-slot u Changed s free h = (nothing_is_gained s free h.0, h.1)

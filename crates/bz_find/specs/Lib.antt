@@ -4,6 +4,5 @@ pub mod Bounds
 pub mod Costs
 pub mod Knowing
 pub mod Phases
-pub mod Grounds
 pub mod Facts
 pub mod Duties

@@ -13,7 +13,6 @@ ghost use Rattle.bz_task.specs.declared.path.Link.{Link as LastLink};
 ghost use Rattle.bz_task.specs.declared.todo.Outcome.{Outcome as Ends};
 ghost use Rattle.bz_find.specs.Duties.{key_of, path_of, asked_of, asked_by, asks_of, facts_of, find_view};
 ghost use Rattle.bz_find.specs.Facts.{find_acts, find_change, find_reads, IsBounded, IsEndOfFind, StopsIn};
-ghost use Rattle.bz_find.specs.Grounds.{Grounds};
 ghost use Rattle.bz_find.specs.Phases.{find_asks, gone_on, told, counted, view_of, IsPlain};
 
 use crate::front::{count_of, is_frozen, sorted_of};
@@ -21,7 +20,7 @@ use crate::phase::Phase;
 use crate::search::{Search, Step};
 use bz_key::Key;
 use bz_layout::{Config, HEADER_AT, STATUS_AT, Slots};
-use bz_task::{KeyView, Link, Outcome, Path, Seen, Task, Todo, laws};
+use bz_task::{KeyView, Link, Outcome, Path, Seen, Task, Todo};
 
 /// A key looked up in the leaf of a path, validated: where the leaf is not frozen by a second look at its status, where it is by a
 /// second look at the link to it and then at the link's guard. It ends with Key, or with Restart where a validating load found
@@ -58,8 +57,6 @@ impl Find {
         ensures only { (outcome : Ends) (s : Scene) → (⟦<Find as Task>⟧.view result).means outcome s → IsEndOfFind outcome }
         ensures none { (path : Path) (s : Scene) → (⟦<Find as Task>⟧.view result).means (Outcome.Path path) s → ⊥ }
     {
-        laws::fronts_stay();
-        laws::headers_say_the_level();
         Find {
             config: *config,
             key,
@@ -216,26 +213,6 @@ impl Find {
     }
 }
 
-// The laws of leaves and of links to them that a look-up stands on. Does nothing.
-fn on_leaves()
-    ensures { Grounds }
-{
-    laws::nodes_stay();
-    laws::frozen_nodes_stay();
-    laws::fronts_stay();
-    laws::ranges_stay();
-    laws::nodes_were_inside();
-    laws::separators_stay();
-    laws::roots_are_reached();
-    laws::leaves_are_in_trees();
-    laws::children_are_in_trees();
-    laws::seen_leaves_are_whole();
-    laws::same_records_show_the_same();
-    bz_slotted::laws::leaf_rules_are_facts();
-    bz_content::laws::well_formed_images_have_no_fault();
-    bz_shape::laws::leaves_tile_the_keys();
-}
-
 // The last link of a path.
 fn last_link(path: &Path) -> Link
     requires some { 1 ≤ path.now.depth }
@@ -262,15 +239,11 @@ impl Task for Find {
 
     fn next(&mut self, seen: Seen, slots: &mut Slots, moment: u32) -> Todo {
         let _slots = slots;
-        on_leaves();
-        laws::nothing_is_gained();
         self.heard(seen, moment);
         self.answered(seen, moment)
     }
 
     fn learnt(&self) {
-        laws::key_views_stay();
-        laws::paths_stay();
         bz_layout::addresses_fit();
         bz_layout::descriptors_stand_apart();
     }

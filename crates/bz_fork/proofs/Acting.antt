@@ -104,9 +104,9 @@ may-swap r s good f new =
     let parent_target : IsTarget s (node_address s.past.config r.upper.slot + STATUS_AT) = subst (IsTarget s) (guard-is s r.upper.slot r.middle good (above-of r.upper r.middle r.lower s v)) m.guard_target in
     let node_target : IsTarget s (node_address s.past.config r.middle.slot + STATUS_AT) = subst (IsTarget s) (guard-is s r.middle.slot r.lower good v.node) u.guard_target in
     All-inserted (IsEntryToAsk s) (freezing_entry s.past.config (parent_freezing r.middle r.lower)) (renewal_with s.past.config r.upper (r.slot 0) (parent_freezing r.upper r.middle ∷ []))
-    (record { target = node_target; expected = u.plain; new = frozen-plain statuses r.lower.status u.plain })
+    (record { target = node_target; expected = u.plain; new = frozen-plain r.lower.status u.plain })
     (All-inserted (IsEntryToAsk s) (freezing_entry s.past.config (parent_freezing r.upper r.middle)) (renewal r.upper (r.slot 0))
-    (record { target = parent_target; expected = m.plain; new = frozen-plain statuses r.middle.status m.plain })
+    (record { target = parent_target; expected = m.plain; new = frozen-plain r.middle.status m.plain })
     (all-two (IsEntryToAsk s) (link_entry r.upper (r.slot 0)) (guard_entry r.upper)
     (record { target = t.link_target; expected = omega (arith, old, good.config.nodes_in_range.at_most); new = omega (arith, new, good.config.nodes_in_range.at_most) })
     (record { target = t.guard_target; expected = t.plain; new = restamped-plain statuses r.upper.status t.plain })))

@@ -19,10 +19,10 @@ module _ (apart : SlotsApart) (key : List ℕ) (path : Path) (p : Past) (is : Is
   third-on = let e : place + 2 ≡ place + 1 + 1 = omega arith in subst (λ z. slice_get path.links z ≡ Some lower) e third
 
   parent : IsOpenLink upper.slot middle p
-  parent = open-link apart key path p is place (omega (arith, due.deep)) upper middle first second are.thawed.is
+  parent = open-link key path p is place (omega (arith, due.deep)) upper middle first second are.thawed.is
 
   node : IsOpenLink middle.slot lower p
-  node = open-link apart key path p is (place + 1) (omega (arith, due.deep)) middle lower second third-on are.full.thawed.is
+  node = open-link key path p is (place + 1) (omega (arith, due.deep)) middle lower second third-on are.full.thawed.is
 
   pub has-links : HasLinks upper middle lower p
   has-links = record {

@@ -5,35 +5,27 @@ use Rattle.std.proofs.lemmas.Bool.Decides.{nat_tests}
 use Rattle.bz_layout.specs.Addresses.{node_address}
 use Rattle.bz_layout.specs.declared.sizes.TheConstants.{NODE_WORDS, STATUS_AT}
 use Rattle.bz_slotted.specs.Changes.{Restamps}
-use Rattle.bz_slotted.specs.LeafLaws.{AnswersAlike, FreezeIsQuiet}
+use Rattle.bz_slotted.specs.LeafLaws.{AnswersAlike}
+use Rattle.bz_slotted.proofs.Proved.{freeze_is_quiet}
 use Rattle.bz_task.specs.FromSwap.SwapMemory.{is_target}
-use Rattle.bz_word.specs.Statements.{IsCodec}
-use Rattle.bz_word.specs.Statuses.{status_word, status, IsStatus, IsStatusWord}
+use Rattle.bz_word.specs.Statuses.{status}
 use Rattle.bz_word.specs.declared.entry.Entry.{Entry}
 use Rattle.bz_word.specs.declared.status.Status.{Status}
 use Rattle.bz_content.specs.Image.{node}
 use Rattle.bz_content.specs.Resolving.{resolve}
 use Rattle.bz_task.specs.Good.{IsGood}
 use Rattle.bz_task.specs.Instant.{Instant, words, durable, form_at}
-use Rattle.bz_task.specs.Laws.{AreMoments, ThawedLeavesStay, StillLeaf, SwapsShowInSlots, SlotWords, SlotWord, SameRecordsShowTheSame}
-use Rattle.bz_task.specs.LeafSwaps.{IsWordOf, IsLeafSwap, LeafSwapsAreGood}
+use Rattle.bz_task.specs.Laws.{AreMoments, StillLeaf, SlotWords, SlotWord}
+use Rattle.bz_task.specs.LeafSwaps.{IsWordOf, IsLeafSwap}
 use Rattle.bz_task.specs.Requests.{IsTarget}
 use Rattle.bz_task.specs.Scene.{Scene, IsScene, here}
 use Rattle.bz_task.specs.Shown.{SameRecords}
 use Rattle.bz_task.specs.Steps.{Moves, next_stamp, frozen_word}
 use Rattle.bz_task.specs.Swaps.{Stand, SwapsTo, swapped}
 use Rattle.bz_task.proofs.FrozenWords.{frozen-plain, frozen-reads}
+use Rattle.bz_task.proofs.Proved.{leaf_swaps_are_good, same_records_show_the_same, swaps_show_in_slots, thawed_leaves_stay}
 use Rattle.bz_freeze.specs.Facts.{WasLeaf, entry_of, freeze_change}
 use Rattle.bz_freeze.specs.Laws.{FreezesAreGood}
-
--- the laws that these proofs stand on
-pub record Laws : Type 0 where
-  pub thawed : ThawedLeavesStay
-  pub slots : SwapsShowInSlots
-  pub shown : SameRecordsShowTheSame
-  pub swaps : LeafSwapsAreGood
-  pub quiet : FreezeIsQuiet
-  pub codec : IsCodec Status IsStatus IsStatusWord status_word status
 
 -- what one entry sets and leaves
 pub set-one : (e : Entry) (f : ℕ → ℕ) (a : ℕ) → e.target ≡ a → swapped (e ∷ []) f a ≡ e.new
@@ -42,9 +34,9 @@ set-one e f a h = let t : (e.target == a) ≡ true = grind (arith, nat_tests) in
 leave-one : (e : Entry) (f : ℕ → ℕ) (a : ℕ) → e.target ≢ a → swapped (e ∷ []) f a ≡ f a
 leave-one e f a h = let t : (e.target == a) ≡ false = grind (arith, nat_tests) in rw t refl
 
-module _ (b : Laws) (s : Scene) (y : Instant) (k st : ℕ) (good : IsScene s) (w : WasLeaf k st s.past) (stand : Stand (entry_of s.past.config k st ∷ []) (here s)) (swaps : SwapsTo s.past.config (entry_of s.past.config k st ∷ []) (here s) y) where
+module _ (s : Scene) (y : Instant) (k st : ℕ) (good : IsScene s) (w : WasLeaf k st s.past) (stand : Stand (entry_of s.past.config k st ∷ []) (here s)) (swaps : SwapsTo s.past.config (entry_of s.past.config k st ∷ []) (here s) y) where
   slot : SlotWords s.past.config (entry_of s.past.config k st ∷ []) (here s) y k
-  slot = b.slots s.past.config (entry_of s.past.config k st ∷ []) (here s) y k swaps
+  slot = swaps_show_in_slots s.past.config (entry_of s.past.config k st ∷ []) (here s) y k swaps
 
   word : (i : ℕ) → i < NODE_WORDS → SlotWord s.past.config (entry_of s.past.config k st ∷ []) (here s) y k i
   word i l = slot.within i l
@@ -59,7 +51,7 @@ module _ (b : Laws) (s : Scene) (y : Instant) (k st : ℕ) (good : IsScene s) (w
   moments = record { since = w.since; order = w.now; until = omega arith }
 
   leaf : StillLeaf s.past.config (s.past.at w.moment) (here s) k
-  leaf = b.thawed s.past.config s.past.at s.past.since s.past.now w.moment s.past.now k good.history moments w.slot w.inside w.leaf (ap (λ z. (status z).frozen) w.was ∙ w.thawed) (now-status ∙ sym w.was)
+  leaf = thawed_leaves_stay s.past.config s.past.at s.past.since s.past.now w.moment s.past.now k good.history moments w.slot w.inside w.leaf (ap (λ z. (status z).frozen) w.was ∙ w.thawed) (now-status ∙ sym w.was)
 
   durable-status : durable s.past.config (here s) k STATUS_AT ≡ st
   durable-status = good-now.shown k STATUS_AT leaf.leaf.reached (inl (omega arith)) ∙ now-status
@@ -88,7 +80,7 @@ module _ (b : Laws) (s : Scene) (y : Instant) (k st : ℕ) (good : IsScene s) (w
 
   -- of the status the frozen bit and the stamp alone are others
   reads : status (frozen_word st) ≡ record (status st) { frozen = true; stamp = next_stamp (status st).stamp }
-  reads = frozen-reads b.codec st w.plain
+  reads = frozen-reads st w.plain
 
   status-field : (A : Type 0) (f : Status → A) → f (record (status st) { frozen = true; stamp = next_stamp (status st).stamp }) ≡ f (status st) → (n m : ℕ → ℕ) → n STATUS_AT ≡ st → m STATUS_AT ≡ frozen_word st → f (status (m STATUS_AT)) ≡ f (status (n STATUS_AT))
   status-field A f e n m was is = ap (λ z. f (status z)) is ∙ (ap f reads ∙ (e ∙ ap (λ z. f (status z)) (sym was)))
@@ -116,14 +108,14 @@ module _ (b : Laws) (s : Scene) (y : Instant) (k st : ℕ) (good : IsScene s) (w
   restamps = record {
     others = other-durable;
     raw = λ i l. slot.raw i;
-    status = subst (λ z. z < 2 ^ 61) (sym new-durable) (frozen-plain b.codec st w.plain);
+    status = subst (λ z. z < 2 ^ 61) (sym new-durable) (frozen-plain st w.plain);
     count = status-field ℕ (λ z. z.count) refl (durable s.past.config (here s) k) (durable s.past.config y k) durable-status new-durable;
     block = status-field ℕ (λ z. z.block) refl (durable s.past.config (here s) k) (durable s.past.config y k) durable-status new-durable;
     dead = status-field ℕ (λ z. z.dead) refl (durable s.past.config (here s) k) (durable s.past.config y k) durable-status new-durable;
   }
 
   alike : AnswersAlike s.past.config.nodes (node s.past.config y.image k) (durable s.past.config (here s) k) (durable s.past.config y k) ((form_at s.past.config (here s)).low k) ((form_at s.past.config (here s)).high k)
-  alike = b.quiet s.past.config.nodes (node s.past.config (here s).image k) (node s.past.config y.image k) (durable s.past.config (here s) k) (durable s.past.config y k) _ _ leaf.leaf.whole restamps
+  alike = freeze_is_quiet s.past.config.nodes (node s.past.config (here s).image k) (node s.past.config y.image k) (durable s.past.config (here s) k) (durable s.past.config y k) _ _ leaf.leaf.whole restamps
 
   address : (a : ℕ) → is_target (entry_of s.past.config k st ∷ []) a ≡ true → a ≡ node_address s.past.config k + STATUS_AT
   address a e = hit ((node_address s.past.config k + STATUS_AT) == a) refl e
@@ -149,8 +141,8 @@ module _ (b : Laws) (s : Scene) (y : Instant) (k st : ℕ) (good : IsScene s) (w
     moves = moves;
     whole = alike.none;
     says = alike.same;
-    shown = λ i l h. inl ((b.shown (words s.past.config (here s) k) (words s.past.config y k) records i).1 h);
+    shown = λ i l h. inl ((same_records_show_the_same (words s.past.config (here s) k) (words s.past.config y k) records i).1 h);
   }
 
-pub freezes : Laws → FreezesAreGood
-freezes b s y k st good w stand swaps = b.swaps false freeze_change (entry_of s.past.config k st ∷ []) s k y good (leaf-swap b s y k st good w stand swaps)
+pub freezes : FreezesAreGood
+freezes s y k st good w stand swaps = leaf_swaps_are_good false freeze_change (entry_of s.past.config k st ∷ []) s k y good (leaf-swap s y k st good w stand swaps)

@@ -40,8 +40,6 @@ impl Freeze {
         ensures frozen { (s : Scene) → (⟦<Freeze as Task>⟧.view result).means Outcome.Done s → WasFrozen view.slot s.past }
         ensures only { (outcome : Outcome) (s : Scene) → (⟦<Freeze as Task>⟧.view result).means outcome s → IsEndOfFreeze outcome }
     {
-        bz_shape::laws::leaves_tile_the_keys();
-        bz_content::laws::well_formed_images_have_no_fault();
         Freeze {
             config: *config,
             slot: view.slot,
@@ -148,14 +146,11 @@ impl Task for Freeze {
     }
 
     fn learnt(&self) {
-        laws::fronts_stay();
         bz_word::laws::statuses();
     }
 
     fn acted(&self) {
         freezes_are_good();
-        laws::fronts_stay();
-        laws::swaps_show_in_slots();
         bz_word::laws::statuses();
     }
 }

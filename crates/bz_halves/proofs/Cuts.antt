@@ -2,8 +2,9 @@
 use Rattle.std.proofs.Common.{◌≡◌, ℕ, ◌+◌, ◌-◌, ◌*◌, ◌<◌, ◌≤◌, ◌++◌, List, [], length, map, take, drop, get_or, arith, sym, ap, subst, inl, inr, Option}
 use Rattle.std.proofs.lemmas.Bool.{cases_lt}
 use Rattle.std.proofs.lemmas.List.{map-append, take-append-drop, take_all, get_or_default}
-use Rattle.bz_layout.specs.Rooms.{LeafSplitsInHalves, AreHalves}
+use Rattle.bz_layout.specs.Rooms.{AreHalves}
 use Rattle.bz_layout.specs.declared.thresholds.TheConstants.{SPLIT_ABOVE, LEAF_RECORD_WORDS}
+use Rattle.bz_layout.proofs.Laws.{leaf_splits_in_halves}
 use Rattle.bz_node.specs.Layout.{needed}
 use Rattle.bz_node.specs.Records.{pair_entry, IsPair}
 use Rattle.bz_node.proofs.Entries.{IsEntry-pair}
@@ -31,7 +32,7 @@ words-more rs i r within is = omega (arith, needed_more pair_entry rs i r within
 pub words-none : (rs : List (List ℕ × List ℕ)) → record_words (take 0 rs) ≡ 0
 words-none rs = needed_nil
 
-module _ (law : LeafSplitsInHalves) (rs : List (List ℕ × List ℕ)) (low high : Option (List ℕ)) (cut : ℕ) (s : IsSplitLeaf rs low high) (c : IsCut rs cut) where
+module _ (rs : List (List ℕ × List ℕ)) (low high : Option (List ℕ)) (cut : ℕ) (s : IsSplitLeaf rs low high) (c : IsCut rs cut) where
   pub some : 0 < cut
   some = elim (cases_lt 0 cut) [
     | inl l ↦ l
@@ -60,7 +61,7 @@ module _ (law : LeafSplitsInHalves) (rs : List (List ℕ × List ℕ)) (low high
       same l = get_or_default rs (cut - 1) ([], []) (get_or rs (cut - 1) ([], [])) l
 
   parts : AreHalves (record_words rs) (record_words (take (cut - 1) rs) + size_of last) SPLIT_ABOVE
-  parts = law (record_words rs) (record_words (take (cut - 1) rs)) (size_of last) s.many s.room
+  parts = leaf_splits_in_halves (record_words rs) (record_words (take (cut - 1) rs)) (size_of last) s.many s.room
       (record { too_few = c.fewest (cut - 1) (omega (arith, some)); enough = omega (arith, c.enough, left-is) }) (size-small last (s.pairs (cut - 1) ([], []) last-in))
 
   pub left-room : record_words (take cut rs) ≤ SPLIT_ABOVE

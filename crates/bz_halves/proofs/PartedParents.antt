@@ -11,7 +11,8 @@ use Rattle.bz_node.specs.declared.child.Child.{Child}
 use Rattle.bz_slotted.specs.FromShape.Slots.{Wider}
 use Rattle.bz_slotted.specs.Page.{page}
 use Rattle.bz_slotted.specs.Readers.{count_of, child_of, key_of}
-use Rattle.bz_slotted.specs.ReadingLaws.{node_of, IsInnerOf, MadeInnersAreWhole}
+use Rattle.bz_slotted.specs.ReadingLaws.{node_of, IsInnerOf}
+use Rattle.bz_slotted.proofs.Proved.{made_inners_are_whole}
 use Rattle.bz_halves.specs.Parents.{child_at, parted, parted_words, MayPart, HasChildren, children_told, HasRoomToPart, ParentsOfHalvesAreWhole}
 use Rattle.bz_halves.proofs.Parents.{All-insert, list, count, words, at-sep, at-high, at-half, at-before, low-same}
 
@@ -42,7 +43,7 @@ parted-each cs low high i left right sep m l r =
     (All-set IsChild cs i half m.within m.each (record { low = (m.each i (record { low = None; slot = 0 }) m.within).low; slot = omega (arith, l) }))
     (record { low = m.key; slot = omega (arith, r) })
 
-module _ (made : MadeInnersAreWhole) (nodes : ℕ) (old : ℕ → ℕ) (cs : List Child) (low high : Option (List ℕ)) (level i left right : ℕ) (sep : List ℕ) (m : MayPart cs low high i sep) (room : HasRoomToPart nodes cs level left right sep) (tells : HasChildren old cs) where
+module _ (nodes : ℕ) (old : ℕ → ℕ) (cs : List Child) (low high : Option (List ℕ)) (level i left right : ℕ) (sep : List ℕ) (m : MayPart cs low high i sep) (room : HasRoomToPart nodes cs level left right sep) (tells : HasChildren old cs) where
   abbrev none : Child
   none = record { low = None; slot = 0 }
 
@@ -51,7 +52,7 @@ module _ (made : MadeInnersAreWhole) (nodes : ℕ) (old : ℕ → ℕ) (cs : Lis
       (All-set P cs i (record { low = (child_at cs i).low; slot = left }) m.within all half) other
 
   inner : IsInnerOf nodes (node_of (parted_words cs i left right sep low high level)) (parted cs i left right sep) level low high
-  inner = made nodes (parted cs i left right sep) level low high
+  inner = made_inners_are_whole nodes (parted cs i left right sep) level low high
       (all-of IsChild m.each (record { low = (m.each i none m.within).low; slot = omega (arith, room.left_slot, room.few) }) (record { low = m.key; slot = omega (arith, room.right_slot, room.few) }))
       m.low_bound m.high_bound (list cs low high i left right sep m)
       (all-of (λ (c : Child). c.slot < nodes) room.slots room.left_slot room.right_slot)
@@ -93,5 +94,5 @@ module _ (made : MadeInnersAreWhole) (nodes : ℕ) (old : ℕ → ℕ) (cs : Lis
     key_after = key-after;
   }
 
-pub parents-whole : MadeInnersAreWhole → ParentsOfHalvesAreWhole
-parents-whole made nodes old cs low high level i left right sep m room tells = record { inner = inner made nodes old cs low high level i left right sep m room tells; wider = wider made nodes old cs low high level i left right sep m room tells }
+pub parents-whole : ParentsOfHalvesAreWhole
+parents-whole nodes old cs low high level i left right sep m room tells = record { inner = inner nodes old cs low high level i left right sep m room tells; wider = wider nodes old cs low high level i left right sep m room tells }

@@ -8,12 +8,12 @@ use Rattle.std.proofs.lemmas.Bool.{cases_lt, true≢false}
 use Rattle.std.proofs.lemmas.List.{length-take, length-drop, get_or-take, get_or-drop, get_or_default, take-map, drop-map, take-append-drop}
 use Rattle.std.proofs.lemmas.List.Elements.{All-take, All-drop}
 use Rattle.bz_key.specs.Bytes.{IsKey}
-use Rattle.bz_layout.specs.Rooms.{LeafSplitsInHalves}
 use Rattle.bz_node.specs.Records.{keys_of, IsPair, IsBefore, IsAtLeast, IsAbove, IsBelow, AreRising, IsLeafList}
 use Rattle.bz_node.proofs.Orders.{IsBefore-trans, IsBefore-other, is_before_other, get_or-keys_of, length-keys_of}
 use Rattle.bz_slotted.specs.FromShape.Order.{is_before}
-use Rattle.bz_slotted.specs.ReadingLaws.{node_of, IsLeafOf, MadeLeavesAreWhole}
+use Rattle.bz_slotted.specs.ReadingLaws.{node_of, IsLeafOf}
 use Rattle.bz_slotted.proofs.MadeLeaves.{before-test, test-before}
+use Rattle.bz_slotted.proofs.Proved.{made_leaves_are_whole}
 use Rattle.bz_halves.specs.Halves.{IsCut, separator_of, left_words, right_words}
 use Rattle.bz_halves.specs.Laws.{IsSplitLeaf, AreLeafHalves, AreLeaves, LeavesPartInHalves, HalvesAreLeaves}
 use Rattle.bz_halves.proofs.Cuts.{words-parts, some, more, left-room, right-room}
@@ -35,16 +35,16 @@ above-of : (low : Option (List ℕ)) (a b : List ℕ) → IsAtLeast low a → Is
 above-of None a b from l = tt
 above-of (Some key) a b from l = is_before_other b key (λ e. from (subst (IsBefore a) (sym e) l)) (λ h. from (IsBefore-trans a b key l h))
 
-module _ (law : LeafSplitsInHalves) (rs : List (List ℕ × List ℕ)) (low high : Option (List ℕ)) (cut : ℕ) (s : IsSplitLeaf rs low high) (c : IsCut rs cut) where
+module _ (rs : List (List ℕ × List ℕ)) (low high : Option (List ℕ)) (cut : ℕ) (s : IsSplitLeaf rs low high) (c : IsCut rs cut) where
   abbrev sep : List ℕ
   sep = separator_of rs cut
 
   within : cut < length (keys_of rs)
-  within = omega (arith, more law rs low high cut s c, length-keys_of rs)
+  within = omega (arith, more rs low high cut s c, length-keys_of rs)
 
   sep-key : IsKey sep
   sep-key =
-      let m : cut < length rs = more law rs low high cut s c in
+      let m : cut < length rs = more rs low high cut s c in
       subst IsKey (sym (get_or-keys_of rs cut ([], []) m)) (s.pairs cut ([], []) m).key
 
   keys-left : take cut (keys_of rs) ≡ keys_of (take cut rs)
@@ -89,17 +89,17 @@ module _ (law : LeafSplitsInHalves) (rs : List (List ℕ × List ℕ)) (low high
 
   halves : AreLeafHalves rs low high cut
   halves = record {
-    some = some law rs low high cut s c;
-    more = more law rs low high cut s c;
+    some = some rs low high cut s c;
+    more = more rs low high cut s c;
     joined = take-append-drop cut rs;
     separator = sep-key;
-    above = above-of low (get_or (keys_of rs) 0 []) sep (s.leaf.from 0 [] (omega (arith, within))) (s.leaf.rising 0 cut (some law rs low high cut s c) within);
+    above = above-of low (get_or (keys_of rs) 0 []) sep (s.leaf.from 0 [] (omega (arith, within))) (s.leaf.rising 0 cut (some rs low high cut s c) within);
     below = s.leaf.below cut [] within;
     left = left-list;
     right = right-list;
     words = words-parts rs cut;
-    left_room = left-room law rs low high cut s c;
-    right_room = right-room law rs low high cut s c;
+    left_room = left-room rs low high cut s c;
+    right_room = right-room rs low high cut s c;
   }
 
   -- a look-up before the separator finds what is in the left half, and one from it on what is in the right half
@@ -113,12 +113,12 @@ module _ (law : LeafSplitsInHalves) (rs : List (List ℕ × List ℕ)) (low high
       let others : All (λ k. k ≢ key) (keys_of (take cut rs)) = λ i d l same. true≢false (sym (before-test key sep (subst (λ k. IsBefore k sep) same (left-list.below i d l))) ∙ b) in
       sym (find-right key (take cut rs) (drop cut rs) others) ∙ ap (find (slice_cmp nat_cmp) key) (take-append-drop cut rs)
 
-  module _ (made : MadeLeavesAreWhole) (nodes : ℕ) where
+  module _ (nodes : ℕ) where
     left-leaf : IsLeafOf nodes (node_of (left_words rs low cut)) (take cut rs) low (Some sep)
-    left-leaf = made nodes (take cut rs) low (Some sep) (All-take IsPair cut rs s.pairs) s.low_bound sep-key left-list (omega (arith, left-room law rs low high cut s c))
+    left-leaf = made_leaves_are_whole nodes (take cut rs) low (Some sep) (All-take IsPair cut rs s.pairs) s.low_bound sep-key left-list (omega (arith, left-room rs low high cut s c))
 
     right-leaf : IsLeafOf nodes (node_of (right_words rs high cut)) (drop cut rs) (Some sep) high
-    right-leaf = made nodes (drop cut rs) (Some sep) high (All-drop IsPair cut rs s.pairs) sep-key s.high_bound right-list (omega (arith, right-room law rs low high cut s c))
+    right-leaf = made_leaves_are_whole nodes (drop cut rs) (Some sep) high (All-drop IsPair cut rs s.pairs) sep-key s.high_bound right-list (omega (arith, right-room rs low high cut s c))
 
     leaves : AreLeaves nodes rs low high cut
     leaves = record {
@@ -128,8 +128,8 @@ module _ (law : LeafSplitsInHalves) (rs : List (List ℕ × List ℕ)) (low high
       from = λ key b. right-leaf.says key ∙ says-right key b;
     }
 
-pub part-in-halves : LeafSplitsInHalves → LeavesPartInHalves
-part-in-halves law rs low high cut s c = halves law rs low high cut s c
+pub part-in-halves : LeavesPartInHalves
+part-in-halves rs low high cut s c = halves rs low high cut s c
 
-pub are-leaves : LeafSplitsInHalves → MadeLeavesAreWhole → HalvesAreLeaves
-are-leaves law made nodes rs low high cut s c = leaves law rs low high cut s c made nodes
+pub are-leaves : HalvesAreLeaves
+are-leaves nodes rs low high cut s c = leaves rs low high cut s c nodes

@@ -1,6 +1,4 @@
 -- What this crate proves, as lemmas that other crates cite by these names.
-use Rattle.bz_layout.proofs.Laws.{leaf_splits_in_halves}
-use Rattle.bz_slotted.proofs.Proved.{inner_keys_rise, inner_rules_are_facts, made_inners_are_whole, made_leaves_are_whole, whole_inners_are_readable}
 use Rattle.bz_halves.proofs.Parents.{may-be-parted}
 use Rattle.bz_halves.proofs.PartedParents.{parents-whole}
 use Rattle.bz_halves.proofs.Parting.{are-leaves, part-in-halves}
@@ -11,15 +9,15 @@ use Rattle.bz_halves.specs.Parents.{ChildrenMayBeParted, ParentsOfHalvesAreWhole
 
 -- the records of a leaf that is split part in two halves, each of which has room for any record
 pub leaves_part_in_halves : LeavesPartInHalves
-leaves_part_in_halves = part-in-halves leaf_splits_in_halves
+leaves_part_in_halves = part-in-halves
 
 -- the halves are leaves, and say of each key what the leaf says
 pub halves_are_leaves : HalvesAreLeaves
-halves_are_leaves = are-leaves leaf_splits_in_halves made_leaves_are_whole
+halves_are_leaves = are-leaves
 
 -- a new root over two leaves breaks no rule, and takes one more separator
 pub roots_stand_over_two : RootsStandOverTwo
-roots_stand_over_two = roots-stand made_inners_are_whole
+roots_stand_over_two = roots-stand
 
 -- the children of a parent of which one is parted in two make a node again, between the same fences
 pub children_may_be_parted : ChildrenMayBeParted
@@ -27,8 +25,8 @@ children_may_be_parted = may-be-parted
 
 -- where there is room, that node breaks no rule, and has one child more, the two halves in place of the one
 pub parents_of_halves_are_whole : ParentsOfHalvesAreWhole
-parents_of_halves_are_whole = parents-whole made_inners_are_whole
+parents_of_halves_are_whole = parents-whole
 
 -- the children that are read of an inner node that breaks no rule make a node, of which any one may be parted by a key between its bounds
 pub read_children_may_be_parted : ReadChildrenMayBeParted
-read_children_may_be_parted = may-part whole_inners_are_readable inner_rules_are_facts inner_keys_rise
+read_children_may_be_parted = may-part

@@ -14,16 +14,17 @@ use Rattle.bz_node.specs.Reading.{children_in}
 use Rattle.bz_node.specs.Records.{IsChild, IsBound, IsChildList, IsAbove, IsBelow, IsBefore, AreRising, separators_of}
 use Rattle.bz_node.specs.declared.child.Child.{Child}
 use Rattle.bz_slotted.specs.FromShape.Order.{is_above, is_below}
-use Rattle.bz_slotted.specs.Laws.{InnerRulesAreFacts, InnerKeysRise, RisesBetween}
+use Rattle.bz_slotted.specs.Laws.{RisesBetween}
 use Rattle.bz_slotted.specs.Page.{words_at, extent_of, page}
-use Rattle.bz_slotted.specs.Readers.{count_of, child_of, key_of}
-use Rattle.bz_slotted.specs.ReadingLaws.{node_of, child_read, ReadsAsChildren, WholeInnersAreReadable}
+use Rattle.bz_slotted.specs.Readers.{count_of, key_of}
+use Rattle.bz_slotted.specs.ReadingLaws.{node_of, child_read, ReadsAsChildren}
 use Rattle.bz_slotted.specs.Records.{key_words}
 use Rattle.bz_slotted.specs.Whole.{IsFence, WholeInner}
 use Rattle.bz_slotted.proofs.Honest.{lt-t}
 use Rattle.bz_slotted.proofs.MadeLeaves.{test-before}
 use Rattle.bz_slotted.proofs.Readings.{unpacked_key-some}
-use Rattle.bz_halves.specs.Parents.{HasChildren, MayPart, ReadChildrenMayBeParted}
+use Rattle.bz_slotted.proofs.Proved.{inner_keys_rise, inner_rules_are_facts, whole_inners_are_readable}
+use Rattle.bz_halves.specs.Parents.{HasChildren, ReadChildrenMayBeParted}
 use Rattle.bz_halves.proofs.Parents.{separator-is, separator-count}
 
 key-packs : (len : ℕ) (words : List ℕ) → IsSome (unpacked_key len words) → IsKey (unpacked len words)
@@ -149,11 +150,11 @@ module _ (nodes : ℕ) (raw : ℕ → ℕ) (words : List ℕ) (level : ℕ) (low
   pub high-bound : IsBound high
   high-bound = fence-bound n HIGH_FENCE_AT (page n).high high w.fences.high
 
-pub may-part : WholeInnersAreReadable → InnerRulesAreFacts → InnerKeysRise → ReadChildrenMayBeParted
-may-part readable rules rises nodes raw words level low high i separator few inner size none within key above below =
-    let reads : ReadsAsChildren words = readable nodes raw words level low high few inner size none in
-    let w : WholeInner nodes raw (page (node_of words)) level low high = (rules nodes raw (node_of words) level low high inner).0 none in
-    let rise : RisesBetween nodes (node_of words) low high = rises nodes raw (node_of words) level low high inner none in
+pub may-part : ReadChildrenMayBeParted
+may-part nodes raw words level low high i separator few inner size none within key above below =
+    let reads : ReadsAsChildren words = whole_inners_are_readable nodes raw words level low high few inner size none in
+    let w : WholeInner nodes raw (page (node_of words)) level low high = (inner_rules_are_facts nodes raw (node_of words) level low high inner).0 none in
+    let rise : RisesBetween nodes (node_of words) low high = inner_keys_rise nodes raw (node_of words) level low high inner none in
     record {
       readable = reads.readable;
       may = record {

@@ -9,7 +9,8 @@ use Rattle.bz_layout.specs.declared.thresholds.TheConstants.{INNER_LIMIT}
 use Rattle.bz_node.specs.Layout.{block, needed}
 use Rattle.bz_node.specs.Records.{child_entry, IsChild, IsChildList}
 use Rattle.bz_node.specs.declared.child.Child.{Child}
-use Rattle.bz_slotted.specs.ReadingLaws.{node_of, IsInnerOf, MadeInnersAreWhole}
+use Rattle.bz_slotted.specs.ReadingLaws.{node_of, IsInnerOf}
+use Rattle.bz_slotted.proofs.Proved.{made_inners_are_whole}
 use Rattle.bz_halves.specs.Laws.{RootsStandOverTwo}
 use Rattle.bz_halves.specs.Roots.{root_children, root_words}
 
@@ -45,10 +46,10 @@ root-room left right sep fits =
       length-append ([] ++ (child_entry (record { low = Some sep; slot = right })).words) (child_entry (record { low = None; slot = left })).words,
     )
 
-pub roots-stand : MadeInnersAreWhole → RootsStandOverTwo
-roots-stand made nodes left right sep few l r key =
+pub roots-stand : RootsStandOverTwo
+roots-stand nodes left right sep few l r key =
     let m : IsInnerOf nodes (node_of (root_words left right sep)) (root_children left right sep) 1 None None =
-    made nodes (root_children left right sep) 1 None None children tt tt (child-list left right sep) slots (omega arith) (omega arith) (omega (arith, root-room left right sep key.fits)) in
+    made_inners_are_whole nodes (root_children left right sep) 1 None None children tt tt (child-list left right sep) slots (omega arith) (omega arith) (omega (arith, root-room left right sep key.fits)) in
     let no : Child = record { low = None; slot = 0 } in
     record {
       none = m.none;

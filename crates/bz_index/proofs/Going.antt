@@ -22,8 +22,8 @@ use Rattle.bz_mark.specs.Log.{Log}
 use Rattle.bz_mark.specs.declared.marks.Mark.TheVariants.{End}
 use Rattle.bz_sound.specs.Calls.{Open, open_call}
 use Rattle.bz_sound.specs.Memory.Moments.{map_at_start}
-use Rattle.bz_sound.specs.Power.Laws.{PowerTellsWhatFollows}
 use Rattle.bz_sound.specs.Power.Sound.{IsSound}
+use Rattle.bz_sound.proofs.Proved.{power_tells_what_follows}
 use Rattle.bz_mark.specs.declared.power.Power.{Power}
 use Rattle.bz_mark.specs.declared.power.Power.TheVariants as power
 use Rattle.bz_world.specs.WorldView as world
@@ -51,7 +51,7 @@ module _ (origin : Origin) (w : ℕ) (call : Call) (first : List IndexEntry) whe
   going config at_start log (applied.Ended n) new goes sound run = (ended_rests log n new goes, replied w call first log run config at_start n new goes sound)
   going config at_start log other new goes sound run = absurd goes
 
-  module _ (law : PowerTellsWhatFollows) (old : WorldView) (is : IsWorldOf origin (entries_in old.log) old) (run : IsRunning w call first (entries_in old.log)) where
+  module _ (old : WorldView) (is : IsWorldOf origin (entries_in old.log) old) (run : IsRunning w call first (entries_in old.log)) where
     -- the call is open no more only if the power was cut
     cut_since : ((opened : Open) → open_call w old.log.past ≡ Some opened → ⊥) → IsAtRest origin (entries_in old.log) w × WasCut w call first (entries_in old.log)
     cut_since closed = ⊎_elim
@@ -60,7 +60,7 @@ module _ (origin : Origin) (w : ℕ) (call : Call) (first : List IndexEntry) whe
         run.state
 
     powered : (opened : Open) → open_call w old.log.past ≡ Some opened → power_in old ≡ power.On
-    powered opened is_open = (law old.at_start (map_at_start old.config old.log.start) old.log.past is.sound.once).stays_open w opened is_open
+    powered opened is_open = (power_tells_what_follows old.at_start (map_at_start old.config old.log.start) old.log.past is.sound.once).stays_open w opened is_open
 
     stopped : (answer : Applied) → RefusalTells old w answer → Tells old.log answer
     stopped applied.Limit tells =
@@ -94,9 +94,9 @@ module _ (origin : Origin) (w : ℕ) (call : Call) (first : List IndexEntry) whe
   reads now page other (Some answer.Off) tells read = absurd tells
   reads now page applied (Some other) tells read = absurd read
 
-  pub goes_on : PowerTellsWhatFollows → (found left : List IndexEntry) (page : List (List ℕ × List ℕ)) (answer : Option Answer) → 0 < w → w ≤ origin.config.workers → w < PASSES
+  pub goes_on : (found left : List IndexEntry) (page : List (List ℕ × List ℕ)) (answer : Option Answer) → 0 < w → w ≤ origin.config.workers → w < PASSES
       → HasStepped origin found w left page answer → IsRunning w call first found → GoesOn origin w call first left page answer
-  goes_on law found left page answer some within below step run =
+  goes_on found left page answer some within below step run =
       let made = step.made in
       let before = made.before in
       let after = made.after in
@@ -104,5 +104,5 @@ module _ (origin : Origin) (w : ℕ) (call : Call) (first : List IndexEntry) whe
       let config : made.old.config ≡ origin.config = ap (λ (o : Origin). o.config) before.stays in
       reads left page step.applied answer
       (subst (λ (l : List IndexEntry). StepTells origin w call first l step.applied) after.told
-      (stepped law made.old is (subst (IsRunning w call first) (sym before.told) run) step.applied made.new some (subst (λ (c : Config). w ≤ c.workers) (sym config) within) below after.sound made.applied))
+      (stepped made.old is (subst (IsRunning w call first) (sym before.told) run) step.applied made.new some (subst (λ (c : Config). w ≤ c.workers) (sym config) within) below after.sound made.applied))
       step.read

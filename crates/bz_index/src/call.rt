@@ -124,7 +124,6 @@ impl Index {
         ensures extends { Extends (seen_by pass.old) (seen_by pass.new) }
         ensures goes { (call : Call) (first : List IndexEntry) → IsRunning (worker_of pass.old) call first (seen_by pass.old) → GoesOn (origin_in self.now) (worker_of pass.old) call first (seen_by pass.new) turn.new.page.now turn.new.answer }
     {
-        bz_sound::power_laws::power_tells_what_follows();
         self.bus.turn(rt, &mut pass.pass, turn);
     }
 }

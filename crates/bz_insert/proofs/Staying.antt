@@ -2,22 +2,21 @@
 use Rattle.std.proofs.Common.{ℕ, ◌+◌, sym, subst, ◌∙◌}
 use Rattle.std.specs.Prelude.{None}
 use Rattle.bz_layout.specs.Slots.{FreeSlots}
-use Rattle.bz_task.specs.Laws.{NothingIsGained}
 use Rattle.bz_task.specs.OwnActs.{gained}
 use Rattle.bz_task.specs.Scene.{Scene, Stage, Waiting, Took, IsLawful, HasFilled}
-use Rattle.bz_record.specs.Laws.{LeavesWere}
+use Rattle.bz_task.proofs.Proved.{nothing_is_gained}
 use Rattle.bz_record.specs.Records.{size_of}
-use Rattle.bz_record.specs.Writing.{RecordsAreWritten}
 use Rattle.bz_record.specs.declared.new_record.NewRecord.{NewRecord}
+use Rattle.bz_record.proofs.Proved.{leaves_were, records_are_written}
 use Rattle.bz_insert.specs.Facts.{HasViewed, HasReserved, HasPublished, IsLineOf, insert_learnt, insert_facts}
 use Rattle.bz_insert.specs.declared.phase.Phase.{Phase}
 use Rattle.bz_insert.specs.declared.phase.Phase.TheVariants.{Fresh, Reserve, Store, Flush, Publish, Done, Restart, NeedsRoom, Full}
 
-module _ (were : LeavesWere) (written : RecordsAreWritten) (r : NewRecord) (s after : Scene) (l : IsLawful s after) where
+module _ (r : NewRecord) (s after : Scene) (l : IsLawful s after) where
   viewed : HasViewed r s → HasViewed r after
   viewed v = record {
     moment = v.moment;
-    leaf = were.leaf r.key None r.slot r.status v.moment s.past after.past v.leaf l.continues;
+    leaf = leaves_were.leaf r.key None r.slot r.status v.moment s.past after.past v.leaf l.continues;
     dead = v.dead;
     key = v.key;
     payload = v.payload;
@@ -27,7 +26,7 @@ module _ (were : LeavesWere) (written : RecordsAreWritten) (r : NewRecord) (s af
   }
 
   reserved : (words lines : ℕ) → HasReserved r words lines s → HasReserved r words lines after
-  reserved words lines h = record { fits = h.fits; reserved = were.reserved r s.past after.past h.reserved l.continues; writing = written.stays r words lines s after h.writing l; going = l.effected ∙ h.going }
+  reserved words lines h = record { fits = h.fits; reserved = leaves_were.reserved r s.past after.past h.reserved l.continues; writing = records_are_written.stays r words lines s after h.writing l; going = l.effected ∙ h.going }
 
   line : (n : ℕ) → IsLineOf s.past.config r n → IsLineOf after.past.config r n
   line n h = subst (λ c. IsLineOf c r n) (sym l.continues.config) h
@@ -43,7 +42,7 @@ module _ (were : LeavesWere) (written : RecordsAreWritten) (r : NewRecord) (s af
   learnt (Store i) Took f = (f.0, reserved (i + 1) 0 f.1)
   learnt (Flush n) Waiting f = (line n f.0, reserved (size_of r) n f.1)
   learnt (Flush n) Took f = (line n f.0, reserved (size_of r) (n + 1) f.1)
-  learnt Publish Waiting f = record { fits = f.fits; reserved = were.reserved r s.past after.past f.reserved l.continues; written = written.written_stays r s after f.written l; going = l.effected ∙ f.going }
+  learnt Publish Waiting f = record { fits = f.fits; reserved = leaves_were.reserved r s.past after.past f.reserved l.continues; written = records_are_written.written_stays r s after f.written l; going = l.effected ∙ f.going }
   learnt Publish Took f = published f
   learnt Done Waiting f = published f
   learnt Restart Waiting f = f
@@ -70,20 +69,20 @@ module _ (were : LeavesWere) (written : RecordsAreWritten) (r : NewRecord) (s af
   stable Full stage f = (filled f.0, learnt Full stage f.1)
 
 -- it stays where no slot is taken
-module _ (nothing : NothingIsGained) (written : RecordsAreWritten) (r : NewRecord) (s : Scene) (free : FreeSlots) where
+module _ (r : NewRecord) (s : Scene) (free : FreeSlots) where
   reserved-too : (words lines : ℕ) → HasReserved r words lines s → HasReserved r words lines (gained s free free)
-  reserved-too words lines h = record { fits = h.fits; reserved = h.reserved; writing = written.no_slot r words lines s free h.writing; going = h.going }
+  reserved-too words lines h = record { fits = h.fits; reserved = h.reserved; writing = records_are_written.no_slot r words lines s free h.writing; going = h.going }
 
   viewed-too : HasViewed r s → HasViewed r (gained s free free)
   viewed-too v = record { moment = v.moment; leaf = v.leaf; dead = v.dead; key = v.key; payload = v.payload; some = v.some; few = v.few; going = v.going }
 
   pub no-slot : (phase : Phase) → insert_facts r phase Waiting s → insert_facts r phase Waiting (gained s free free)
   no-slot Fresh f = viewed-too f
-  no-slot Reserve f = (nothing s free f.0, record { viewed = viewed-too f.1.viewed; room = f.1.room })
-  no-slot (Store i) f = (nothing s free f.0, (f.1.0, reserved-too i 0 f.1.1))
-  no-slot (Flush n) f = (nothing s free f.0, (f.1.0, reserved-too (size_of r) n f.1.1))
-  no-slot Publish f = (nothing s free f.0, record { fits = f.1.fits; reserved = f.1.reserved; written = written.written_no_slot r s free f.1.written; going = f.1.going })
-  no-slot Done f = (nothing s free f.0, record { room = f.1.room; effected = f.1.effected })
-  no-slot Restart f = (nothing s free f.0, f.1)
-  no-slot NeedsRoom f = (nothing s free f.0, f.1)
-  no-slot Full f = (nothing s free f.0, f.1)
+  no-slot Reserve f = (nothing_is_gained s free f.0, record { viewed = viewed-too f.1.viewed; room = f.1.room })
+  no-slot (Store i) f = (nothing_is_gained s free f.0, (f.1.0, reserved-too i 0 f.1.1))
+  no-slot (Flush n) f = (nothing_is_gained s free f.0, (f.1.0, reserved-too (size_of r) n f.1.1))
+  no-slot Publish f = (nothing_is_gained s free f.0, record { fits = f.1.fits; reserved = f.1.reserved; written = records_are_written.written_no_slot r s free f.1.written; going = f.1.going })
+  no-slot Done f = (nothing_is_gained s free f.0, record { room = f.1.room; effected = f.1.effected })
+  no-slot Restart f = (nothing_is_gained s free f.0, f.1)
+  no-slot NeedsRoom f = (nothing_is_gained s free f.0, f.1)
+  no-slot Full f = (nothing_is_gained s free f.0, f.1)

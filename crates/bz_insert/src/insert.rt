@@ -185,23 +185,15 @@ impl Task for Insert {
 
     fn next(&mut self, seen: Seen, slots: &mut Slots, moment: u32) -> Todo {
         let _slots = slots;
-        laws::nothing_is_gained();
-        bz_record::laws::records_are_written();
         self.phase = self.after(seen, moment);
         self.asked()
     }
 
     fn learnt(&self) {
-        bz_record::laws::leaves_were();
-        bz_record::laws::records_are_written();
         bz_record::laws::new_record_swaps_may_be_asked();
     }
 
     fn acted(&self) {
-        bz_record::laws::leaves_were();
-        bz_record::laws::records_are_written();
-        bz_record::laws::reservations_are_good();
-        bz_record::laws::reservations_take_words();
         bz_record::laws::publications_are_good();
     }
 }

@@ -13,11 +13,12 @@ use Rattle.bz_node.specs.Reading.{children_in}
 use Rattle.bz_node.specs.Records.{child_entry}
 use Rattle.bz_node.specs.declared.child.Child.{Child}
 use Rattle.bz_shape.specs.Slots.{Wider}
-use Rattle.bz_slotted.specs.Laws.{InnerRulesAreFacts, InnerKeysRise, RisesBetween}
+use Rattle.bz_slotted.specs.Laws.{RisesBetween}
 use Rattle.bz_slotted.specs.Page.{page}
 use Rattle.bz_slotted.specs.Readers.{count_of, child_of, key_of}
-use Rattle.bz_slotted.specs.ReadingLaws.{node_of, child_read, IsInnerOf, ReadsAsChildren, WholeInnersAreReadable, MadeInnersAreWhole}
+use Rattle.bz_slotted.specs.ReadingLaws.{node_of, child_read, IsInnerOf, ReadsAsChildren}
 use Rattle.bz_slotted.specs.Whole.{WholeInner}
+use Rattle.bz_slotted.proofs.Proved.{inner_keys_rise, inner_rules_are_facts, made_inners_are_whole, whole_inners_are_readable}
 use Rattle.bz_halves.specs.Parents.{child_at, children_told}
 use Rattle.bz_join.specs.Parents.{joined, joined_parent, HasTwo, IsJoinedParent, ChildrenJoin}
 use Rattle.bz_join.proofs.Children.{none, count, at-before, at-one, at-after, child-is, has, low-bound, high-bound, list, slots, each, bound-before, bound-after}
@@ -36,7 +37,7 @@ count-is : (n : ℕ → ℕ) → count_of n ≡ (page n).count
 unfolding count_of
 count-is n = refl
 
-module _ (made : MadeInnersAreWhole) (nodes : ℕ) (raw : ℕ → ℕ) (words : List ℕ) (level : ℕ) (low high : Option (List ℕ)) (i slot : ℕ) (t : HasTwo nodes raw words level low high i) (new_slot : slot < nodes) (reads : ReadsAsChildren words)
+module _ (nodes : ℕ) (raw : ℕ → ℕ) (words : List ℕ) (level : ℕ) (low high : Option (List ℕ)) (i slot : ℕ) (t : HasTwo nodes raw words level low high i) (new_slot : slot < nodes) (reads : ReadsAsChildren words)
     (w : WholeInner nodes raw (page (node_of words)) level low high) (rise : RisesBetween nodes (node_of words) low high) where
   abbrev cs : List Child
   cs = children_in words
@@ -73,7 +74,7 @@ module _ (made : MadeInnersAreWhole) (nodes : ℕ) (raw : ℕ → ℕ) (words : 
       )
 
   inner : IsInnerOf nodes new js level low high
-  inner = made nodes js level low high (each nodes raw words level low high t.few reads w rise i slot t.within new_slot) (low-bound nodes raw words level low high t.few reads w rise) (high-bound nodes raw words level low high t.few reads w rise)
+  inner = made_inners_are_whole nodes js level low high (each nodes raw words level low high t.few reads w rise i slot t.within new_slot) (low-bound nodes raw words level low high t.few reads w rise) (high-bound nodes raw words level low high t.few reads w rise)
       (list nodes raw words level low high t.few reads w rise i slot t.within) (slots nodes raw words level low high t.few reads w rise i slot t.within new_slot) t.inner w.level.lowest room
 
   child-now : (j : ℕ) → j < length js → child_of new j ≡ (get_or js j none).slot
@@ -130,6 +131,6 @@ module _ (made : MadeInnersAreWhole) (nodes : ℕ) (raw : ℕ → ℕ) (words : 
     narrower = narrower;
   }
 
-pub children-join : WholeInnersAreReadable → InnerRulesAreFacts → InnerKeysRise → MadeInnersAreWhole → ChildrenJoin
-children-join readable rules rises made nodes raw words level low high i slot t new_slot =
-    is-joined made nodes raw words level low high i slot t new_slot (readable nodes raw words level low high t.few t.inner t.size t.none) ((rules nodes raw (node_of words) level low high t.inner).0 t.none) (rises nodes raw (node_of words) level low high t.inner t.none)
+pub children-join : ChildrenJoin
+children-join nodes raw words level low high i slot t new_slot =
+    is-joined nodes raw words level low high i slot t new_slot (whole_inners_are_readable nodes raw words level low high t.few t.inner t.size t.none) ((inner_rules_are_facts nodes raw (node_of words) level low high t.inner).0 t.none) (inner_keys_rise nodes raw (node_of words) level low high t.inner t.none)

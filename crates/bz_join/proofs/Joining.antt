@@ -14,8 +14,9 @@ use Rattle.bz_node.specs.Records.{pair_entry, keys_of, IsPair, IsBefore, IsAtLea
 use Rattle.bz_node.proofs.Orders.{IsBefore-trans, is_before_other}
 use Rattle.bz_node.proofs.Parts.{needed-append}
 use Rattle.bz_shape.specs.Order.{is_before}
-use Rattle.bz_slotted.specs.ReadingLaws.{node_of, IsLeafOf, MadeLeavesAreWhole}
+use Rattle.bz_slotted.specs.ReadingLaws.{node_of, IsLeafOf}
 use Rattle.bz_slotted.proofs.MadeLeaves.{before-test, test-before}
+use Rattle.bz_slotted.proofs.Proved.{made_leaves_are_whole}
 use Rattle.bz_halves.specs.Halves.{record_words}
 use Rattle.bz_join.specs.Leaves.{AreNeighbours, joined_words, AreJoined, NeighboursJoin}
 use Rattle.bz_join.proofs.Lookups.{none-of, find-left, find-right}
@@ -66,9 +67,9 @@ module _ (left right : List (List ℕ × List ℕ)) (low high : Option (List ℕ
   says-right : (key : List ℕ) → is_before key sep ≡ false → find (slice_cmp nat_cmp) key (left ++ right) ≡ find (slice_cmp nat_cmp) key right
   says-right key b = find-right key left right (λ i d l same. true≢false (sym (before-test key sep (subst (λ k. IsBefore k sep) same (n.left_list.below i d l))) ∙ b))
 
-  module _ (made : MadeLeavesAreWhole) (nodes : ℕ) where
+  module _ (nodes : ℕ) where
     leaf : IsLeafOf nodes (node_of (joined_words left right low high)) (left ++ right) low high
-    leaf = made nodes (left ++ right) low high (All-append IsPair left right n.left_pairs n.right_pairs) n.low_bound n.high_bound list (omega (arith, words, n.room))
+    leaf = made_leaves_are_whole nodes (left ++ right) low high (All-append IsPair left right n.left_pairs n.right_pairs) n.low_bound n.high_bound list (omega (arith, words, n.room))
 
     pub both : AreJoined nodes left right low high sep
     both = record {
@@ -79,8 +80,8 @@ module _ (left right : List (List ℕ × List ℕ)) (low high : Option (List ℕ
       from = λ key b. leaf.says key ∙ says-right key b;
     }
 
-pub join : MadeLeavesAreWhole → NeighboursJoin
-join made nodes left right low high sep n = both left right low high sep n made nodes
+pub join : NeighboursJoin
+join nodes left right low high sep n = both left right low high sep n nodes
 
 -- each record takes two words at least
 pub two-words : (rs : List (List ℕ × List ℕ)) → All IsPair rs → 2 * length rs ≤ record_words rs

@@ -27,10 +27,6 @@ fn sorted(image: &NodeImage) -> SortedLeaf
     ensures { IsSortedLeaf image.now.0 result.records result.low result.high }
 {
     is_whole(image);
-    slotted::leaf_rules_are_facts();
-    slotted::live_words_fit();
-    slotted::whole_leaves_are_readable();
-    slotted::high_fences_are_read();
     bz_renew::ordered_pairs_are_found();
     SortedLeaf {
         records: records_of(&image.0),

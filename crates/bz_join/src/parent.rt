@@ -15,7 +15,6 @@ use bz_key::Key;
 use bz_layout::SHARED_WORDS;
 use bz_node::{Child, NodeImage, inner};
 use bz_renew::is_whole;
-use bz_slotted::laws as slotted;
 
 /// The place of a child, the first at 0, which comes together with the next one into a slot.
 #[derive(Clone, Copy, Drop)]
@@ -83,7 +82,6 @@ pub fn parent_joined(old: &NodeImage, join: &ParentJoin) -> NodeImage
 {
     is_whole(old);
     children_join();
-    slotted::high_fences_are_read();
     let image = node_with_one(old, join, low_fence(old), old.high(), level_of(old));
     is_whole(&image);
     image

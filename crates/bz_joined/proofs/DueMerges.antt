@@ -5,9 +5,9 @@ use Rattle.std.proofs.lemmas.Bool.{cases_lt}
 use Rattle.std.proofs.lemmas.Bool.Decides.{nat_tests}
 use Rattle.bz_layout.specs.declared.config.Config.{Config}
 use Rattle.bz_layout.specs.declared.sizes.TheConstants.{ROOT_AT}
-use Rattle.bz_page.specs.Laws.{IsSaidBy, ViewsSayWhatImagesSay}
+use Rattle.bz_page.specs.Laws.{IsSaidBy}
+use Rattle.bz_page.proofs.Proved.{views_say_what_images_say}
 use Rattle.bz_shape.specs.Form.{Fits, Form, Holds, Stands}
-use Rattle.bz_shape.specs.TreeLaws.{LeavesTileTheKeys}
 use Rattle.bz_shape.specs.View.{View}
 use Rattle.bz_shape.specs.Walk.{IsTree}
 use Rattle.bz_slotted.specs.Page.{page}
@@ -15,9 +15,9 @@ use Rattle.bz_slotted.specs.Readers.{child_of}
 use Rattle.bz_slotted.specs.Records.{live_words}
 use Rattle.bz_content.specs.Content.{image_of, leaf_in, view_in}
 use Rattle.bz_content.specs.Image.{Image, node, root}
-use Rattle.bz_content.specs.Laws.{WellFormedImagesHaveNoFault}
 use Rattle.bz_content.specs.Resolving.{resolve}
 use Rattle.bz_content.specs.View.{view_of}
+use Rattle.bz_content.proofs.Proved.{well_formed_images_have_no_fault}
 use Rattle.bz_stage.specs.FromLeaves.Neighbours.{parent_in, place_in, MayBeMerged}
 use Rattle.bz_task.specs.Good.{IsGood}
 use Rattle.bz_task.specs.Instant.{durable, form_at}
@@ -26,26 +26,29 @@ use Rattle.bz_task.specs.Scene.{Scene, IsScene, here}
 use Rattle.bz_task.specs.declared.path.Link.{Link}
 use Rattle.bz_task.specs.declared.path.Path.{Path}
 use Rattle.bz_rounds.specs.FromAlone.Alone.{IsAlone}
-use Rattle.bz_rounds.specs.FromAlone.Quiet.{IsQuietSince, IsIn, LonelyTimesAreQuiet, ReadValuesStand}
-use Rattle.bz_rounds.specs.FromAlone.Trees.{PathsLeadToLeaves}
-use Rattle.bz_rounds.specs.Due.{LoneLeavesAreDue, MayBeMadeAnew}
+use Rattle.bz_rounds.specs.FromAlone.Quiet.{IsQuietSince, IsIn}
+use Rattle.bz_rounds.specs.Due.{MayBeMadeAnew}
+use Rattle.bz_rounds.proofs.FromAlone.Proved.{lonely_times_are_quiet, paths_lead_to_leaves, read_values_stand, trees_stand}
+use Rattle.bz_rounds.proofs.Proved.{lone_leaves_are_due}
+use Rattle.bz_alone.proofs.Proved.{}
 use Rattle.bz_joined.specs.DueMerges.{LoneViewsTellTheLiveWords, LoneRootLeavesHaveNoNeighbour, LoneMergesAreDue}
 use Rattle.bz_joined.proofs.Alike.{live-is}
 use Rattle.bz_joined.proofs.Families.{up-is, index-is}
-use Rattle.bz_joined.proofs.Quiet.{Laws as Standing, live-same}
+use Rattle.bz_joined.proofs.Quiet.{live-same}
 use Rattle.bz_shape.proofs.TreeForms.{fits}
+use Rattle.bz_shape.proofs.Proved.{leaves_tile_the_keys}
 
 -- the view has as many live words as its leaf
-pub views-tell-live : Standing → LonelyTimesAreQuiet → ViewsSayWhatImagesSay → LoneViewsTellTheLiveWords
-views-tell-live b lonely views key view s good alone v =
-    let q : IsQuietSince s.past.since s.past = lonely.whole s good alone in
+pub views-tell-live : LoneViewsTellTheLiveWords
+views-tell-live key view s good alone v =
+    let q : IsQuietSince s.past.since s.past = lonely_times_are_quiet.whole s good alone in
     let then-it : IsIn s.past.since s.past view.at = record { from = v.since; to = v.now } in
     let now : IsIn s.past.since s.past s.past.now = record { from = good.begun; to = omega arith } in
-    let said : IsSaidBy key view s.past = views key view s.past v (good.history.good view.at v.since v.now) in
+    let said : IsSaidBy key view s.past = views_say_what_images_say key view s.past v (good.history.good view.at v.since v.now) in
     let below : view.slot ≢ s.past.config.nodes = λ e. absurd (omega (arith, e, v.slot)) in
-    let leaf : leaf_in s.past.config (here s).image key ≡ view.slot = (b.trees s s.past.since view.at s.past.now good q then-it now).leaf key ∙ v.leaf in
+    let leaf : leaf_in s.past.config (here s).image key ≡ view.slot = (trees_stand s s.past.since view.at s.past.now good q then-it now).leaf key ∙ v.leaf in
     ap (λ k. live_words (page (durable s.past.config (here s) k))) leaf
-    ∙ (live-same b s s.past.since view.at s.past.now good q then-it now view.slot below said.holds.inside ∙ (live-is (durable s.past.config (s.past.at view.at) view.slot) ∙ sym said.live))
+    ∙ (live-same s s.past.since view.at s.past.now good q then-it now view.slot below said.holds.inside ∙ (live-is (durable s.past.config (s.past.at view.at) view.slot) ∙ sym said.live))
 
 itself : (k : ℕ) → (k == k) ≡ true
 itself k = grind (arith, nat_tests)
@@ -54,14 +57,7 @@ itself k = grind (arith, nat_tests)
 root-child : (c : Config) (x : Image) → (view_of c x).child c.nodes 0 ≡ root x.words
 root-child c x = ap (λ t. if t then (if 0 == 0 then root x.words else 0) else child_of (node c x.words c.nodes) 0) (itself c.nodes)
 
--- the laws on which it rests
-pub record Laws : Type 0 where
-  pub formed : WellFormedImagesHaveNoFault
-  pub values : ReadValuesStand
-  pub lonely : LonelyTimesAreQuiet
-  pub leads : PathsLeadToLeaves
-
-module _ (b : Laws) (key : List ℕ) (path : Path) (link : Link) (s : Scene) (good : IsScene s) (alone : IsAlone 0 s.past) (p : IsPath key path s.past) (last : slice_get path.links (path.depth - 1) ≡ Some link) (one : path.depth ≡ 1) where
+module _ (key : List ℕ) (path : Path) (link : Link) (s : Scene) (good : IsScene s) (alone : IsAlone 0 s.past) (p : IsPath key path s.past) (last : slice_get path.links (path.depth - 1) ≡ Some link) (one : path.depth ≡ 1) where
   abbrev c : Config
   c = s.past.config
 
@@ -81,7 +77,7 @@ module _ (b : Laws) (key : List ℕ) (path : Path) (link : Link) (s : Scene) (go
   good-now = good.history.good s.past.now good.begun (omega arith)
 
   tree-now : IsTree (view_in s.past.config (here s).image)
-  tree-now = ((b.formed c (here s).image).0 good-now.form).tree
+  tree-now = ((well_formed_images_have_no_fault c (here s).image).0 good-now.form).tree
 
   fits-now : Fits (view_in s.past.config (here s).image) (form_at s.past.config (here s))
   fits-now = fits v tree-now
@@ -89,7 +85,7 @@ module _ (b : Laws) (key : List ℕ) (path : Path) (link : Link) (s : Scene) (go
   pointer-now : (here s).value ROOT_AT ≡ link.slot + 1
   pointer-now =
       let was : IsIn s.past.since s.past on.was = record { from = on.since; to = on.now } in
-      b.values s s.past.since on.was ROOT_AT good (b.lonely.whole s good alone) was (inl refl) s.past.now on.was (record { from = good.begun; to = omega arith }) was
+      read_values_stand s s.past.since on.was ROOT_AT good (lonely_times_are_quiet.whole s good alone) was (inl refl) s.past.now on.was (record { from = good.begun; to = omega arith }) was
       ∙ (ap (s.past.at on.was).value (sym (p.first link first).pointer) ∙ on.led)
 
   root-now : root (resolve (here s).image) ≡ link.slot
@@ -99,7 +95,7 @@ module _ (b : Laws) (key : List ℕ) (path : Path) (link : Link) (s : Scene) (go
   child-now = root-child c (image_of (here s).image) ∙ root-now
 
   leaf-now : leaf_in s.past.config (here s).image key ≡ link.slot
-  leaf-now = b.leads s key path link good alone p last
+  leaf-now = paths_lead_to_leaves s key path link good alone p last
 
   high : 0 < (form_at s.past.config (here s)).level s.past.config.nodes
   high = omega (arith, fits-now.height, fits-now.tall)
@@ -121,17 +117,17 @@ module _ (b : Laws) (key : List ℕ) (path : Path) (link : Link) (s : Scene) (go
   ]
 
   -- and is a leaf
-  pub height-one : LeavesTileTheKeys → (view_in s.past.config (here s).image).height ≡ 1
-  height-one tiles =
-      let h : Holds (form_at s.past.config (here s)) key link.slot = (tiles v tree-now key link.slot).1 leaf-now in
+  pub height-one : (view_in s.past.config (here s).image).height ≡ 1
+  height-one =
+      let h : Holds (form_at s.past.config (here s)) key link.slot = (leaves_tile_the_keys v tree-now key link.slot).1 leaf-now in
       let one-down : Stands v fm c.nodes 0 (v.child c.nodes 0) = fits-now.down c.nodes 0 fits-now.top high within in
       omega (arith, one-down.level, ap fm.level child-now, h.leaf, fits-now.height)
 
-pub roots-have-none : Laws → LoneRootLeavesHaveNoNeighbour
-roots-have-none b key path link s good alone p last one m = no-neighbour b key path link s good alone p last one m
+pub roots-have-none : LoneRootLeavesHaveNoNeighbour
+roots-have-none key path link s good alone p last one m = no-neighbour key path link s good alone p last one m
 
-pub merges-are-due : LoneLeavesAreDue → LoneViewsTellTheLiveWords → LoneRootLeavesHaveNoNeighbour → LoneMergesAreDue
-merges-are-due due live root-law key path link view s good alone p last v m =
-    let anew : MayBeMadeAnew path view = due key path view s good alone p v in
-    let deep : 2 ≤ path.depth = elim (cases_lt path.depth 2) [ inl low ↦ absurd (root-law key path link s good alone p last (omega (arith, low, p.some)) m) | inr high ↦ high ] in
-    (deep, (anew.above deep, (omega (arith, m.small, live key view s good alone v), anew.led)))
+pub merges-are-due : LoneMergesAreDue
+merges-are-due key path link view s good alone p last v m =
+    let anew : MayBeMadeAnew path view = lone_leaves_are_due key path view s good alone p v in
+    let deep : 2 ≤ path.depth = elim (cases_lt path.depth 2) [ inl low ↦ absurd (roots-have-none key path link s good alone p last (omega (arith, low, p.some)) m) | inr high ↦ high ] in
+    (deep, (anew.above deep, (omega (arith, m.small, views-tell-live key view s good alone v), anew.led)))

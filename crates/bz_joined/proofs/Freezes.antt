@@ -14,17 +14,17 @@ use Rattle.bz_slotted.specs.Records.{live_to, live_words}
 use Rattle.bz_content.proofs.Sames.{node-same}
 use Rattle.bz_content.specs.Changes.{SameNode}
 use Rattle.bz_content.specs.Image.{Image, node}
-use Rattle.bz_content.specs.Laws.{QuietSwapsKeepTheContent}
 use Rattle.bz_content.specs.Swaps.{form_in}
 use Rattle.bz_content.specs.View.{view_of}
+use Rattle.bz_content.proofs.Proved.{quiet_swaps_keep_the_content}
 use Rattle.bz_stage.specs.FromLeaves.Neighbours.{leaf_page}
 use Rattle.bz_stage.proofs.Paths.{below-top, leaf-on-path, path-found, path-unique}
 use Rattle.bz_stage.proofs.Runs.{run-same}
-use Rattle.bz_stage.specs.Laws.{StagesSay}
 use Rattle.bz_stage.specs.Paths.{on_path, run_from, StandsOver}
 use Rattle.bz_stage.specs.Rooms.{is_full}
 use Rattle.bz_stage.specs.Stages.{page_on_path, root_level, full_above, stage_of, stage}
 use Rattle.bz_stage.specs.Swaps.{FreezesLeaf}
+use Rattle.bz_stage.proofs.Proved.{stages_say}
 use Rattle.bz_joined.specs.Laws.{FreezesBesideKeepTheStage, FreezesBesideKeepTheLeaf, FrozenLeavesAreTheKeys, SmallFreezesLeaveACopy}
 
 -- the records are as they were
@@ -94,17 +94,17 @@ module _ (c : Config) (x y : Image) (key : List ℕ) (k : ℕ) (t : IsTree (view
     live-is : live_words (leaf_page c y key) ≡ live_words (leaf_page c x key)
     live-is = ap live_words here-is ∙ (live-same (node c x.raw k) (node c y.raw k) (node c x.words k) (node c y.words k) z.restamps ∙ ap (λ j. live_words (page (node c x.words j))) own)
 
-    copied : StagesSay → (words : ℕ) → live_words (leaf_page c x key) ≤ SPLIT_ABOVE → stage c y key words ≡ 1
-    copied say words few = say.copied (leaf_page c y key) (full_above c y key) words frozen-is (subst (λ n. n ≤ SPLIT_ABOVE) (sym live-is) few)
+    copied : (words : ℕ) → live_words (leaf_page c x key) ≤ SPLIT_ABOVE → stage c y key words ≡ 1
+    copied words few = stages_say.copied (leaf_page c y key) (full_above c y key) words frozen-is (subst (λ n. n ≤ SPLIT_ABOVE) (sym live-is) few)
 
-pub freezes-beside : QuietSwapsKeepTheContent → FreezesBesideKeepTheStage
-freezes-beside law c x y key words k t z ne = kept c x y key k t z (law c x y k t z.on_leaf (inr (inr (inl z.restamps)))).0 words ne
+pub freezes-beside : FreezesBesideKeepTheStage
+freezes-beside c x y key words k t z ne = kept c x y key k t z (quiet_swaps_keep_the_content c x y k t z.on_leaf (inr (inr (inl z.restamps)))).0 words ne
 
-pub freezes-beside-leaf : QuietSwapsKeepTheContent → FreezesBesideKeepTheLeaf
-freezes-beside-leaf law c x y key k t z ne = page-same c x y key k t z (law c x y k t z.on_leaf (inr (inr (inl z.restamps)))).0 ne
+pub freezes-beside-leaf : FreezesBesideKeepTheLeaf
+freezes-beside-leaf c x y key k t z ne = page-same c x y key k t z (quiet_swaps_keep_the_content c x y k t z.on_leaf (inr (inr (inl z.restamps)))).0 ne
 
-pub freezes-own : QuietSwapsKeepTheContent → FrozenLeavesAreTheKeys
-freezes-own law c x y key t z = frozen-is c x y key (leaf_of (view_of c x) key) t z (law c x y (leaf_of (view_of c x) key) t z.on_leaf (inr (inr (inl z.restamps)))).0 refl
+pub freezes-own : FrozenLeavesAreTheKeys
+freezes-own c x y key t z = frozen-is c x y key (leaf_of (view_of c x) key) t z (quiet_swaps_keep_the_content c x y (leaf_of (view_of c x) key) t z.on_leaf (inr (inr (inl z.restamps)))).0 refl
 
-pub small-freezes : QuietSwapsKeepTheContent → StagesSay → SmallFreezesLeaveACopy
-small-freezes law say c x y key words t z few = copied c x y key (leaf_of (view_of c x) key) t z (law c x y (leaf_of (view_of c x) key) t z.on_leaf (inr (inr (inl z.restamps)))).0 refl say words few
+pub small-freezes : SmallFreezesLeaveACopy
+small-freezes c x y key words t z few = copied c x y key (leaf_of (view_of c x) key) t z (quiet_swaps_keep_the_content c x y (leaf_of (view_of c x) key) t z.on_leaf (inr (inr (inl z.restamps)))).0 refl words few

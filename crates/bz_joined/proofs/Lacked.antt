@@ -19,26 +19,22 @@ use Rattle.bz_task.specs.Scene.{Scene, IsScene, here}
 use Rattle.bz_task.specs.declared.path.Link.{Link}
 use Rattle.bz_rounds.specs.FromAlone.Alone.{IsAlone}
 use Rattle.bz_rounds.specs.FromAlone.MadeFor.{WasLeafOf}
-use Rattle.bz_rounds.specs.FromAlone.Quiet.{IsQuietSince, IsIn, LonelyTimesAreQuiet}
+use Rattle.bz_rounds.specs.FromAlone.Quiet.{IsQuietSince, IsIn}
 use Rattle.bz_rounds.specs.FromAlone.Trees.{SameTree}
+use Rattle.bz_rounds.proofs.FromAlone.Proved.{lonely_times_are_quiet, trees_stand}
+use Rattle.bz_alone.proofs.Proved.{}
 use Rattle.bz_joined.specs.Neighbours.{WasReadBelow, LoneNeighboursLackRoom}
 use Rattle.bz_joined.proofs.Alike.{live-is}
 use Rattle.bz_joined.proofs.Families.{count-is, child-is, high-inside, up-is, index-is}
-use Rattle.bz_joined.proofs.SeenLeaves.{Laws as Seen, below, live-then}
-use Rattle.bz_joined.proofs.Quiet.{Laws as Standing, fits-at, inner-read, same-tree, live-same, inner-same}
+use Rattle.bz_joined.proofs.SeenLeaves.{below, live-then}
+use Rattle.bz_joined.proofs.Quiet.{fits-at, inner-read, same-tree, live-same, inner-same}
 
--- the laws on which it rests
-pub record Laws : Type 0 where
-  pub standing : Standing
-  pub lonely : LonelyTimesAreQuiet
-  pub seen : Seen
-
-module _ (b : Laws) (s : Scene) (good : IsScene s) (alone : IsAlone 0 s.past) where
+module _ (s : Scene) (good : IsScene s) (alone : IsAlone 0 s.past) where
   abbrev c : Config
   c = s.past.config
 
   q : IsQuietSince s.past.since s.past
-  q = b.lonely.whole s good alone
+  q = lonely_times_are_quiet.whole s good alone
 
   now : IsIn s.past.since s.past s.past.now
   now = record { from = good.begun; to = omega arith }
@@ -49,7 +45,7 @@ module _ (b : Laws) (s : Scene) (good : IsScene s) (alone : IsAlone 0 s.past) wh
     then-it = record { from = w.stood.since; to = w.stood.now }
 
     live-now : live_words (page (durable s.past.config (here s) l.slot)) ≡ live_of (node_of l.image)
-    live-now = live-same b.standing s s.past.since at s.past.now good q then-it now l.slot (below b.seen s good l at low high w) w.stood.inside ∙ (live-is (durable c (s.past.at at) l.slot) ∙ live-then b.seen s good l at low high w)
+    live-now = live-same s s.past.since at s.past.now good q then-it now l.slot (below s good l at low high w) w.stood.inside ∙ (live-is (durable c (s.past.at at) l.slot) ∙ live-then s good l at low high w)
 
   -- the node above, of which these words were read
   module _ (key : List ℕ) (upper lower : Link) (read-leaf : List ℕ) (was : WasLeafOf key lower.slot s.past) (r : WasReadBelow upper lower read-leaf s.past) (f : NoneFitted upper lower read-leaf s.past) where
@@ -81,12 +77,12 @@ module _ (b : Laws) (s : Scene) (good : IsScene s) (alone : IsAlone 0 s.past) wh
     inside-then = high-inside (view_in c (s.past.at f.moment).image) u high-then
 
     same : SameTree s.past.config (s.past.at f.moment) (here s)
-    same = same-tree b.standing s s.past.since f.moment s.past.now good q in-time now
+    same = same-tree s s.past.since f.moment s.past.now good q in-time now
 
     node-now : durable s.past.config (here s) upper.slot ≡ node_of f.read
     node-now =
-        inner-same b.standing s s.past.since f.moment s.past.now good q in-time now u not-top inside-then high-then
-        ∙ (inner-read b.standing c (s.past.at f.moment) old-good u not-top inside-then high-then ∙ f.old.were)
+        inner-same s s.past.since f.moment s.past.now good q in-time now u not-top inside-then high-then
+        ∙ (inner-read c (s.past.at f.moment) old-good u not-top inside-then high-then ∙ f.old.were)
 
     inside-now : is_inside s.past.config (here s) upper.slot ≡ true
     inside-now = same.inside u ∙ inside-then
@@ -101,11 +97,11 @@ module _ (b : Laws) (s : Scene) (good : IsScene s) (alone : IsAlone 0 s.past) wh
     child-now j = child-is c (image_of (here s).image) u j not-top ∙ ap (λ n. child_of n j) node-now
 
     fits-now : Fits (view_in s.past.config (here s).image) (form_at s.past.config (here s))
-    fits-now = fits-at b.standing c (here s) good-now
+    fits-now = fits-at c (here s) good-now
 
     -- the key's leaf is the one that was read
     leaf-now : leaf_in s.past.config (here s).image key ≡ lower.slot
-    leaf-now = (b.standing.trees s s.past.since was.moment s.past.now good q (record { from = was.since; to = was.now }) now).leaf key ∙ was.leaf
+    leaf-now = (trees_stand s s.past.since was.moment s.past.now good q (record { from = was.since; to = was.now }) now).leaf key ∙ was.leaf
 
     within-now : f.place < (view_in s.past.config (here s).image).count upper.slot
     within-now = omega (arith, f.own.within, count-now)
@@ -140,5 +136,5 @@ module _ (b : Laws) (s : Scene) (good : IsScene s) (alone : IsAlone 0 s.past) wh
       pub no-room : ⊥
       no-room = absurd (omega (arith, m.room, lacked.many, own-now, beside-now m.place lacked))
 
-pub lone-lack : Laws → LoneNeighboursLackRoom
-lone-lack b key upper lower leaf s good alone was r f m = no-room b s good alone key upper lower leaf was r f m
+pub lone-lack : LoneNeighboursLackRoom
+lone-lack key upper lower leaf s good alone was r f m = no-room s good alone key upper lower leaf was r f m

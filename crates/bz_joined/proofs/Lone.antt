@@ -23,22 +23,16 @@ use Rattle.bz_task.specs.Swaps.{Stand, SwapsTo}
 use Rattle.bz_task.specs.declared.todo.Todo.TheVariants.{Swap as Swaps_for}
 use Rattle.bz_stage.specs.Swaps.{FreezesLeaf}
 use Rattle.bz_rounds.specs.FromAlone.Alone.{IsAlone}
-use Rattle.bz_rounds.specs.FromAlone.Changes.{MergesGoOn}
 use Rattle.bz_rounds.specs.FromAlone.MadeFor.{WasLeafOf}
 use Rattle.bz_rounds.specs.FromAlone.Trees.{SameTree}
-use Rattle.bz_rounds.proofs.Freezing.{Swapping, freezes-leaf}
+use Rattle.bz_rounds.proofs.Freezing.{freezes-leaf}
 use Rattle.bz_rounds.specs.Lone.{IsLoneSwap}
 use Rattle.bz_rounds.proofs.Lone.{tree-now, leaf-now, same-entries}
 use Rattle.bz_rounds.proofs.FromTally.Pairs.{to-other, to-own}
-use Rattle.bz_joined.specs.Laws.{FreezesBesideKeepTheStage, FreezesBesideKeepTheLeaf, SmallFreezesLeaveACopy}
+use Rattle.bz_rounds.proofs.FromAlone.Proved.{lonely_times_are_quiet, merges_go_on, trees_stand}
+use Rattle.bz_alone.proofs.Proved.{}
 use Rattle.bz_joined.specs.Lone.{LoneFreezesBesideKeepTheStage, LoneFreezesBesideKeepTheLeaf, LoneOwnFreezesLeaveACopy}
-
--- the laws on which it rests
-pub record Laws : Type 0 where
-  pub swapping : Swapping
-  pub go : MergesGoOn
-  pub beside : FreezesBesideKeepTheStage
-  pub small : SmallFreezesLeaveACopy
+use Rattle.bz_joined.proofs.Freezes.{freezes-beside, freezes-beside-leaf, small-freezes}
 
 -- a leaf that was seen
 record Once (l : SeenLeaf) (p : Past) : Type 0 where
@@ -66,16 +60,16 @@ are-two read slot true place beside h e = absurd (omega (arith, h.own.only (plac
 are-two read slot false place beside h e = absurd (omega (arith, h.own.only place (omega (arith, h.counted)) (h.other ∙ e)))
 
 -- the freeze of one of them
-module _ (b : Laws) (s : Scene) (y : Instant) (good : IsScene s) (alone : IsAlone 0 s.past) (l : SeenLeaf) (w : WasLeaf l.slot l.status s.past) (entries : List Entry) (is : entry_of s.past.config l.slot l.status ∷ [] ≡ entries) (stand : Stand entries (here s)) (swaps : SwapsTo s.past.config entries (here s) y) where
+module _ (s : Scene) (y : Instant) (good : IsScene s) (alone : IsAlone 0 s.past) (l : SeenLeaf) (w : WasLeaf l.slot l.status s.past) (entries : List Entry) (is : entry_of s.past.config l.slot l.status ∷ [] ≡ entries) (stand : Stand entries (here s)) (swaps : SwapsTo s.past.config entries (here s) y) where
   below : l.slot ≢ s.past.config.nodes
   below e = absurd (omega (arith, e, w.slot))
 
   same : SameTree s.past.config (s.past.at w.moment) (here s)
-  same = b.swapping.basis.trees s s.past.since w.moment s.past.now good (b.swapping.basis.lonely.whole s good alone) (record { from = w.since; to = w.now }) (record { from = good.begun; to = omega arith })
+  same = trees_stand s s.past.since w.moment s.past.now good (lonely_times_are_quiet.whole s good alone) (record { from = w.since; to = w.now }) (record { from = good.begun; to = omega arith })
 
   froze : FreezesLeaf s.past.config (image_of (here s).image) (image_of y.image) l.slot
   froze =
-      freezes-leaf b.swapping s y l.slot l.status good (same.inside l.slot ∙ w.inside) ((same.place l.slot below w.inside).level ∙ w.leaf) below w
+      freezes-leaf s y l.slot l.status good (same.inside l.slot ∙ w.inside) ((same.place l.slot below w.inside).level ∙ w.leaf) below w
       (subst (λ d. Stand d (here s)) (sym is) stand) (subst (λ d. SwapsTo s.past.config d (here s) y) (sym is) swaps)
 
 -- a merge that freezes the neighbour, or the viewed leaf
@@ -108,33 +102,33 @@ seen-beside : (r : Merging) (p : Past) → IsPlanned r p → Once (beside_leaf r
 seen-beside r p f = to-other (λ l. Once l p) r.right (viewed_leaf r) (beside_leaf r) (record { at = f.first_at; low = _; high = _; seen = f.first }) (record { at = f.second_at; low = _; high = _; seen = f.second })
 
 -- that of the neighbour freezes another leaf than the key's
-freezes-other : Laws → (t : Merge) (key : List ℕ) (entries : List Entry) (s : Scene) (y : Instant) → IsLoneSwap t.config (asks_of t) (facts_of t) entries s y → t.phase ≡ FreezeBeside → (status t.status).frozen ≡ true → WasLeafOf key t.lower.slot s.past →
+freezes-other : (t : Merge) (key : List ℕ) (entries : List Entry) (s : Scene) (y : Instant) → IsLoneSwap t.config (asks_of t) (facts_of t) entries s y → t.phase ≡ FreezeBeside → (status t.status).frozen ≡ true → WasLeafOf key t.lower.slot s.past →
     FreezesLeaf s.past.config (image_of (here s).image) (image_of y.image) t.side.slot × (t.side.slot ≢ leaf_of (view_of s.past.config (image_of (here s).image)) key)
-freezes-other b t key entries s y l e frozen was =
+freezes-other t key entries s y l e frozen was =
     let r : Merging = merging_of t in
     let f = plan-beside r t.phase s e l.knows in
     let is : entry_of s.past.config r.beside_slot (slice_index r.beside STATUS_AT) ∷ [] ≡ entries = ap (λ (z : Config). entry_of z r.beside_slot (slice_index r.beside STATUS_AT) ∷ []) l.config ∙ asked-beside t.config r t.phase entries e l.asks in
-    let stand : Stand entries (here s) = (b.go t s l.config l.good l.knows (subst (λ n. IsAlone n s.past) (made-none t e frozen) l.alone)).stands entries l.asks in
-    let leaf : leaf_in s.past.config (here s).image key ≡ t.lower.slot = leaf-now b.swapping.basis s l.good key t.lower.slot l.alone was in
+    let stand : Stand entries (here s) = (merges_go_on t s l.config l.good l.knows (subst (λ n. IsAlone n s.past) (made-none t e frozen) l.alone)).stands entries l.asks in
+    let leaf : leaf_in s.past.config (here s).image key ≡ t.lower.slot = leaf-now s l.good key t.lower.slot l.alone was in
     let apart : r.beside_slot ≢ r.lower.slot = are-two r.read r.lower.slot r.right r.place r.beside_slot f.0.paired.pair in
-    (froze b s y l.good l.alone (beside_leaf r) (was-leaf (beside_leaf r) s.past (seen-beside r s.past f.0) f.1) entries is stand l.leads, λ z. apart (z ∙ leaf))
+    (froze s y l.good l.alone (beside_leaf r) (was-leaf (beside_leaf r) s.past (seen-beside r s.past f.0) f.1) entries is stand l.leads, λ z. apart (z ∙ leaf))
 
-pub freezes-beside-lone : Laws → LoneFreezesBesideKeepTheStage
-freezes-beside-lone b t key words entries s y l e frozen was =
-    let z = freezes-other b t key entries s y l e frozen was in
-    b.beside s.past.config (image_of (here s).image) (image_of y.image) key words t.side.slot (tree-now b.swapping.basis s l.good) z.0 z.1
+pub freezes-beside-lone : LoneFreezesBesideKeepTheStage
+freezes-beside-lone t key words entries s y l e frozen was =
+    let z = freezes-other t key entries s y l e frozen was in
+    freezes-beside s.past.config (image_of (here s).image) (image_of y.image) key words t.side.slot (tree-now s l.good) z.0 z.1
 
-pub freezes-beside-leaf-lone : Laws → FreezesBesideKeepTheLeaf → LoneFreezesBesideKeepTheLeaf
-freezes-beside-leaf-lone b law t key entries s y l e frozen was =
-    let z = freezes-other b t key entries s y l e frozen was in
-    law s.past.config (image_of (here s).image) (image_of y.image) key t.side.slot (tree-now b.swapping.basis s l.good) z.0 z.1
+pub freezes-beside-leaf-lone : LoneFreezesBesideKeepTheLeaf
+freezes-beside-leaf-lone t key entries s y l e frozen was =
+    let z = freezes-other t key entries s y l e frozen was in
+    freezes-beside-leaf s.past.config (image_of (here s).image) (image_of y.image) key t.side.slot (tree-now s l.good) z.0 z.1
 
-pub own-freezes-lone : Laws → LoneOwnFreezesLeaveACopy
-own-freezes-lone b t key words entries s y l e was few =
+pub own-freezes-lone : LoneOwnFreezesLeaveACopy
+own-freezes-lone t key words entries s y l e was few =
     let r : Merging = merging_of t in
     let f = plan-own r t.phase s e l.knows in
     let is : entry_of s.past.config r.lower.slot r.status ∷ [] ≡ entries = ap (λ (z : Config). entry_of z r.lower.slot r.status ∷ []) l.config ∙ asked-own t.config r t.phase entries e l.asks in
-    let stand : Stand entries (here s) = (b.go t s l.config l.good l.knows (subst (λ n. IsAlone n s.past) (own-first t e) l.alone)).stands entries l.asks in
-    let leaf : leaf_in s.past.config (here s).image key ≡ t.lower.slot = leaf-now b.swapping.basis s l.good key t.lower.slot l.alone was in
-    b.small s.past.config (image_of (here s).image) (image_of y.image) key words (tree-now b.swapping.basis s l.good)
-    (subst (λ j. FreezesLeaf s.past.config (image_of (here s).image) (image_of y.image) j) (sym leaf) (froze b s y l.good l.alone (viewed_leaf r) (was-leaf (viewed_leaf r) s.past (seen-own r s.past f.0) f.1) entries is stand l.leads)) few
+    let stand : Stand entries (here s) = (merges_go_on t s l.config l.good l.knows (subst (λ n. IsAlone n s.past) (own-first t e) l.alone)).stands entries l.asks in
+    let leaf : leaf_in s.past.config (here s).image key ≡ t.lower.slot = leaf-now s l.good key t.lower.slot l.alone was in
+    small-freezes s.past.config (image_of (here s).image) (image_of y.image) key words (tree-now s l.good)
+    (subst (λ j. FreezesLeaf s.past.config (image_of (here s).image) (image_of y.image) j) (sym leaf) (froze s y l.good l.alone (viewed_leaf r) (was-leaf (viewed_leaf r) s.past (seen-own r s.past f.0) f.1) entries is stand l.leads)) few

@@ -1,7 +1,6 @@
 -- The leaf that a merge puts in the place of two has room, where it has taken few words.
 use Rattle.std.proofs.Common.{◌≡◌, ◌≢◌, ℕ, true, [], ◌∷◌, ◌⊎◌, arith, sym, ap, subst, ◌∙◌, inl, inr}
 use Rattle.std.proofs.lemmas.Bool.Decides.{nat_tests}
-use Rattle.bz_layout.specs.Rooms.{SettledLeafTakesRecord}
 use Rattle.bz_shape.proofs.TreeForms.{fits}
 use Rattle.bz_shape.proofs.Trees.{among-first, among-later}
 use Rattle.bz_shape.specs.Descent.{leaf_of}
@@ -10,18 +9,18 @@ use Rattle.bz_shape.specs.Walk.{is_among}
 use Rattle.bz_slotted.specs.Readers.{level_of}
 use Rattle.bz_content.proofs.Reached.{level-is}
 use Rattle.bz_content.specs.Image.{node}
-use Rattle.bz_content.specs.Laws.{MergesKeepTheContent}
 use Rattle.bz_content.specs.Swaps.{form_in}
 use Rattle.bz_content.specs.View.{view_of}
-use Rattle.bz_stage.proofs.Anew.{Rules, leaf-anew}
+use Rattle.bz_content.proofs.Proved.{merges_keep_the_content}
+use Rattle.bz_stage.proofs.Anew.{leaf-anew}
 use Rattle.bz_stage.specs.Swaps.{IsRoomyLeaf}
 use Rattle.bz_joined.specs.Laws.{MergesGiveRoom}
 
 two-cases : (a b k : ℕ) → is_among (a ∷ b ∷ []) k ≡ true → (k ≡ a) ⊎ (k ≡ b)
 two-cases a b k e = grind (arith, nat_tests)
 
-pub merges : Rules → SettledLeafTakesRecord → MergesKeepTheContent → MergesGiveRoom
-merges r settled law c x y key words a b q m sep t s one roomy few = leaf-anew r settled c x y key words (a ∷ b ∷ f.up a ∷ []) (q ∷ m ∷ []) t (law c x y a b q m sep t s) cut new few
+pub merges : MergesGiveRoom
+merges c x y key words a b q m sep t s one roomy few = leaf-anew c x y key words (a ∷ b ∷ f.up a ∷ []) (q ∷ m ∷ []) t (merges_keep_the_content c x y a b q m sep t s) cut new few
   where
     f : Form
     f = form_in c x
@@ -40,7 +39,7 @@ merges r settled law c x y key words a b q m sep t s one roomy few = leaf-anew r
 
     -- the new parent is no leaf
     above : level_of (node c y.words q) ≢ 0
-    above e = absurd (omega (arith, e, hangs.inner, level-is r.leaf r.inner c.nodes (f.level (f.up a)) (node c y.raw q) (node c y.words q) _ _ s.whole_q))
+    above e = absurd (omega (arith, e, hangs.inner, level-is c.nodes (f.level (f.up a)) (node c y.raw q) (node c y.words q) _ _ s.whole_q))
 
     new : (k : ℕ) → is_among (q ∷ m ∷ []) k ≡ true → level_of (node c y.words k) ≡ 0 → IsRoomyLeaf c y k
     new k e at = elim (two-cases q m k e) [

@@ -13,21 +13,16 @@ use Rattle.bz_slotted.specs.Records.{live_to, live_words, weight}
 use Rattle.bz_word.specs.Statuses.{status}
 use Rattle.bz_word.specs.declared.meta.Meta.{Meta}
 use Rattle.bz_content.specs.Content.{view_in}
-use Rattle.bz_content.specs.Laws.{WellFormedImagesHaveNoFault}
+use Rattle.bz_content.proofs.Proved.{well_formed_images_have_no_fault}
 use Rattle.bz_task.specs.Good.{IsGood}
 use Rattle.bz_task.specs.Instant.{Instant, words, durable, form_at, is_inside}
-use Rattle.bz_task.specs.Laws.{HeadersSayTheLevel}
 use Rattle.bz_task.specs.Scene.{Scene, IsScene}
 use Rattle.bz_task.specs.Shown.{IsShown}
-use Rattle.bz_rounds.specs.FromAlone.Quiet.{IsQuietSince, IsIn, ReadValuesStand}
-use Rattle.bz_rounds.specs.FromAlone.Trees.{SameTree, TreesStand}
-
--- the laws on which it rests
-pub record Laws : Type 0 where
-  pub formed : WellFormedImagesHaveNoFault
-  pub headers : HeadersSayTheLevel
-  pub values : ReadValuesStand
-  pub trees : TreesStand
+use Rattle.bz_task.proofs.Proved.{headers_say_the_level}
+use Rattle.bz_rounds.specs.FromAlone.Quiet.{IsQuietSince, IsIn}
+use Rattle.bz_rounds.specs.FromAlone.Trees.{SameTree}
+use Rattle.bz_rounds.proofs.FromAlone.Proved.{read_values_stand, trees_stand}
+use Rattle.bz_alone.proofs.Proved.{}
 
 -- the same records, as many live words
 live-to-same : (f g : ℕ → Meta) (n : ℕ) → ((j : ℕ) → j < n → f j ≡ g j) → live_to f n ≡ live_to g n
@@ -36,22 +31,22 @@ live-to-same f g zero h = refl
 live-to-same f g (suc n) h = λ t. live-to-same f g n (λ j l. h j (omega arith)) t + (if visible (h n (omega arith) t) then 1 + weight (h n (omega arith) t) else 0)
 
 -- at one moment
-module _ (b : Laws) (c : Config) (x : Instant) (good : IsGood c x) where
+module _ (c : Config) (x : Instant) (good : IsGood c x) where
   pub tree-at : IsTree (view_in c x.image)
-  tree-at = ((b.formed c x.image).0 good.form).tree
+  tree-at = ((well_formed_images_have_no_fault c x.image).0 good.form).tree
 
   pub fits-at : Fits (view_in c x.image) (form_at c x)
   fits-at = fits (view_in c x.image) tree-at
 
   -- all words of an inner node are read
   inner-shown : (k : ℕ) → k ≢ c.nodes → is_inside c x k ≡ true → 0 < (form_at c x).level k → (p : ℕ) → IsShown (words c x k) p
-  inner-shown k ne inside high p = inr (inr (inl (omega (arith, high, (b.headers c x k good ne inside).level))))
+  inner-shown k ne inside high p = inr (inr (inl (omega (arith, high, (headers_say_the_level c x k good ne inside).level))))
 
   pub inner-read : (k : ℕ) → k ≢ c.nodes → is_inside c x k ≡ true → 0 < (form_at c x).level k → durable c x k ≡ words c x k
   inner-read k ne inside high = λ t p. good.shown k p (good.inside k inside ne) (inner-shown k ne inside high p) t
 
 -- at two
-module _ (b : Laws) (s : Scene) (m i j : ℕ) (good : IsScene s) (q : IsQuietSince m s.past) (in-i : IsIn m s.past i) (in-j : IsIn m s.past j) where
+module _ (s : Scene) (m i j : ℕ) (good : IsScene s) (q : IsQuietSince m s.past) (in-i : IsIn m s.past i) (in-j : IsIn m s.past j) where
   abbrev c : Config
   c = s.past.config
 
@@ -68,7 +63,7 @@ module _ (b : Laws) (s : Scene) (m i j : ℕ) (good : IsScene s) (q : IsQuietSin
   good-second = good.history.good j (omega (arith, q.since, in-j.from)) in-j.to
 
   pub same-tree : SameTree s.past.config (s.past.at i) (s.past.at j)
-  same-tree = b.trees s m i j good q in-i in-j
+  same-tree = trees_stand s m i j good q in-i in-j
 
   module _ (k : ℕ) (ne : k ≢ s.past.config.nodes) (inside : is_inside s.past.config (s.past.at i) k ≡ true) where
     reached-x : (s.past.at i).reached k ≡ true
@@ -81,7 +76,7 @@ module _ (b : Laws) (s : Scene) (m i j : ℕ) (good : IsScene s) (q : IsQuietSin
     word-same p h = elim (cases_lt p NODE_WORDS) [
       | inl l ↦
           node-at c y.value k p l
-          ∙ (b.values s m i (node_address c k + p) good q in-i (inr (inr (record { slot = k; place = p; address = refl; within = l; reached = reached-x; shown = h }))) j i in-j in-i ∙ sym (node-at c x.value k p l))
+          ∙ (read_values_stand s m i (node_address c k + p) good q in-i (inr (inr (record { slot = k; place = p; address = refl; within = l; reached = reached-x; shown = h }))) j i in-j in-i ∙ sym (node-at c x.value k p l))
       | inr l ↦ node-past c y.value k p l ∙ sym (node-past c x.value k p l)
     ]
 
@@ -102,4 +97,4 @@ module _ (b : Laws) (s : Scene) (m i j : ℕ) (good : IsScene s) (q : IsQuietSin
 
     pub inner-same : 0 < (form_at s.past.config (s.past.at i)).level k → durable s.past.config (s.past.at j) k ≡ durable s.past.config (s.past.at i) k
     inner-same high = λ t p.
-        durable-same p (inner-shown b c x good-first k ne inside high p) (inner-shown b c y good-second k ne (same-tree.inside k ∙ inside) (omega (arith, high, (same-tree.place k ne inside).level)) p) t
+        durable-same p (inner-shown c x good-first k ne inside high p) (inner-shown c y good-second k ne (same-tree.inside k ∙ inside) (omega (arith, high, (same-tree.place k ne inside).level)) p) t

@@ -1,25 +1,27 @@
 -- A delete that leaves a leaf which may be merged tells so: the leaf is small then, and stands below another node.
-use Rattle.std.proofs.Common.{◌≡◌, ◌≢◌, ℕ, ◌<◌, ◌≤◌, List, arith, refl, sym, ap, ◌∙◌, inl, inr}
+use Rattle.std.proofs.Common.{◌≡◌, ◌≢◌, ℕ, ◌<◌, ◌≤◌, List, arith, refl, ap, ◌∙◌, inl, inr}
 use Rattle.std.proofs.lemmas.Bool.{cases_lt}
 use Rattle.bz_layout.specs.declared.config.Config.{Config}
 use Rattle.bz_shape.specs.Form.{Fits, Form, Hangs, Holds}
-use Rattle.bz_shape.specs.TreeLaws.{LeavesTileTheKeys}
 use Rattle.bz_shape.specs.View.{View}
 use Rattle.bz_shape.specs.Walk.{IsTree, form}
 use Rattle.bz_shape.proofs.TreeForms.{fits}
+use Rattle.bz_shape.proofs.Proved.{leaves_tile_the_keys}
 use Rattle.bz_content.specs.Content.{leaf_in, view_in}
-use Rattle.bz_content.specs.Laws.{WellFormedImagesHaveNoFault}
+use Rattle.bz_content.proofs.Proved.{well_formed_images_have_no_fault}
 use Rattle.bz_stage.specs.FromLeaves.Neighbours.{parent_in, MayBeMerged}
 use Rattle.bz_task.specs.Scene.{here}
 use Rattle.bz_rounds.specs.FromAlone.Duties.{change_of}
-use Rattle.bz_rounds.specs.FromTally.Deletes.{DeletesTakeOneRecord, DeletesTellFew, LosesOneRecord}
+use Rattle.bz_rounds.specs.FromTally.Deletes.{LosesOneRecord}
+use Rattle.bz_rounds.proofs.FromTally.Proved.{deletes_take_one_record, deletes_tell_few}
+use Rattle.bz_tally.proofs.Proved.{}
 use Rattle.bz_joined.specs.SmallLeaves.{DeletesTellOfMerges, MergeableLeavesStandBelow, LoneRootLeavesAreTheTree, LoneDeletesTellOfMerges}
-use Rattle.bz_joined.proofs.DueMerges.{Laws as Standing, height-one}
+use Rattle.bz_joined.proofs.DueMerges.{height-one}
 
-pub deletes-tell : DeletesTellFew → DeletesTellOfMerges
-deletes-tell law t entries s y w e m = law t entries s y w e m.small
+pub deletes-tell : DeletesTellOfMerges
+deletes-tell t entries s y w e m = deletes_tell_few t entries s y w e m.small
 
-module _ (tiles : LeavesTileTheKeys) (c : Config) (raw : ℕ → ℕ) (key : List ℕ) (tree : IsTree (view_in c raw)) (m : MayBeMerged c raw key) where
+module _ (c : Config) (raw : ℕ → ℕ) (key : List ℕ) (tree : IsTree (view_in c raw)) (m : MayBeMerged c raw key) where
   abbrev v : View
   v = view_in c raw
 
@@ -30,7 +32,7 @@ module _ (tiles : LeavesTileTheKeys) (c : Config) (raw : ℕ → ℕ) (key : Lis
   fits-it = fits v tree
 
   holds : Holds (form (view_in c raw)) key (leaf_in c raw key)
-  holds = (tiles v tree key (leaf_in c raw key)).1 refl
+  holds = (leaves_tile_the_keys v tree key (leaf_in c raw key)).1 refl
 
   leaf-below : leaf_in c raw key ≢ c.nodes
   leaf-below e = absurd (omega (arith, holds.leaf, fits-it.height, fits-it.tall, ap f.level e))
@@ -48,29 +50,21 @@ module _ (tiles : LeavesTileTheKeys) (c : Config) (raw : ℕ → ℕ) (key : Lis
   pub stands-below : 1 < (view_in c raw).height
   stands-below = omega (arith, hangs.inner, (fits-it.hangs (parent_in c raw key) hangs.inside not-top).lower)
 
-pub mergeable-below : LeavesTileTheKeys → MergeableLeavesStandBelow
-mergeable-below tiles c raw key tree m = stands-below tiles c raw key tree m
+pub mergeable-below : MergeableLeavesStandBelow
+mergeable-below c raw key tree m = stands-below c raw key tree m
 
-pub roots-are-trees : Standing → LeavesTileTheKeys → LoneRootLeavesAreTheTree
-roots-are-trees b tiles key path link s good alone p last one = height-one b key path link s good alone p last one tiles
+pub roots-are-trees : LoneRootLeavesAreTheTree
+roots-are-trees key path link s good alone p last one = height-one key path link s good alone p last one
 
--- the laws on which it rests
-pub record Laws : Type 0 where
-  pub formed : WellFormedImagesHaveNoFault
-  pub takes : DeletesTakeOneRecord
-  pub tells : DeletesTellOfMerges
-  pub below : MergeableLeavesStandBelow
-  pub roots : LoneRootLeavesAreTheTree
-
-pub lone-deletes-tell : Laws → LoneDeletesTellOfMerges
-lone-deletes-tell b t path link entries s y w e alone p last good m = record {
+pub lone-deletes-tell : LoneDeletesTellOfMerges
+lone-deletes-tell t path link entries s y w e alone p last good m = record {
   deep = elim (cases_lt path.depth 2) [
     | inl low ↦
-        let loses : LosesOneRecord (change_of t).key s y = b.takes t entries s y w e in
-        let one : (view_in s.past.config (here s).image).height ≡ 1 = b.roots (change_of t).key path link s w.good alone p last (omega (arith, low, p.some)) in
-        let more : 1 < (view_in s.past.config y.image).height = b.below s.past.config y.image (change_of t).key ((b.formed s.past.config y.image).0 good.form).tree m in
+        let loses : LosesOneRecord (change_of t).key s y = deletes_take_one_record t entries s y w e in
+        let one : (view_in s.past.config (here s).image).height ≡ 1 = roots-are-trees (change_of t).key path link s w.good alone p last (omega (arith, low, p.some)) in
+        let more : 1 < (view_in s.past.config y.image).height = mergeable-below s.past.config y.image (change_of t).key ((well_formed_images_have_no_fault s.past.config y.image).0 good.form).tree m in
         absurd (omega (arith, loses.height, one, more))
     | inr high ↦ high
   ];
-  few = b.tells t entries s y w e m;
+  few = deletes-tell t entries s y w e m;
 }

@@ -2,8 +2,8 @@
 use Rattle.std.proofs.Common.{◌≡◌, ◌≢◌, ℕ, ◌+◌, ◌<◌, true, List, arith, refl, sym, ap, ◌∙◌, inl, inr}
 use Rattle.bz_layout.specs.declared.config.Config.{Config}
 use Rattle.bz_shape.specs.Form.{Fits, Form, Hangs, Holds, Stands}
-use Rattle.bz_shape.specs.TreeLaws.{LeavesTileTheKeys}
 use Rattle.bz_shape.specs.View.{View}
+use Rattle.bz_shape.proofs.Proved.{leaves_tile_the_keys}
 use Rattle.bz_slotted.specs.Page.{page}
 use Rattle.bz_slotted.specs.Readers.{child_of, count_of}
 use Rattle.bz_slotted.specs.Records.{live_words}
@@ -15,14 +15,9 @@ use Rattle.bz_rounds.specs.FromAlone.Quiet.{IsQuietSince, IsIn}
 use Rattle.bz_rounds.specs.FromAlone.Trees.{SameTree}
 use Rattle.bz_joined.specs.Neighbours.{NeighboursStand}
 use Rattle.bz_joined.proofs.Families.{count-is, child-is, up-is, index-is}
-use Rattle.bz_joined.proofs.Quiet.{Laws as Staying, fits-at, tree-at, good-first, good-second, same-tree, live-same, inner-same}
+use Rattle.bz_joined.proofs.Quiet.{fits-at, tree-at, good-first, good-second, same-tree, live-same, inner-same}
 
--- the laws on which it rests
-pub record Laws : Type 0 where
-  pub staying : Staying
-  pub tiles : LeavesTileTheKeys
-
-module _ (b : Laws) (s : Scene) (m i j : ℕ) (key : List ℕ) (good : IsScene s) (q : IsQuietSince m s.past) (in-i : IsIn m s.past i) (in-j : IsIn m s.past j) (h : MayBeMerged s.past.config (s.past.at i).image key) where
+module _ (s : Scene) (m i j : ℕ) (key : List ℕ) (good : IsScene s) (q : IsQuietSince m s.past) (in-i : IsIn m s.past i) (in-j : IsIn m s.past j) (h : MayBeMerged s.past.config (s.past.at i).image key) where
   abbrev c : Config
   c = s.past.config
 
@@ -45,20 +40,20 @@ module _ (b : Laws) (s : Scene) (m i j : ℕ) (key : List ℕ) (good : IsScene s
   g = form_at s.past.config (s.past.at j)
 
   same : SameTree s.past.config (s.past.at i) (s.past.at j)
-  same = same-tree b.staying s m i j good q in-i in-j
+  same = same-tree s m i j good q in-i in-j
 
   fits-x : Fits (view_in s.past.config (s.past.at i).image) (form_at s.past.config (s.past.at i))
-  fits-x = fits-at b.staying c x (good-first b.staying s m i j good q in-i in-j)
+  fits-x = fits-at c x (good-first s m i j good q in-i in-j)
 
   fits-y : Fits (view_in s.past.config (s.past.at j).image) (form_at s.past.config (s.past.at j))
-  fits-y = fits-at b.staying c y (good-second b.staying s m i j good q in-i in-j)
+  fits-y = fits-at c y (good-second s m i j good q in-i in-j)
 
   -- the leaf
   abbrev k : ℕ
   k = leaf_in s.past.config (s.past.at i).image key
 
   holds : Holds (form_at s.past.config (s.past.at i)) key (leaf_in s.past.config (s.past.at i).image key)
-  holds = (b.tiles v (tree-at b.staying c x (good-first b.staying s m i j good q in-i in-j)) key k).1 refl
+  holds = (leaves_tile_the_keys v (tree-at c x (good-first s m i j good q in-i in-j)) key k).1 refl
 
   leaf-below : leaf_in s.past.config (s.past.at i).image key ≢ s.past.config.nodes
   leaf-below e = absurd (omega (arith, holds.leaf, fits-x.height, fits-x.tall, ap f.level e))
@@ -77,7 +72,7 @@ module _ (b : Laws) (s : Scene) (m i j : ℕ) (key : List ℕ) (good : IsScene s
   ]
 
   node-same : durable s.past.config (s.past.at j) (parent_in s.past.config (s.past.at i).image key) ≡ durable s.past.config (s.past.at i) (parent_in s.past.config (s.past.at i).image key)
-  node-same = inner-same b.staying s m i j good q in-i in-j u not-top hangs.inside hangs.inner
+  node-same = inner-same s m i j good q in-i in-j u not-top hangs.inside hangs.inner
 
   count-same : (view_in s.past.config (s.past.at j).image).count (parent_in s.past.config (s.past.at i).image key) ≡ (view_in s.past.config (s.past.at i).image).count (parent_in s.past.config (s.past.at i).image key)
   count-same = count-is c (image_of y.image) u not-top ∙ (ap count_of node-same ∙ sym (count-is c (image_of x.image) u not-top))
@@ -104,7 +99,7 @@ module _ (b : Laws) (s : Scene) (m i j : ℕ) (key : List ℕ) (good : IsScene s
   place-same = ap g.index (same.leaf key) ∙ index-is w g fits-y u (place_in c x.image key) k inside-y high-y within-y there-y
 
   own-same : own_live s.past.config (s.past.at j).image key ≡ own_live s.past.config (s.past.at i).image key
-  own-same = ap (λ n. live_words (page (durable c y n))) (same.leaf key) ∙ live-same b.staying s m i j good q in-i in-j k leaf-below holds.inside
+  own-same = ap (λ n. live_words (page (durable c y n))) (same.leaf key) ∙ live-same s m i j good q in-i in-j k leaf-below holds.inside
 
   -- the neighbour
   abbrev o : ℕ
@@ -120,7 +115,7 @@ module _ (b : Laws) (s : Scene) (m i j : ℕ) (key : List ℕ) (good : IsScene s
   beside-same : beside_live s.past.config (s.past.at j).image key h.place ≡ beside_live s.past.config (s.past.at i).image key h.place
   beside-same =
       ap (λ n. live_words (page (durable c y (w.child n h.place)))) parent-same
-      ∙ (ap (λ n. live_words (page (durable c y n))) (child-same h.place) ∙ live-same b.staying s m i j good q in-i in-j o other-below stands.inside)
+      ∙ (ap (λ n. live_words (page (durable c y n))) (child-same h.place) ∙ live-same s m i j good q in-i in-j o other-below stands.inside)
 
   pub stands-still : MayBeMerged s.past.config (s.past.at j).image key
   stands-still = record {
@@ -131,5 +126,5 @@ module _ (b : Laws) (s : Scene) (m i j : ℕ) (key : List ℕ) (good : IsScene s
     room = omega (arith, h.room, own-same, beside-same);
   }
 
-pub neighbours-stand : Laws → NeighboursStand
-neighbours-stand b s m i j key good q in-i in-j h = stands-still b s m i j key good q in-i in-j h
+pub neighbours-stand : NeighboursStand
+neighbours-stand s m i j key good q in-i in-j h = stands-still s m i j key good q in-i in-j h

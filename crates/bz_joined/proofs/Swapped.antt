@@ -17,6 +17,7 @@ use Rattle.bz_merge.specs.FromSplit.BelowSplits.{below_swap}
 use Rattle.bz_word.specs.Statuses.{status}
 use Rattle.bz_word.specs.declared.entry.Entry.{Entry}
 use Rattle.bz_content.specs.Content.{image_of, leaf_in, view_in}
+use Rattle.bz_content.proofs.Proved.{well_formed_images_have_no_fault}
 use Rattle.bz_stage.specs.FromLeaves.Neighbours.{leaf_page}
 use Rattle.bz_task.specs.Good.{IsGood}
 use Rattle.bz_task.specs.Instant.{Instant, durable, form_at, is_inside}
@@ -25,6 +26,7 @@ use Rattle.bz_task.specs.Scene.{Scene, Waiting, IsScene, here}
 use Rattle.bz_task.specs.Shown.{SameShownNode}
 use Rattle.bz_task.specs.Swaps.{Stand, SwapsTo}
 use Rattle.bz_task.specs.declared.todo.Todo.TheVariants.{Swap as Swaps_for}
+use Rattle.bz_task.proofs.Proved.{frozen_nodes_stay, ranges_stay}
 use Rattle.bz_stage.specs.Stages.{full_above}
 use Rattle.bz_stage.specs.Swaps.{IsRoomy}
 use Rattle.bz_rounds.specs.FromAlone.MadeFor.{WasLeafOf}
@@ -32,7 +34,7 @@ use Rattle.bz_rounds.proofs.Lacking.{some}
 use Rattle.bz_rounds.proofs.Lone.{same-entries}
 use Rattle.bz_rounds.specs.FromTally.Counts.{IsLeafNow}
 use Rattle.bz_rounds.proofs.FromTally.Links.{tree-now}
-use Rattle.bz_rounds.proofs.FromTally.Merging.{Laws as Turning, first-leaf, second-leaf, merges, merged-words}
+use Rattle.bz_rounds.proofs.FromTally.Merging.{first-leaf, second-leaf, merges, merged-words}
 use Rattle.bz_rounds.proofs.FromTally.Pairs.{to-own}
 use Rattle.bz_joined.specs.Laws.{MergesGiveRoom}
 use Rattle.bz_joined.specs.Lone.{MergeSwapsGiveRoom}
@@ -40,7 +42,6 @@ use Rattle.bz_joined.proofs.Roomy.{Laws as Roomy, joined-roomy}
 
 -- the laws on which it rests
 pub record Laws : Type 0 where
-  pub turning : Turning
   pub tiles : LeavesTileTheKeys
   pub roomy : Roomy
   pub room : MergesGiveRoom
@@ -71,7 +72,7 @@ module _ (b : Laws) (r : Merging) (s : Scene) (y : Instant) (good : IsScene s) (
   g = good.history.good s.past.now good.begun (omega arith)
 
   leaf : IsLeafNow s k
-  leaf = to-own (λ l. IsLeafNow s l.slot) r.right own other (first-leaf b.turning r s good f stand) (second-leaf b.turning r s good f stand)
+  leaf = to-own (λ l. IsLeafNow s l.slot) r.right own other (first-leaf r s good f stand) (second-leaf r s good f stand)
 
   inside : is_inside c (here s) k ≡ true
   inside = and-left (is_inside c (here s) k) ((form_at c (here s)).level k == 0) leaf
@@ -91,20 +92,20 @@ module _ (b : Laws) (r : Merging) (s : Scene) (y : Instant) (good : IsScene s) (
     earlier = good.history.good was.moment was.since was.now
 
     then-holds : Holds (form_at c (s.past.at was.moment)) key k
-    then-holds = (b.tiles (view_in c (s.past.at was.moment).image) ((b.turning.formed c (s.past.at was.moment).image).0 earlier.form).tree key k).1 was.leaf
+    then-holds = (b.tiles (view_in c (s.past.at was.moment).image) ((well_formed_images_have_no_fault c (s.past.at was.moment).image).0 earlier.form).tree key k).1 was.leaf
 
     place : SamePlace c (s.past.at was.moment) (here s) k
-    place = b.turning.links.ranges c s.past.at s.past.since s.past.now was.moment s.past.now k good.history (record { since = was.since; order = was.now; until = omega arith }) below then-holds.inside inside
+    place = ranges_stay c s.past.at s.past.since s.past.now was.moment s.past.now k good.history (record { since = was.since; order = was.now; until = omega arith }) below then-holds.inside inside
 
     holds : Holds (form_at c (here s)) key k
     holds = record { inside = inside; leaf = flat; low = rw place.low then-holds.low; high = rw place.high then-holds.high }
 
     leaf-is : leaf_in s.past.config (here s).image key ≡ r.lower.slot
-    leaf-is = (b.tiles (view_in c (here s).image) (tree-now b.turning.formed s good) key k).0 holds
+    leaf-is = (b.tiles (view_in c (here s).image) (tree-now s good) key k).0 holds
 
     -- and frozen
     stays : SameShownNode c (s.past.at f.frozen.own.moment) (here s) k
-    stays = b.turning.leaf.frozen c s.past.at s.past.since s.past.now f.frozen.own.moment s.past.now k good.history (record { since = f.frozen.own.since; order = f.frozen.own.now; until = omega arith }) f.frozen.own.reached f.frozen.own.frozen
+    stays = frozen_nodes_stay c s.past.at s.past.since s.past.now f.frozen.own.moment s.past.now k good.history (record { since = f.frozen.own.since; order = f.frozen.own.now; until = omega arith }) f.frozen.own.reached f.frozen.own.frozen
 
     frozen : (leaf_page s.past.config (image_of (here s).image) key).frozen ≡ true
     frozen =
@@ -112,7 +113,7 @@ module _ (b : Laws) (r : Merging) (s : Scene) (y : Instant) (good : IsScene s) (
         ∙ (ap (λ z. (status z).frozen) (g.shown k STATUS_AT (g.inside k inside below) (inl (omega arith)) ∙ stays STATUS_AT (inl (omega arith))) ∙ f.frozen.own.frozen)
 
     roomy : IsRoomy (page (durable s.past.config y (r.slot 1)))
-    roomy = subst (λ n. IsRoomy (page n)) (sym (merged-words b.turning r s good f stand y swaps))
+    roomy = subst (λ n. IsRoomy (page n)) (sym (merged-words r s good f stand y swaps))
         (joined-roomy b.roomy (first_of r.right own other).image (second_of r.right own other).image (r.image 1) c.nodes f.frozen.planned.low (Some (sep_of r.read r.place)) f.frozen.planned.high
         f.frozen.planned.first.size f.frozen.planned.second.size f.one f.frozen.planned.first.whole f.frozen.planned.second.whole f.frozen.planned.room)
 
@@ -134,6 +135,6 @@ merge-swaps b t key words entries s y l e was few =
     record {
       lacked = some (leaf_page s.past.config (image_of (here s).image) key) (full_above s.past.config (image_of (here s).image) key) words (frozen b r s y l.good f stand swaps key was);
       room = b.room s.past.config (image_of (here s).image) (image_of y.image) key words (first_of r.right (viewed_leaf r) (beside_leaf r)).slot (second_of r.right (viewed_leaf r) (beside_leaf r)).slot (r.slot 0) (r.slot 1) (sep_of r.read r.place)
-          (tree-now b.turning.formed s l.good) (merges b.turning r s l.good f stand y swaps) (in-one r.right (viewed_leaf r) (beside_leaf r) (leaf_in s.past.config (here s).image key) now)
+          (tree-now s l.good) (merges r s l.good f stand y swaps) (in-one r.right (viewed_leaf r) (beside_leaf r) (leaf_in s.past.config (here s).image key) now)
           (roomy b r s y l.good f stand swaps key was) few;
     }

@@ -1,7 +1,5 @@
 //! Laws of merges. Each function does nothing but call the laws that it follows from: its contract is the law.
 
-ghost use Rattle.bz_joined.specs.Laws.{FreezesBesideKeepTheStage, FreezesBesideKeepTheLeaf, FrozenLeavesAreTheKeys, MergesGiveRoom};
-ghost use Rattle.bz_joined.specs.Lone.{LoneFreezesBesideKeepTheStage, LoneFreezesBesideKeepTheLeaf, MergeSwapsGiveRoom, LoneFreezesFreezeTheLeaf};
 ghost use Rattle.bz_joined.specs.DueMerges.{LoneViewsTellTheLiveWords, LoneMergesAreDue};
 ghost use Rattle.bz_joined.specs.Neighbours.{NeighboursStand, MergesKnowTheirLeaf, KnownLeavesStay, LoneTasksTryTheirNeighbours, LoneMergesDoNotLackRoom, MergesLackSlotsRightly};
 ghost use Rattle.bz_joined.specs.SmallLeaves.{DeletesTellOfMerges, MergeableLeavesStandBelow, LoneRootLeavesAreTheTree, LoneDeletesTellOfMerges};
@@ -20,46 +18,6 @@ pub use bz_rounds::laws::{
     lone_leaves_are_due, lone_swaps_leave, lone_views_tell_the_leaf, lone_views_tell_the_stage,
     stages_stand,
 };
-
-/// The freeze of a neighbour leaves the stage.
-pub fn freezes_beside_keep_the_stage()
-    ensures { FreezesBesideKeepTheStage }
-{}
-
-/// And the leaf of the key as it is.
-pub fn freezes_beside_keep_the_leaf()
-    ensures { FreezesBesideKeepTheLeaf }
-{}
-
-/// That of the key's leaf leaves it frozen.
-pub fn frozen_leaves_are_the_keys()
-    ensures { FrozenLeavesAreTheKeys }
-{}
-
-/// The leaf that is put in the place of two has room.
-pub fn merges_give_room()
-    ensures { MergesGiveRoom }
-{}
-
-/// So a merge that freezes the neighbour of the key's leaf leaves the stage.
-pub fn lone_freezes_beside_keep_the_stage()
-    ensures { LoneFreezesBesideKeepTheStage }
-{}
-
-/// And the key's leaf as it is.
-pub fn lone_freezes_beside_keep_the_leaf()
-    ensures { LoneFreezesBesideKeepTheLeaf }
-{}
-
-/// One that turns the link to the parent gives room.
-pub fn merge_swaps_give_room()
-    ensures { MergeSwapsGiveRoom }
-{}
-
-/// A freeze of the key's leaf by itself leaves it frozen.
-pub fn lone_freezes_freeze_the_leaf()
-    ensures { LoneFreezesFreezeTheLeaf }
-{}
 
 /// In a quiet time a leaf that may be merged may be merged throughout.
 pub fn neighbours_stand()

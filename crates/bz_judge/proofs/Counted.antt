@@ -2,7 +2,7 @@
 use Rattle.std.proofs.Common.{◌≡◌, ◌≢◌, ℕ, zero, suc, ◌+◌, ◌-◌, ◌<◌, ◌==◌, if◌then◌else◌, Bool, true, false, cond, List, [], ◌∷◌, ◌++◌, length, length-append, arith, refl, sym, ap, subst, ◌∙◌, inl, inr, eqb-true, Option}
 use Rattle.std.specs.Prelude.{Some, None}
 use Rattle.std.specs.Cmp.Lexicographic.{slice_cmp}
-use Rattle.std.specs.FinMap.{FinMap, from_entries, entries, contains_key, len, get, find, len-entries, len-empty, len-insert, get-from_entries}
+use Rattle.std.specs.FinMap.{FinMap, from_entries, len, get, find, len-entries, len-empty, len-insert, get-from_entries}
 use Rattle.std.specs.Ordering.{nat_cmp, eq_by_cmp}
 use Rattle.std.specs.Prelude.{is_some}
 use Rattle.std.proofs.lemmas.Cmp.{nat_list_cmp_total}
@@ -14,16 +14,15 @@ use Rattle.bz_content.proofs.Honesty.{no}
 use Rattle.bz_layout.specs.declared.config.Config.{Config}
 use Rattle.bz_shape.specs.Content.{Pairs, pairs_of}
 use Rattle.bz_shape.specs.View.{View}
-use Rattle.bz_shape.specs.Walk.{Visit, kids, over, visits, start, walk, IsTree}
+use Rattle.bz_shape.specs.Walk.{Visit, visits, start, walk, IsTree}
 use Rattle.bz_shape.proofs.CleanWalks.{Clean, clean}
 use Rattle.bz_shape.proofs.Visits.{In}
-use Rattle.bz_slotted.specs.Laws.{LeafRulesAreFacts}
 use Rattle.bz_slotted.specs.Page.{page, visible, extent_of}
 use Rattle.bz_slotted.specs.Records.{key_in, payload_in, records_to}
 use Rattle.bz_slotted.specs.Rules.{node_fault}
 use Rattle.bz_slotted.specs.Whole.{Whole}
+use Rattle.bz_slotted.proofs.Proved.{leaf_rules_are_facts}
 use Rattle.bz_word.specs.declared.meta.Meta.{Meta}
-use Rattle.bz_judge.specs.Held.{pairs_held}
 use Rattle.bz_judge.specs.Inside.Gathers.{in_order}
 use Rattle.bz_judge.proofs.AllKeys.{KeysAre, keys-each}
 use Rattle.bz_judge.proofs.HeldPairs.{or_else, find-join, all-held}
@@ -97,11 +96,11 @@ lengths f (u ∷ us) each = here (u.level == 0) refl (lengths f us (λ w there l
     here false inner rest = rest
 
 -- a leaf of the image
-leaf-kept : LeafRulesAreFacts → (c : Config) (raw : ℕ → ℕ) (u : Visit) → u.level ≡ 0 → u.slot ≢ c.nodes → (view_in c raw).fault u.slot u.level u.low u.high ≡ None
+leaf-kept : (c : Config) (raw : ℕ → ℕ) (u : Visit) → u.level ≡ 0 → u.slot ≢ c.nodes → (view_in c raw).fault u.slot u.level u.low u.high ≡ None
     → length (in_order (records_in c (image_of raw) u.slot)) ≡ length (records_in c (image_of raw) u.slot)
-leaf-kept facts c raw u level slot none =
+leaf-kept c raw u level slot none =
     let e : node_fault c.nodes (node c raw u.slot) (node c (resolve raw) u.slot) 0 u.low u.high ≡ None = subst (λ l. node_fault c.nodes (node c raw u.slot) (node c (resolve raw) u.slot) l u.low u.high ≡ None) level (rw (no u.slot c.nodes slot) at none) in
-    let w : Whole (node c raw u.slot) (page (node c (resolve raw) u.slot)) u.low u.high = (facts c.nodes (node c raw u.slot) (node c (resolve raw) u.slot) u.low u.high).0 e in
+    let w : Whole (node c raw u.slot) (page (node c (resolve raw) u.slot)) u.low u.high = (leaf_rules_are_facts c.nodes (node c raw u.slot) (node c (resolve raw) u.slot) u.low u.high).0 e in
     kept (records_in c (image_of raw) u.slot) (records-differ (node c (resolve raw) u.slot) (page (node c (resolve raw) u.slot)).meta (page (node c (resolve raw) u.slot)).count w.distinct)
 
 -- the leaves of the tree lie below the superblock
@@ -115,15 +114,15 @@ below v h P c tall each u (inr there) leaf = each u leaf (c.apart.0 u there) (c.
 abbrev IsKept : Config → (ℕ → ℕ) → Visit → Type 0
 IsKept c raw u = length (in_order (records_in c (image_of raw) u.slot)) ≡ length (records_in c (image_of raw) u.slot)
 
-all-kept : LeafRulesAreFacts → (c : Config) (raw : ℕ → ℕ) → IsTree (view_in c raw) → (u : Visit) → In u (walk (view_in c raw)) → u.level ≡ 0 → IsKept c raw u
-all-kept facts c raw tree =
+all-kept : (c : Config) (raw : ℕ → ℕ) → IsTree (view_in c raw) → (u : Visit) → In u (walk (view_in c raw)) → u.level ≡ 0 → IsKept c raw u
+all-kept c raw tree =
     let v : View = view_in c raw in
     let height : v.height ≡ suc (v.height - 1) = omega (arith, tree.tall) in
     subst (λ n. (u : Visit) → In u (visits v n (start v)) → u.level ≡ 0 → IsKept c raw u) (sym height)
-    (below v (v.height - 1) (IsKept c raw) (subst (λ n. Clean v [] (visits v n (start v))) height (clean v [] (walk v) tree.none)) tree.tall (leaf-kept facts c raw))
+    (below v (v.height - 1) (IsKept c raw) (subst (λ n. Clean v [] (visits v n (start v))) height (clean v [] (walk v) tree.none)) tree.tall (leaf-kept c raw))
 
 -- so the map has as many pairs as the walk comes to
-pub counted : LeafRulesAreFacts → (c : Config) (raw : ℕ → ℕ) → IsTree (view_in c raw) → length (pairs_of (records_in c (image_of raw)) (walk (view_in c raw))) ≡ len (map_in c raw)
-counted facts c raw tree =
-    sym (lengths (records_in c (image_of raw)) (walk (view_in c raw)) (all-kept facts c raw tree))
-    ∙ ap length (all-held facts c raw tree) ∙ sym (len-entries (map_in c raw))
+pub counted : (c : Config) (raw : ℕ → ℕ) → IsTree (view_in c raw) → length (pairs_of (records_in c (image_of raw)) (walk (view_in c raw))) ≡ len (map_in c raw)
+counted c raw tree =
+    sym (lengths (records_in c (image_of raw)) (walk (view_in c raw)) (all-kept c raw tree))
+    ∙ ap length (all-held c raw tree) ∙ sym (len-entries (map_in c raw))

@@ -3,9 +3,9 @@ use Rattle.std.proofs.Common.{◌≡◌, ℕ, ◌+◌, ◌-◌, ◌<◌, ◌==�
 use Rattle.std.specs.Prelude.{None, slice_index}
 use Rattle.bz_content.specs.Content.{image_of, view_in}
 use Rattle.bz_content.specs.Image.{node}
-use Rattle.bz_content.specs.Laws.{WellFormedImagesHaveNoFault}
 use Rattle.bz_content.specs.Map.{records_in}
 use Rattle.bz_content.proofs.Honesty.{no}
+use Rattle.bz_content.proofs.Proved.{well_formed_images_have_no_fault}
 use Rattle.bz_layout.specs.declared.config.Config.{Config}
 use Rattle.bz_layout.specs.declared.sizes.TheConstants.{NODE_WORDS}
 use Rattle.bz_node.specs.Reading.{pairs_in}
@@ -16,11 +16,11 @@ use Rattle.bz_shape.specs.Walk.{Visit, kids, visits, start, walk, fault_of}
 use Rattle.bz_shape.proofs.CleanWalks.{clean}
 use Rattle.bz_shape.proofs.Stacks.{pending-inner, pending-leaf}
 use Rattle.bz_shape.proofs.Visits.{In, in_left, in_right, head}
-use Rattle.bz_slotted.specs.Laws.{InnerKeysRise, LeafRulesAreFacts}
 use Rattle.bz_slotted.specs.Page.{page}
-use Rattle.bz_slotted.specs.ReadingLaws.{node_of, WholeLeavesAreReadable, WholeInnersAreReadable, ReadsAsPairs, ReadsAsChildren}
+use Rattle.bz_slotted.specs.ReadingLaws.{node_of, ReadsAsPairs, ReadsAsChildren}
 use Rattle.bz_slotted.specs.Records.{records}
 use Rattle.bz_slotted.specs.Rules.{node_fault}
+use Rattle.bz_slotted.proofs.Proved.{whole_leaves_are_readable}
 use Rattle.bz_judge.specs.Held.{IsImageOf, pairs_held}
 use Rattle.bz_judge.specs.Inside.Gathers.{in_order, Gathers, IsGathering, to_come}
 use Rattle.bz_judge.specs.Inside.Nodes.{IsNodeOf, IsScanned}
@@ -47,38 +47,38 @@ passed v r u us ws pairs more g next below is = record {
   below = below;
 }
 
-pub scanned : WellFormedImagesHaveNoFault → (c : Config) (image : List ℕ) → IsImageOf c image → IsScanned c image
-scanned law c image h = record { config = h.config; size = h.size; lawful = ((law c (slice_index image)).0 h.none).lawful }
+pub scanned : (c : Config) (image : List ℕ) → IsImageOf c image → IsScanned c image
+scanned c image h = record { config = h.config; size = h.size; lawful = ((well_formed_images_have_no_fault c (slice_index image)).0 h.none).lawful }
 
-module _ (law : WellFormedImagesHaveNoFault) (c : Config) (image : List ℕ) (u : Visit) (us : List Visit) (pairs : Pairs) (words : List ℕ) (whole : IsImageOf c image) (way : IsGathering c image (u ∷ us) pairs) (is : IsNodeOf c image u.slot words) (size : length words ≡ NODE_WORDS) where
+module _ (c : Config) (image : List ℕ) (u : Visit) (us : List Visit) (pairs : Pairs) (words : List ℕ) (whole : IsImageOf c image) (way : IsGathering c image (u ∷ us) pairs) (is : IsNodeOf c image u.slot words) (size : length words ≡ NODE_WORDS) where
   none : (view_in c (slice_index image)).fault u.slot u.level u.low u.high ≡ None
-  none = top-clean (view_in c (slice_index image)) (records_in c (image_of (slice_index image))) u us pairs ((law c (slice_index image)).0 whole.none).tree.none way
+  none = top-clean (view_in c (slice_index image)) (records_in c (image_of (slice_index image))) u us pairs ((well_formed_images_have_no_fault c (slice_index image)).0 whole.none).tree.none way
 
   -- a leaf can be read
-  pub reads-leaf : WholeLeavesAreReadable → u.level ≡ 0 → ReadsAsPairs words
-  reads-leaf readable leaf =
-      readable c.nodes (node c (slice_index image) u.slot) words u.low u.high size
+  pub reads-leaf : u.level ≡ 0 → ReadsAsPairs words
+  reads-leaf leaf =
+      whole_leaves_are_readable c.nodes (node c (slice_index image) u.slot) words u.low u.high size
       (subst (λ l. node_fault c.nodes (node c (slice_index image) u.slot) (node_of words) l u.low u.high ≡ None) leaf
       ((λ t. node_fault c.nodes (node c (slice_index image) u.slot) (is t) u.level u.low u.high) ∙ node-none c (slice_index image) u way.below.0 none))
 
   -- and its records are gathered
-  pub leaf-passed : WholeLeavesAreReadable → u.level ≡ 0 → (ws : List Visit) (all : Pairs) → ws ≡ us → all ≡ pairs ++ in_order (pairs_in words) → IsGathering c image ws all
-  leaf-passed readable leaf ws all stack gathered =
-      let more : in_order (pairs_in words) ≡ in_order (records_in c (image_of (slice_index image)) u.slot) = ap in_order ((reads-leaf readable leaf).pairs ∙ ap (λ n. records (page n)) is) in
+  pub leaf-passed : u.level ≡ 0 → (ws : List Visit) (all : Pairs) → ws ≡ us → all ≡ pairs ++ in_order (pairs_in words) → IsGathering c image ws all
+  leaf-passed leaf ws all stack gathered =
+      let more : in_order (pairs_in words) ≡ in_order (records_in c (image_of (slice_index image)) u.slot) = ap in_order ((reads-leaf leaf).pairs ∙ ap (λ n. records (page n)) is) in
       let here : (u.level == 0) ≡ true = ap (λ l. l == 0) leaf in
       subst (λ s. IsGathering c image s all) (sym stack) (subst (IsGathering c image us) (sym gathered)
       (passed (view_in c (slice_index image)) (records_in c (image_of (slice_index image))) u us us pairs (in_order (pairs_in words)) way (pending-leaf (view_in c (slice_index image)) u us leaf) way.below.1 (rw here more)))
 
   -- an inner node can be read
-  pub reads-inner : WholeInnersAreReadable → 0 < u.level → ReadsAsChildren words
-  reads-inner readable inner = reads-children readable c image u words (scanned law c image whole) way.below.0 is size none inner
+  pub reads-inner : 0 < u.level → ReadsAsChildren words
+  reads-inner inner = reads-children c image u words (scanned c image whole) way.below.0 is size none inner
 
   -- and its children are to come
-  pub inner-passed : InnerKeysRise → 0 < u.level → (ws : List Visit) → ws ≡ kids (view_in c (slice_index image)) u (u.level - 1) 0 ((view_in c (slice_index image)).count u.slot) ++ us → IsGathering c image ws pairs
-  inner-passed rise inner ws stack =
+  pub inner-passed : 0 < u.level → (ws : List Visit) → ws ≡ kids (view_in c (slice_index image)) u (u.level - 1) 0 ((view_in c (slice_index image)).count u.slot) ++ us → IsGathering c image ws pairs
+  inner-passed inner ws stack =
       let g : IsGathering c image (kids (view_in c (slice_index image)) u (u.level - 1) 0 ((view_in c (slice_index image)).count u.slot) ++ us) (pairs ++ []) =
       passed (view_in c (slice_index image)) (records_in c (image_of (slice_index image))) u us _ pairs [] way (pending-inner (view_in c (slice_index image)) (u.level - 1) u us (omega arith))
-      (kids-below (view_in c (slice_index image)) u (u.level - 1) 0 ((view_in c (slice_index image)).count u.slot) c.nodes us (λ j from to. children-below rise c (slice_index image) u way.below.0 none inner j (omega arith)) way.below.1)
+      (kids-below (view_in c (slice_index image)) u (u.level - 1) 0 ((view_in c (slice_index image)).count u.slot) c.nodes us (λ j from to. children-below c (slice_index image) u way.below.0 none inner j (omega arith)) way.below.1)
       (rw (no u.level 0 (omega arith)) refl) in
       subst (λ s. IsGathering c image s pairs) (sym stack) (subst (IsGathering c image _) (append-nil pairs) g)
 
@@ -103,10 +103,10 @@ pub begun : (c : Config) (image : List ℕ) (u : Visit) (stack : List Visit) (pa
 begun c image u stack pairs s is none =
     subst (λ x. IsGathering c image x pairs) (sym is) (subst (IsGathering c image (u ∷ [])) (sym none) (at-root (view_in c (slice_index image)) (records_in c (image_of (slice_index image))) u s))
 
-pub all-gathered : WellFormedImagesHaveNoFault → LeafRulesAreFacts → (c : Config) (image : List ℕ) (stack : List Visit) (pairs : Pairs) → IsImageOf c image → IsGathering c image stack pairs → stack ≡ [] → pairs ≡ pairs_held c (slice_index image)
+pub all-gathered : (c : Config) (image : List ℕ) (stack : List Visit) (pairs : Pairs) → IsImageOf c image → IsGathering c image stack pairs → stack ≡ [] → pairs ≡ pairs_held c (slice_index image)
 unfolding pending
-all-gathered law facts c image stack pairs h g empty =
-    g.gathered ∙ (ap (pairs_of (λ k. in_order (records_in c (image_of (slice_index image)) k))) (sym all) ∙ all-held facts c (slice_index image) ((law c (slice_index image)).0 h.none).tree)
+all-gathered c image stack pairs h g empty =
+    g.gathered ∙ (ap (pairs_of (λ k. in_order (records_in c (image_of (slice_index image)) k))) (sym all) ∙ all-held c (slice_index image) ((well_formed_images_have_no_fault c (slice_index image)).0 h.none).tree)
   where
     nothing : (v : View) (s : List Visit) → s ≡ [] → pending v s ≡ []
     nothing v s e = ap (pending v) e

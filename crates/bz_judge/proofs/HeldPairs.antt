@@ -13,10 +13,10 @@ use Rattle.bz_layout.specs.declared.config.Config.{Config}
 use Rattle.bz_shape.specs.Content.{Pairs, pairs_of}
 use Rattle.bz_shape.specs.Order.{is_at_least, is_below, is_within}
 use Rattle.bz_shape.specs.Walk.{Visit, walk, IsTree}
-use Rattle.bz_slotted.specs.Laws.{LeafRulesAreFacts}
 use Rattle.bz_slotted.specs.Page.{page}
 use Rattle.bz_slotted.specs.Rules.{node_fault}
 use Rattle.bz_slotted.specs.Whole.{Whole}
+use Rattle.bz_slotted.proofs.Proved.{leaf_rules_are_facts}
 use Rattle.bz_judge.specs.Held.{pairs_held}
 use Rattle.bz_judge.specs.Inside.Gathers.{in_order}
 use Rattle.bz_judge.proofs.AllKeys.{KeysAre, keys-so, keys-in-order, keys-within}
@@ -52,13 +52,13 @@ found-alike q f g (u ∷ us) same =
     here false = refl
 
 -- the leaves of an image
-leaves-lie : LeafRulesAreFacts → (c : Config) (raw : ℕ → ℕ) → LeavesLie (view_in c raw) (λ k. in_order (records_in c (image_of raw) k))
-leaves-lie facts c raw = record { leaf = leaf }
+leaves-lie : (c : Config) (raw : ℕ → ℕ) → LeavesLie (view_in c raw) (λ k. in_order (records_in c (image_of raw) k))
+leaves-lie c raw = record { leaf = leaf }
   where
     leaf : (u : Visit) → u.level ≡ 0 → u.slot ≢ c.nodes → (view_in c raw).fault u.slot u.level u.low u.high ≡ None → Lies u.low u.high (in_order (records_in c (image_of raw) u.slot))
     leaf u level slot none =
         let e : node_fault c.nodes (node c raw u.slot) (node c (resolve raw) u.slot) 0 u.low u.high ≡ None = subst (λ l. node_fault c.nodes (node c raw u.slot) (node c (resolve raw) u.slot) l u.low u.high ≡ None) level (rw (no u.slot c.nodes slot) at none) in
-        let w : Whole (node c raw u.slot) (page (node c (resolve raw) u.slot)) u.low u.high = (facts c.nodes (node c raw u.slot) (node c (resolve raw) u.slot) u.low u.high).0 e in
+        let w : Whole (node c raw u.slot) (page (node c (resolve raw) u.slot)) u.low u.high = (leaf_rules_are_facts c.nodes (node c raw u.slot) (node c (resolve raw) u.slot) u.low u.high).0 e in
         let h : KeysAre (λ key. is_within key u.low u.high ≡ true) (records_in c (image_of raw) u.slot) = keys-within (node c (resolve raw) u.slot) (page (node c (resolve raw) u.slot)).meta u.low u.high (page (node c (resolve raw) u.slot)).count w.range in
         record {
           sorted = in-order-sorted (records_in c (image_of raw) u.slot);
@@ -66,8 +66,8 @@ leaves-lie facts c raw = record { leaf = leaf }
           high = keys-in-order _ _ (keys-so _ (λ key. is_below key u.high ≡ true) _ (λ key t. (both (is_at_least key u.low) (is_below key u.high) t).second) h);
         }
 
-pub all-held : LeafRulesAreFacts → (c : Config) (raw : ℕ → ℕ) → IsTree (view_in c raw) → pairs_of (λ k. in_order (records_in c (image_of raw) k)) (walk (view_in c raw)) ≡ pairs_held c raw
+pub all-held : (c : Config) (raw : ℕ → ℕ) → IsTree (view_in c raw) → pairs_of (λ k. in_order (records_in c (image_of raw) k)) (walk (view_in c raw)) ≡ pairs_held c raw
 unfolding in_order
-all-held facts c raw tree =
-    is-in-order (pairs_of (records_in c (image_of raw)) (walk (view_in c raw))) _ (lies-walk (view_in c raw) (λ k. in_order (records_in c (image_of raw) k)) tree (leaves-lie facts c raw)).sorted
+all-held c raw tree =
+    is-in-order (pairs_of (records_in c (image_of raw)) (walk (view_in c raw))) _ (lies-walk (view_in c raw) (λ k. in_order (records_in c (image_of raw) k)) tree (leaves-lie c raw)).sorted
     (λ q. found-alike q (λ k. in_order (records_in c (image_of raw) k)) (records_in c (image_of raw)) (walk (view_in c raw)) (λ k. found-in-order q (records_in c (image_of raw) k)))

@@ -8,12 +8,11 @@ use Rattle.bz_layout.specs.declared.config.Config.{Config}
 use Rattle.bz_shape.specs.Walk.{fault_of}
 use Rattle.bz_shape.specs.declared.rule.ShapeRule.TheVariants.{Super, Word}
 use Rattle.bz_content.specs.Content.{image_fault, is_super, view_in}
-use Rattle.bz_content.specs.Laws.{WellFormedImagesHaveNoFault}
-use Rattle.bz_slotted.specs.Laws.{LeafRulesAreFacts}
 use Rattle.bz_content.specs.Lawful.{is_lawful, first_unlawful}
 use Rattle.bz_content.specs.declared.outcomes.CheckError.{CheckError}
 use Rattle.bz_content.specs.declared.outcomes.CheckError.TheVariants.{Shape, Memory}
 use Rattle.bz_content.specs.declared.outcomes.Shape.{Shape as Found}
+use Rattle.bz_content.proofs.Proved.{well_formed_images_have_no_fault}
 use Rattle.bz_judge.specs.Inside.Nodes.{IsScanned}
 use Rattle.bz_judge.specs.Inside.Walking.{IsTold, IsTreeOf}
 use Rattle.bz_judge.specs.Judgement.{IsShapeOf, IsFirstFault}
@@ -48,15 +47,15 @@ told : (c : Config) (image : List ℕ) (error : CheckError) → is_super c (slic
 told c image (Shape fault) t e h = of-tree c (slice_index image) t e ∙ h
 told c image Memory t e h = tt
 
-shape : WellFormedImagesHaveNoFault → LeafRulesAreFacts → (c : Config) (image : List ℕ) (s : Found) → is_super c (slice_index image) ≡ true → first_unlawful c (slice_index image) 0 (words_of c) ≡ None → IsTreeOf c image s → IsShapeOf c (slice_index image) s
-shape law facts c image s t e h =
+shape : (c : Config) (image : List ℕ) (s : Found) → is_super c (slice_index image) ≡ true → first_unlawful c (slice_index image) 0 (words_of c) ≡ None → IsTreeOf c image s → IsShapeOf c (slice_index image) s
+shape c image s t e h =
     let none = of-tree c (slice_index image) t e ∙ h.none in
-    record { none = none; pairs = h.pairs ∙ counted facts c (slice_index image) ((law c (slice_index image)).0 none).tree; levels = h.levels; reached = h.reached }
+    record { none = none; pairs = h.pairs ∙ counted c (slice_index image) ((well_formed_images_have_no_fault c (slice_index image)).0 none).tree; levels = h.levels; reached = h.reached }
 
 -- the answer of the walk is the answer of the check
-pub shape-answer : WellFormedImagesHaveNoFault → LeafRulesAreFacts → (c : Config) (image : List ℕ) (r : Result Found CheckError) → is_super c (slice_index image) ≡ true → first_unlawful c (slice_index image) 0 (words_of c) ≡ None → IfOk r (IsTreeOf c image) → IfOk r (IsShapeOf c (slice_index image))
-shape-answer law facts c image (Ok s) t e h = shape law facts c image s t e h
-shape-answer law facts c image (Err error) t e h = tt
+pub shape-answer : (c : Config) (image : List ℕ) (r : Result Found CheckError) → is_super c (slice_index image) ≡ true → first_unlawful c (slice_index image) 0 (words_of c) ≡ None → IfOk r (IsTreeOf c image) → IfOk r (IsShapeOf c (slice_index image))
+shape-answer c image (Ok s) t e h = shape c image s t e h
+shape-answer c image (Err error) t e h = tt
 
 pub told-answer : (c : Config) (image : List ℕ) (r : Result Found CheckError) → is_super c (slice_index image) ≡ true → first_unlawful c (slice_index image) 0 (words_of c) ≡ None → IfErr r (IsTold c image) → IfErr r (IsFirstFault c (slice_index image))
 told-answer c image (Ok s) t e h = tt

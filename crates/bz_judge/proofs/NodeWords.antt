@@ -10,9 +10,10 @@ use Rattle.bz_content.specs.Content.{view_in}
 use Rattle.bz_content.specs.Image.{node}
 use Rattle.bz_content.specs.Resolving.{resolve}
 use Rattle.bz_content.proofs.Honesty.{no}
-use Rattle.bz_layout.specs.Addresses.{words_of, node_address, AddressesFit}
+use Rattle.bz_layout.specs.Addresses.{words_of, node_address}
 use Rattle.bz_layout.specs.declared.config.Config.{Config}
 use Rattle.bz_layout.specs.declared.sizes.TheConstants.{NODE_WORDS, HEADER_AT}
+use Rattle.bz_layout.proofs.Laws.{addresses_fit}
 use Rattle.bz_slotted.specs.Page.{visible, extent_of, meta_of}
 use Rattle.bz_slotted.specs.ReadingLaws.{node_of}
 use Rattle.bz_slotted.specs.Readers.{level_of}
@@ -43,9 +44,9 @@ all-read c raw k words size each = λ t i. at i t
     ]
 
 -- the words of a slot as they stand
-pub raw-part : AddressesFit → (c : Config) (image : List ℕ) (k start : ℕ) → IsScanned c image → k < c.nodes → start ≡ node_address c k →
+pub raw-part : (c : Config) (image : List ℕ) (k start : ℕ) → IsScanned c image → k < c.nodes → start ≡ node_address c k →
     node_of (slice_range image start (start + NODE_WORDS)) ≡ node c (slice_index image) k
-raw-part fit c image k start s slot is = all-read c (slice_index image) k (slice_range image start (start + NODE_WORDS)) size each
+raw-part c image k start s slot is = all-read c (slice_index image) k (slice_range image start (start + NODE_WORDS)) size each
   where
     each : (i : ℕ) → i < NODE_WORDS → get_or (slice_range image start (start + NODE_WORDS)) i 0 ≡ node c (slice_index image) k i
     each i l =
@@ -54,7 +55,7 @@ raw-part fit c image k start s slot is = all-read c (slice_index image) k (slice
 
     size : length (slice_range image start (start + NODE_WORDS)) ≡ NODE_WORDS
     size =
-        let last : node_address c k + (NODE_WORDS - 1) < words_of c = (fit c s.config).node_words k (NODE_WORDS - 1) slot (omega arith) in
+        let last : node_address c k + (NODE_WORDS - 1) < words_of c = (addresses_fit c s.config).node_words k (NODE_WORDS - 1) slot (omega arith) in
         omega (arith, length-take (start + NODE_WORDS - start) (drop start image), length-drop start image, s.size)
 
 -- what the view says of a slot that is one of a node

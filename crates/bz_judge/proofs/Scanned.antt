@@ -3,9 +3,10 @@ use Rattle.std.proofs.Common.{◌≡◌, ℕ, ◌+◌, ◌<◌, ◌&&◌, Bool, 
 use Rattle.std.specs.Prelude.{slice_index}
 use Rattle.std.proofs.lemmas.Bool.Decides.{nat_tests}
 use Rattle.bz_content.specs.Lawful.{is_word, is_begun, is_named, is_in_descriptor, is_fixed, is_lawful}
-use Rattle.bz_layout.specs.Addresses.{words_of, node_address, AddressesFit, HoldsAll}
+use Rattle.bz_layout.specs.Addresses.{words_of, node_address, HoldsAll}
 use Rattle.bz_layout.specs.declared.config.Config.{Config}
 use Rattle.bz_layout.specs.declared.sizes.TheConstants.{NODE_WORDS, ROOT_AT, ROOT_STATUS_AT}
+use Rattle.bz_layout.proofs.Laws.{addresses_fit}
 use Rattle.bz_word.specs.Kinds.{kind}
 use Rattle.bz_word.specs.declared.kind.WordKind.{WordKind}
 use Rattle.bz_word.specs.declared.kind.WordKind.TheVariants.{Value, Dirty, Swap, Tag}
@@ -36,9 +37,9 @@ outside c raw a d f t =
     let b : Both (is_word (raw a)) (is_named c raw a (kind (raw a))) = both _ _ (rw (d, f) at t) in
     record { is_word = b.first; readable = named-readable c raw a (kind (raw a)) b.second }
 
-pub node-readable : AddressesFit → (c : Config) (image : List ℕ) (k i : ℕ) → IsScanned c image → k < c.nodes → i < NODE_WORDS → CanBeResolved (slice_index image) (node_address c k + i)
-node-readable fit c image k i s slot place =
-    let h : HoldsAll c = fit c s.config in
+pub node-readable : (c : Config) (image : List ℕ) (k i : ℕ) → IsScanned c image → k < c.nodes → i < NODE_WORDS → CanBeResolved (slice_index image) (node_address c k + i)
+node-readable c image k i s slot place =
+    let h : HoldsAll c = addresses_fit c s.config in
     let less : node_address c k + i < words_of c = h.node_words k i slot place in
     let d : is_in_descriptor c (node_address c k + i) ≡ false = past c k i in
     let f : is_fixed (node_address c k + i) ≡ false = late c k i in

@@ -14,12 +14,13 @@ use Rattle.bz_content.specs.Image.{node}
 use Rattle.bz_content.specs.Map.{records_in}
 use Rattle.bz_content.specs.Resolving.{resolve}
 use Rattle.bz_content.proofs.Honesty.{no}
-use Rattle.bz_slotted.specs.Laws.{InnerKeysRise, RisesBetween}
+use Rattle.bz_slotted.specs.Laws.{RisesBetween}
 use Rattle.bz_slotted.specs.Page.{page}
 use Rattle.bz_slotted.specs.Readers.{count_of, child_of, key_of}
-use Rattle.bz_slotted.specs.ReadingLaws.{node_of, WholeInnersAreReadable, ReadsAsChildren}
+use Rattle.bz_slotted.specs.ReadingLaws.{node_of, ReadsAsChildren}
 use Rattle.bz_slotted.specs.Records.{records}
 use Rattle.bz_slotted.specs.Rules.{node_fault}
+use Rattle.bz_slotted.proofs.Proved.{inner_keys_rise, whole_inners_are_readable}
 use Rattle.bz_judge.specs.Inside.Nodes.{IsNodeOf, IsScanned}
 use Rattle.bz_judge.specs.Inside.Stacks.{AreBelow, Shows}
 use Rattle.bz_judge.specs.Inside.Walking.{IsOnWay}
@@ -67,20 +68,20 @@ kids-below v u l i (suc n) nodes us each rest = (each i (omega arith) (omega ari
 pub node-none : (c : Config) (raw : ℕ → ℕ) (u : Visit) → u.slot < c.nodes → (view_in c raw).fault u.slot u.level u.low u.high ≡ None → node_fault c.nodes (node c raw u.slot) (node c (resolve raw) u.slot) u.level u.low u.high ≡ None
 node-none c raw u less f = sym (fault-of-node c raw u.slot u.level u.low u.high less) ∙ f
 
-pub children-below : InnerKeysRise → (c : Config) (raw : ℕ → ℕ) (u : Visit) → u.slot < c.nodes → (view_in c raw).fault u.slot u.level u.low u.high ≡ None → 0 < u.level → (j : ℕ) → j < (view_in c raw).count u.slot → (view_in c raw).child u.slot j < c.nodes
-children-below rise c raw u less f inner j within =
+pub children-below : (c : Config) (raw : ℕ → ℕ) (u : Visit) → u.slot < c.nodes → (view_in c raw).fault u.slot u.level u.low u.high ≡ None → 0 < u.level → (j : ℕ) → j < (view_in c raw).count u.slot → (view_in c raw).child u.slot j < c.nodes
+children-below c raw u less f inner j within =
     let other : (u.slot == c.nodes) ≡ false = no u.slot c.nodes (omega arith) in
-    let b : RisesBetween c.nodes (node c (resolve raw) u.slot) u.low u.high = rise c.nodes (node c raw u.slot) (node c (resolve raw) u.slot) u.level u.low u.high inner (node-none c raw u less f) in
+    let b : RisesBetween c.nodes (node c (resolve raw) u.slot) u.low u.high = inner_keys_rise c.nodes (node c raw u.slot) (node c (resolve raw) u.slot) u.level u.low u.high inner (node-none c raw u less f) in
     let w : j < count_of (node c (resolve raw) u.slot) = rw other at within in
     rw other (b.slots j w)
 
-pub inner-step : InnerKeysRise → (c : Config) (image : List ℕ) (u : Visit) (us ws : List Visit) (seen : List Bool) (found met : ℕ) → IsOnWay c image (u ∷ us) seen found met → get_or seen u.slot false ≡ false →
+pub inner-step : (c : Config) (image : List ℕ) (u : Visit) (us ws : List Visit) (seen : List Bool) (found met : ℕ) → IsOnWay c image (u ∷ us) seen found met → get_or seen u.slot false ≡ false →
     (view_in c (slice_index image)).fault u.slot u.level u.low u.high ≡ None → 0 < u.level → ws ≡ kids (view_in c (slice_index image)) u (u.level - 1) 0 ((view_in c (slice_index image)).count u.slot) ++ us →
     IsOnWay c image ws (set seen u.slot true) found (met + 1)
-inner-step rise c image u us ws seen found met g t f inner stack =
+inner-step c image u us ws seen found met g t f inner stack =
     let goes : IsOnWay c image next (set seen u.slot true) (found + 0) (met + 1) =
     further v r u us next seen found met 0 g t f (pending-inner v (u.level - 1) u us (omega arith))
-    (kids-below v u (u.level - 1) 0 (v.count u.slot) c.nodes us (λ j from to. children-below rise c (slice_index image) u g.below.0 f inner j (omega arith)) g.below.1) (rw high refl) (omega arith) in
+    (kids-below v u (u.level - 1) 0 (v.count u.slot) c.nodes us (λ j from to. children-below c (slice_index image) u g.below.0 f inner j (omega arith)) g.below.1) (rw high refl) (omega arith) in
     let zeros : found + 0 ≡ found = omega arith in
     subst (λ s. IsOnWay c image s (set seen u.slot true) found (met + 1)) (sym stack) (subst (λ n. IsOnWay c image next (set seen u.slot true) n (met + 1)) zeros goes)
   where
@@ -96,8 +97,8 @@ inner-step rise c image u us ws seen found met g t f inner stack =
     high : (u.level == 0) ≡ false
     high = no u.level 0 (omega arith)
 
-pub reads-children : WholeInnersAreReadable → (c : Config) (image : List ℕ) (u : Visit) (words : List ℕ) → IsScanned c image → u.slot < c.nodes → IsNodeOf c image u.slot words → length words ≡ NODE_WORDS →
+pub reads-children : (c : Config) (image : List ℕ) (u : Visit) (words : List ℕ) → IsScanned c image → u.slot < c.nodes → IsNodeOf c image u.slot words → length words ≡ NODE_WORDS →
     (view_in c (slice_index image)).fault u.slot u.level u.low u.high ≡ None → 0 < u.level → ReadsAsChildren words
-reads-children readable c image u words s less is size f inner =
-    readable c.nodes (node c (slice_index image) u.slot) words u.level u.low u.high (omega (arith, s.config.nodes_in_range.at_most)) inner size
+reads-children c image u words s less is size f inner =
+    whole_inners_are_readable c.nodes (node c (slice_index image) u.slot) words u.level u.low u.high (omega (arith, s.config.nodes_in_range.at_most)) inner size
     ((λ t. node_fault c.nodes (node c (slice_index image) u.slot) (is t) u.level u.low u.high) ∙ node-none c (slice_index image) u less f)

@@ -8,12 +8,10 @@ ghost use Rattle.bz_node.specs.Reading.{IsReadableLeaf, pairs_in};
 use crate::node::node_of_slot;
 use crate::root::root_visit;
 use crate::visit::{Visit, push_children, stack_with};
-use bz_content::laws as content;
 use bz_key::{Key, PageBuf, Payload};
 use bz_layout::Config;
 use bz_memory::Memory;
 use bz_node::NodeImage;
-use bz_slotted::laws as slotted;
 use std::alloc::Global;
 
 // A walk on its way: the nodes to come, the topmost last; room for the records of one leaf; and the pairs so far.
@@ -52,16 +50,13 @@ impl Gathering {
     }
 
     // Comes to a node that was taken off the stack: takes its records, or puts its children on the stack.
+    #[tactic(auto, using(bz_content::proofs::Proved::well_formed_images_have_no_fault, bz_slotted::proofs::Proved::inner_keys_rise, bz_slotted::proofs::Proved::whole_inners_are_readable, bz_slotted::proofs::Proved::whole_leaves_are_readable))]
     fn visit(&mut self, image: &[u64], config: &Config, visit: &Visit) -> Result<(), Memory>
         requires image { IsImageOf config.now image.now }
         requires way { IsGathering config.now image.now (visit_of visit.now ∷ stack_of self.old.stack.items) self.old.pairs.items }
         ensures way { OnOk result (IsGathering config.now image.now (stack_of self.new.stack.items) self.new.pairs.items) }
         ensures further { OnOk result (to_come config.now image.now (visit_of visit.now ∷ stack_of self.old.stack.items) ≡ to_come config.now image.now (stack_of self.new.stack.items) + 1) }
     {
-        content::well_formed_images_have_no_fault();
-        slotted::inner_keys_rise();
-        slotted::whole_leaves_are_readable();
-        slotted::whole_inners_are_readable();
         let node = node_of_slot(image, config, visit.slot);
         if visit.place.level == 0 {
             return self.take_leaf(&node);
@@ -71,6 +66,7 @@ impl Gathering {
 }
 
 /// The pairs that the tree of a well-formed image holds, in the order of their keys.
+#[tactic(auto, using(bz_content::proofs::Proved::well_formed_images_have_no_fault, bz_slotted::proofs::Proved::leaf_rules_are_facts))]
 pub(crate) fn gather(
     alloc: Global,
     image: &[u64],
@@ -79,8 +75,6 @@ pub(crate) fn gather(
     requires { IsImageOf config.now image.now }
     ensures { IfOk result (λ pairs. pairs.items ≡ pairs_held config.now (slice_index image.now)) }
 {
-    content::well_formed_images_have_no_fault();
-    slotted::leaf_rules_are_facts();
     let root = match root_visit(image, config) {
         Some(root) => root,
         None => unreachable!(),

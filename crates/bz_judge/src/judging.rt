@@ -6,10 +6,9 @@ ghost use Rattle.bz_layout.specs.Config.{IsConfig};
 
 use crate::scan::{first_unlawful, is_super};
 use crate::walk::walk_tree;
-use bz_content::{CheckError, Shape, laws as content};
+use bz_content::{CheckError, Shape};
 use bz_layout::Config;
 use bz_shape::{ShapeFault, ShapeRule};
-use bz_slotted::laws as slotted;
 use std::alloc::Global;
 
 /// The shape of an image, or the first rule that it breaks. The order of the rules is that of `ShapeRule`, and
@@ -20,8 +19,6 @@ pub fn check(alloc: Global, image: &[u64], config: &Config) -> Result<Shape, Che
     ensures shape { IfOk result (IsShapeOf config.now (slice_index image.now)) }
     ensures fault { IfErr result (IsFirstFault config.now (slice_index image.now)) }
 {
-    content::well_formed_images_have_no_fault();
-    slotted::leaf_rules_are_facts();
     if !is_super(image, config) {
         return Err(CheckError::Shape(ShapeFault {
             rule: ShapeRule::Super,

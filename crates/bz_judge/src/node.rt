@@ -24,7 +24,6 @@ fn node_word(image: &[u64], config: &Config, slot: u32, i: u32) -> u64
     requires place { i < NODE_WORDS }
     ensures { result ≡ node_in config.now (resolve_in (slice_index image.now)) slot i }
 {
-    bz_layout::addresses_fit();
     resolve(image, config.node_at(slot) + i)
 }
 
@@ -55,7 +54,6 @@ pub(crate) fn fault_of_node(
     requires node { IsNodeOf config.now image.now slot node.now.0 }
     ensures { result ≡ (view_in config.now (slice_index image.now)).fault slot place.now.level place.now.low place.now.high }
 {
-    bz_layout::addresses_fit();
     let start = config.node_at(slot) as usize;
     bz_slotted::node_fault(
         &image[start..start + NODE_WORDS as usize],

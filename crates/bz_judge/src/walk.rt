@@ -60,8 +60,6 @@ impl Walk {
             }));
         }
         bz_slotted::laws::leaf_rules_are_facts();
-        bz_slotted::laws::inner_keys_rise();
-        bz_slotted::laws::whole_inners_are_readable();
         self.seen[visit.slot as usize] = true;
         self.reached += 1;
         if visit.place.level == 0 {

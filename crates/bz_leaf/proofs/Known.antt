@@ -6,18 +6,19 @@ use Rattle.bz_layout.specs.declared.sizes.TheConstants.{HEADER_AT}
 use Rattle.bz_word.specs.Headers.{header}
 use Rattle.bz_task.specs.Good.{IsGood}
 use Rattle.bz_task.specs.Instant.{page_at}
-use Rattle.bz_task.specs.Laws.{KeepsFront, FrontsStay, HeadersSayTheLevel}
+use Rattle.bz_task.specs.Laws.{KeepsFront}
 use Rattle.bz_task.specs.Outcomes.{IsLink, EndsAtLeaf, IsPath}
 use Rattle.bz_task.specs.Scene.{Scene, IsScene}
 use Rattle.bz_task.specs.declared.path.Link.{Link}
 use Rattle.bz_task.specs.declared.path.Path.{Path}
+use Rattle.bz_task.proofs.Proved.{fronts_stay, headers_say_the_level}
 use Rattle.bz_leaf.specs.Facts.{IsKnownLeaf}
 
-module _ (fronts : FrontsStay) (headers : HeadersSayTheLevel) (s : Scene) (good : IsScene s) where
+module _ (s : Scene) (good : IsScene s) where
   -- a node's level at two moments, the second not before the first
   level-later : (k m j : ℕ) → s.past.since ≤ m → m ≤ j → j ≤ s.past.now → (s.past.at m).reached k ≡ true → (page_at s.past.config (s.past.at j) k).level ≡ (page_at s.past.config (s.past.at m) k).level
   level-later k m j a b d r =
-      let f : KeepsFront s.past.config (s.past.at m) (s.past.at j) k = fronts s.past.config s.past.at s.past.since s.past.now m j k good.history (record { since = a; order = b; until = d }) r in
+      let f : KeepsFront s.past.config (s.past.at m) (s.past.at j) k = fronts_stay s.past.config s.past.at s.past.since s.past.now m j k good.history (record { since = a; order = b; until = d }) r in
       ap (λ z. (header z).level) (f.front HEADER_AT (λ e. omega (arith, e)) (omega arith))
 
   known-leaf : (key : List ℕ) (link : Link) → IsLink key s.past link → EndsAtLeaf s.past link → IsKnownLeaf key link s.past
@@ -27,7 +28,7 @@ module _ (fronts : FrontsStay) (headers : HeadersSayTheLevel) (s : Scene) (good 
     now = l.now;
     slot = l.slot;
     inside = l.inside;
-    leaf = sym (headers s.past.config (s.past.at l.was) link.slot g below l.inside).level ∙ flat;
+    leaf = sym (headers_say_the_level s.past.config (s.past.at l.was) link.slot g below l.inside).level ∙ flat;
     range = l.range;
     led = l.led;
     hung = l.guarded.guarded;
@@ -48,9 +49,9 @@ module _ (fronts : FrontsStay) (headers : HeadersSayTheLevel) (s : Scene) (good 
         | inr later ↦ level-later link.slot e.was l.was e.since later l.now e.reached ∙ e.leaf
       ]
 
-pub known-by-path : FrontsStay → HeadersSayTheLevel → (s : Scene) → IsScene s → (key : List ℕ) (path : Path) (link : Link) → slice_get path.links (path.depth - 1) ≡ Some link → IsPath key path s.past → IsKnownLeaf key link s.past
-known-by-path fronts headers s good key path link at p =
-    known-leaf fronts headers s good key link (p.links (path.depth - 1) link (omega (arith, p.some)) at) (p.leaf (path.depth - 1) link (omega (arith, p.some)) at)
+pub known-by-path : (s : Scene) → IsScene s → (key : List ℕ) (path : Path) (link : Link) → slice_get path.links (path.depth - 1) ≡ Some link → IsPath key path s.past → IsKnownLeaf key link s.past
+known-by-path s good key path link at p =
+    known-leaf s good key link (p.links (path.depth - 1) link (omega (arith, p.some)) at) (p.leaf (path.depth - 1) link (omega (arith, p.some)) at)
 
 pub zeros : (n i : ℕ) → slice_index (replicate n 0) i ≡ 0
 zeros zero i = refl

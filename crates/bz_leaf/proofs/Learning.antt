@@ -18,7 +18,7 @@ use Rattle.bz_task.specs.Good.{IsGood}
 use Rattle.bz_task.specs.Instant.{Instant, words, page_at, is_inside}
 use Rattle.bz_layout.specs.Slots.{FreeSlots}
 use Rattle.bz_task.specs.OwnActs.{gained}
-use Rattle.bz_task.specs.Laws.{NothingIsGained, AreMoments, FrozenNodesStay, FrontsStay, SeparatorsStay, HasRoot, RootsAreReached, ChildrenAreInTrees}
+use Rattle.bz_task.specs.Laws.{AreMoments, HasRoot}
 use Rattle.bz_task.specs.Outcomes.{IsUnderRoot, IsUnderNode, IsView}
 use Rattle.bz_task.specs.Requests.{Answers, Tells}
 use Rattle.bz_task.specs.Scene.{Past, Scene, Stage, Waiting, Took, IsScene, HasFilled, here}
@@ -27,10 +27,11 @@ use Rattle.bz_task.specs.declared.path.Link.{Link}
 use Rattle.bz_task.specs.declared.todo.Seen.{Seen}
 use Rattle.bz_task.specs.declared.todo.Seen.TheVariants.{Read as Was}
 use Rattle.bz_task.specs.declared.view.LeafView.{LeafView}
+use Rattle.bz_task.proofs.Proved.{children_are_in_trees, fronts_stay, frozen_nodes_stay, nothing_is_gained, roots_are_reached, separators_stay}
 use Rattle.bz_leaf.specs.Facts.{is_used, IsKnownLeaf, WasWord, Reading, ReadsOn, HasRead, HasLink, IsBlank, IsAfter, IsMade, leaf_asks, leaf_learnt, leaf_facts}
 use Rattle.bz_leaf.specs.declared.phase.Phase.{Phase}
 use Rattle.bz_leaf.specs.declared.phase.Phase.TheVariants.{Fresh, Status, Word, Again, Link as Of_link, Guard, Viewed, Changed}
-use Rattle.bz_leaf.proofs.Viewing.{Laws, thawed-view, frozen-view}
+use Rattle.bz_leaf.proofs.Viewing.{thawed-view, frozen-view}
 
 -- after the words up to a place come the next one in use, or the validation
 pub goes-on : (key : List ℕ) (link : Link) (ws : List ℕ) (place : ℕ) (p : Past) (phase : Phase) → place < NODE_WORDS → Reading key link ws (place + 1) p → IsAfter (slice_index ws 0) place phase → leaf_learnt key link ws phase p
@@ -139,15 +140,7 @@ module _ (s : Scene) (good : IsScene s) (key : List ℕ) (link : Link) (ws : Lis
   pub reads-link : HasRead key link ws true s.past → Answers s link.link (link.slot + 1) → HasLink key link ws s.past.now s.past
   reads-link h a = record { leaf = h; order = h.all.until; until = omega arith; loads = a.loads; led = a.value }
 
--- the laws of links
-pub record Links : Type 0 where
-  pub frozen : FrozenNodesStay
-  pub fronts : FrontsStay
-  pub separators : SeparatorsStay
-  pub roots : RootsAreReached
-  pub children : ChildrenAreInTrees
-
-module _ (b : Links) (s : Scene) (good : IsScene s) (key : List ℕ) (link : Link) (ws : List ℕ) (at : ℕ) (h : HasLink key link ws at s.past) (v : ℕ) (a : Answers s link.guard v) (thawed : (status v).frozen ≡ false) where
+module _ (s : Scene) (good : IsScene s) (key : List ℕ) (link : Link) (ws : List ℕ) (at : ℕ) (h : HasLink key link ws at s.past) (v : ℕ) (a : Answers s link.guard v) (thawed : (status v).frozen ≡ false) where
   since-hung : s.past.since ≤ h.leaf.all.known.hung
   since-hung = h.leaf.all.known.hung_since
 
@@ -160,7 +153,7 @@ module _ (b : Links) (s : Scene) (good : IsScene s) (key : List ℕ) (link : Lin
   -- the root's link
   under-root : IsUnderRoot link → is_inside s.past.config (s.past.at at) link.slot ≡ true
   under-root u =
-      let r : HasRoot s.past.config (s.past.at at) ((s.past.at at).value ROOT_AT - 1) = b.roots s.past.config (s.past.at at) g in
+      let r : HasRoot s.past.config (s.past.at at) ((s.past.at at).value ROOT_AT - 1) = roots_are_reached s.past.config (s.past.at at) g in
       let e : (s.past.at at).value ROOT_AT ≡ link.slot + 1 = subst (λ z. (s.past.at at).value z ≡ link.slot + 1) u.pointer h.led in
       let k : (s.past.at at).value ROOT_AT - 1 ≡ link.slot = omega (arith, e) in
       subst (λ z. is_inside s.past.config (s.past.at at) z ≡ true) k r.inside
@@ -168,16 +161,16 @@ module _ (b : Links) (s : Scene) (good : IsScene s) (key : List ℕ) (link : Lin
   -- a child pointer of a node that is in the tree, since it is not frozen later
   under-node : IsUnderNode s.past link h.leaf.all.known.hung → is_inside s.past.config (s.past.at at) link.slot ≡ true
   under-node u =
-      b.children s.past.config (s.past.at at) u.parent u.child.child link.slot g below parent inner counted pointer
+      children_are_in_trees s.past.config (s.past.at at) u.parent u.child.child link.slot g below parent inner counted pointer
     where
       moments : AreMoments s.past.since s.past.now h.leaf.all.known.hung at
       moments = record { since = since-hung; order = hung-at; until = h.until }
 
       reached : (s.past.at at).reached u.parent ≡ true
-      reached = (b.fronts s.past.config s.past.at s.past.since s.past.now h.leaf.all.known.hung at u.parent good.history moments u.reached).reached
+      reached = (fronts_stay s.past.config s.past.at s.past.since s.past.now h.leaf.all.known.hung at u.parent good.history moments u.reached).reached
 
       separators : SameSeparators (words s.past.config (s.past.at h.leaf.all.known.hung) u.parent) (words s.past.config (s.past.at at) u.parent)
-      separators = b.separators s.past.config s.past.at s.past.since s.past.now h.leaf.all.known.hung at u.parent good.history moments u.reached u.child.inner
+      separators = separators_stay s.past.config s.past.at s.past.since s.past.now h.leaf.all.known.hung at u.parent good.history moments u.reached u.child.inner
 
       below : u.parent ≢ s.past.config.nodes
       below e = omega (arith, e, g.slots u.parent reached)
@@ -187,7 +180,7 @@ module _ (b : Links) (s : Scene) (good : IsScene s) (key : List ℕ) (link : Lin
 
       not-frozen : (f : Bool) → (page_at s.past.config (s.past.at at) u.parent).frozen ≡ f → f ≡ false
       not-frozen true e =
-          let same = b.frozen s.past.config s.past.at s.past.since s.past.now at s.past.now u.parent good.history (record { since = omega (arith, since-hung, hung-at); order = h.until; until = omega arith }) reached e in
+          let same = frozen_nodes_stay s.past.config s.past.at s.past.since s.past.now at s.past.now u.parent good.history (record { since = omega (arith, since-hung, hung-at); order = h.until; until = omega arith }) reached e in
           absurd (true≢false (sym e ∙ (ap (λ z. (status z).frozen) (sym (same STATUS_AT (inl (omega arith)))) ∙ (ap (λ z. (status z).frozen) now-status ∙ thawed))))
       not-frozen false e = refl
 
@@ -229,26 +222,26 @@ module _ (key : List ℕ) (link : Link) (image : NodeImage) (ws : List ℕ) (ful
   told-word Took i v phase a f t = absurd (f)
   told-word Waiting i v phase a f t = (f.0, goes-on key link (slice_set ws i v) i s.past phase f.1.within (reads-word s good key link ws full i v f.1 (in-slot i v t)) a)
 
-  pub told-again : Laws → (stage : Stage) (v now : ℕ) → v ≡ slice_index ws 0 → s.past.now ≡ now → leaf_facts key link ws Again stage s → Tells (leaf_asks c link image Again) stage (Was v) s → HasFilled s × ((view : LeafView) → IsMade view link.slot now ws → IsView key view s.past)
-  told-again b Took v now e is f t = absurd (f)
-  told-again b Waiting v now e is f t =
-      (f.0, λ view m. thawed-view b s good key link ws f.1 (subst (λ z. Answers s (node_address s.past.config link.slot + STATUS_AT) z) e (in-slot STATUS_AT v t)) view (subst (λ z. IsMade view link.slot z ws) (sym is) m))
+  pub told-again : (stage : Stage) (v now : ℕ) → v ≡ slice_index ws 0 → s.past.now ≡ now → leaf_facts key link ws Again stage s → Tells (leaf_asks c link image Again) stage (Was v) s → HasFilled s × ((view : LeafView) → IsMade view link.slot now ws → IsView key view s.past)
+  told-again Took v now e is f t = absurd (f)
+  told-again Waiting v now e is f t =
+      (f.0, λ view m. thawed-view s good key link ws f.1 (subst (λ z. Answers s (node_address s.past.config link.slot + STATUS_AT) z) e (in-slot STATUS_AT v t)) view (subst (λ z. IsMade view link.slot z ws) (sym is) m))
 
   pub told-link : (stage : Stage) (v now : ℕ) → v ≡ link.slot + 1 → s.past.now ≡ now → leaf_facts key link ws Of_link stage s → Tells (leaf_asks c link image Of_link) stage (Was v) s → HasFilled s × HasLink key link ws now s.past
   told-link Took v now e is f t = absurd (f)
   told-link Waiting v now e is f t = (f.0, subst (λ z. HasLink key link ws z s.past) is (reads-link s good key link ws full f.1 (subst (λ z. Answers s link.link z) e t)))
 
-  pub told-guard : Laws → Links → (stage : Stage) (at v : ℕ) → (status v).frozen ≡ false → leaf_facts key link ws (Guard at) stage s → Tells (leaf_asks c link image (Guard at)) stage (Was v) s → HasFilled s × ((view : LeafView) → IsMade view link.slot at ws → IsView key view s.past)
-  told-guard b d Took at v thawed f t = absurd (f)
-  told-guard b d Waiting at v thawed f t = (f.0, λ view m. frozen-view b s good key link ws at f.1 (linked d s good key link ws at f.1 v t thawed) view m)
+  pub told-guard : (stage : Stage) (at v : ℕ) → (status v).frozen ≡ false → leaf_facts key link ws (Guard at) stage s → Tells (leaf_asks c link image (Guard at)) stage (Was v) s → HasFilled s × ((view : LeafView) → IsMade view link.slot at ws → IsView key view s.past)
+  told-guard Took at v thawed f t = absurd (f)
+  told-guard Waiting at v thawed f t = (f.0, λ view m. frozen-view s good key link ws at f.1 (linked s good key link ws at f.1 v t thawed) view m)
 
 -- what is learnt is known when no slot was taken
-pub no-slot : NothingIsGained → (key : List ℕ) (link : Link) (ws : List ℕ) (s : Scene) (free : FreeSlots) (phase : Phase) → phase ≢ Fresh → HasFilled s × leaf_learnt key link ws phase s.past → leaf_facts key link ws phase Waiting (gained s free free)
-no-slot n key link ws s free Fresh ne h = absurd (ne refl)
-no-slot n key link ws s free Status ne h = (n s free h.0, h.1)
-no-slot n key link ws s free (Word i) ne h = (n s free h.0, h.1)
-no-slot n key link ws s free Again ne h = (n s free h.0, h.1)
-no-slot n key link ws s free Of_link ne h = (n s free h.0, h.1)
-no-slot n key link ws s free (Guard at) ne h = (n s free h.0, h.1)
-no-slot n key link ws s free (Viewed at) ne h = (n s free h.0, h.1)
-no-slot n key link ws s free Changed ne h = (n s free h.0, h.1)
+pub no-slot : (key : List ℕ) (link : Link) (ws : List ℕ) (s : Scene) (free : FreeSlots) (phase : Phase) → phase ≢ Fresh → HasFilled s × leaf_learnt key link ws phase s.past → leaf_facts key link ws phase Waiting (gained s free free)
+no-slot key link ws s free Fresh ne h = absurd (ne refl)
+no-slot key link ws s free Status ne h = (nothing_is_gained s free h.0, h.1)
+no-slot key link ws s free (Word i) ne h = (nothing_is_gained s free h.0, h.1)
+no-slot key link ws s free Again ne h = (nothing_is_gained s free h.0, h.1)
+no-slot key link ws s free Of_link ne h = (nothing_is_gained s free h.0, h.1)
+no-slot key link ws s free (Guard at) ne h = (nothing_is_gained s free h.0, h.1)
+no-slot key link ws s free (Viewed at) ne h = (nothing_is_gained s free h.0, h.1)
+no-slot key link ws s free Changed ne h = (nothing_is_gained s free h.0, h.1)

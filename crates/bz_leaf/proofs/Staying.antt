@@ -5,11 +5,11 @@ use Rattle.bz_layout.specs.declared.config.Config.{Config}
 use Rattle.bz_layout.specs.declared.sizes.TheConstants.{NODE_WORDS, STATUS_AT}
 use Rattle.bz_shape.specs.Order.{is_within}
 use Rattle.bz_task.specs.Instant.{Instant, words, page_at, form_at, is_inside}
-use Rattle.bz_task.specs.Laws.{ViewsStay}
 use Rattle.bz_task.specs.Outcomes.{IsUnderNode}
 use Rattle.bz_task.specs.Requests.{IsPointerPlace}
 use Rattle.bz_task.specs.Scene.{Past, Scene, Stage, Waiting, Took, Continues, IsLawful, HasFilled}
 use Rattle.bz_task.specs.declared.path.Link.{Link}
+use Rattle.bz_task.proofs.Proved.{views_stay}
 use Rattle.bz_leaf.specs.Facts.{IsKnownLeaf, WasWord, Reading, ReadsOn, HasRead, HasLink, leaf_learnt, leaf_facts}
 use Rattle.bz_leaf.specs.declared.phase.Phase.{Phase}
 use Rattle.bz_leaf.specs.declared.phase.Phase.TheVariants.{Fresh, Status, Word, Again, Link as Of_link, Guard, Viewed, Changed}
@@ -77,26 +77,26 @@ module _ (p q : Past) (n : Continues p q) where
     led = moved (λ c x. x.value link.link ≡ link.slot + 1) at h.until h.led;
   }
 
-  learnt : ViewsStay → (key : List ℕ) (link : Link) (ws : List ℕ) (phase : Phase) → leaf_learnt key link ws phase p → leaf_learnt key link ws phase q
-  learnt views key link ws Fresh f = (f.0, known key link f.1)
-  learnt views key link ws Status f = (f.0, known key link f.1)
-  learnt views key link ws (Word i) f = on key link ws i f
-  learnt views key link ws Again f = has-read key link ws false f
-  learnt views key link ws Of_link f = has-read key link ws true f
-  learnt views key link ws (Guard at) f = has-link key link ws at f
-  learnt views key link ws (Viewed at) f = λ view m. views key view p q (f view m) n
-  learnt views key link ws Changed f = tt
+  learnt : (key : List ℕ) (link : Link) (ws : List ℕ) (phase : Phase) → leaf_learnt key link ws phase p → leaf_learnt key link ws phase q
+  learnt key link ws Fresh f = (f.0, known key link f.1)
+  learnt key link ws Status f = (f.0, known key link f.1)
+  learnt key link ws (Word i) f = on key link ws i f
+  learnt key link ws Again f = has-read key link ws false f
+  learnt key link ws Of_link f = has-read key link ws true f
+  learnt key link ws (Guard at) f = has-link key link ws at f
+  learnt key link ws (Viewed at) f = λ view m. views_stay key view p q (f view m) n
+  learnt key link ws Changed f = tt
 
-both : ViewsStay → (key : List ℕ) (link : Link) (ws : List ℕ) (phase : Phase) (s after : Scene) → IsLawful s after → HasFilled s × leaf_learnt key link ws phase s.past → HasFilled after × leaf_learnt key link ws phase after.past
-both views key link ws phase s after step f = (λ k t. step.filled k ∙ f.0 k (sym (step.took k) ∙ t), learnt s.past after.past step.continues views key link ws phase f.1)
+both : (key : List ℕ) (link : Link) (ws : List ℕ) (phase : Phase) (s after : Scene) → IsLawful s after → HasFilled s × leaf_learnt key link ws phase s.past → HasFilled after × leaf_learnt key link ws phase after.past
+both key link ws phase s after step f = (λ k t. step.filled k ∙ f.0 k (sym (step.took k) ∙ t), learnt s.past after.past step.continues key link ws phase f.1)
 
-pub stable : ViewsStay → (key : List ℕ) (link : Link) (ws : List ℕ) (phase : Phase) (stage : Stage) (s after : Scene) → leaf_facts key link ws phase stage s → IsLawful s after → leaf_facts key link ws phase stage after
-stable views key link ws phase Took s after f step = f
-stable views key link ws Fresh Waiting s after f step = (f.0, known s.past after.past step.continues key link f.1)
-stable views key link ws Status Waiting s after f step = both views key link ws Status s after step f
-stable views key link ws (Word i) Waiting s after f step = both views key link ws (Word i) s after step f
-stable views key link ws Again Waiting s after f step = both views key link ws Again s after step f
-stable views key link ws Of_link Waiting s after f step = both views key link ws Of_link s after step f
-stable views key link ws (Guard at) Waiting s after f step = both views key link ws (Guard at) s after step f
-stable views key link ws (Viewed at) Waiting s after f step = both views key link ws (Viewed at) s after step f
-stable views key link ws Changed Waiting s after f step = both views key link ws Changed s after step f
+pub stable : (key : List ℕ) (link : Link) (ws : List ℕ) (phase : Phase) (stage : Stage) (s after : Scene) → leaf_facts key link ws phase stage s → IsLawful s after → leaf_facts key link ws phase stage after
+stable key link ws phase Took s after f step = f
+stable key link ws Fresh Waiting s after f step = (f.0, known s.past after.past step.continues key link f.1)
+stable key link ws Status Waiting s after f step = both key link ws Status s after step f
+stable key link ws (Word i) Waiting s after f step = both key link ws (Word i) s after step f
+stable key link ws Again Waiting s after f step = both key link ws Again s after step f
+stable key link ws Of_link Waiting s after f step = both key link ws Of_link s after step f
+stable key link ws (Guard at) Waiting s after f step = both key link ws (Guard at) s after step f
+stable key link ws (Viewed at) Waiting s after f step = both key link ws (Viewed at) s after step f
+stable key link ws Changed Waiting s after f step = both key link ws Changed s after step f

@@ -7,41 +7,29 @@ use Rattle.bz_layout.specs.Addresses.{node_address}
 use Rattle.bz_layout.specs.declared.config.Config.{Config}
 use Rattle.bz_layout.specs.declared.sizes.TheConstants.{NODE_WORDS, STATUS_AT, META_AT}
 use Rattle.bz_shape.specs.Order.{is_at_least, is_below, is_within}
-use Rattle.bz_shape.specs.TreeLaws.{LeavesTileTheKeys}
-use Rattle.bz_slotted.specs.Laws.{LeafRulesAreFacts}
+use Rattle.bz_shape.proofs.Proved.{leaves_tile_the_keys}
 use Rattle.bz_slotted.specs.Page.{visible, held, page}
 use Rattle.bz_slotted.specs.ReadingLaws.{node_of}
 use Rattle.bz_slotted.specs.Rules.{node_fault}
 use Rattle.bz_slotted.specs.Whole.{Whole}
+use Rattle.bz_slotted.proofs.Proved.{leaf_rules_are_facts}
 use Rattle.bz_word.specs.Statuses.{status}
 use Rattle.bz_word.specs.declared.meta.Meta.{Meta}
 use Rattle.bz_word.specs.declared.meta.Meta.TheVariants.{Unused, Reserved, Visible, Deleted}
 use Rattle.bz_content.specs.Content.{view_in, leaf_in, IsWellFormed}
 use Rattle.bz_content.specs.Image.{node}
-use Rattle.bz_content.specs.Laws.{WellFormedImagesHaveNoFault}
+use Rattle.bz_content.proofs.Proved.{well_formed_images_have_no_fault}
 use Rattle.bz_task.specs.Good.{IsGood}
 use Rattle.bz_task.specs.Instant.{Instant, words, durable, form_at, is_inside}
-use Rattle.bz_task.specs.Laws.{NodesStay, FrozenNodesStay, FrontsStay, RangesStay, SamePlace, IsLeafInTree, LeavesAreInTrees, SeenLeavesAreWhole, SameRecordsShowTheSame}
+use Rattle.bz_task.specs.Laws.{SamePlace, IsLeafInTree}
 use Rattle.bz_task.specs.Outcomes.{IsView}
 use Rattle.bz_task.specs.Requests.{Answers}
 use Rattle.bz_task.specs.Scene.{Scene, IsScene, here}
 use Rattle.bz_task.specs.Shown.{IsShown, SameWords, SameRecords, SameShownNode}
 use Rattle.bz_task.specs.declared.path.Link.{Link}
 use Rattle.bz_task.specs.declared.view.LeafView.{LeafView}
+use Rattle.bz_task.proofs.Proved.{fronts_stay, frozen_nodes_stay, leaves_are_in_trees, nodes_stay, ranges_stay, same_records_show_the_same, seen_leaves_are_whole}
 use Rattle.bz_leaf.specs.Facts.{is_used, WasWord, Reading, HasRead, HasLink, IsMade}
-
--- the laws that these proofs stand on
-pub record Laws : Type 0 where
-  pub nodes : NodesStay
-  pub frozen : FrozenNodesStay
-  pub fronts : FrontsStay
-  pub ranges : RangesStay
-  pub leaves : LeavesAreInTrees
-  pub seen : SeenLeavesAreWhole
-  pub shown : SameRecordsShowTheSame
-  pub rules : LeafRulesAreFacts
-  pub formed : WellFormedImagesHaveNoFault
-  pub tile : LeavesTileTheKeys
 
 unused : (a b : Bool) → a || b ≡ false → (a ≡ false) × (b ≡ false)
 unused true b e = absurd (cc)
@@ -80,7 +68,7 @@ same-records n m s = record {
 abbrev pub Stayed : Scene → ℕ → ℕ → Type 0
 Stayed s k from = (m : ℕ) → from ≤ m → m ≤ s.past.now → SameShownNode s.past.config (s.past.at from) (s.past.at m) k
 
-module _ (b : Laws) (s : Scene) (good : IsScene s) (key : List ℕ) (link : Link) (ws : List ℕ) (r : Reading key link ws NODE_WORDS s.past) (a : ℕ) (from : r.read_at ≤ a) (to : a ≤ s.past.now)
+module _ (s : Scene) (good : IsScene s) (key : List ℕ) (link : Link) (ws : List ℕ) (r : Reading key link ws NODE_WORDS s.past) (a : ℕ) (from : r.read_at ≤ a) (to : a ≤ s.past.now)
     (stayed : Stayed s link.slot r.read_at) (leaf : IsLeafInTree s.past.config (s.past.at a) link.slot) where
   pub since-a : s.past.since ≤ a
   since-a = omega (arith, r.known.since, r.order, from)
@@ -89,7 +77,7 @@ module _ (b : Laws) (s : Scene) (good : IsScene s) (key : List ℕ) (link : Link
   g = good.history.good a since-a to
 
   w : Whole (node s.past.config (s.past.at a).image link.slot) (page (durable s.past.config (s.past.at a) link.slot)) ((form_at s.past.config (s.past.at a)).low link.slot) ((form_at s.past.config (s.past.at a)).high link.slot)
-  w = (b.rules s.past.config.nodes (node s.past.config (s.past.at a).image link.slot) (durable s.past.config (s.past.at a) link.slot) _ _).0 leaf.whole
+  w = (leaf_rules_are_facts s.past.config.nodes (node s.past.config (s.past.at a).image link.slot) (durable s.past.config (s.past.at a) link.slot) _ _).0 leaf.whole
 
   same-a : SameShownNode s.past.config (s.past.at r.read_at) (s.past.at a) link.slot
   same-a = stayed a from to
@@ -105,7 +93,7 @@ module _ (b : Laws) (s : Scene) (good : IsScene s) (key : List ℕ) (link : Link
 
   -- a place that was shown when the status was read
   shown-then : (i : ℕ) → IsShown (words s.past.config (s.past.at a) link.slot) i → IsShown (words s.past.config (s.past.at r.read_at) link.slot) i
-  shown-then i h = (b.shown _ _ (same-records _ _ same-a) i).1 h
+  shown-then i h = (same_records_show_the_same _ _ (same-records _ _ same-a) i).1 h
 
   word-used : (i : ℕ) → 0 < i → i < NODE_WORDS → is_used (slice_index ws 0) i ≡ true → IsShown (words s.past.config (s.past.at a) link.slot) i → slice_index ws i ≡ words s.past.config (s.past.at a) link.slot i
   word-used i some l u h =
@@ -135,27 +123,27 @@ module _ (b : Laws) (s : Scene) (good : IsScene s) (key : List ℕ) (link : Link
   pub word-durable : SameWords (durable s.past.config (s.past.at a) link.slot) (node_of ws)
   word-durable i h =
       let l : i < NODE_WORDS = shown-within _ _ _ _ w i h in
-      let h' : IsShown (words s.past.config (s.past.at a) link.slot) i = (b.shown _ _ (same-records _ _ durable-same) i).1 h in
+      let h' : IsShown (words s.past.config (s.past.at a) link.slot) i = (same_records_show_the_same _ _ (same-records _ _ durable-same) i).1 h in
       word-a i l h' ∙ sym (durable-same i h')
 
   pub whole-view : node_fault s.past.config.nodes (node_of ws) (node_of ws) 0 ((form_at s.past.config (s.past.at a)).low link.slot) ((form_at s.past.config (s.past.at a)).high link.slot) ≡ None
-  whole-view = (b.seen s.past.config.nodes (node s.past.config (s.past.at a).image link.slot) (durable s.past.config (s.past.at a) link.slot) (node_of ws) _ _ leaf.whole word-durable).whole
+  whole-view = (seen_leaves_are_whole s.past.config.nodes (node s.past.config (s.past.at a).image link.slot) (durable s.past.config (s.past.at a) link.slot) (node_of ws) _ _ leaf.whole word-durable).whole
 
   below : link.slot ≢ s.past.config.nodes
   below e = omega (arith, e, r.known.slot)
 
   place : SamePlace s.past.config (s.past.at r.known.moment) (s.past.at a) link.slot
-  place = b.ranges s.past.config s.past.at s.past.since s.past.now r.known.moment a link.slot good.history (record { since = r.known.since; order = omega (arith, r.order, from); until = to }) below r.known.inside leaf.inside
+  place = ranges_stay s.past.config s.past.at s.past.since s.past.now r.known.moment a link.slot good.history (record { since = r.known.since; order = omega (arith, r.order, from); until = to }) below r.known.inside leaf.inside
 
   in-range : is_within key ((form_at s.past.config (s.past.at a)).low link.slot) ((form_at s.past.config (s.past.at a)).high link.slot) ≡ true
   in-range = rw (place.low, place.high) r.known.range
 
   pub leaf-of : leaf_in s.past.config (s.past.at a).image key ≡ link.slot
   leaf-of =
-      let formed : IsWellFormed s.past.config (s.past.at a).image = (b.formed s.past.config (s.past.at a).image).0 g.form in
+      let formed : IsWellFormed s.past.config (s.past.at a).image = (well_formed_images_have_no_fault s.past.config (s.past.at a).image).0 g.form in
       let low = (form_at s.past.config (s.past.at a)).low link.slot in
       let high = (form_at s.past.config (s.past.at a)).high link.slot in
-      (b.tile (view_in s.past.config (s.past.at a).image) formed.tree key link.slot).0 (record {
+      (leaves_tile_the_keys (view_in s.past.config (s.past.at a).image) formed.tree key link.slot).0 (record {
         inside = leaf.inside;
         leaf = leaf.leaf;
         low = and-left (is_at_least key low) (is_below key high) in-range;
@@ -180,7 +168,7 @@ pub status-word : (c : Config) (x : Instant) (k : ℕ) → x.value (node_address
 unfolding node
 status-word c x k = refl
 
-module _ (b : Laws) (s : Scene) (good : IsScene s) (key : List ℕ) (link : Link) (ws : List ℕ) where
+module _ (s : Scene) (good : IsScene s) (key : List ℕ) (link : Link) (ws : List ℕ) where
   module _ (r : Reading key link ws NODE_WORDS s.past) where
     since-read : s.past.since ≤ r.read_at
     since-read = omega (arith, r.known.since, r.order)
@@ -189,14 +177,14 @@ module _ (b : Laws) (s : Scene) (good : IsScene s) (key : List ℕ) (link : Link
     reached-at m from to =
         let gm : IsGood s.past.config (s.past.at r.known.moment) = good.history.good r.known.moment r.known.since (omega (arith, from, to)) in
         let was : (s.past.at r.known.moment).reached link.slot ≡ true = gm.inside link.slot r.known.inside (λ e. omega (arith, e, r.known.slot)) in
-        (b.fronts s.past.config s.past.at s.past.since s.past.now r.known.moment m link.slot good.history (record { since = r.known.since; order = from; until = to }) was).reached
+        (fronts_stay s.past.config s.past.at s.past.since s.past.now r.known.moment m link.slot good.history (record { since = r.known.since; order = from; until = to }) was).reached
 
     -- a slot that is in the tree is the leaf that it was
     pub leaf-at : (m : ℕ) → r.known.moment ≤ m → m ≤ s.past.now → is_inside s.past.config (s.past.at m) link.slot ≡ true → IsLeafInTree s.past.config (s.past.at m) link.slot
     leaf-at m from to i =
         let p : SamePlace s.past.config (s.past.at r.known.moment) (s.past.at m) link.slot =
-        b.ranges s.past.config s.past.at s.past.since s.past.now r.known.moment m link.slot good.history (record { since = r.known.since; order = from; until = to }) (λ e. omega (arith, e, r.known.slot)) r.known.inside i in
-        b.leaves s.past.config (s.past.at m) link.slot (good.history.good m (omega (arith, r.known.since, from)) to) r.known.slot i (p.level ∙ r.known.leaf)
+        ranges_stay s.past.config s.past.at s.past.since s.past.now r.known.moment m link.slot good.history (record { since = r.known.since; order = from; until = to }) (λ e. omega (arith, e, r.known.slot)) r.known.inside i in
+        leaves_are_in_trees s.past.config (s.past.at m) link.slot (good.history.good m (omega (arith, r.known.since, from)) to) r.known.slot i (p.level ∙ r.known.leaf)
 
   -- not frozen: the status is the same now
   module _ (h : HasRead key link ws false s.past) (a : Answers s (node_address s.past.config link.slot + STATUS_AT) (slice_index ws 0)) where
@@ -208,7 +196,7 @@ module _ (b : Laws) (s : Scene) (good : IsScene s) (key : List ℕ) (link : Link
 
     pub thawed-stays : Stayed s link.slot h.all.read_at
     thawed-stays i from to =
-        b.nodes s.past.config s.past.at s.past.since s.past.now h.all.read_at i s.past.now link.slot good.history (record { since = since-read h.all; order = h.all.until; until = omega arith }) from to reached-then (now-status ∙ sym h.all.was)
+        nodes_stay s.past.config s.past.at s.past.since s.past.now h.all.read_at i s.past.now link.slot good.history (record { since = since-read h.all; order = h.all.until; until = omega arith }) from to reached-then (now-status ∙ sym h.all.was)
 
     gn : IsGood s.past.config (here s)
     gn = good.history.good s.past.now good.begun (omega arith)
@@ -223,7 +211,7 @@ module _ (b : Laws) (s : Scene) (good : IsScene s) (key : List ℕ) (link : Link
     thawed-leaf = leaf-at h.all s.past.now (omega (arith, h.all.order, h.all.until)) (omega arith) inside
 
     pub thawed-view : (view : LeafView) → IsMade view link.slot s.past.now ws → IsView key view s.past
-    thawed-view view m = is-view b s good key link ws h.all s.past.now h.all.until (omega arith) thawed-stays thawed-leaf view m a.loads
+    thawed-view view m = is-view s good key link ws h.all s.past.now h.all.until (omega arith) thawed-stays thawed-leaf view m a.loads
 
   -- frozen: the link led to it, and its guard is not frozen now
   module _ (at : ℕ) (h : HasLink key link ws at s.past) where
@@ -232,10 +220,10 @@ module _ (b : Laws) (s : Scene) (good : IsScene s) (key : List ℕ) (link : Link
 
     pub frozen-stays : Stayed s link.slot h.leaf.all.read_at
     frozen-stays i from to =
-        b.frozen s.past.config s.past.at s.past.since s.past.now h.leaf.all.read_at i link.slot good.history (record { since = since-read h.leaf.all; order = from; until = to }) frozen-reached (ap (λ z. (status z).frozen) h.leaf.all.was ∙ h.leaf.is)
+        frozen_nodes_stay s.past.config s.past.at s.past.since s.past.now h.leaf.all.read_at i link.slot good.history (record { since = since-read h.leaf.all; order = from; until = to }) frozen-reached (ap (λ z. (status z).frozen) h.leaf.all.was ∙ h.leaf.is)
 
     pub frozen-leaf : is_inside s.past.config (s.past.at at) link.slot ≡ true → IsLeafInTree s.past.config (s.past.at at) link.slot
     frozen-leaf i = leaf-at h.leaf.all at (omega (arith, h.leaf.all.order, h.order)) h.until i
 
     pub frozen-view : is_inside s.past.config (s.past.at at) link.slot ≡ true → (view : LeafView) → IsMade view link.slot at ws → IsView key view s.past
-    frozen-view i view m = is-view b s good key link ws h.leaf.all at h.order h.until frozen-stays (frozen-leaf i) view m h.loads
+    frozen-view i view m = is-view s good key link ws h.leaf.all at h.order h.until frozen-stays (frozen-leaf i) view m h.loads

@@ -16,7 +16,7 @@ use crate::place::{is_frozen, next_place};
 use bz_key::Key;
 use bz_layout::{Config, NODE_WORDS, STATUS_AT, Slots};
 use bz_node::NodeImage;
-use bz_task::{LeafView, Link, Outcome, Path, Seen, Task, Todo, laws};
+use bz_task::{LeafView, Link, Outcome, Path, Seen, Task, Todo};
 
 /// The words in use of the leaf of a key, validated: of a leaf that is not frozen by a second look at its status, of a frozen
 /// one by a second look at the link to it and then at the link's guard. It ends with View, or with Restart where a validating
@@ -45,8 +45,6 @@ impl ReadLeaf {
         ensures none { (path : Path) (s : Scene) → (⟦<ReadLeaf as Task>⟧.view result).means (Outcome.Path path) s → ⊥ }
         ensures only { (outcome : Outcome) (s : Scene) → (⟦<ReadLeaf as Task>⟧.view result).means outcome s → IsEndOfReading outcome }
     {
-        laws::fronts_stay();
-        laws::headers_say_the_level();
         ReadLeaf {
             config: *config,
             key,
@@ -86,19 +84,6 @@ impl ReadLeaf {
         ensures learns { (stage : Stage) (s : Scene) → s.past.now ≡ moment → s.past.config ≡ self.old.config → IsScene s → leaf_facts self.old.key self.old.link self.old.image.0 self.old.phase stage s → Tells (leaf_asks self.old.config self.old.link self.old.image self.old.phase) stage seen s → HasFilled s × leaf_learnt self.old.key self.old.link self.new.image.0 result s.past }
     {
         is_whole(&self.image);
-        laws::nodes_stay();
-        laws::frozen_nodes_stay();
-        laws::fronts_stay();
-        laws::ranges_stay();
-        laws::separators_stay();
-        laws::roots_are_reached();
-        laws::leaves_are_in_trees();
-        laws::children_are_in_trees();
-        laws::seen_leaves_are_whole();
-        laws::same_records_show_the_same();
-        bz_slotted::laws::leaf_rules_are_facts();
-        bz_content::laws::well_formed_images_have_no_fault();
-        bz_shape::laws::leaves_tile_the_keys();
         match (self.phase, seen) {
             (Phase::Fresh, _) => Phase::Status,
             (Phase::Status, Seen::Read(word)) => {
@@ -211,14 +196,11 @@ impl Task for ReadLeaf {
 
     fn next(&mut self, seen: Seen, slots: &mut Slots, moment: u32) -> Todo {
         let _slots = slots;
-        laws::nothing_is_gained();
         self.phase = self.after(seen, moment);
         self.asked()
     }
 
     fn learnt(&self) {
-        laws::views_stay();
-        laws::paths_stay();
         bz_layout::addresses_fit();
         bz_layout::descriptors_stand_apart();
     }

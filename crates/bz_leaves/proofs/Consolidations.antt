@@ -6,10 +6,10 @@ use Rattle.bz_shape.specs.Outcomes.{Regrows}
 use Rattle.bz_shape.specs.Walk.{is_among}
 use Rattle.bz_content.proofs.Reached.{level-is}
 use Rattle.bz_content.specs.Image.{node}
-use Rattle.bz_content.specs.Laws.{ConsolidationsKeepTheContent}
 use Rattle.bz_content.specs.Swaps.{form_in}
 use Rattle.bz_content.specs.View.{view_of}
-use Rattle.bz_leaves.proofs.Exchanges.{Rules, leaf-is, leaves-exchanged, new-level, new-slot, no-leaf, not-top, old-slot}
+use Rattle.bz_content.proofs.Proved.{consolidations_keep_the_content}
+use Rattle.bz_leaves.proofs.Exchanges.{leaf-is, leaves-exchanged, new-level, new-slot, no-leaf, not-top, old-slot}
 use Rattle.bz_leaves.specs.Laws.{ConsolidationsKeepTheLeaves}
 use Rattle.bz_leaves.specs.Leaves.{leaf_count}
 
@@ -17,18 +17,18 @@ use Rattle.bz_leaves.specs.Leaves.{leaf_count}
 pub only-one : (a j : ℕ) → is_among (a ∷ []) j ≡ true → j ≡ a
 only-one a j e = grind (arith, nat_tests)
 
-pub consolidations : Rules → ConsolidationsKeepTheContent → ConsolidationsKeepTheLeaves
-consolidations b law c x y old new t s = omega (arith, exchanged)
+pub consolidations : ConsolidationsKeepTheLeaves
+consolidations c x y old new t s = omega (arith, exchanged)
   where
     r : Regrows (view_of c x) (view_of c y) (old ∷ []) (new ∷ [])
-    r = law c x y old new t s
+    r = consolidations_keep_the_content c x y old new t s
 
     flat : (form_in c y).level new ≡ 0
-    flat = new-level b c x y (old ∷ []) (new ∷ []) t r new (among-first new new [] refl) s.fresh
-        ∙ level-is b.leaf b.inner c.nodes 0 (node c y.raw new) (node c y.words new) _ _ s.whole
+    flat = new-level c x y (old ∷ []) (new ∷ []) t r new (among-first new new [] refl) s.fresh
+        ∙ level-is c.nodes 0 (node c y.raw new) (node c y.words new) _ _ s.whole
 
     exchanged : leaf_count c y + 1 ≡ leaf_count c x + 1
-    exchanged = leaves-exchanged b c x y (old ∷ []) (new ∷ []) t r (old ∷ []) (new ∷ [])
+    exchanged = leaves-exchanged c x y (old ∷ []) (new ∷ []) t r (old ∷ []) (new ∷ [])
         (record {
           out = λ j e. e;
           out_all = λ j e f. e;
@@ -36,5 +36,5 @@ consolidations b law c x y old new t s = omega (arith, exchanged)
           come_flat = λ j e. ap (form_in c y).level (only-one new j e) ∙ flat;
           come_all = λ j e f. e;
         })
-        (old-slot b c x y (old ∷ []) (new ∷ []) t r old s.inside (not-top c x old t s.leaf), (leaf-is c x old s.inside s.leaf, (refl, tt)))
-        (new-slot b c x y (old ∷ []) (new ∷ []) t r new (among-first new new [] refl) s.fresh, (no-leaf c x new s.fresh, (refl, tt)))
+        (old-slot c x y (old ∷ []) (new ∷ []) t r old s.inside (not-top c x old t s.leaf), (leaf-is c x old s.inside s.leaf, (refl, tt)))
+        (new-slot c x y (old ∷ []) (new ∷ []) t r new (among-first new new [] refl) s.fresh, (no-leaf c x new s.fresh, (refl, tt)))

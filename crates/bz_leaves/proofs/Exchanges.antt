@@ -9,7 +9,6 @@ use Rattle.bz_shape.proofs.TreeForms.{fits}
 use Rattle.bz_shape.specs.Form.{Form}
 use Rattle.bz_shape.specs.Outcomes.{Moved, Regrows}
 use Rattle.bz_shape.specs.Walk.{is_among, IsTree}
-use Rattle.bz_slotted.specs.Laws.{LeafRulesAreFacts, InnerRulesAreFacts, InnerKeysRise}
 use Rattle.bz_slotted.specs.Readers.{level_of}
 use Rattle.bz_content.proofs.Reached.{level-at}
 use Rattle.bz_content.specs.Image.{Image, node}
@@ -18,12 +17,6 @@ use Rattle.bz_content.specs.View.{view_of}
 use Rattle.bz_leaves.proofs.Counts.{AreOf, count-exchanged}
 use Rattle.bz_leaves.proofs.Slots.{slot-below}
 use Rattle.bz_leaves.specs.Leaves.{is_leaf, leaf_count}
-
--- the laws of nodes that these proofs stand on
-pub record Rules : Type 0 where
-  pub leaf : LeafRulesAreFacts
-  pub inner : InnerRulesAreFacts
-  pub rise : InnerKeysRise
 
 first : (a b : Bool) → (a && b) ≡ true → a ≡ true
 first true b e = refl
@@ -81,7 +74,7 @@ pub record AreTheLeaves (f h : Form) (gone new gone_leaves new_leaves : List ℕ
   pub come_flat : (j : ℕ) → is_among new_leaves j ≡ true → h.level j ≡ 0
   pub come_all : (j : ℕ) → is_among new j ≡ true → h.level j ≡ 0 → is_among new_leaves j ≡ true
 
-module _ (b : Rules) (c : Config) (x y : Image) (gone new : List ℕ) (t : IsTree (view_of c x)) (r : Regrows (view_of c x) (view_of c y) gone new) where
+module _ (c : Config) (x y : Image) (gone new : List ℕ) (t : IsTree (view_of c x)) (r : Regrows (view_of c x) (view_of c y) gone new) where
   abbrev f : Form
   f = form_in c x
 
@@ -97,13 +90,13 @@ module _ (b : Rules) (c : Config) (x y : Image) (gone new : List ℕ) (t : IsTre
 
   -- a new slot stands at the level that its words say
   pub new-level : (k : ℕ) → is_among new k ≡ true → f.inside k ≡ false → h.level k ≡ level_of (node c y.words k)
-  new-level k e fresh = sym (level-at b.leaf b.inner c y k (fits (view_of c y) r.content.tree) (new-inside k e) (fresh-below k fresh))
+  new-level k e fresh = sym (level-at c y k (fits (view_of c y) r.content.tree) (new-inside k e) (fresh-below k fresh))
 
   pub new-slot : (k : ℕ) → is_among new k ≡ true → f.inside k ≡ false → k < c.nodes
-  new-slot k e fresh = slot-below b.rise c y r.content.tree k (new-inside k e) (fresh-below k fresh)
+  new-slot k e fresh = slot-below c y r.content.tree k (new-inside k e) (fresh-below k fresh)
 
   pub old-slot : (k : ℕ) → f.inside k ≡ true → k ≢ c.nodes → k < c.nodes
-  old-slot k i ne = slot-below b.rise c x t k i ne
+  old-slot k i ne = slot-below c x t k i ne
 
   module _ (gone_leaves new_leaves : List ℕ) (s : AreTheLeaves f h gone new gone_leaves new_leaves) where
     stayed : (j : ℕ) → f.inside j ≡ true → f.level j ≡ 0 → is_among gone j ≡ false → Moved f h j

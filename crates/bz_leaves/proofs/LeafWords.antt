@@ -10,16 +10,16 @@ use Rattle.bz_shape.specs.Slots.{SameSlot}
 use Rattle.bz_shape.specs.Walk.{form_of, walk, Visit}
 use Rattle.bz_slotted.specs.Readers.{level_of}
 use Rattle.bz_content.proofs.Reached.{root-below, root-stands}
-use Rattle.bz_content.proofs.Sames.{Nodes, node-same, same-slot, same-super}
+use Rattle.bz_content.proofs.Sames.{node-same, same-slot, same-super}
 use Rattle.bz_content.specs.Image.{node, root}
 use Rattle.bz_content.specs.Swaps.{form_in}
 use Rattle.bz_content.specs.View.{view_of}
 use Rattle.bz_leaves.specs.Laws.{WordsOfLeavesDoNotCount}
 use Rattle.bz_leaves.specs.Leaves.{leaf_count}
 
-pub leaf-words : Nodes → WordsOfLeavesDoNotCount
+pub leaf-words : WordsOfLeavesDoNotCount
 unfolding leaf_count
-leaf-words b c x y t s = record {
+leaf-words c x y t s = record {
   leaves = ap (λ (us : List Visit). count_by (λ k. (form_of us).inside k && ((form_of us).level k == 0)) (range_with_len 0 c.nodes)) same;
   inside = λ k. ap (λ (us : List Visit). (form_of us).inside k) same;
   form = ap form_of same;
@@ -54,7 +54,7 @@ leaf-words b c x y t s = record {
     slots : (j : ℕ) → f.inside j ≡ true → 0 < f.level j → SameSlot (view_of c x) (view_of c y) j
     slots j i deep = elim (cases_eq j c.nodes) [
       | inl e ↦ subst (λ k. SameSlot (view_of c x) (view_of c y) k) (sym e) (same-super c x y s.root)
-      | inr ne ↦ same-slot b c x y j ne (s.inners j i deep ne)
+      | inr ne ↦ same-slot c x y j ne (s.inners j i deep ne)
     ]
 
     same : walk (view_of c y) ≡ walk (view_of c x)

@@ -8,17 +8,17 @@ use Rattle.bz_shape.specs.Outcomes.{Regrows}
 use Rattle.bz_shape.specs.Walk.{is_among}
 use Rattle.bz_content.proofs.Reached.{level-is}
 use Rattle.bz_content.specs.Image.{node}
-use Rattle.bz_content.specs.Laws.{MergesKeepTheContent}
 use Rattle.bz_content.specs.Swaps.{form_in}
 use Rattle.bz_content.specs.View.{view_of}
+use Rattle.bz_content.proofs.Proved.{merges_keep_the_content}
 use Rattle.bz_leaves.proofs.Consolidations.{only-one}
-use Rattle.bz_leaves.proofs.Exchanges.{Rules, AreTheLeaves, leaf-is, leaves-exchanged, new-level, new-slot, no-leaf, not-top, old-slot}
+use Rattle.bz_leaves.proofs.Exchanges.{AreTheLeaves, leaf-is, leaves-exchanged, new-level, new-slot, no-leaf, not-top, old-slot}
 use Rattle.bz_leaves.proofs.Splits.{two-cases}
 use Rattle.bz_leaves.specs.Laws.{MergesTakeOne}
 use Rattle.bz_leaves.specs.Leaves.{leaf_count}
 
-pub merges : Rules → MergesKeepTheContent → MergesTakeOne
-merges b law c x y a d q m sep t s = omega (arith, exchanged)
+pub merges : MergesTakeOne
+merges c x y a d q m sep t s = omega (arith, exchanged)
   where
     gone : List ℕ
     gone = a ∷ d ∷ (form_in c x).up a ∷ []
@@ -36,7 +36,7 @@ merges b law c x y a d q m sep t s = omega (arith, exchanged)
     g = fits (view_of c x) t
 
     r : Regrows (view_of c x) (view_of c y) gone new
-    r = law c x y a d q m sep t s
+    r = merges_keep_the_content c x y a d q m sep t s
 
     a_below : a ≢ c.nodes
     a_below = not-top c x a t s.leaf
@@ -64,10 +64,10 @@ merges b law c x y a d q m sep t s = omega (arith, exchanged)
     m_among = among-later q m (m ∷ []) (among-first m m [] refl)
 
     q_high : 0 < h.level q
-    q_high = omega (arith, oa.stands.level, new-level b c x y gone new t r q q_among s.fresh_q, level-is b.leaf b.inner c.nodes (f.level (f.up a)) (node c y.raw q) (node c y.words q) _ _ s.whole_q)
+    q_high = omega (arith, oa.stands.level, new-level c x y gone new t r q q_among s.fresh_q, level-is c.nodes (f.level (f.up a)) (node c y.raw q) (node c y.words q) _ _ s.whole_q)
 
     m_flat : h.level m ≡ 0
-    m_flat = new-level b c x y gone new t r m m_among s.fresh_m ∙ level-is b.leaf b.inner c.nodes 0 (node c y.raw m) (node c y.words m) _ _ s.whole_m
+    m_flat = new-level c x y gone new t r m m_among s.fresh_m ∙ level-is c.nodes 0 (node c y.raw m) (node c y.words m) _ _ s.whole_m
 
     leaves : AreTheLeaves f h gone new (a ∷ d ∷ []) (m ∷ [])
     leaves = record {
@@ -82,8 +82,8 @@ merges b law c x y a d q m sep t s = omega (arith, exchanged)
     }
 
     exchanged : leaf_count c y + 2 ≡ leaf_count c x + 1
-    exchanged = leaves-exchanged b c x y gone new t r (a ∷ d ∷ []) (m ∷ []) leaves (
-      old-slot b c x y gone new t r a s.inside a_below,
-      (leaf-is c x a s.inside s.leaf, (not-among d a [] apart refl, (old-slot b c x y gone new t r d s.inside_b d_below, (leaf-is c x d s.inside_b d_flat, (refl, tt))))),
+    exchanged = leaves-exchanged c x y gone new t r (a ∷ d ∷ []) (m ∷ []) leaves (
+      old-slot c x y gone new t r a s.inside a_below,
+      (leaf-is c x a s.inside s.leaf, (not-among d a [] apart refl, (old-slot c x y gone new t r d s.inside_b d_below, (leaf-is c x d s.inside_b d_flat, (refl, tt))))),
     )
-        (new-slot b c x y gone new t r m m_among s.fresh_m, (no-leaf c x m s.fresh_m, (refl, tt)))
+        (new-slot c x y gone new t r m m_among s.fresh_m, (no-leaf c x m s.fresh_m, (refl, tt)))

@@ -1,6 +1,4 @@
 -- What this crate proves, as lemmas that other crates cite by these names.
-use Rattle.bz_content.proofs.Proved.{consolidations_keep_the_content, merges_keep_the_content, quiet_swaps_keep_the_content, rewrites_change_one_key, root_splits_keep_the_content, splits_keep_the_content}
-use Rattle.bz_slotted.proofs.Proved.{inner_keys_rise, inner_rules_are_facts, leaf_rules_are_facts, standing_is_quiet}
 use Rattle.bz_leaves.proofs.Consolidations.{consolidations}
 use Rattle.bz_leaves.proofs.Examples.{leaves-are-told}
 use Rattle.bz_leaves.proofs.LeafWords.{leaf-words}
@@ -16,7 +14,7 @@ leaves_are_told = leaves-are-told
 
 -- what is counted: the leaf of each key, and no more than there are slots
 pub leaves_are_counted : LeavesAreCounted
-leaves_are_counted = leaves-counted inner_keys_rise
+leaves_are_counted = leaves-counted
 
 -- where the tree is the same, so is the number
 pub same_trees_have_as_many_leaves : SameTreesHaveAsManyLeaves
@@ -24,28 +22,28 @@ same_trees_have_as_many_leaves = same-trees
 
 -- nor is it another where words of leaves alone are others
 pub words_of_leaves_do_not_count : WordsOfLeavesDoNotCount
-words_of_leaves_do_not_count = leaf-words (record { leaf = leaf_rules_are_facts; inner = inner_rules_are_facts; standing = standing_is_quiet })
+words_of_leaves_do_not_count = leaf-words
 
 -- a reservation, the first swap of an update, a freeze and private stores leave the number
 pub quiet_swaps_keep_the_leaves : QuietSwapsKeepTheLeaves
-quiet_swaps_keep_the_leaves = quiet quiet_swaps_keep_the_content
+quiet_swaps_keep_the_leaves = quiet
 
 -- so do a publication, a delete and the second swap of an update
 pub rewrites_keep_the_leaves : RewritesKeepTheLeaves
-rewrites_keep_the_leaves = rewrites rewrites_change_one_key
+rewrites_keep_the_leaves = rewrites
 
 -- and a consolidation
 pub consolidations_keep_the_leaves : ConsolidationsKeepTheLeaves
-consolidations_keep_the_leaves = consolidations (record { leaf = leaf_rules_are_facts; inner = inner_rules_are_facts; rise = inner_keys_rise }) consolidations_keep_the_content
+consolidations_keep_the_leaves = consolidations
 
 -- the split of a leaf below an inner node adds one, that of an inner node none
 pub leaf_splits_add_one : LeafSplitsAddOne
-leaf_splits_add_one = splits (record { leaf = leaf_rules_are_facts; inner = inner_rules_are_facts; rise = inner_keys_rise }) splits_keep_the_content
+leaf_splits_add_one = splits
 
 -- so it is at the root
 pub root_leaf_splits_add_one : RootLeafSplitsAddOne
-root_leaf_splits_add_one = root-splits (record { leaf = leaf_rules_are_facts; inner = inner_rules_are_facts; rise = inner_keys_rise }) root_splits_keep_the_content
+root_leaf_splits_add_one = root-splits
 
 -- a merge takes one away
 pub merges_take_one : MergesTakeOne
-merges_take_one = merges (record { leaf = leaf_rules_are_facts; inner = inner_rules_are_facts; rise = inner_keys_rise }) merges_keep_the_content
+merges_take_one = merges

@@ -9,9 +9,10 @@ use Rattle.bz_shape.proofs.TreeForms.{fits}
 use Rattle.bz_shape.specs.Form.{Fits, Form, Hangs}
 use Rattle.bz_shape.specs.Walk.{IsTree}
 use Rattle.bz_shape.specs.declared.rule.ShapeRule.TheVariants.{Root}
-use Rattle.bz_slotted.specs.Laws.{RisesBetween, InnerKeysRise}
+use Rattle.bz_slotted.specs.Laws.{RisesBetween}
 use Rattle.bz_slotted.specs.Readers.{count_of, child_of}
 use Rattle.bz_slotted.specs.Rules.{node_fault}
+use Rattle.bz_slotted.proofs.Proved.{inner_keys_rise}
 use Rattle.bz_content.proofs.Honesty.{no}
 use Rattle.bz_content.proofs.Reached.{is}
 use Rattle.bz_content.specs.Image.{Image, node, root}
@@ -27,7 +28,7 @@ pointer-tested nodes pointer status e = go (nat_lt 0 pointer) refl (nat_le point
     go true p false q d e = absurd (cc)
     go false p b q d e = absurd (cc)
 
-module _ (rise : InnerKeysRise) (c : Config) (x : Image) (t : IsTree (view_of c x)) where
+module _ (c : Config) (x : Image) (t : IsTree (view_of c x)) where
   abbrev f : Form
   f = form_in c x
 
@@ -46,7 +47,7 @@ module _ (rise : InnerKeysRise) (c : Config) (x : Image) (t : IsTree (view_of c 
   child-slot k h ne =
       let u : ℕ = f.up k in
       let e : node_fault c.nodes (node c x.raw u) (node c x.words u) (f.level u) (f.low u) (f.high u) ≡ None = rw (no u c.nodes ne) at (g.whole u h.inside ne) in
-      let r : RisesBetween c.nodes (node c x.words u) (f.low u) (f.high u) = rise c.nodes (node c x.raw u) (node c x.words u) _ _ _ h.inner e in
+      let r : RisesBetween c.nodes (node c x.words u) (f.low u) (f.high u) = inner_keys_rise c.nodes (node c x.raw u) (node c x.words u) _ _ _ h.inner e in
       let l : f.index k < count_of (node c x.words u) = rw (no u c.nodes ne) at h.within in
       let s : child_of (node c x.words u) (f.index k) ≡ k = rw (no u c.nodes ne) at h.child in
       subst (λ z. z < c.nodes) s (r.slots (f.index k) l)

@@ -1,4 +1,2 @@
 //! How many leaves a tree has, and what each kind of swap makes of the number.
 #![tactic(auto)]
-
-pub mod laws;

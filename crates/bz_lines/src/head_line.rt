@@ -39,11 +39,7 @@ fn words_list(alloc: Global, words: &[u64]) -> Result<Value, Memory>
 }
 
 /// The object of the first line.
-pub(crate) fn head_object(
-    alloc: Global,
-    config: &Config,
-    start: &[u64],
-) -> Result<Value, Memory>
+pub(crate) fn head_object(alloc: Global, config: &Config, start: &[u64]) -> Result<Value, Memory>
     ensures { IfOk result (λ v. view v ≡ head_data config.now start.now) }
 {
     let words = words_list(alloc, start)?;

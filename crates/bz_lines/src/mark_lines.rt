@@ -53,14 +53,7 @@ fn word_object(alloc: Global, kind: &str, w: u8, a: u32, v: u64) -> Result<Value
     Ok(json!(in alloc; {"a": a, "mark": kind, "v": v, "w": w})?)
 }
 
-fn cas_object(
-    alloc: Global,
-    w: u8,
-    a: u32,
-    old: u64,
-    new: u64,
-    found: u64,
-) -> Result<Value, Memory>
+fn cas_object(alloc: Global, w: u8, a: u32, old: u64, new: u64, found: u64) -> Result<Value, Memory>
     ensures { IfOk result (λ v. view v ≡ data_of [] (Mark.Cas w a old new found)) }
 {
     Ok(json!(in alloc; {"a": a, "found": found, "mark": "cas", "new": new, "old": old, "w": w})?)
@@ -99,11 +92,7 @@ fn effect_object(alloc: Global, w: u8, n: u32) -> Result<Value, Memory>
 }
 
 /// The object of a mark of the journal.
-pub(crate) fn mark_object(
-    alloc: Global,
-    journal: &Journal,
-    mark: Mark,
-) -> Result<Value, Memory>
+pub(crate) fn mark_object(alloc: Global, journal: &Journal, mark: Mark) -> Result<Value, Memory>
     ensures { IfOk result (λ v. view v ≡ data_of journal.now.pages mark) }
 {
     match mark {

@@ -87,11 +87,7 @@ fn page_words(
 }
 
 /// The words of a reply.
-pub(crate) fn reply_words(
-    alloc: Global,
-    journal: &Journal,
-    reply: Reply,
-) -> Result<Value, Memory>
+pub(crate) fn reply_words(alloc: Global, journal: &Journal, reply: Reply) -> Result<Value, Memory>
     ensures { IfOk result (λ v. view v ≡ reply_data journal.now.pages reply) }
 {
     match reply {

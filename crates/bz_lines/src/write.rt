@@ -29,11 +29,7 @@ fn with_feed(alloc: Global, object: &Value) -> Result<Vec<u8>, Memory>
 }
 
 /// The first line, with its line feed.
-pub(crate) fn compose_head(
-    alloc: Global,
-    config: &Config,
-    start: &[u64],
-) -> Result<Vec<u8>, Memory>
+pub(crate) fn compose_head(alloc: Global, config: &Config, start: &[u64]) -> Result<Vec<u8>, Memory>
     ensures { IfOk result (λ line. line.items ≡ with_end (head_line config.now start.now)) }
 {
     let object = head_object(alloc, config, start)?;
@@ -41,11 +37,7 @@ pub(crate) fn compose_head(
 }
 
 /// The line of a mark, with its line feed.
-pub(crate) fn compose_mark(
-    alloc: Global,
-    journal: &Journal,
-    mark: Mark,
-) -> Result<Vec<u8>, Memory>
+pub(crate) fn compose_mark(alloc: Global, journal: &Journal, mark: Mark) -> Result<Vec<u8>, Memory>
     ensures { IfOk result (λ line. line.items ≡ with_end (line_of journal.now.pages mark)) }
 {
     let object = mark_object(alloc, journal, mark)?;

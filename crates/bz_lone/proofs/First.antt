@@ -6,9 +6,9 @@ use Rattle.bz_costs.specs.Lone.{one_mark, own_marks, promised}
 use Rattle.bz_costs.specs.Stretches.{lone_stretch}
 use Rattle.bz_machine.specs.Allowed.{sum_below, counted}
 use Rattle.bz_rivals.specs.Rivals.{is_pending, rivals}
-use Rattle.bz_swap.specs.Alone.{allowed_while, allowed_to_all, left_to}
-use Rattle.bz_swap.specs.LoneRuns.{LoneStepsAreAllowed}
+use Rattle.bz_swap.specs.Alone.{allowed_while, allowed_to_all}
 use Rattle.bz_swap.specs.SwapMemory.{SwapMemory, Doing, Idle, doing_of}
+use Rattle.bz_swap.proofs.Proved.{lone_steps_are_allowed}
 use Rattle.bz_lone.specs.Steps.{FirstRoundsArePaid, IdleMemoriesAllowNothing}
 use Rattle.bz_lone.specs.Errands.{Errand}
 use Rattle.bz_lone.specs.Sum.{own_left}
@@ -44,8 +44,8 @@ first-paid r few d m w e used by p idle thawed enough = pays r m w e e used by p
     none : rivals m w ≡ 0
     none = sum-none _ _ (λ v. no-rival m _ (doing_of m v) (idle v))
 
-pub allow-nothing : LoneStepsAreAllowed → IdleMemoriesAllowNothing
-allow-nothing allowed m w idle = omega (arith, allowed.most m w, nothing)
+pub allow-nothing : IdleMemoriesAllowNothing
+allow-nothing m w idle = omega (arith, lone_steps_are_allowed.most m w, nothing)
   where
     nothing : allowed_to_all m ≡ 0
     nothing = sum-none _ _ (λ v. ap allowed_while (idle v))

@@ -19,7 +19,7 @@ use Rattle.bz_joined.specs.FromRounds.Left.{LoneSwapsLeave}
 use Rattle.bz_joined.specs.FromRounds.Lone.{IsLoneSwap}
 use Rattle.bz_costs.specs.FromRunning.Duties.{config_of, end_of, made_of, facts_of, asks_of, swaps_of, change_swaps, publishing_of, makes_no_change}
 use Rattle.bz_costs.specs.FromRunning.Kinds as kinds
-use Rattle.bz_costs.specs.FromRunning.Kinds.{Kind, kind_of, is_look}
+use Rattle.bz_costs.specs.FromRunning.Kinds.{kind_of, is_look}
 use Rattle.bz_costs.specs.FromRunning.MadeFor.{IsMadeFor, IsMergeFor}
 use Rattle.bz_costs.specs.FromRunning.AnyTask.{AnyTask}
 use Rattle.bz_slotted.specs.Page.{Page}
@@ -39,7 +39,6 @@ use Rattle.bz_lone.specs.Sum.{State, In, Disturbed, Clean, Made, IsIn, IsSmall, 
 use Rattle.bz_lone.proofs.OwnKinds as own_kinds
 use Rattle.bz_lone.proofs.OwnLeft.{has-foot, leaf-frozen, left-price, roomy}
 use Rattle.bz_lone.proofs.OwnMerges.{IsBeside, IsJoining, IsMerging, merging}
-use Rattle.bz_lone.proofs.OwnMerges as own_merges
 use Rattle.bz_lone.proofs.OwnPrices as own_prices
 use Rattle.bz_lone.proofs.OwnPrices.{room-merged}
 use Rattle.bz_lone.proofs.Coming.{comes-after, comes-to-write}
@@ -49,7 +48,6 @@ use Rattle.bz_lone.proofs.Spending.{fewer, publishes, wins, wins-last}
 -- the laws on which it rests
 pub record Laws (r : Resource) : Type 0 where
   pub prices : own_prices.Laws r
-  pub merges : own_merges.Laws
   pub leave : LoneSwapsLeave
   pub freezes : LoneFreezesFreezeTheLeaf
   pub go : LonersGoOn
@@ -217,7 +215,7 @@ module _ (r : Resource) (b : Laws r) (m n : SwapMemory) (w : ℕ) (e : Errand) (
       joining made = go z.either
         where
           z : IsMerging t key (words_asked e.call) s y
-          z = merging b.merges t key (words_asked e.call) entries s y made own.config own.good own.knows own.asks stand own.leads alone few
+          z = merging t key (words_asked e.call) entries s y made own.config own.good own.knows own.asks stand own.leads alone few
 
           write : is_read e.call ≡ false
           write = own_kinds.writes e.call (kind_of t) (paid.look quiet) (ap is_look z.kind)
@@ -246,7 +244,7 @@ module _ (r : Resource) (b : Laws r) (m n : SwapMemory) (w : ℕ) (e : Errand) (
           let write : is_read e.call ≡ false = own_kinds.writes e.call (kind_of t) (paid.look quiet) is.works in
           let lone : IsLoneSwap (config_of t) (asks_of t) (facts_of t) entries s y = record { config = own.config; good = own.good; knows = own.knows; asks = own.asks; alone = subst (λ k. IsAlone k s.past) (clean.none is.once) clean.alone; leads = own.leads } in
           made-by quiet write is.silent (own.laws.single is.renews).swaps
-          (left-price r b.prices e s.past.config (here s) y quiet write (kind_of t) is.once is.works (b.leave t key (words_asked e.call) entries s y lone made few) (leaf-frozen b.freezes t key (words_asked e.call) entries s y lone made) (has-foot t key (words_asked e.call) s.past made)) a
+          (left-price r b.prices e s.past.config (here s) y quiet write (kind_of t) is.once is.works (b.leave t key (words_asked e.call) entries s y lone made few) (leaf-frozen t key (words_asked e.call) entries s y lone made) (has-foot t key (words_asked e.call) s.past made)) a
 
       meant : IsMeantFor e.call t s.past → IsPaid r n w e t 1 0 more by q
       meant (inl none) = changing none

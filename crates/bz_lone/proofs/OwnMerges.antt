@@ -4,7 +4,6 @@ use Rattle.std.proofs.Common.{◌≡◌, ◌⊎◌, ℕ, ◌+◌, ◌≤◌, tru
 use Rattle.bz_joined.specs.FromAlone.Alone.{IsAlone}
 use Rattle.bz_content.specs.Content.{image_of}
 use Rattle.bz_joined.specs.FromStage.Neighbours.{leaf_page}
-use Rattle.bz_joined.specs.Lone.{LoneFreezesBesideKeepTheLeaf, MergeSwapsGiveRoom}
 use Rattle.bz_layout.specs.declared.config.Config.{Config}
 use Rattle.bz_layout.specs.declared.thresholds.TheConstants.{LEAF_RECORD_WORDS}
 use Rattle.bz_costs.specs.FromMerge.Counts.{freezes_of, merge_made, merge_swaps}
@@ -19,17 +18,13 @@ use Rattle.bz_costs.specs.FromRunning.MadeFor.{IsMergeFor}
 use Rattle.bz_costs.specs.FromRunning.AnyTask.{AnyTask}
 use Rattle.bz_costs.specs.FromRunning.AnyTask.TheVariants.{Merging}
 use Rattle.bz_joined.specs.FromStage.Stages.{stage_in}
+use Rattle.bz_joined.proofs.Proved.{lone_freezes_beside_keep_the_leaf, merge_swaps_give_room}
 use Rattle.bz_task.specs.Instant.{Instant}
 use Rattle.bz_task.specs.Scene.{Scene, Waiting, IsScene, here}
 use Rattle.bz_task.specs.Swaps.{Stand, SwapsTo}
 use Rattle.bz_task.specs.declared.todo.Todo.TheVariants.{Swap as Swaps_for}
 use Rattle.bz_word.specs.Statuses.{status}
 use Rattle.bz_word.specs.declared.entry.Entry.{Entry}
-
--- the laws on which it rests
-pub record Laws : Type 0 where
-  pub beside : LoneFreezesBesideKeepTheLeaf
-  pub joins : MergeSwapsGiveRoom
 
 -- the swap is not the last one, and leaves the leaf as it is
 pub record IsBeside (t : AnyTask) (key : List ℕ) (s : Scene) (y : Instant) : Type 0 where
@@ -66,20 +61,20 @@ none-made r p e f = ap (merge_made r) e ∙ none f
 true-false : {A : Type 0} → true ≡ false → A
 true-false e = absurd (cc)
 
-pub merging : Laws → (t : AnyTask) (key : List ℕ) (words : ℕ) (entries : List Entry) (s : Scene) (y : Instant) → IsMergeFor t key s.past → s.past.config ≡ config_of t → IsScene s → facts_of t Waiting s → asks_of t ≡ Some (Swaps_for entries) → Stand entries (here s) →
+pub merging : (t : AnyTask) (key : List ℕ) (words : ℕ) (entries : List Entry) (s : Scene) (y : Instant) → IsMergeFor t key s.past → s.past.config ≡ config_of t → IsScene s → facts_of t Waiting s → asks_of t ≡ Some (Swaps_for entries) → Stand entries (here s) →
     SwapsTo s.past.config entries (here s) y → IsAlone (made_of t) s.past → words ≤ LEAF_RECORD_WORDS + 1 → IsMerging t key words s y
 unfolding IsMergeFor view_of makes_no_change kind_of
-merging b (Merging t) key words entries s y made config good knows asks stand leads alone few =
+merging (Merging t) key words entries s y made config good knows asks stand leads alone few =
     record { kind = refl; silent = refl; either = go (phase-of t.config (merging_of t) t.phase entries asks) }
   where
     go : (t.phase ≡ Freeze) ⊎ ((t.phase ≡ FreezeBeside) ⊎ (t.phase ≡ Swap)) → IsBeside (Merging t) key s y ⊎ IsJoining (Merging t) key words s y
     go (inl e) = true-false (sym made.frozen ∙ thawed (merging_of t) t.phase s e knows)
     go (inr (inl e)) = inl (record {
       twice = omega (arith, ap merge_swaps e);
-      leaf = b.beside t key entries s y (record { config = config; good = good; knows = knows; asks = asks; alone = subst (λ n. IsAlone n s.past) (none-made (merging_of t) t.phase e made.frozen) alone; leads = leads }) e made.frozen made.leaf;
+      leaf = lone_freezes_beside_keep_the_leaf t key entries s y (record { config = config; good = good; knows = knows; asks = asks; alone = subst (λ n. IsAlone n s.past) (none-made (merging_of t) t.phase e made.frozen) alone; leads = leads }) e made.frozen made.leaf;
     })
     go (inr (inr e)) = inr (record {
       once = omega (arith, ap merge_swaps e);
-      room = (b.joins t key words entries s y (record { config = config; good = good; knows = knows; asks = asks; stand = stand; leads = leads }) e made.leaf few).room;
+      room = (merge_swaps_give_room t key words entries s y (record { config = config; good = good; knows = knows; asks = asks; stand = stand; leads = leads }) e made.leaf few).room;
     })
-merging b t key words entries s y made config good knows asks stand leads alone few = absurd made
+merging t key words entries s y made config good knows asks stand leads alone few = absurd made

@@ -2,8 +2,8 @@
 use Rattle.bz_costs.proofs.Proved.{asked_swaps_are_counted, hearing_is_paid, higher_stages_cost_more, lost_splits_cost_little, rounds_are_paid, splits_are_paid, stretches_are_the_most, tasks_weigh_little, whole_calls_are_affordable}
 use Rattle.bz_costs.specs.Resources.{Marks, Resource}
 use Rattle.bz_joined.proofs.FromAlone.Proved.{loners_go_on}
-use Rattle.bz_joined.proofs.FromRounds.Proved.{lone_swaps_leave, stages_stand}
-use Rattle.bz_joined.proofs.Proved.{lone_freezes_beside_keep_the_leaf, lone_freezes_freeze_the_leaf, merge_swaps_give_room}
+use Rattle.bz_joined.proofs.FromRounds.Proved.{lone_swaps_leave}
+use Rattle.bz_joined.proofs.Proved.{lone_freezes_freeze_the_leaf}
 use Rattle.bz_rivals.proofs.Proved.{rivals_are_few}
 use Rattle.bz_swap.proofs.Proved.{lone_steps_are_allowed}
 use Rattle.bz_lone.proofs.Any.{any-paid, any-round-paid}
@@ -39,11 +39,11 @@ first_rounds_are_paid = λ r. first-paid r (whole_calls_are_affordable r) (recor
 
 -- then the swap memory allows nothing more
 pub idle_memories_allow_nothing : IdleMemoriesAllowNothing
-idle_memories_allow_nothing = allow-nothing lone_steps_are_allowed
+idle_memories_allow_nothing = allow-nothing
 
 -- a step without an effect is paid for
 pub quiet_steps_are_paid : (r : Resource) → QuietStepsArePaid r
-quiet_steps_are_paid = λ r. quiet-paid r stages_stand
+quiet_steps_are_paid = λ r. quiet-paid r
 
 -- so is one at which another worker's swap takes effect
 pub foreign_effects_are_paid : (r : Resource) → ForeignEffectsArePaid r
@@ -51,7 +51,7 @@ foreign_effects_are_paid = λ r. foreign-paid r (record { most = stretches_are_t
 
 -- so is the mark of an effect
 pub effect_marks_are_paid : (r : Resource) → EffectMarksArePaid r
-effect_marks_are_paid = λ r. marks-paid r stages_stand
+effect_marks_are_paid = λ r. marks-paid r
 
 -- what pays for more pays for less
 pub less_is_paid : (r : Resource) → LessIsPaid r
@@ -62,7 +62,6 @@ pub own_effects_are_paid : (r : Resource) → OwnEffectsArePaid r
 own_effects_are_paid =
     λ r. own-paid r (record {
       prices = record { more = higher_stages_cost_more r; rounds = rounds_are_paid r; splits = splits_are_paid r };
-      merges = record { beside = lone_freezes_beside_keep_the_leaf; joins = merge_swaps_give_room };
       leave = lone_swaps_leave;
       freezes = lone_freezes_freeze_the_leaf;
       go = loners_go_on;

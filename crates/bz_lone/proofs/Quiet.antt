@@ -6,7 +6,6 @@ use Rattle.bz_costs.specs.Lone.{one_mark}
 use Rattle.bz_costs.specs.Weights.{weigh}
 use Rattle.bz_costs.specs.Stretches.{lone_stretch}
 use Rattle.bz_rivals.specs.Rivals.{rivals}
-use Rattle.bz_joined.specs.FromRounds.Stands.{StagesStand}
 use Rattle.bz_costs.specs.FromRunning.Kinds.{kind_of}
 use Rattle.bz_costs.specs.FromRunning.AnyTask.{AnyTask}
 use Rattle.bz_task.specs.Scene.{Past}
@@ -40,25 +39,25 @@ left-still r (In Disturbed) e t p q h = refl
 left-still r (In Clean) e t p q h = ap (λ z. 0 + (weigh r t + coming r z e (kind_of t))) (prices-same r p q e h)
 left-still r Made e t p q h = ap (λ z. weigh r t + round_price r z (after e (kind_of t))) (prices-same r p q (after e (kind_of t)) h)
 
-pub quiet-paid : (r : Resource) → StagesStand → QuietStepsArePaid r
-quiet-paid r law m n w e t untold used more by p s good next stepped h = record {
+pub quiet-paid : (r : Resource) → QuietStepsArePaid r
+quiet-paid r m n w e t untold used more by p s good next stepped h = record {
   look = h.look;
   thawed = h.thawed;
   state = h.state;
-  holds = holds-still h.state e t untold p s.past next (same-leaf law p s (key_of e.call) good next) h.holds;
+  holds = holds-still h.state e t untold p s.past next (same-leaf p s (key_of e.call) good next) h.holds;
   affords = record {
     enough = steps _ _ (own_left r e) used more (left_in r h.state e t s.past) (left_in r h.state e t p) by (fewer (lone_stretch r + one_mark r) (rivals m w) (rivals n w) stepped.rivals) stepped.less
-        (left-still r h.state e t p s.past (same-leaf law p s (key_of e.call) good next)) h.affords.enough;
+        (left-still r h.state e t p s.past (same-leaf p s (key_of e.call) good next)) h.affords.enough;
   };
 }
 
-pub marks-paid : (r : Resource) → StagesStand → EffectMarksArePaid r
-marks-paid r law m w e t untold used more by p s good next one h = record {
+pub marks-paid : (r : Resource) → EffectMarksArePaid r
+marks-paid r m w e t untold used more by p s good next one h = record {
   look = h.look;
   thawed = h.thawed;
   state = h.state;
-  holds = holds-still h.state e t untold p s.past next (same-leaf law p s (key_of e.call) good next) h.holds;
+  holds = holds-still h.state e t untold p s.past next (same-leaf p s (key_of e.call) good next) h.holds;
   affords = record {
-    enough = marks (one_mark r) _ (own_left r e) used more (left_in r h.state e t s.past) (left_in r h.state e t p) by one (left-still r h.state e t p s.past (same-leaf law p s (key_of e.call) good next)) h.affords.enough;
+    enough = marks (one_mark r) _ (own_left r e) used more (left_in r h.state e t s.past) (left_in r h.state e t p) by one (left-still r h.state e t p s.past (same-leaf p s (key_of e.call) good next)) h.affords.enough;
   };
 }

@@ -8,13 +8,15 @@ use Rattle.bz_costs.specs.Resources.{Resource}
 use Rattle.bz_costs.specs.Most.{most_of_copy}
 use Rattle.bz_costs.specs.Splits.{cost_after_below, cost_after_inner}
 use Rattle.bz_costs.specs.Stretches.{cost_of_view, cost_from, cost_at, cost_viewed_at, top_stage}
-use Rattle.bz_joined.specs.FromRounds.Stands.{SameStage, StagesStand}
+use Rattle.bz_joined.specs.FromRounds.Stands.{SameStage}
 use Rattle.bz_slotted.specs.Page.{Page}
 use Rattle.bz_joined.specs.FromStage.Rooms.{is_crowded}
 use Rattle.bz_joined.specs.FromStage.Stages.{stage_in}
+use Rattle.bz_joined.proofs.FromRounds.Proved.{stages_stand}
 use Rattle.bz_task.specs.Instant.{Instant}
 use Rattle.bz_task.specs.Scene.{Past, Scene, IsScene, here}
 use Rattle.bz_call.specs.Map.{key_of}
+use Rattle.bz_rounds.proofs.Proved.{}
 use Rattle.bz_lone.specs.Errands.{Errand, words_asked}
 use Rattle.bz_lone.specs.Prices.{Prices, clean_prices, prices_in}
 use Rattle.bz_lone.specs.Steps.{Adds, IsNext}
@@ -57,8 +59,8 @@ pub alone-still : (made : ℕ) (p q : Past) → Adds 0 p q → IsAlone made p �
 alone-still made p q a h = omega (arith, began 0 p q a, a.effects, h)
 
 -- the time since the moment before is quiet
-pub same-leaf : StagesStand → (p : Past) (s : Scene) (key : List ℕ) → IsScene s → IsNext 0 p s.past → SameLeaf p s.past key
-same-leaf law p s key good next = record {
+pub same-leaf : (p : Past) (s : Scene) (key : List ℕ) → IsScene s → IsNext 0 p s.past → SameLeaf p s.past key
+same-leaf p s key good next = record {
   frozen = z.frozen ∙ (λ i. (leaf_page (conf i) (image_of (now i).image) key).frozen);
   crowded = z.crowded ∙ (λ i. is_crowded (leaf_page (conf i) (image_of (now i).image) key));
   stage = λ words. z.stage words ∙ (λ i. stage_in (conf i) (now i).image key words);
@@ -72,7 +74,7 @@ same-leaf law p s key good next = record {
 
     z : SameStage s.past.config (s.past.at p.now) (here s) key
     z =
-        law s p.now p.now s.past.now key good
+        stages_stand s p.now p.now s.past.now key good
         (record { since = omega (arith, next.adds.continues.since, next.adds.begun); now = omega (arith, next.one); effects = omega (arith, next.adds.effects, ap (λ (x : Instant). x.effects) now) })
         (record { from = omega arith; to = omega (arith, next.one) })
         (record { from = omega (arith, next.one); to = omega arith })

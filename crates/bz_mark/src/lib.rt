@@ -3,7 +3,6 @@
 
 mod compact;
 mod journal;
-pub mod laws;
 mod marks;
 mod page_list;
 mod power;

@@ -108,7 +108,7 @@ may-swap turned codec r s good f =
     let new : r.slot 0 < s.past.config.nodes = f.writing.slots.within 0 (omega arith) in
     let status_target : IsTarget s (node_address s.past.config r.upper.slot + STATUS_AT) = subst (IsTarget s) (guard-at r.upper r.lower (viewed_leaf r) s good v) u.guard_target in
     All-inserted (IsEntryToAsk s) (freezing_entry s.past.config (parent_freezing r.upper r.lower)) (renewal r.upper (r.slot 0))
-    (record { target = status_target; expected = u.plain; new = frozen-plain codec r.lower.status u.plain })
+    (record { target = status_target; expected = u.plain; new = frozen-plain r.lower.status u.plain })
     (all-two (IsEntryToAsk s) (link_entry r.upper (r.slot 0)) (guard_entry r.upper)
     (record { target = t.link_target; expected = omega (arith, old, good.config.nodes_in_range.at_most); new = omega (arith, new, good.config.nodes_in_range.at_most) })
     (record { target = t.guard_target; expected = t.plain; new = restamped-plain codec r.upper.status t.plain }))

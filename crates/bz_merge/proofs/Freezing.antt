@@ -86,7 +86,7 @@ freeze-asked fronts codec s l good o = record {
     kind = inl refl;
   }));
   expected = o.seen.plain;
-  new = frozen-plain codec l.status o.seen.plain;
+  new = frozen-plain l.status o.seen.plain;
 }
 
 set-one : (e : Entry) (f : ℕ → ℕ) (a : ℕ) → e.target ≡ a → swapped (e ∷ []) f a ≡ e.new
@@ -141,7 +141,7 @@ module _ (b : Laws) (s after : Scene) (l : SeenLeaf) (good : IsScene s) (later :
   ]
 
   reads : status (frozen_word l.status) ≡ record (status l.status) { frozen = true; stamp = next_stamp (status l.status).stamp }
-  reads = frozen-reads b.codec l.status o.seen.plain
+  reads = frozen-reads l.status o.seen.plain
 
   field-stays : (f : Status → ℕ) → f (record (status l.status) { frozen = true; stamp = next_stamp (status l.status).stamp }) ≡ f (status l.status) → f (status (words s.past.config (here after) k STATUS_AT)) ≡ f (status (words s.past.config (here s) k STATUS_AT))
   field-stays f q = ap (λ z. f (status z)) new-status ∙ (ap f reads ∙ (q ∙ ap (λ z. f (status z)) (sym status-now)))
@@ -150,7 +150,7 @@ module _ (b : Laws) (s after : Scene) (l : SeenLeaf) (good : IsScene s) (later :
   restamps = record {
     others = others;
     raw = λ i n. refl;
-    status = subst (λ z. z < 2 ^ 61) (sym new-status) (frozen-plain b.codec l.status o.seen.plain);
+    status = subst (λ z. z < 2 ^ 61) (sym new-status) (frozen-plain l.status o.seen.plain);
     count = field-stays (λ z. z.count) refl;
     block = field-stays (λ z. z.block) refl;
     dead = field-stays (λ z. z.dead) refl;

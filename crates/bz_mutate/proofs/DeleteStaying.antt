@@ -3,17 +3,17 @@ use Rattle.std.proofs.Common.{◌≡◌, ℕ, List, sym, ◌∙◌}
 use Rattle.std.specs.Prelude.{Some}
 use Rattle.bz_layout.specs.declared.config.Config.{Config}
 use Rattle.bz_word.specs.declared.entry.Entry.{Entry}
-use Rattle.bz_task.specs.Laws.{KeyViewsStay}
 use Rattle.bz_task.specs.Scene.{Scene, Stage, Waiting, Took, IsLawful, HasFilled}
 use Rattle.bz_task.specs.Swaps.{Takes}
 use Rattle.bz_task.specs.declared.todo.Todo.TheVariants.{Swap as Swaps_for}
 use Rattle.bz_task.specs.declared.view.KeyView.{KeyView}
-use Rattle.bz_record.specs.ReplacingLaws.{RecordsWere}
+use Rattle.bz_task.proofs.Proved.{key_views_stay}
+use Rattle.bz_record.proofs.Proved.{records_were}
 use Rattle.bz_mutate.specs.DeleteFacts.{HasRemoved, delete_asks, delete_publishes, delete_learnt, delete_facts}
 use Rattle.bz_mutate.specs.declared.delete_phase.DeletePhase.{DeletePhase}
 use Rattle.bz_mutate.specs.declared.delete_phase.DeletePhase.TheVariants.{Fresh, Remove, Done, Restart, NeedsRoom, Full}
 
-module _ (views : KeyViewsStay) (were : RecordsWere) (key : List ℕ) (v : KeyView) (s after : Scene) (l : IsLawful s after) where
+module _ (key : List ℕ) (v : KeyView) (s after : Scene) (l : IsLawful s after) where
   filled : HasFilled s → HasFilled after
   filled f k t = l.filled k ∙ f k (sym (l.took k) ∙ t)
 
@@ -21,8 +21,8 @@ module _ (views : KeyViewsStay) (were : RecordsWere) (key : List ℕ) (v : KeyVi
   removed h = record { thawed = h.thawed; effected = l.effected ∙ h.effected }
 
   learnt : (phase : DeletePhase) (stage : Stage) → delete_learnt key v phase stage s → delete_learnt key v phase stage after
-  learnt Fresh Waiting k = record { view = views key v s.past after.past k.view l.continues; present = k.present; going = l.effected ∙ k.going }
-  learnt (Remove f) Waiting k = record { payload = k.payload; said = k.said; was = were.found key k.payload v.slot v.status f.place f.extent s.past after.past k.was l.continues; size = k.size; thawed = k.thawed; going = l.effected ∙ k.going }
+  learnt Fresh Waiting k = record { view = key_views_stay key v s.past after.past k.view l.continues; present = k.present; going = l.effected ∙ k.going }
+  learnt (Remove f) Waiting k = record { payload = k.payload; said = k.said; was = records_were.found key k.payload v.slot v.status f.place f.extent s.past after.past k.was l.continues; size = k.size; thawed = k.thawed; going = l.effected ∙ k.going }
   learnt (Remove f) Took k = removed k
   learnt Done Waiting k = removed k
   learnt Restart Waiting k = k

@@ -17,17 +17,12 @@ use Rattle.bz_task.specs.declared.todo.Seen.{Seen}
 use Rattle.bz_task.specs.declared.todo.Seen.TheVariants.{Start, Read, Stored, Flushed, Swapped, NoSwap}
 use Rattle.bz_task.specs.declared.view.Found.{Found}
 use Rattle.bz_task.specs.declared.view.KeyView.{KeyView}
-use Rattle.bz_record.specs.Laws.{IsKeyViewed, KeyViewsShowLeaves}
+use Rattle.bz_record.specs.Laws.{IsKeyViewed}
 use Rattle.bz_record.specs.Records.{words_for}
 use Rattle.bz_record.specs.Replacing.{WasRecord}
-use Rattle.bz_record.specs.ReplacingLaws.{KeyViewsShowRecords}
 use Rattle.bz_record.specs.declared.found_record.FoundRecord.{FoundRecord}
+use Rattle.bz_record.proofs.Proved.{key_views_show_leaves, key_views_show_records}
 use Rattle.bz_mutate.specs.Viewed.{HasViewed, IsVisible, IsFound}
-
--- the laws that these proofs stand on
-pub record Laws : Type 0 where
-  pub leaves : KeyViewsShowLeaves
-  pub records : KeyViewsShowRecords
 
 some-of : (o : Option Found) → o ≢ None → (p : List ℕ) × (payload_of o ≡ Some p)
 some-of None h = absurd (h refl)
@@ -57,16 +52,16 @@ unpacked-size len words = length-map-range_with_len _ 0 len
 sizes-agree : (key payload : List ℕ) (e : Extent) → length key ≡ e.key → length payload ≡ payload_len e → words_for key payload ≡ extent_words e
 sizes-agree key payload e k p = rw (packed-size key, packed-size payload, k, p) refl
 
-module _ (b : Laws) (key : List ℕ) (v : KeyView) (s : Scene) (good : IsScene s) (h : HasViewed key v s) where
+module _ (key : List ℕ) (v : KeyView) (s : Scene) (good : IsScene s) (h : HasViewed key v s) where
   -- the record is one of the key's leaf
   pub was : (f : FoundRecord) → IsFound v f → WasRecord key ((says key v s h).0) v.slot v.status f.place f.extent s.past
   was f c =
       let same : c.found.payload ≡ (says key v s h).0 = some-same c.found.payload ((says key v s h).0) (sym (ap payload_of c.is) ∙ (says key v s h).1) in
       subst (λ z. WasRecord key z v.slot v.status f.place f.extent s.past) same
-      (subst (λ (z : FoundRecord). WasRecord key c.found.payload v.slot v.status z.place z.extent s.past) (sym c.place) (b.records key v c.found s good h.view c.is))
+      (subst (λ (z : FoundRecord). WasRecord key c.found.payload v.slot v.status z.place z.extent s.past) (sym c.place) (key_views_show_records key v c.found s good h.view c.is))
 
   pub place : (f : FoundRecord) → IsFound v f → f.place < SHARED_WORDS
-  place f c = let l : IsKeyViewed key v s.past = b.leaves key v s good h.view in let w : WasRecord key ((says key v s h).0) v.slot v.status f.place f.extent s.past = was f c in omega (arith, w.counted, l.room)
+  place f c = let l : IsKeyViewed key v s.past = key_views_show_leaves key v s good h.view in let w : WasRecord key ((says key v s h).0) v.slot v.status f.place f.extent s.past = was f c in omega (arith, w.counted, l.room)
 
   -- it has the words of the key and of the payload
   pub size : (f : FoundRecord) → IsFound v f → words_for key ((says key v s h).0) ≡ extent_words f.extent
@@ -81,7 +76,7 @@ module _ (b : Laws) (key : List ℕ) (v : KeyView) (s : Scene) (good : IsScene s
 
   -- no more words are dead than the block has
   pub dead : (status v.status).dead ≤ (status v.status).block
-  dead = let l : IsKeyViewed key v s.past = b.leaves key v s good h.view in l.dead
+  dead = let l : IsKeyViewed key v s.past = key_views_show_leaves key v s good h.view in l.dead
 
   -- and one is found
   pub found : v.found ≡ None → ⊥

@@ -1,23 +1,22 @@
 -- What an update knows stays.
 use Rattle.std.proofs.Common.{ℕ, ◌+◌, sym, subst, ◌∙◌}
 use Rattle.bz_layout.specs.Slots.{FreeSlots}
-use Rattle.bz_task.specs.Laws.{NothingIsGained, KeyViewsStay}
 use Rattle.bz_task.specs.OwnActs.{gained}
 use Rattle.bz_task.specs.Scene.{Scene, Stage, Waiting, Took, IsLawful, HasFilled}
 use Rattle.bz_task.specs.declared.view.KeyView.{KeyView}
+use Rattle.bz_task.proofs.Proved.{key_views_stay, nothing_is_gained}
 use Rattle.bz_record.specs.Records.{size_of}
-use Rattle.bz_record.specs.ReplacingLaws.{RecordsWere}
-use Rattle.bz_record.specs.Writing.{RecordsAreWritten}
 use Rattle.bz_record.specs.declared.found_record.FoundRecord.{FoundRecord}
 use Rattle.bz_record.specs.declared.new_record.NewRecord.{NewRecord}
+use Rattle.bz_record.proofs.Proved.{records_are_written, records_were}
 use Rattle.bz_mutate.specs.UpdateFacts.{HasViewedFor, CanGrow, HasGrown, HasReplaced, IsLineOf, update_learnt, update_facts}
 use Rattle.bz_mutate.specs.declared.update_phase.UpdatePhase.{UpdatePhase}
 use Rattle.bz_mutate.specs.declared.update_phase.UpdatePhase.TheVariants.{Fresh, Grow, Store, Flush, Replace, Done, Restart, NeedsRoom, Full}
 
-module _ (views : KeyViewsStay) (were : RecordsWere) (written : RecordsAreWritten) (v : KeyView) (r : NewRecord) (s after : Scene) (l : IsLawful s after) where
+module _ (v : KeyView) (r : NewRecord) (s after : Scene) (l : IsLawful s after) where
   viewed : HasViewedFor v r s → HasViewedFor v r after
   viewed h = record {
-    viewed = record { view = views r.key v s.past after.past h.viewed.view l.continues; present = h.viewed.present; going = l.effected ∙ h.viewed.going };
+    viewed = record { view = key_views_stay r.key v s.past after.past h.viewed.view l.continues; present = h.viewed.present; going = l.effected ∙ h.viewed.going };
     slot = h.slot;
     status = h.status;
     key = h.key;
@@ -27,10 +26,10 @@ module _ (views : KeyViewsStay) (were : RecordsWere) (written : RecordsAreWritte
   }
 
   can-grow : (f : FoundRecord) → CanGrow v r f s → CanGrow v r f after
-  can-grow f h = record { pair = h.pair; was = were.found r.key h.pair.old r.slot r.status f.place f.extent s.past after.past h.was l.continues; going = l.effected ∙ h.going }
+  can-grow f h = record { pair = h.pair; was = records_were.found r.key h.pair.old r.slot r.status f.place f.extent s.past after.past h.was l.continues; going = l.effected ∙ h.going }
 
   grown : (f : FoundRecord) (words lines : ℕ) → HasGrown v r f words lines s → HasGrown v r f words lines after
-  grown f words lines h = record { pair = h.pair; grown = were.grown r h.pair.old f.place f.extent s.past after.past h.grown l.continues; writing = written.stays r words lines s after h.writing l; going = l.effected ∙ h.going }
+  grown f words lines h = record { pair = h.pair; grown = records_were.grown r h.pair.old f.place f.extent s.past after.past h.grown l.continues; writing = records_are_written.stays r words lines s after h.writing l; going = l.effected ∙ h.going }
 
   line : (n : ℕ) → IsLineOf s.past.config r n → IsLineOf after.past.config r n
   line n h = subst (λ c. IsLineOf c r n) (sym l.continues.config) h
@@ -46,7 +45,7 @@ module _ (views : KeyViewsStay) (were : RecordsWere) (written : RecordsAreWritte
   learnt (Store f i) Took k = (k.0, grown f (i + 1) 0 k.1)
   learnt (Flush f n) Waiting k = (line n k.0, grown f (size_of r) n k.1)
   learnt (Flush f n) Took k = (line n k.0, grown f (size_of r) (n + 1) k.1)
-  learnt (Replace f) Waiting k = record { pair = k.pair; grown = were.grown r k.pair.old f.place f.extent s.past after.past k.grown l.continues; written = written.written_stays r s after k.written l; going = l.effected ∙ k.going }
+  learnt (Replace f) Waiting k = record { pair = k.pair; grown = records_were.grown r k.pair.old f.place f.extent s.past after.past k.grown l.continues; written = records_are_written.written_stays r s after k.written l; going = l.effected ∙ k.going }
   learnt (Replace f) Took k = replaced k
   learnt Done Waiting k = replaced k
   learnt Restart Waiting k = k
@@ -73,9 +72,9 @@ module _ (views : KeyViewsStay) (were : RecordsWere) (written : RecordsAreWritte
   stable Full stage k = (filled k.0, learnt Full stage k.1)
 
 -- it stays where no slot is taken
-module _ (nothing : NothingIsGained) (written : RecordsAreWritten) (v : KeyView) (r : NewRecord) (s : Scene) (free : FreeSlots) where
+module _ (v : KeyView) (r : NewRecord) (s : Scene) (free : FreeSlots) where
   grown-too : (f : FoundRecord) (words lines : ℕ) → HasGrown v r f words lines s → HasGrown v r f words lines (gained s free free)
-  grown-too f words lines h = record { pair = h.pair; grown = h.grown; writing = written.no_slot r words lines s free h.writing; going = h.going }
+  grown-too f words lines h = record { pair = h.pair; grown = h.grown; writing = records_are_written.no_slot r words lines s free h.writing; going = h.going }
 
   viewed-too : HasViewedFor v r s → HasViewedFor v r (gained s free free)
   viewed-too h = record {
@@ -90,11 +89,11 @@ module _ (nothing : NothingIsGained) (written : RecordsAreWritten) (v : KeyView)
 
   pub no-slot : (phase : UpdatePhase) → update_facts v r phase Waiting s → update_facts v r phase Waiting (gained s free free)
   no-slot Fresh k = viewed-too k
-  no-slot (Grow f) k = (nothing s free k.0, record { pair = k.1.pair; was = k.1.was; going = k.1.going })
-  no-slot (Store f i) k = (nothing s free k.0, (k.1.0, grown-too f i 0 k.1.1))
-  no-slot (Flush f n) k = (nothing s free k.0, (k.1.0, grown-too f (size_of r) n k.1.1))
-  no-slot (Replace f) k = (nothing s free k.0, record { pair = k.1.pair; grown = k.1.grown; written = written.written_no_slot r s free k.1.written; going = k.1.going })
-  no-slot Done k = (nothing s free k.0, record { room = k.1.room; effected = k.1.effected })
-  no-slot Restart k = (nothing s free k.0, k.1)
-  no-slot NeedsRoom k = (nothing s free k.0, k.1)
-  no-slot Full k = (nothing s free k.0, k.1)
+  no-slot (Grow f) k = (nothing_is_gained s free k.0, record { pair = k.1.pair; was = k.1.was; going = k.1.going })
+  no-slot (Store f i) k = (nothing_is_gained s free k.0, (k.1.0, grown-too f i 0 k.1.1))
+  no-slot (Flush f n) k = (nothing_is_gained s free k.0, (k.1.0, grown-too f (size_of r) n k.1.1))
+  no-slot (Replace f) k = (nothing_is_gained s free k.0, record { pair = k.1.pair; grown = k.1.grown; written = records_are_written.written_no_slot r s free k.1.written; going = k.1.going })
+  no-slot Done k = (nothing_is_gained s free k.0, record { room = k.1.room; effected = k.1.effected })
+  no-slot Restart k = (nothing_is_gained s free k.0, k.1)
+  no-slot NeedsRoom k = (nothing_is_gained s free k.0, k.1)
+  no-slot Full k = (nothing_is_gained s free k.0, k.1)

@@ -97,8 +97,6 @@ impl Delete {
         ensures learns { (stage : Stage) (s : Scene) → s.past.config ≡ self.now.config → IsScene s → delete_facts self.now.key self.now.view self.now.phase stage s → Tells (delete_asks self.now.config self.now.view self.now.phase) stage seen s → delete_facts self.now.key self.now.view result Waiting s }
     {
         let _moment = moment;
-        bz_record::laws::key_views_show_leaves();
-        bz_record::laws::key_views_show_records();
         match (self.phase, seen) {
             (DeletePhase::Fresh, _) => self.begun(),
             (DeletePhase::Remove(_), Seen::Swapped(true)) => DeletePhase::Done,
@@ -184,14 +182,11 @@ impl Task for Delete {
 
     fn next(&mut self, seen: Seen, slots: &mut Slots, moment: u32) -> Todo {
         let _slots = slots;
-        laws::nothing_is_gained();
         self.phase = self.after(seen, moment);
         self.asked()
     }
 
     fn learnt(&self) {
-        laws::key_views_stay();
-        bz_record::laws::records_were();
         bz_record::laws::changes_may_be_asked();
     }
 

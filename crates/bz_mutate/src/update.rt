@@ -85,8 +85,6 @@ impl Update {
         ensures learns { (stage : Stage) (s : Scene) → s.past.config ≡ self.now.config → IsScene s → update_facts self.now.view self.now.added self.now.phase stage s → Tells (update_asks self.now.config self.now.added self.now.phase) stage seen s → update_facts self.now.view self.now.added result Waiting s }
     {
         let _moment = moment;
-        bz_record::laws::key_views_show_leaves();
-        bz_record::laws::key_views_show_records();
         match (self.phase, seen) {
             (UpdatePhase::Fresh, _) => self.begun(),
             (UpdatePhase::Grow(old), Seen::Swapped(true)) => UpdatePhase::Store(old, 0),
@@ -200,24 +198,15 @@ impl Task for Update {
 
     fn next(&mut self, seen: Seen, slots: &mut Slots, moment: u32) -> Todo {
         let _slots = slots;
-        laws::nothing_is_gained();
-        bz_record::laws::records_are_written();
         self.phase = self.after(seen, moment);
         self.asked()
     }
 
     fn learnt(&self) {
-        laws::key_views_stay();
-        bz_record::laws::records_were();
-        bz_record::laws::records_are_written();
         bz_record::laws::changes_may_be_asked();
     }
 
     fn acted(&self) {
-        bz_record::laws::records_were();
-        bz_record::laws::records_are_written();
-        bz_record::laws::growths_are_good();
-        bz_record::laws::growths_take_words();
         bz_record::laws::replacements_are_good();
     }
 }

@@ -15,10 +15,10 @@ use Rattle.bz_slotted.specs.FromNode.Reading.{AreInKeyOrder, pairs_in, high_in}
 use Rattle.bz_shape.specs.Form.{Holds}
 use Rattle.bz_shape.specs.Order.{is_before, is_at_least, is_below}
 use Rattle.bz_shape.proofs.OrderLaws.{before-after}
-use Rattle.bz_slotted.specs.Laws.{FoundKeysAreInRange}
-use Rattle.bz_slotted.specs.ReadingLaws.{node_of, WholeLeavesAreReadable, HighFencesAreRead}
+use Rattle.bz_slotted.specs.ReadingLaws.{node_of}
 use Rattle.bz_slotted.specs.Readers.{found_of}
 use Rattle.bz_slotted.specs.Rules.{node_fault}
+use Rattle.bz_slotted.proofs.Proved.{found_keys_are_in_range, high_fences_are_read, whole_leaves_are_readable}
 use Rattle.bz_task.specs.Good.{IsGood}
 use Rattle.bz_task.specs.Instant.{form_at}
 use Rattle.bz_task.specs.Outcomes.{IsView}
@@ -26,14 +26,7 @@ use Rattle.bz_task.specs.Scene.{Past}
 use Rattle.bz_task.specs.declared.view.LeafView.{LeafView}
 use Rattle.bz_page.specs.Pages.{IsPageOf}
 use Rattle.bz_page.proofs.Lookups.{find-order, rising-sorted}
-use Rattle.bz_page.proofs.Views.{ViewLaws, holds, says-content}
-
--- the laws that these proofs stand on
-pub record Laws : Type 0 where
-  pub views : ViewLaws
-  pub ranges : FoundKeysAreInRange
-  pub readable : WholeLeavesAreReadable
-  pub ends : HighFencesAreRead
+use Rattle.bz_page.proofs.Views.{holds, says-content}
 
 -- what was read of these words: the pairs in the order of their keys, those from a key on, and the high fence
 pub record IsRead (words from : List ℕ) (all pairs : List (List ℕ × List ℕ)) (end : Option (List ℕ)) : Type 0 where
@@ -76,13 +69,13 @@ and-right : (a b : Bool) → (a && b) ≡ true → b ≡ true
 and-right true b e = e
 and-right false b e = absurd (cc)
 
-shows-end : HighFencesAreRead → (nodes : ℕ) (words from : List ℕ) (low high : Option (List ℕ)) (all pairs : List (List ℕ × List ℕ)) (end : Option (List ℕ)) →
+shows-end : (nodes : ℕ) (words from : List ℕ) (low high : Option (List ℕ)) (all pairs : List (List ℕ × List ℕ)) (end : Option (List ℕ)) →
     IsRead words from all pairs end → node_fault nodes (node_of words) (node_of words) 0 low high ≡ None → end ≡ high
-shows-end ends nodes words from low high all pairs end r none = r.high ∙ (ends nodes (node_of words) words 0 low high r.size none).high
+shows-end nodes words from low high all pairs end r none = r.high ∙ (high_fences_are_read nodes (node_of words) words 0 low high r.size none).high
 
-module _ (b : Laws) (from : List ℕ) (view : LeafView) (all pairs : List (List ℕ × List ℕ)) (end : Option (List ℕ)) (r : IsRead view.image.0 from all pairs end) (p : Past) (v : IsView from view p) (g : IsGood p.config (p.at view.at)) where
+module _ (from : List ℕ) (view : LeafView) (all pairs : List (List ℕ × List ℕ)) (end : Option (List ℕ)) (r : IsRead view.image.0 from all pairs end) (p : Past) (v : IsView from view p) (g : IsGood p.config (p.at view.at)) where
   high : end ≡ (form_at p.config (p.at view.at)).high view.slot
-  high = shows-end b.ends p.config.nodes view.image.0 from _ _ all pairs end r v.whole
+  high = shows-end p.config.nodes view.image.0 from _ _ all pairs end r v.whole
 
   -- a look-up in the page
   finds-from : (key : List ℕ) → find (slice_cmp nat_cmp) key pairs ≡ cond (is_from from key) (found_of (node_of view.image.0) key) None
@@ -90,12 +83,12 @@ module _ (b : Laws) (from : List ℕ) (view : LeafView) (all pairs : List (List 
       ap (find (slice_cmp nat_cmp) key) r.rest
       ∙ (find-where_key (slice_cmp nat_cmp) (is_from from) key (λ other tied. same-test from key other tied) all
       ∙ ap (λ (found : Option (List ℕ)). cond (is_from from key) found None)
-      (find-order key (pairs_in view.image.0) all r.order.same r.order.rising ∙ (b.readable p.config.nodes (node_of view.image.0) view.image.0 _ _ r.size v.whole).says key))
+      (find-order key (pairs_in view.image.0) all r.order.same r.order.rising ∙ (whole_leaves_are_readable p.config.nodes (node_of view.image.0) view.image.0 _ _ r.size v.whole).says key))
 
   -- a key in the page's range is one of the leaf
   holds-key : (key : List ℕ) → is_from from key ≡ true → is_below key end ≡ true → Holds (form_at p.config (p.at view.at)) key view.slot
   holds-key key after before =
-      let h : Holds (form_at p.config (p.at view.at)) from view.slot = holds b.views from view p v g in
+      let h : Holds (form_at p.config (p.at view.at)) from view.slot = holds from view p v g in
       record { inside = h.inside; leaf = h.leaf; low = at_least-from from key _ after h.low; high = rw high at before }
 
   -- of a key past the end the leaf says nothing
@@ -108,7 +101,7 @@ module _ (b : Laws) (from : List ℕ) (view : LeafView) (all pairs : List (List 
       go : (o : Option (List ℕ)) → found_of (node_of view.image.0) key ≡ o → found_of (node_of view.image.0) key ≡ None
       go None e = e
       go (Some found) e =
-          let within = b.ranges p.config.nodes (node_of view.image.0) (node_of view.image.0) _ _ key v.whole (some found e) in
+          let within = found_keys_are_in_range p.config.nodes (node_of view.image.0) (node_of view.image.0) _ _ key v.whole (some found e) in
           let inside : is_below key end ≡ true = rw high (and-right (is_at_least key ((form_at p.config (p.at view.at)).low view.slot)) (is_below key ((form_at p.config (p.at view.at)).high view.slot)) within) in
           absurd (true≢false (sym inside ∙ past))
 
@@ -118,7 +111,7 @@ module _ (b : Laws) (from : List ℕ) (view : LeafView) (all pairs : List (List 
       go : (a : Bool) → is_from from key ≡ a → (d : Bool) → is_below key end ≡ d
           → cond a (found_of (node_of view.image.0) key) None ≡ (if a && d then content_in p.config (p.at view.at).image key else None)
       go false e d f = refl
-      go true e true f = says-content b.views from view p v g key (holds-key key e f)
+      go true e true f = says-content from view p v g key (holds-key key e f)
       go true e false f = none-past key f
 
   pub is-page : IsPageOf p.config (p.at view.at).image from pairs end

@@ -5,36 +5,29 @@ use Rattle.std.proofs.lemmas.Bool.Decides.{nat_tests}
 use Rattle.bz_slotted.specs.FromLayout.Config.{Config}
 use Rattle.bz_slotted.specs.FromLayout.TheConstants.{NODE_WORDS, STATUS_AT, META_AT}
 use Rattle.bz_shape.specs.Form.{Holds}
-use Rattle.bz_shape.specs.TreeLaws.{LeavesTileTheKeys}
 use Rattle.bz_shape.specs.Walk.{IsTree}
-use Rattle.bz_slotted.specs.Laws.{LeafRulesAreFacts}
+use Rattle.bz_shape.proofs.Proved.{leaves_tile_the_keys}
 use Rattle.bz_slotted.specs.Page.{visible, held, meta_of, page}
 use Rattle.bz_slotted.specs.ReadingLaws.{node_of}
 use Rattle.bz_slotted.specs.Readers.{found_of, live_of}
 use Rattle.bz_slotted.specs.Records.{live_to}
 use Rattle.bz_slotted.specs.Whole.{Whole}
+use Rattle.bz_slotted.proofs.Proved.{leaf_rules_are_facts}
 use Rattle.bz_word.specs.Statuses.{status}
 use Rattle.bz_word.specs.declared.meta.Meta.{Meta}
 use Rattle.bz_word.specs.declared.meta.Meta.TheVariants.{Unused, Reserved, Visible, Deleted}
 use Rattle.bz_task.specs.FromContent.Content.{view_in, content_in, leaf_in}
 use Rattle.bz_task.specs.FromContent.Image.{node}
-use Rattle.bz_task.specs.FromContent.Laws.{WellFormedImagesHaveNoFault}
 use Rattle.bz_task.specs.Good.{IsGood}
 use Rattle.bz_task.specs.Instant.{words, durable, form_at}
-use Rattle.bz_task.specs.Laws.{IsLeafInTree, LeavesAreInTrees, SeenLeavesAreWhole, SameRecordsShowTheSame}
+use Rattle.bz_task.specs.Laws.{IsLeafInTree}
 use Rattle.bz_task.specs.Outcomes.{IsView}
 use Rattle.bz_task.specs.Scene.{Past}
 use Rattle.bz_task.specs.Shown.{IsShown, SameWords, SameRecords}
 use Rattle.bz_task.specs.declared.view.LeafView.{LeafView}
-
--- the laws that these proofs stand on
-pub record ViewLaws : Type 0 where
-  pub leaves : LeavesAreInTrees
-  pub seen : SeenLeavesAreWhole
-  pub shown : SameRecordsShowTheSame
-  pub rules : LeafRulesAreFacts
-  pub formed : WellFormedImagesHaveNoFault
-  pub tile : LeavesTileTheKeys
+use Rattle.bz_task.proofs.FromContent.Proved.{well_formed_images_have_no_fault}
+use Rattle.bz_task.proofs.Proved.{leaves_are_in_trees, same_records_show_the_same, seen_leaves_are_whole}
+use Rattle.bz_content.proofs.Proved.{}
 
 held-visible : (m : Meta) → visible m ≡ true → held m ≡ true
 unfolding visible held
@@ -74,15 +67,15 @@ same-live n m s = ap (live_to (page m).meta) count ∙ same-live-to (page m).met
 below-top : (c : Config) (k : ℕ) → k < c.nodes → (k == c.nodes) ≡ false
 below-top c k l = grind (arith, nat_tests)
 
-module _ (b : ViewLaws) (from : List ℕ) (view : LeafView) (p : Past) (v : IsView from view p) (g : IsGood p.config (p.at view.at)) where
+module _ (from : List ℕ) (view : LeafView) (p : Past) (v : IsView from view p) (g : IsGood p.config (p.at view.at)) where
   tree : IsTree (view_in p.config (p.at view.at).image)
-  tree = ((b.formed p.config (p.at view.at).image).0 g.form).tree
+  tree = ((well_formed_images_have_no_fault p.config (p.at view.at).image).0 g.form).tree
 
   pub holds : Holds (form_at p.config (p.at view.at)) from view.slot
-  holds = (b.tile (view_in p.config (p.at view.at).image) tree from view.slot).1 v.leaf
+  holds = (leaves_tile_the_keys (view_in p.config (p.at view.at).image) tree from view.slot).1 v.leaf
 
   leaf : IsLeafInTree p.config (p.at view.at) view.slot
-  leaf = b.leaves p.config (p.at view.at) view.slot g v.slot holds.inside holds.leaf
+  leaf = leaves_are_in_trees p.config (p.at view.at) view.slot g v.slot holds.inside holds.leaf
 
   durable-same : SameWords (words p.config (p.at view.at) view.slot) (durable p.config (p.at view.at) view.slot)
   durable-same i h = g.shown view.slot i leaf.reached h
@@ -91,12 +84,12 @@ module _ (b : ViewLaws) (from : List ℕ) (view : LeafView) (p : Past) (v : IsVi
   view-same : SameWords (durable p.config (p.at view.at) view.slot) (node_of view.image.0)
   view-same i h =
       let w : Whole (node p.config (p.at view.at).image view.slot) (page (durable p.config (p.at view.at) view.slot)) ((form_at p.config (p.at view.at)).low view.slot) ((form_at p.config (p.at view.at)).high view.slot) =
-      (b.rules p.config.nodes (node p.config (p.at view.at).image view.slot) (durable p.config (p.at view.at) view.slot) _ _).0 leaf.whole in
-      let shown : IsShown (words p.config (p.at view.at) view.slot) i = (b.shown _ _ (same-records _ _ durable-same) i).1 h in
+      (leaf_rules_are_facts p.config.nodes (node p.config (p.at view.at).image view.slot) (durable p.config (p.at view.at) view.slot) _ _).0 leaf.whole in
+      let shown : IsShown (words p.config (p.at view.at) view.slot) i = (same_records_show_the_same _ _ (same-records _ _ durable-same) i).1 h in
       v.words i (shown-within _ _ _ _ w i h) shown ∙ sym (durable-same i shown)
 
   pub says : (key : List ℕ) → found_of (node_of view.image.0) key ≡ found_of (durable p.config (p.at view.at) view.slot) key
-  says = (b.seen p.config.nodes (node p.config (p.at view.at).image view.slot) (durable p.config (p.at view.at) view.slot) (node_of view.image.0) _ _ leaf.whole view-same).found
+  says = (seen_leaves_are_whole p.config.nodes (node p.config (p.at view.at).image view.slot) (durable p.config (p.at view.at) view.slot) (node_of view.image.0) _ _ leaf.whole view-same).found
 
   pub live : live_of (node_of view.image.0) ≡ live_of (durable p.config (p.at view.at) view.slot)
   live = same-live (durable p.config (p.at view.at) view.slot) (node_of view.image.0) view-same
@@ -104,7 +97,7 @@ module _ (b : ViewLaws) (from : List ℕ) (view : LeafView) (p : Past) (v : IsVi
   -- of each key in the leaf's range the view says what the image holds
   pub says-content : (key : List ℕ) → Holds (form_at p.config (p.at view.at)) key view.slot → found_of (node_of view.image.0) key ≡ content_in p.config (p.at view.at).image key
   says-content key h =
-      let same_leaf : leaf_in p.config (p.at view.at).image key ≡ view.slot = (b.tile (view_in p.config (p.at view.at).image) tree key view.slot).0 h in
+      let same_leaf : leaf_in p.config (p.at view.at).image key ≡ view.slot = (leaves_tile_the_keys (view_in p.config (p.at view.at).image) tree key view.slot).0 h in
       let here : content_in p.config (p.at view.at).image key ≡ (if view.slot == p.config.nodes then None else found_of (durable p.config (p.at view.at) view.slot) key) =
       ap (λ k. (view_in p.config (p.at view.at).image).found k key) same_leaf in
       let below : (view.slot == p.config.nodes) ≡ false = below-top p.config view.slot v.slot in

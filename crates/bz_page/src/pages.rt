@@ -25,6 +25,7 @@ fn is_whole(image: &NodeImage)
 
 /// Fills `out` with the pairs of a leaf from a key on, in the order of their keys and in place of what it held, and
 /// answers the leaf's high fence: the key with which the next page begins, or none where no page comes next.
+#[tactic(auto, using(bz_slotted::proofs::Proved::high_fences_are_read, bz_slotted::proofs::Proved::whole_leaves_are_readable))]
 pub fn collect(view: &LeafView, from: &Key, out: &mut PageBuf) -> Option<Key>
     requires { IsLeafByItself view.now.image.0 }
     ensures records { AreRecordsFrom from.now (records_of (page_of (node_of view.now.image.0))) out.new }
@@ -33,15 +34,7 @@ pub fn collect(view: &LeafView, from: &Key, out: &mut PageBuf) -> Option<Key>
     ensures page { (p : Past) → IsView from.now view.now p → IsGood p.config (p.at view.now.at) → IsPageOf p.config (p.at view.now.at).image from.now out.new result }
 {
     is_whole(&view.image);
-    laws::leaves_are_in_trees();
-    laws::seen_leaves_are_whole();
-    laws::same_records_show_the_same();
     bz_task::content_laws::well_formed_images_have_no_fault();
-    bz_shape::laws::leaves_tile_the_keys();
-    bz_slotted::laws::leaf_rules_are_facts();
-    bz_slotted::laws::found_keys_are_in_range();
-    bz_slotted::laws::whole_leaves_are_readable();
-    bz_slotted::laws::high_fences_are_read();
     view.image.records(out);
     out.drop_before(from);
     view.image.high()

@@ -6,8 +6,9 @@ use Rattle.std.proofs.lemmas.List.{map-append, take-append-drop, take_all, get_o
 use Rattle.bz_key.specs.Packing.{packed}
 use Rattle.bz_key.proofs.PackingLaws.{length-packed}
 use Rattle.bz_key.specs.declared.limits.TheConstants.{KEY_BYTES}
-use Rattle.bz_layout.specs.Rooms.{InnerSplitsInHalves, AreHalves}
+use Rattle.bz_layout.specs.Rooms.{AreHalves}
 use Rattle.bz_layout.specs.declared.thresholds.TheConstants.{INNER_LIMIT, INNER_RECORD_WORDS}
+use Rattle.bz_layout.proofs.Laws.{inner_splits_in_halves}
 use Rattle.bz_node.specs.Layout.{block, bound_of, needed}
 use Rattle.bz_node.specs.Records.{child_entry, IsBound, IsChild}
 use Rattle.bz_node.specs.declared.child.Child.{Child}
@@ -60,7 +61,7 @@ right-words cs cut l =
     let first : Child = record { low = None; slot = c.slot } in
     omega (arith, ap child_words is, words-first c (drop (cut + 1) cs), words-first first (drop (cut + 1) cs), size-is c, size-is first, length-packed [])
 
-module _ (law : InnerSplitsInHalves) (cs : List Child) (low high : Option (List ℕ)) (cut : ℕ) (s : IsSplitInner cs low high) (c : IsParting cs cut) where
+module _ (cs : List Child) (low high : Option (List ℕ)) (cut : ℕ) (s : IsSplitInner cs low high) (c : IsParting cs cut) where
   pub some : 0 < cut
   some = elim (cases_lt 0 cut) [
     | inl l ↦ l
@@ -89,7 +90,7 @@ module _ (law : InnerSplitsInHalves) (cs : List Child) (low high : Option (List 
       same l = get_or_default cs (cut - 1) none (get_or cs (cut - 1) none) l
 
   parts : AreHalves (child_words cs) (child_words (take (cut - 1) cs) + size_of last) INNER_LIMIT
-  parts = law (child_words cs) (child_words (take (cut - 1) cs)) (size_of last) s.many s.room
+  parts = inner_splits_in_halves (child_words cs) (child_words (take (cut - 1) cs)) (size_of last) s.many s.room
       (record { too_few = c.fewest (cut - 1) (omega (arith, some)); enough = omega (arith, c.enough, left-is) }) (size-small last (s.each (cut - 1) none last-in))
 
   pub left-room : child_words (take cut cs) ≤ INNER_LIMIT

@@ -4,13 +4,13 @@ use Rattle.std.specs.Prelude.{All, Some, None, nat_lt}
 use Rattle.std.proofs.lemmas.Bool.{cases_lt, cases_eq}
 use Rattle.std.proofs.lemmas.Bool.Decides.{nat_tests}
 use Rattle.std.proofs.lemmas.List.Elements.{All-take}
-use Rattle.bz_layout.specs.Rooms.{InnerSplitsInHalves}
 use Rattle.bz_node.specs.Layout.{bound_of}
 use Rattle.bz_node.specs.declared.child.Child.{Child}
 use Rattle.bz_shape.specs.Slots.{Halves}
 use Rattle.bz_slotted.specs.Page.{page}
 use Rattle.bz_slotted.specs.Readers.{count_of, child_of, key_of}
-use Rattle.bz_slotted.specs.ReadingLaws.{node_of, IsInnerOf, MadeInnersAreWhole}
+use Rattle.bz_slotted.specs.ReadingLaws.{node_of, IsInnerOf}
+use Rattle.bz_slotted.proofs.Proved.{made_inners_are_whole}
 use Rattle.bz_halves.specs.Parents.{child_at, HasChildren, children_told}
 use Rattle.bz_parted.specs.Parting.{IsParting, separator_of, right_half, left_words, right_words}
 use Rattle.bz_parted.specs.Laws.{IsSplitInner, AreInnerHalves, StandsAtLevel, HalvesAreInner}
@@ -39,9 +39,9 @@ right-slot cs cut j = elim (cases_eq j 0) [
       subst (λ z. (get_or (right_half cs cut) z none).slot ≡ (get_or cs (cut + z) none).slot) e (ap (λ (z : Child). z.slot) (right-later cs cut (j - 1) none)))
 ]
 
-module _ (law : InnerSplitsInHalves) (made : MadeInnersAreWhole) (nodes : ℕ) (old : ℕ → ℕ) (cs : List Child) (low high : Option (List ℕ)) (level cut : ℕ) (s : IsSplitInner cs low high) (c : IsParting cs cut) (at : StandsAtLevel nodes cs level) (tells : HasChildren old cs) where
+module _ (nodes : ℕ) (old : ℕ → ℕ) (cs : List Child) (low high : Option (List ℕ)) (level cut : ℕ) (s : IsSplitInner cs low high) (c : IsParting cs cut) (at : StandsAtLevel nodes cs level) (tells : HasChildren old cs) where
   h : AreInnerHalves cs low high cut
-  h = part-in-halves law cs low high cut s c
+  h = part-in-halves cs low high cut s c
 
   abbrev sep : List ℕ
   sep = separator_of cs cut
@@ -53,13 +53,13 @@ module _ (law : InnerSplitsInHalves) (made : MadeInnersAreWhole) (nodes : ℕ) (
   right = node_of (right_words cs high level cut)
 
   left-inner : IsInnerOf nodes left (take cut cs) level low (Some sep)
-  left-inner = made nodes (take cut cs) level low (Some sep) h.left_each s.low_bound h.separator h.left (All-take (λ (z : Child). z.slot < nodes) cut cs at.slots) at.inner at.lowest (omega (arith, h.left_room))
+  left-inner = made_inners_are_whole nodes (take cut cs) level low (Some sep) h.left_each s.low_bound h.separator h.left (All-take (λ (z : Child). z.slot < nodes) cut cs at.slots) at.inner at.lowest (omega (arith, h.left_room))
 
   right-slots : All (λ (z : Child). z.slot < nodes) (right_half cs cut)
-  right-slots = right-all law cs low high cut s c (λ (z : Child). z.slot < nodes) at.slots (at.slots cut none h.more)
+  right-slots = right-all cs low high cut s c (λ (z : Child). z.slot < nodes) at.slots (at.slots cut none h.more)
 
   right-inner : IsInnerOf nodes right (right_half cs cut) level (Some sep) high
-  right-inner = made nodes (right_half cs cut) level (Some sep) high h.right_each h.separator s.high_bound h.right right-slots at.inner at.lowest (omega (arith, h.right_room))
+  right-inner = made_inners_are_whole nodes (right_half cs cut) level (Some sep) high h.right_each h.separator s.high_bound h.right right-slots at.inner at.lowest (omega (arith, h.right_room))
 
   long-left : length (take cut cs) ≡ cut
   long-left = left-count cs cut h.more
@@ -105,9 +105,9 @@ module _ (law : InnerSplitsInHalves) (made : MadeInnersAreWhole) (nodes : ℕ) (
     parted = tells.key cut h.more;
   }
 
-pub are-inner : InnerSplitsInHalves → MadeInnersAreWhole → HalvesAreInner
-are-inner law made nodes old cs low high level cut s c at tells = record {
-  left = left-inner law made nodes old cs low high level cut s c at tells;
-  right = right-inner law made nodes old cs low high level cut s c at tells;
-  halves = parted law made nodes old cs low high level cut s c at tells;
+pub are-inner : HalvesAreInner
+are-inner nodes old cs low high level cut s c at tells = record {
+  left = left-inner nodes old cs low high level cut s c at tells;
+  right = right-inner nodes old cs low high level cut s c at tells;
+  halves = parted nodes old cs low high level cut s c at tells;
 }

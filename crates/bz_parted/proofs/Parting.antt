@@ -4,7 +4,6 @@ use Rattle.std.specs.Prelude.{All, Some, None, IsSome}
 use Rattle.std.proofs.lemmas.List.{length-take, length-drop, get_or-take, get_or-drop, get_or_default, get_or-map, length-map}
 use Rattle.std.proofs.lemmas.List.Elements.{All-take, All-drop}
 use Rattle.bz_key.specs.Bytes.{IsKey}
-use Rattle.bz_layout.specs.Rooms.{InnerSplitsInHalves}
 use Rattle.bz_node.specs.Layout.{bound_of}
 use Rattle.bz_node.specs.Records.{IsBound, IsChild, IsChildList, IsAbove, IsBelow, IsBefore, AreRising, separators_of}
 use Rattle.bz_node.specs.declared.child.Child.{Child}
@@ -65,7 +64,7 @@ right-separator cs cut i l h =
     separator-is (right_half cs cut) i h
     ∙ (ap bound (right-later cs cut i none) ∙ (ap (λ z. bound (child_at cs z)) on ∙ sym (separator-is cs (cut + i) (omega (arith, h, right-count cs cut l)))))
 
-module _ (law : InnerSplitsInHalves) (cs : List Child) (low high : Option (List ℕ)) (cut : ℕ) (s : IsSplitInner cs low high) (c : IsParting cs cut) where
+module _ (cs : List Child) (low high : Option (List ℕ)) (cut : ℕ) (s : IsSplitInner cs low high) (c : IsParting cs cut) where
   abbrev sep : List ℕ
   sep = separator_of cs cut
 
@@ -73,10 +72,10 @@ module _ (law : InnerSplitsInHalves) (cs : List Child) (low high : Option (List 
   seps = separators_of cs
 
   begun : 0 < cut
-  begun = some law cs low high cut s c
+  begun = some cs low high cut s c
 
   within : cut < length cs
-  within = more law cs low high cut s c
+  within = more cs low high cut s c
 
   counted : length seps + 1 ≡ length cs
   counted = separator-count cs s.list.some
@@ -182,9 +181,9 @@ module _ (law : InnerSplitsInHalves) (cs : List Child) (low high : Option (List 
     left = left-list;
     right = right-list;
     words = omega (arith, words-parts cs cut, right-words cs cut within);
-    left_room = left-room law cs low high cut s c;
-    right_room = right-room law cs low high cut s c;
+    left_room = left-room cs low high cut s c;
+    right_room = right-room cs low high cut s c;
   }
 
-pub part-in-halves : InnerSplitsInHalves → ChildrenPartInHalves
-part-in-halves law cs low high cut s c = halves law cs low high cut s c
+pub part-in-halves : ChildrenPartInHalves
+part-in-halves cs low high cut s c = halves cs low high cut s c

@@ -3,8 +3,7 @@ use Rattle.std.proofs.Common.{arith}
 use Rattle.std.specs.Prelude.{length, ◌+◌}
 use Rattle.bz_key.proofs.PackingLaws.{length-packed}
 use Rattle.bz_key.specs.Packing.{packed}
-use Rattle.bz_layout.proofs.Laws.{inner_splits_in_halves, inner_takes_separator}
-use Rattle.bz_slotted.proofs.Proved.{inner_keys_rise, inner_rules_are_facts, made_inners_are_whole, whole_inners_are_readable}
+use Rattle.bz_layout.proofs.Laws.{inner_takes_separator}
 use Rattle.bz_parted.proofs.Nodes.{are-inner}
 use Rattle.bz_parted.proofs.Parting.{part-in-halves}
 use Rattle.bz_parted.proofs.ReadNodes.{read-nodes}
@@ -14,7 +13,7 @@ use Rattle.bz_parted.specs.Parting.{child_words}
 
 -- the children of an inner node that is split part in two halves, each of which takes one more separator
 pub children_part_in_halves : ChildrenPartInHalves
-children_part_in_halves = part-in-halves inner_splits_in_halves
+children_part_in_halves = part-in-halves
 
 -- a half has room for one child more, below any separator
 pub halves_take_one_more : HalvesTakeOneMore
@@ -22,12 +21,12 @@ halves_take_one_more children sep key l = omega (arith, inner_takes_separator (c
 
 -- the halves are inner nodes, and have between them the children of the node that is split
 pub halves_are_inner : HalvesAreInner
-halves_are_inner = are-inner inner_splits_in_halves made_inners_are_whole
+halves_are_inner = are-inner
 
 -- a new root over two nodes breaks no rule, and takes one more separator
 pub roots_stand_at_levels : RootsStandAtLevels
-roots_stand_at_levels = roots-stand made_inners_are_whole
+roots_stand_at_levels = roots-stand
 
 -- the children that are read of an inner node that breaks no rule make a node, and take the words that its status says
 pub read_nodes_have_children : ReadNodesHaveChildren
-read_nodes_have_children = read-nodes whole_inners_are_readable inner_rules_are_facts inner_keys_rise
+read_nodes_have_children = read-nodes

@@ -10,14 +10,15 @@ use Rattle.bz_layout.specs.declared.limits.TheConstants.{MAX_NODES}
 use Rattle.bz_node.specs.Layout.{bound_of}
 use Rattle.bz_node.specs.Reading.{children_in}
 use Rattle.bz_node.specs.declared.child.Child.{Child}
-use Rattle.bz_slotted.specs.Laws.{InnerRulesAreFacts, InnerKeysRise, RisesBetween}
+use Rattle.bz_slotted.specs.Laws.{RisesBetween}
 use Rattle.bz_slotted.specs.Page.{extent_of, page}
 use Rattle.bz_slotted.specs.Readers.{count_of, key_of}
-use Rattle.bz_slotted.specs.ReadingLaws.{node_of, child_read, ReadsAsChildren, WholeInnersAreReadable}
+use Rattle.bz_slotted.specs.ReadingLaws.{node_of, child_read, ReadsAsChildren}
 use Rattle.bz_slotted.specs.Records.{key_words, shown, live_block}
 use Rattle.bz_slotted.specs.Whole.{WholeInner}
 use Rattle.bz_slotted.proofs.Honest.{lt-t}
 use Rattle.bz_slotted.proofs.Readings.{unpacked_key-some}
+use Rattle.bz_slotted.proofs.Proved.{inner_keys_rise, inner_rules_are_facts, whole_inners_are_readable}
 use Rattle.bz_halves.proofs.ReadParents.{no-bytes, child-is, bound-read, each, list, has, slots, low-bound, high-bound}
 use Rattle.bz_parted.specs.Laws.{ReadNodesHaveChildren}
 use Rattle.bz_parted.specs.Parting.{child_words}
@@ -72,11 +73,11 @@ module _ (nodes : ℕ) (raw : ℕ → ℕ) (words : List ℕ) (level : ℕ) (low
       let all : take (page n).count cs ≡ cs = take_all (page n).count cs (omega (arith, reads.count, counted)) in
       omega (arith, ap child_words (sym all), first-words (page n).count (omega arith), w.filled.dead, w.settled.none_dead)
 
-pub read-nodes : WholeInnersAreReadable → InnerRulesAreFacts → InnerKeysRise → ReadNodesHaveChildren
-read-nodes readable rules rises nodes raw words level low high few inner size none =
-    let reads : ReadsAsChildren words = readable nodes raw words level low high few inner size none in
-    let w : WholeInner nodes raw (page (node_of words)) level low high = (rules nodes raw (node_of words) level low high inner).0 none in
-    let rise : RisesBetween nodes (node_of words) low high = rises nodes raw (node_of words) level low high inner none in
+pub read-nodes : ReadNodesHaveChildren
+read-nodes nodes raw words level low high few inner size none =
+    let reads : ReadsAsChildren words = whole_inners_are_readable nodes raw words level low high few inner size none in
+    let w : WholeInner nodes raw (page (node_of words)) level low high = (inner_rules_are_facts nodes raw (node_of words) level low high inner).0 none in
+    let rise : RisesBetween nodes (node_of words) low high = inner_keys_rise nodes raw (node_of words) level low high inner none in
     record {
       readable = reads.readable;
       each = each nodes raw words level low high few reads w rise;

@@ -3,16 +3,17 @@ use Rattle.std.proofs.Common.{ℕ, zero, suc, ◌<◌, arith}
 use Rattle.std.specs.Prelude.{All, None, slice_index_or}
 use Rattle.bz_node.specs.Records.{IsChild}
 use Rattle.bz_node.specs.declared.child.Child.{Child}
-use Rattle.bz_slotted.specs.ReadingLaws.{node_of, IsInnerOf, MadeInnersAreWhole}
+use Rattle.bz_slotted.specs.ReadingLaws.{node_of, IsInnerOf}
+use Rattle.bz_slotted.proofs.Proved.{made_inners_are_whole}
 use Rattle.bz_halves.specs.Roots.{root_children}
 use Rattle.bz_halves.proofs.Roots.{child-list, root-room}
 use Rattle.bz_parted.specs.Laws.{RootsStandAtLevels}
 use Rattle.bz_parted.specs.Roots.{tall_root_words}
 
-pub roots-stand : MadeInnersAreWhole → RootsStandAtLevels
-roots-stand made nodes left right level sep few l r key inner levels =
+pub roots-stand : RootsStandAtLevels
+roots-stand nodes left right level sep few l r key inner levels =
     let m : IsInnerOf nodes (node_of (tall_root_words left right sep level)) (root_children left right sep) level None None =
-    made nodes (root_children left right sep) level None None children tt tt (child-list left right sep) slots inner levels (omega (arith, root-room left right sep key.fits)) in
+    made_inners_are_whole nodes (root_children left right sep) level None None children tt tt (child-list left right sep) slots inner levels (omega (arith, root-room left right sep key.fits)) in
     let no : Child = record { low = None; slot = 0 } in
     record {
       none = m.none;

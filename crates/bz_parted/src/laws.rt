@@ -1,15 +1,10 @@
 //! Laws of the halves of an inner node. Each function does nothing: its contract is the law.
 
-ghost use Rattle.bz_parted.specs.Laws.{ChildrenPartInHalves, HalvesTakeOneMore, HalvesAreInner, RootsStandAtLevels, ReadNodesHaveChildren};
+ghost use Rattle.bz_parted.specs.Laws.{ChildrenPartInHalves, HalvesAreInner, RootsStandAtLevels, ReadNodesHaveChildren};
 
 /// The children of an inner node that is split part in two halves, each of which takes one more separator.
 pub fn children_part_in_halves()
     ensures { ChildrenPartInHalves }
-{}
-
-/// A half has room for one child more, below any separator.
-pub fn halves_take_one_more()
-    ensures { HalvesTakeOneMore }
 {}
 
 /// The halves are inner nodes, and have between them the children of the node that is split.

@@ -4,19 +4,20 @@ use Rattle.std.proofs.lemmas.Bool.{cases_lt}
 use Rattle.std.proofs.lemmas.List.Elements.{All-cons}
 use Rattle.bz_layout.specs.declared.config.Config.{Config}
 use Rattle.bz_layout.specs.declared.sizes.TheConstants.{HEADER_AT, STATUS_AT, META_AT, SHARED_WORDS, NODE_WORDS}
-use Rattle.bz_slotted.specs.Laws.{LeafRulesAreFacts}
 use Rattle.bz_slotted.specs.Page.{page}
 use Rattle.bz_slotted.specs.Whole.{Whole}
+use Rattle.bz_slotted.proofs.Proved.{leaf_rules_are_facts}
 use Rattle.bz_word.specs.Headers.{header}
 use Rattle.bz_word.specs.Statuses.{status}
 use Rattle.bz_content.specs.Image.{node}
 use Rattle.bz_task.specs.Good.{IsGood}
 use Rattle.bz_task.specs.Instant.{Instant, words, durable, page_at, form_at}
-use Rattle.bz_task.specs.Laws.{AreMoments, FrontsStay, RangesStay, NodesWereInside, WasInside, LeavesAreInTrees, IsLeafInTree}
+use Rattle.bz_task.specs.Laws.{AreMoments, WasInside, IsLeafInTree}
 use Rattle.bz_task.specs.Requests.{IsMetaPlace, IsEntryToAsk}
 use Rattle.bz_task.specs.Scene.{Scene, IsScene, here}
 use Rattle.bz_task.specs.Shown.{SameWords}
 use Rattle.bz_task.specs.Steps.{IsStep, Moves}
+use Rattle.bz_task.proofs.Proved.{fronts_stay, leaves_are_in_trees, nodes_were_inside, ranges_stay}
 use Rattle.bz_record.specs.Laws.{IsPlaceIn, RecordSwapsMayBeAsked}
 use Rattle.bz_record.specs.Leaves.{WasLeafThen}
 use Rattle.bz_record.specs.Swaps.{status_entry, meta_entry}
@@ -62,15 +63,7 @@ grown-step c x y z k (inr e) g = elim (e.nodes k g.reached) [
   | inr m ↦ grown-moved c x y z k (e.reached k g.reached) m g
 ]
 
--- the laws that these proofs stand on
-pub record Laws : Type 0 where
-  pub fronts : FrontsStay
-  pub inside : NodesWereInside
-  pub ranges : RangesStay
-  pub leaves : LeavesAreInTrees
-  pub rules : LeafRulesAreFacts
-
-module _ (b : Laws) (s : Scene) (k st moment : ℕ) (good : IsScene s) (w : WasLeafThen k st moment s.past) where
+module _ (s : Scene) (k st moment : ℕ) (good : IsScene s) (w : WasLeafThen k st moment s.past) where
   moments : AreMoments s.past.since s.past.now moment s.past.now
   moments = record { since = w.since; order = w.now; until = omega arith }
 
@@ -81,7 +74,7 @@ module _ (b : Laws) (s : Scene) (k st moment : ℕ) (good : IsScene s) (w : WasL
   reached-then = (good.history.good moment w.since w.now).inside k w.inside below
 
   pub still-reached : (here s).reached k ≡ true
-  still-reached = (b.fronts s.past.config s.past.at s.past.since s.past.now moment s.past.now k good.history moments reached-then).reached
+  still-reached = (fronts_stay s.past.config s.past.at s.past.since s.past.now moment s.past.now k good.history moments reached-then).reached
 
   grown : Grown s.past.config (s.past.at moment) (here s) k
   grown =
@@ -89,7 +82,7 @@ module _ (b : Laws) (s : Scene) (k st moment : ℕ) (good : IsScene s) (w : WasL
       (λ i from to g. grown-step s.past.config (s.past.at moment) (s.past.at i) (s.past.at (i + 1)) k (good.history.step i (omega (arith, w.since, from)) to) g) s.past.now w.now (omega arith)
 
   was : WasInside s.past.config s.past.at moment s.past.now k
-  was = b.inside s.past.config s.past.at s.past.since s.past.now moment s.past.now k good.history moments below w.inside
+  was = nodes_were_inside s.past.config s.past.at s.past.since s.past.now moment s.past.now k good.history moments below w.inside
 
   good-was : IsGood s.past.config (s.past.at was.was)
   good-was = good.history.good was.was (omega (arith, w.since, was.since)) was.until
@@ -97,10 +90,10 @@ module _ (b : Laws) (s : Scene) (k st moment : ℕ) (good : IsScene s) (w : WasL
   leaf-was : IsLeafInTree s.past.config (s.past.at was.was) k
   leaf-was =
       let o : AreMoments s.past.since s.past.now moment was.was = record { since = w.since; order = was.since; until = was.until } in
-      b.leaves s.past.config (s.past.at was.was) k good-was w.slot was.inside ((b.ranges s.past.config s.past.at s.past.since s.past.now moment was.was k good.history o below w.inside was.inside).level ∙ w.leaf)
+      leaves_are_in_trees s.past.config (s.past.at was.was) k good-was w.slot was.inside ((ranges_stay s.past.config s.past.at s.past.since s.past.now moment was.was k good.history o below w.inside was.inside).level ∙ w.leaf)
 
   whole-was : Whole (node s.past.config (s.past.at was.was).image k) (page (durable s.past.config (s.past.at was.was) k)) ((form_at s.past.config (s.past.at was.was)).low k) ((form_at s.past.config (s.past.at was.was)).high k)
-  whole-was = (b.rules s.past.config.nodes (node s.past.config (s.past.at was.was).image k) (durable s.past.config (s.past.at was.was) k) _ _).0 leaf-was.whole
+  whole-was = (leaf_rules_are_facts s.past.config.nodes (node s.past.config (s.past.at was.was).image k) (durable s.past.config (s.past.at was.was) k) _ _).0 leaf-was.whole
 
   room-was : (page_at s.past.config (s.past.at was.was) k).count + (page_at s.past.config (s.past.at was.was) k).block ≤ SHARED_WORDS
   room-was = subst (λ z. (status z).count + (status z).block ≤ SHARED_WORDS) (good-was.shown k STATUS_AT leaf-was.reached (inl (omega arith))) whole-was.filled.room
@@ -132,13 +125,13 @@ module _ (b : Laws) (s : Scene) (k st moment : ℕ) (good : IsScene s) (w : WasL
     ];
   }
 
-module _ (b : Laws) (s : Scene) (w : RecordSwap) (moment : ℕ) (good : IsScene s) (leaf : WasLeafThen w.slot w.status moment s.past) (place : IsPlaceIn w.status w.place) where
+module _ (s : Scene) (w : RecordSwap) (moment : ℕ) (good : IsScene s) (leaf : WasLeafThen w.slot w.status moment s.past) (place : IsPlaceIn w.status w.place) where
   in-node : META_AT + w.place < NODE_WORDS
-  in-node = let p = meta-place b s w.slot w.status moment good leaf w.place place in omega (arith, p.free)
+  in-node = let p = meta-place s w.slot w.status moment good leaf w.place place in omega (arith, p.free)
 
   asked-status : w.new_status < 2 ^ 61 → IsEntryToAsk s (status_entry s.past.config w)
   asked-status h = record {
-    target = inr (inr (record { slot = w.slot; place = STATUS_AT; address = refl; within = omega arith; reached = still-reached b s w.slot w.status moment good leaf; kind = inl refl }));
+    target = inr (inr (record { slot = w.slot; place = STATUS_AT; address = refl; within = omega arith; reached = still-reached s w.slot w.status moment good leaf; kind = inl refl }));
     expected = leaf.plain;
     new = h;
   }
@@ -150,14 +143,14 @@ module _ (b : Laws) (s : Scene) (w : RecordSwap) (moment : ℕ) (good : IsScene 
       place = META_AT + w.place;
       address = refl;
       within = in-node;
-      reached = still-reached b s w.slot w.status moment good leaf;
-      kind = inr (inl (meta-place b s w.slot w.status moment good leaf w.place place));
+      reached = still-reached s w.slot w.status moment good leaf;
+      kind = inr (inl (meta-place s w.slot w.status moment good leaf w.place place));
     }));
     expected = h;
     new = l;
   }
 
-pub may-be-asked : Laws → RecordSwapsMayBeAsked
-may-be-asked b s w moment good leaf place plain meta new =
-    All-cons (IsEntryToAsk s) (status_entry s.past.config w) (meta_entry s.past.config w ∷ []) (asked-status b s w moment good leaf place plain)
-    (All-cons (IsEntryToAsk s) (meta_entry s.past.config w) [] (asked-meta b s w moment good leaf place meta new) (λ i d l. absurd (omega (arith, l))))
+pub may-be-asked : RecordSwapsMayBeAsked
+may-be-asked s w moment good leaf place plain meta new =
+    All-cons (IsEntryToAsk s) (status_entry s.past.config w) (meta_entry s.past.config w ∷ []) (asked-status s w moment good leaf place plain)
+    (All-cons (IsEntryToAsk s) (meta_entry s.past.config w) [] (asked-meta s w moment good leaf place meta new) (λ i d l. absurd (omega (arith, l))))

@@ -2,19 +2,19 @@
 use Rattle.std.proofs.Common.{◌≡◌, ℕ, ◌+◌, ◌-◌, ◌^◌, ◌<◌, ◌≤◌, true, false, arith, refl, sym, subst, ◌∙◌}
 use Rattle.std.specs.Prelude.{length}
 use Rattle.std.proofs.lemmas.Bool.Decides.{nat_tests}
-use Rattle.bz_key.specs.Laws.{PackingIsSmall}
 use Rattle.bz_key.specs.Packing.{packed, packed_len}
 use Rattle.bz_key.specs.declared.limits.TheConstants.{KEY_BYTES, PAYLOAD_BYTES}
+use Rattle.bz_key.proofs.Proved.{packing_is_small}
 use Rattle.bz_slotted.specs.FromNode.Reading.{extent_words}
 use Rattle.bz_slotted.specs.Page.{is_meta_word, meta_of, held, visible, used, extent_of}
 use Rattle.bz_slotted.specs.Whole.{IsLeafRecord}
-use Rattle.bz_word.specs.Metas.{meta_word, meta, IsMeta, IsMetaWord, IsExtent}
-use Rattle.bz_word.specs.Statements.{IsCodec}
-use Rattle.bz_word.specs.Statuses.{status_word, status, IsStatus, IsStatusWord}
+use Rattle.bz_word.specs.Metas.{meta_word, meta, IsMetaWord, IsExtent}
+use Rattle.bz_word.specs.Statuses.{status, IsStatus}
 use Rattle.bz_word.specs.declared.meta.Extent.{Extent}
 use Rattle.bz_word.specs.declared.meta.Meta.{Meta}
 use Rattle.bz_word.specs.declared.meta.Meta.TheVariants.{Reserved, Visible}
 use Rattle.bz_word.specs.declared.status.Status.{Status}
+use Rattle.bz_word.proofs.Lemmas.{metas, statuses}
 use Rattle.bz_task.specs.Steps.{next_stamp}
 use Rattle.bz_record.specs.Records.{size_of, place_of, Fits}
 use Rattle.bz_record.specs.Swaps.{status_reserved, status_published}
@@ -25,7 +25,7 @@ pub says : (x : ℕ) → IsMetaWord x → meta_of x ≡ meta x
 unfolding meta_of
 says x h = let t : is_meta_word x ≡ true = grind (arith, nat_tests, h.control, h.lengths, h.offset) in rw t refl
 
-module _ (statuses : IsCodec Status IsStatus IsStatusWord status_word status) (metas : IsCodec Meta IsMeta IsMetaWord meta_word meta) (small : PackingIsSmall) (r : NewRecord) (f : Fits r) where
+module _ (r : NewRecord) (f : Fits r) where
   -- the status after the reservation
   reserved : Status
   reserved = record (status r.status) {
@@ -75,10 +75,10 @@ module _ (statuses : IsCodec Status IsStatus IsStatusWord status_word status) (m
 
   -- the record takes as many words as it has
   pub key-size : length (packed r.key) ≡ packed_len (length r.key)
-  key-size = (small r.key f.key.each).0
+  key-size = (packing_is_small r.key f.key.each).0
 
   pub payload-size : length (packed r.payload) ≡ packed_len (length r.payload)
-  payload-size = (small r.payload f.payload.each).0
+  payload-size = (packing_is_small r.payload f.payload.each).0
 
   payload-len : length r.key + length r.payload - length r.key ≡ length r.payload
   payload-len = omega arith

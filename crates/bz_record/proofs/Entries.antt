@@ -12,14 +12,16 @@ use Rattle.bz_content.specs.Image.{node}
 use Rattle.bz_content.specs.Resolving.{resolve}
 use Rattle.bz_task.specs.Good.{IsGood}
 use Rattle.bz_task.specs.Instant.{Instant, words, durable}
-use Rattle.bz_task.specs.Laws.{SwapsShowInSlots, SlotWords, SlotWord}
+use Rattle.bz_task.specs.Laws.{SlotWords, SlotWord}
 use Rattle.bz_task.specs.LeafSwaps.{IsWordOf}
 use Rattle.bz_task.specs.Scene.{Scene, IsScene, here}
 use Rattle.bz_task.specs.Swaps.{Stand, SwapsTo, swapped}
-use Rattle.bz_record.specs.Laws.{SameLeaf, LeavesStay}
+use Rattle.bz_task.proofs.Proved.{swaps_show_in_slots}
+use Rattle.bz_record.specs.Laws.{SameLeaf}
 use Rattle.bz_record.specs.Leaves.{WasLeafThen}
 use Rattle.bz_record.specs.Swaps.{status_entry, meta_entry, entries_of}
 use Rattle.bz_record.specs.declared.record_swap.RecordSwap.{RecordSwap}
+use Rattle.bz_record.proofs.Leaves.{leaves-stay}
 
 -- what two entries set and leave
 set-first : (e f : Entry) (g : ℕ → ℕ) (a : ℕ) → e.target ≡ a → swapped (e ∷ f ∷ []) g a ≡ e.new
@@ -45,9 +47,9 @@ one-of e f a h = go (e.target == a) (f.target == a) refl refl h
     go false false p q h = absurd (cc)
 
 -- what the swap does to the words of its slot
-module _ (c : Config) (w : RecordSwap) (x y : Instant) (slots : SwapsShowInSlots) (swaps : SwapsTo c (entries_of c w) x y) (place : META_AT + w.place < NODE_WORDS) where
+module _ (c : Config) (w : RecordSwap) (x y : Instant) (swaps : SwapsTo c (entries_of c w) x y) (place : META_AT + w.place < NODE_WORDS) where
   slot : SlotWords c (entries_of c w) x y w.slot
-  slot = slots c (entries_of c w) x y w.slot swaps
+  slot = swaps_show_in_slots c (entries_of c w) x y w.slot swaps
 
   word : (i : ℕ) → i < NODE_WORDS → SlotWord c (entries_of c w) x y w.slot i
   word i l = slot.within i l
@@ -104,12 +106,12 @@ pub each-target : (P : ℕ → Type 0) (c : Config) (w : RecordSwap) → P (node
 each-target P c w p q a h = elim (one-of (status_entry c w) (meta_entry c w) a h) [ inl e ↦ subst P (sym e) p | inr e ↦ subst P (sym e) q ]
 
 -- the leaf as it is now, where the status is the one that was read
-module _ (leaves : LeavesStay) (slots : SwapsShowInSlots) (s : Scene) (y : Instant) (w : RecordSwap) (moment : ℕ) (good : IsScene s) (leaf : WasLeafThen w.slot w.status moment s.past) (thawed : (status w.status).frozen ≡ false) (stand : Stand (entries_of s.past.config w) (here s)) (swaps : SwapsTo s.past.config (entries_of s.past.config w) (here s) y) where
+module _ (s : Scene) (y : Instant) (w : RecordSwap) (moment : ℕ) (good : IsScene s) (leaf : WasLeafThen w.slot w.status moment s.past) (thawed : (status w.status).frozen ≡ false) (stand : Stand (entries_of s.past.config w) (here s)) (swaps : SwapsTo s.past.config (entries_of s.past.config w) (here s) y) where
   pub status-now : words s.past.config (here s) w.slot STATUS_AT ≡ w.status
-  status-now = ((slots s.past.config (entries_of s.past.config w) (here s) y w.slot swaps).within STATUS_AT (omega arith)).before ∙ stand 0 (status_entry s.past.config w) (omega arith)
+  status-now = ((swaps_show_in_slots s.past.config (entries_of s.past.config w) (here s) y w.slot swaps).within STATUS_AT (omega arith)).before ∙ stand 0 (status_entry s.past.config w) (omega arith)
 
   pub same-now : SameLeaf s.past.config (s.past.at moment) (here s) w.slot
-  same-now = leaves s w.slot w.status moment good leaf thawed status-now
+  same-now = leaves-stay s w.slot w.status moment good leaf thawed status-now
 
   pub good-now : IsGood s.past.config (here s)
   good-now = good.history.good s.past.now good.begun (omega arith)

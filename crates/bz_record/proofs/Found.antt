@@ -6,13 +6,11 @@ use Rattle.bz_key.specs.Packing.{packed_len, unpacked}
 use Rattle.bz_layout.specs.declared.sizes.TheConstants.{STATUS_AT, META_AT}
 use Rattle.bz_slotted.specs.Page.{words_at, meta_of, visible, extent_of, page}
 use Rattle.bz_slotted.specs.Records.{key_in, key_at}
-use Rattle.bz_word.specs.Metas.{meta_word, meta, IsMeta, IsMetaWord, IsExtent}
-use Rattle.bz_word.specs.Statements.{IsCodec}
-use Rattle.bz_word.specs.Statuses.{status_word, status, IsStatus, IsStatusWord}
+use Rattle.bz_word.specs.Metas.{meta_word, IsMeta, IsExtent}
+use Rattle.bz_word.specs.Statuses.{status, IsStatus}
 use Rattle.bz_word.specs.declared.meta.Extent.{Extent}
-use Rattle.bz_word.specs.declared.meta.Meta.{Meta}
 use Rattle.bz_word.specs.declared.meta.Meta.TheVariants.{Visible, Deleted}
-use Rattle.bz_word.specs.declared.status.Status.{Status}
+use Rattle.bz_word.proofs.Lemmas.{metas, statuses}
 use Rattle.bz_task.specs.Good.{IsGood}
 use Rattle.bz_task.specs.Instant.{words, durable}
 use Rattle.bz_task.specs.Scene.{Scene, IsScene, here}
@@ -31,33 +29,33 @@ words_at-same n m from count h =
     get_or-map-range_with_len n from count i (from + i) 0 within refl ∙ (h (from + i) (omega arith) (omega (arith, within)) ∙ sym (get_or-map-range_with_len m from count i (from + i) 0 within refl)))
 
 -- a status word with another number of dead words
-counted-lawful : IsCodec Status IsStatus IsStatusWord status_word status → (st dead : ℕ) → st < 2 ^ 61 → dead < 2 ^ 10 → IsStatus (record (status st) { dead = dead; stamp = next_stamp (status st).stamp })
-counted-lawful codec st dead l d = let r = codec.range st l in record { count = r.count; block = r.block; dead = d; stamp = omega arith }
+counted-lawful : (st dead : ℕ) → st < 2 ^ 61 → dead < 2 ^ 10 → IsStatus (record (status st) { dead = dead; stamp = next_stamp (status st).stamp })
+counted-lawful st dead l d = let r = statuses.range st l in record { count = r.count; block = r.block; dead = d; stamp = omega arith }
 
-pub counted-plain : IsCodec Status IsStatus IsStatusWord status_word status → (st dead : ℕ) → st < 2 ^ 61 → dead < 2 ^ 10 → counted_status st dead < 2 ^ 61
-counted-plain codec st dead l d = codec.lawful _ (counted-lawful codec st dead l d)
+pub counted-plain : (st dead : ℕ) → st < 2 ^ 61 → dead < 2 ^ 10 → counted_status st dead < 2 ^ 61
+counted-plain st dead l d = statuses.lawful _ (counted-lawful st dead l d)
 
-pub counted-reads : IsCodec Status IsStatus IsStatusWord status_word status → (st dead : ℕ) → st < 2 ^ 61 → dead < 2 ^ 10 → status (counted_status st dead) ≡ record (status st) { dead = dead; stamp = next_stamp (status st).stamp }
-counted-reads codec st dead l d = codec.value _ (counted-lawful codec st dead l d)
+pub counted-reads : (st dead : ℕ) → st < 2 ^ 61 → dead < 2 ^ 10 → status (counted_status st dead) ≡ record (status st) { dead = dead; stamp = next_stamp (status st).stamp }
+counted-reads st dead l d = statuses.value _ (counted-lawful st dead l d)
 
 -- the metadata words of a visible and of a deleted record
-pub visible-reads : IsCodec Meta IsMeta IsMetaWord meta_word meta → (e : Extent) → IsExtent e → meta_of (meta_word (Visible e)) ≡ Visible e
-visible-reads metas e l = says (meta_word (Visible e)) (metas.lawful (Visible e) l) ∙ metas.value (Visible e) l
+pub visible-reads : (e : Extent) → IsExtent e → meta_of (meta_word (Visible e)) ≡ Visible e
+visible-reads e l = says (meta_word (Visible e)) (metas.lawful (Visible e) l) ∙ metas.value (Visible e) l
 
-pub visible-plain : IsCodec Meta IsMeta IsMetaWord meta_word meta → (e : Extent) → IsExtent e → meta_word (Visible e) < 2 ^ 61
-visible-plain metas e l = (metas.lawful (Visible e) l).control
+pub visible-plain : (e : Extent) → IsExtent e → meta_word (Visible e) < 2 ^ 61
+visible-plain e l = (metas.lawful (Visible e) l).control
 
 deleted-lawful : (e : Extent) → IsExtent e → 0 < e.key → IsMeta (Deleted e.key e.total)
 deleted-lawful e l some = (l.key, omega (arith, l.key, some), l.total)
 
-pub deleted-reads : IsCodec Meta IsMeta IsMetaWord meta_word meta → (e : Extent) → IsExtent e → 0 < e.key → meta_of (meta_word (Deleted e.key e.total)) ≡ Deleted e.key e.total
-deleted-reads metas e l some = says (meta_word (Deleted e.key e.total)) (metas.lawful (Deleted e.key e.total) (deleted-lawful e l some)) ∙ metas.value (Deleted e.key e.total) (deleted-lawful e l some)
+pub deleted-reads : (e : Extent) → IsExtent e → 0 < e.key → meta_of (meta_word (Deleted e.key e.total)) ≡ Deleted e.key e.total
+deleted-reads e l some = says (meta_word (Deleted e.key e.total)) (metas.lawful (Deleted e.key e.total) (deleted-lawful e l some)) ∙ metas.value (Deleted e.key e.total) (deleted-lawful e l some)
 
-pub deleted-plain : IsCodec Meta IsMeta IsMetaWord meta_word meta → (e : Extent) → IsExtent e → 0 < e.key → meta_word (Deleted e.key e.total) < 2 ^ 61
-deleted-plain metas e l some = (metas.lawful (Deleted e.key e.total) (deleted-lawful e l some)).control
+pub deleted-plain : (e : Extent) → IsExtent e → 0 < e.key → meta_word (Deleted e.key e.total) < 2 ^ 61
+deleted-plain e l some = (metas.lawful (Deleted e.key e.total) (deleted-lawful e l some)).control
 
 -- in the image of one moment and of another
-module _ (metas : IsCodec Meta IsMeta IsMetaWord meta_word meta) (s : Scene) (key payload : List ℕ) (k st place : ℕ) (e : Extent) (good : IsScene s) (w : WasRecord key payload k st place e s.past) (same : SameLeaf s.past.config (s.past.at w.moment) (here s) k) where
+module _ (s : Scene) (key payload : List ℕ) (k st place : ℕ) (e : Extent) (good : IsScene s) (w : WasRecord key payload k st place e s.past) (same : SameLeaf s.past.config (s.past.at w.moment) (here s) k) where
   then-good : IsGood s.past.config (s.past.at w.moment)
   then-good = good.history.good w.moment w.leaf.leaf.since w.leaf.leaf.now
 
@@ -84,10 +82,10 @@ module _ (metas : IsCodec Meta IsMeta IsMetaWord meta_word meta) (s : Scene) (ke
 
   -- what the image says of the place
   then-says : (page (durable s.past.config (s.past.at w.moment) k)).meta place ≡ Visible e
-  then-says = ap meta_of then-durable-meta ∙ visible-reads metas e w.extent
+  then-says = ap meta_of then-durable-meta ∙ visible-reads e w.extent
 
   pub now-says : (page (durable s.past.config (here s) k)).meta place ≡ Visible e
-  now-says = ap meta_of now-durable-meta ∙ visible-reads metas e w.extent
+  now-says = ap meta_of now-durable-meta ∙ visible-reads e w.extent
 
   then-extent : extent_of ((page (durable s.past.config (s.past.at w.moment) k)).meta place) ≡ e
   then-extent = ap extent_of then-says ∙ visible-extent e

@@ -5,38 +5,34 @@ use Rattle.std.proofs.lemmas.Bool.Decides.{nat_tests}
 use Rattle.bz_layout.specs.Addresses.{node_address}
 use Rattle.bz_layout.specs.declared.sizes.TheConstants.{NODE_WORDS, STATUS_AT, HEADER_AT, META_AT}
 use Rattle.bz_slotted.specs.Changes.{Grows}
-use Rattle.bz_slotted.specs.LeafLaws.{AnswersAlike, GrowthIsQuiet}
+use Rattle.bz_slotted.specs.LeafLaws.{AnswersAlike}
 use Rattle.bz_slotted.specs.Page.{page}
+use Rattle.bz_slotted.proofs.Proved.{growth_is_quiet}
 use Rattle.bz_task.specs.FromSwap.SwapMemory.{is_target}
 use Rattle.bz_word.specs.Headers.{header}
-use Rattle.bz_word.specs.Statements.{IsCodec}
-use Rattle.bz_word.specs.Statuses.{status_word, status, IsStatus, IsStatusWord}
+use Rattle.bz_word.specs.Statuses.{status, IsStatus}
 use Rattle.bz_word.specs.declared.entry.Entry.{Entry}
 use Rattle.bz_word.specs.declared.status.Status.{Status}
+use Rattle.bz_word.proofs.Lemmas.{statuses}
 use Rattle.bz_content.specs.Image.{node}
 use Rattle.bz_content.specs.Resolving.{resolve}
 use Rattle.bz_task.specs.Good.{IsGood}
 use Rattle.bz_task.specs.Instant.{Instant, words, durable, form_at}
-use Rattle.bz_task.specs.Laws.{SwapsShowInSlots, SlotWords, SlotWord}
-use Rattle.bz_task.specs.LeafSwaps.{IsLeafSwap, LeafSwapsAreGood}
+use Rattle.bz_task.specs.Laws.{SlotWords, SlotWord}
+use Rattle.bz_task.specs.LeafSwaps.{IsLeafSwap}
 use Rattle.bz_task.specs.Scene.{Scene, IsScene, here}
 use Rattle.bz_task.specs.Shown.{IsShown}
 use Rattle.bz_task.specs.Steps.{Moves, next_stamp}
 use Rattle.bz_task.specs.Swaps.{Change, Stand, SwapsTo, swapped}
-use Rattle.bz_record.specs.Laws.{SameLeaf, LeavesStay}
+use Rattle.bz_task.proofs.Proved.{leaf_swaps_are_good, swaps_show_in_slots}
+use Rattle.bz_record.specs.Laws.{SameLeaf}
 use Rattle.bz_record.specs.Leaves.{WasLeafThen}
 use Rattle.bz_record.specs.Records.{size_of, Fits}
 use Rattle.bz_record.specs.Replacing.{growth, status_grown}
 use Rattle.bz_record.specs.ReplacingLaws.{GrowthsAreGood}
 use Rattle.bz_record.specs.declared.new_record.NewRecord.{NewRecord}
 use Rattle.bz_record.proofs.Reserved.{of-record}
-
--- the laws that these proofs stand on
-pub record Laws : Type 0 where
-  pub leaves : LeavesStay
-  pub slots : SwapsShowInSlots
-  pub quiet : GrowthIsQuiet
-  pub statuses : IsCodec Status IsStatus IsStatusWord status_word status
+use Rattle.bz_record.proofs.Leaves.{leaves-stay}
 
 -- what one entry sets and leaves
 set-one : (e : Entry) (f : ℕ → ℕ) (a : ℕ) → e.target ≡ a → swapped (e ∷ []) f a ≡ e.new
@@ -46,19 +42,19 @@ leave-one : (e : Entry) (f : ℕ → ℕ) (a : ℕ) → e.target ≢ a → swapp
 leave-one e f a h = let t : (e.target == a) ≡ false = grind (arith, nat_tests) in rw t refl
 
 -- the grown status
-module _ (codec : IsCodec Status IsStatus IsStatusWord status_word status) (r : NewRecord) (f : Fits r) where
+module _ (r : NewRecord) (f : Fits r) where
   grown-lawful : IsStatus (record (status r.status) { block = (status r.status).block + size_of r; dead = (status r.status).dead + size_of r; stamp = next_stamp (status r.status).stamp })
   grown-lawful = record { count = omega (arith, f.room.fits); block = omega (arith, f.room.fits); dead = omega (arith, f.room.fits, f.dead); stamp = omega arith }
 
   pub grown-plain : status_grown r < 2 ^ 61
-  grown-plain = codec.lawful _ grown-lawful
+  grown-plain = statuses.lawful _ grown-lawful
 
   pub grown-reads : status (status_grown r) ≡ record (status r.status) { block = (status r.status).block + size_of r; dead = (status r.status).dead + size_of r; stamp = next_stamp (status r.status).stamp }
-  grown-reads = codec.value _ grown-lawful
+  grown-reads = statuses.value _ grown-lawful
 
-module _ (b : Laws) (s : Scene) (y : Instant) (r : NewRecord) (moment : ℕ) (good : IsScene s) (f : Fits r) (leaf : WasLeafThen r.slot r.status moment s.past) (stand : Stand (growth s.past.config r ∷ []) (here s)) (swaps : SwapsTo s.past.config (growth s.past.config r ∷ []) (here s) y) where
+module _ (s : Scene) (y : Instant) (r : NewRecord) (moment : ℕ) (good : IsScene s) (f : Fits r) (leaf : WasLeafThen r.slot r.status moment s.past) (stand : Stand (growth s.past.config r ∷ []) (here s)) (swaps : SwapsTo s.past.config (growth s.past.config r ∷ []) (here s) y) where
   slot : SlotWords s.past.config (growth s.past.config r ∷ []) (here s) y r.slot
-  slot = b.slots s.past.config (growth s.past.config r ∷ []) (here s) y r.slot swaps
+  slot = swaps_show_in_slots s.past.config (growth s.past.config r ∷ []) (here s) y r.slot swaps
 
   word : (i : ℕ) → i < NODE_WORDS → SlotWord s.past.config (growth s.past.config r ∷ []) (here s) y r.slot i
   word i l = slot.within i l
@@ -67,7 +63,7 @@ module _ (b : Laws) (s : Scene) (y : Instant) (r : NewRecord) (moment : ℕ) (go
   was = (word STATUS_AT (omega arith)).before ∙ stand 0 (growth s.past.config r) (omega arith)
 
   pub same : SameLeaf s.past.config (s.past.at moment) (here s) r.slot
-  same = b.leaves s r.slot r.status moment good leaf f.room.thawed was
+  same = leaves-stay s r.slot r.status moment good leaf f.room.thawed was
 
   now-good : IsGood s.past.config (here s)
   now-good = good.history.good s.past.now good.begun (omega arith)
@@ -98,7 +94,7 @@ module _ (b : Laws) (s : Scene) (y : Instant) (r : NewRecord) (moment : ℕ) (go
 
   -- a field of the status afterwards
   field-is : (A : Type 0) (g : Status → A) (n : ℕ → ℕ) → n STATUS_AT ≡ status_grown r → g (status (n STATUS_AT)) ≡ g (record (status r.status) { block = (status r.status).block + size_of r; dead = (status r.status).dead + size_of r; stamp = next_stamp (status r.status).stamp })
-  field-is A g n e = ap (λ z. g (status z)) e ∙ ap g (grown-reads b.statuses r f)
+  field-is A g n e = ap (λ z. g (status z)) e ∙ ap g (grown-reads r f)
 
   pub count-was : (page (words s.past.config (here s) r.slot)).count ≡ (status r.status).count
   count-was = ap (λ z. (status z).count) was
@@ -137,7 +133,7 @@ module _ (b : Laws) (s : Scene) (y : Instant) (r : NewRecord) (moment : ℕ) (go
   grows = record {
     others = durable-others;
     raw = λ i l. slot.raw i;
-    status = subst (λ z. z < 2 ^ 61) (sym is-durable) (grown-plain b.statuses r f);
+    status = subst (λ z. z < 2 ^ 61) (sym is-durable) (grown-plain r f);
     count = omega (arith, count-durable, field-is ℕ (λ z. z.count) (durable s.past.config y r.slot) is-durable);
     block = omega (arith, block-durable, field-is ℕ (λ z. z.block) (durable s.past.config y r.slot) is-durable);
     dead = omega (arith, dead-durable, field-is ℕ (λ z. z.dead) (durable s.past.config y r.slot) is-durable);
@@ -145,7 +141,7 @@ module _ (b : Laws) (s : Scene) (y : Instant) (r : NewRecord) (moment : ℕ) (go
   }
 
   pub alike : AnswersAlike s.past.config.nodes (node s.past.config y.image r.slot) (durable s.past.config (here s) r.slot) (durable s.past.config y r.slot) ((form_at s.past.config (here s)).low r.slot) ((form_at s.past.config (here s)).high r.slot)
-  alike = b.quiet s.past.config.nodes (node s.past.config (here s).image r.slot) (node s.past.config y.image r.slot) (durable s.past.config (here s) r.slot) (durable s.past.config y r.slot) _ _ (size_of r) same.leaf.whole grows
+  alike = growth_is_quiet s.past.config.nodes (node s.past.config (here s).image r.slot) (node s.past.config y.image r.slot) (durable s.past.config (here s) r.slot) (durable s.past.config y r.slot) _ _ (size_of r) same.leaf.whole grows
 
   -- what readers read afterwards they read before
   pub level-same : (page (words s.past.config y r.slot)).level ≡ (page (words s.past.config (here s) r.slot)).level
@@ -178,5 +174,5 @@ module _ (b : Laws) (s : Scene) (y : Instant) (r : NewRecord) (moment : ℕ) (go
     shown = λ i l h. inl (shown-before i h);
   }
 
-pub growing : Laws → LeafSwapsAreGood → GrowthsAreGood
-growing b swap s y r moment change good f leaf stand swaps = swap false change (growth s.past.config r ∷ []) s r.slot y good (leaf-swap b s y r moment good f leaf stand swaps change)
+pub growing : GrowthsAreGood
+growing s y r moment change good f leaf stand swaps = leaf_swaps_are_good false change (growth s.past.config r ∷ []) s r.slot y good (leaf-swap s y r moment good f leaf stand swaps change)

@@ -3,33 +3,28 @@ use Rattle.std.proofs.Common.{◌≡◌, ◌≢◌, ℕ, ◌+◌, ◌-◌, ◌^�
 use Rattle.std.specs.Prelude.{Some, None, nat_lt}
 use Rattle.std.proofs.lemmas.Bool.{true≢false}
 use Rattle.std.proofs.lemmas.Bool.Decides.{nat_tests}
-use Rattle.bz_key.specs.Laws.{PackingIsSmall}
 use Rattle.bz_layout.specs.Addresses.{node_address}
 use Rattle.bz_layout.specs.declared.config.Config.{Config}
 use Rattle.bz_layout.specs.declared.sizes.TheConstants.{NODE_WORDS, STATUS_AT, HEADER_AT, META_AT}
 use Rattle.bz_slotted.specs.FromNode.Reading.{extent_words}
-use Rattle.bz_slotted.specs.Laws.{LeafRulesAreFacts}
 use Rattle.bz_slotted.specs.Page.{meta_of, visible, held, extent_of, page}
 use Rattle.bz_slotted.specs.Readers.{found_of}
 use Rattle.bz_slotted.specs.Records.{key_in, payload_in, weight, shown, search_to}
 use Rattle.bz_slotted.specs.Whole.{Whole, IsInBlock, IsPlainKey, IsPlainPayload, Disjoint}
+use Rattle.bz_slotted.proofs.Proved.{leaf_rules_are_facts}
 use Rattle.bz_word.specs.Headers.{header}
-use Rattle.bz_word.specs.Metas.{meta_word, meta, IsMeta, IsMetaWord}
-use Rattle.bz_word.specs.Statements.{IsCodec}
-use Rattle.bz_word.specs.Statuses.{status_word, status, IsStatus, IsStatusWord}
-use Rattle.bz_word.specs.declared.meta.Meta.{Meta}
+use Rattle.bz_word.specs.Metas.{meta_word}
+use Rattle.bz_word.specs.Statuses.{status}
 use Rattle.bz_word.specs.declared.meta.Meta.TheVariants.{Reserved, Visible}
-use Rattle.bz_word.specs.declared.status.Status.{Status}
 use Rattle.bz_content.specs.Image.{node}
-use Rattle.bz_content.specs.Laws.{PlainWordsStandForThemselves}
 use Rattle.bz_content.specs.Resolving.{resolve}
+use Rattle.bz_content.proofs.Proved.{plain_words_stand_for_themselves}
 use Rattle.bz_task.specs.Good.{IsGood}
 use Rattle.bz_task.specs.Instant.{Instant, words, durable, form_at}
-use Rattle.bz_task.specs.Laws.{SwapsShowInSlots}
 use Rattle.bz_task.specs.Scene.{Scene, IsScene, here}
 use Rattle.bz_task.specs.Steps.{next_stamp}
 use Rattle.bz_task.specs.Swaps.{Stand, SwapsTo, IsMineAndDurable}
-use Rattle.bz_record.specs.Laws.{SameLeaf, LeavesStay, Restates, IsRewriteOf, IsRewrite, RewritesAreGood, inserts, PublicationsAreGood}
+use Rattle.bz_record.specs.Laws.{SameLeaf, Restates, IsRewriteOf, IsRewrite, inserts, PublicationsAreGood}
 use Rattle.bz_record.specs.Leaves.{WasReserved}
 use Rattle.bz_record.specs.Writing.{HasWritten}
 use Rattle.bz_record.specs.Records.{size_of, offset_of, place_of, address_of, Fits}
@@ -38,16 +33,7 @@ use Rattle.bz_record.specs.declared.new_record.NewRecord.{NewRecord}
 use Rattle.bz_record.proofs.Coding.{reserved-reads, published-plain, published-reads, reserved-says, visible-says, sizes-agree, reserved-held, reserved-hidden, reserved-extent, visible-shown, visible-used, visible-extent, leaf-record}
 use Rattle.bz_record.proofs.Entries.{finds-meta, status-now, same-now, good-now, durable-status-now}
 use Rattle.bz_record.proofs.Reading.{Stands, word-plain, reads-key, reads-payload, plain-key, plain-payload, not-found}
-
--- the laws that these proofs stand on
-pub record Laws : Type 0 where
-  pub leaves : LeavesStay
-  pub slots : SwapsShowInSlots
-  pub rules : LeafRulesAreFacts
-  pub plain : PlainWordsStandForThemselves
-  pub statuses : IsCodec Status IsStatus IsStatusWord status_word status
-  pub metas : IsCodec Meta IsMeta IsMetaWord meta_word meta
-  pub small : PackingIsSmall
+use Rattle.bz_record.proofs.Rewriting.{rewriting}
 
 pub node-at : (c : Config) (f : ℕ → ℕ) (k i : ℕ) → i < NODE_WORDS → node c f k i ≡ f (node_address c k + i)
 unfolding node
@@ -58,24 +44,24 @@ absent-in : (n : ℕ → ℕ) (key : List ℕ) → found_of n key ≡ None → s
 unfolding found_of
 absent-in n key e = e
 
-module _ (b : Laws) (s : Scene) (y : Instant) (r : NewRecord) (good : IsScene s) (f : Fits r) (w : WasReserved r s.past) (h : HasWritten r s) (stand : Stand (entries_of s.past.config (publication r)) (here s)) (swaps : SwapsTo s.past.config (entries_of s.past.config (publication r)) (here s) y) where
+module _ (s : Scene) (y : Instant) (r : NewRecord) (good : IsScene s) (f : Fits r) (w : WasReserved r s.past) (h : HasWritten r s) (stand : Stand (entries_of s.past.config (publication r)) (here s)) (swaps : SwapsTo s.past.config (entries_of s.past.config (publication r)) (here s) y) where
   reads : status (status_reserved r) ≡ record (status r.status) { count = (status r.status).count + 1; block = (status r.status).block + size_of r; dead = (status r.status).dead + size_of r; stamp = next_stamp (status r.status).stamp }
-  reads = reserved-reads b.statuses b.metas b.small r f
+  reads = reserved-reads r f
 
   thawed : (status (status_reserved r)).frozen ≡ false
   thawed = ap (λ z. z.frozen) reads ∙ f.room.thawed
 
   now : SameLeaf s.past.config (s.past.at w.moment) (here s) r.slot
-  now = same-now b.leaves b.slots s y (publication r) w.moment good w.leaf.leaf thawed stand swaps
+  now = same-now s y (publication r) w.moment good w.leaf.leaf thawed stand swaps
 
   now-good : IsGood s.past.config (here s)
-  now-good = good-now b.leaves b.slots s y (publication r) w.moment good w.leaf.leaf thawed stand swaps
+  now-good = good-now s y (publication r) w.moment good w.leaf.leaf thawed stand swaps
 
   was : words s.past.config (here s) r.slot STATUS_AT ≡ status_reserved r
-  was = status-now b.leaves b.slots s y (publication r) w.moment good w.leaf.leaf thawed stand swaps
+  was = status-now s y (publication r) w.moment good w.leaf.leaf thawed stand swaps
 
   was-durable : durable s.past.config (here s) r.slot STATUS_AT ≡ status_reserved r
-  was-durable = durable-status-now b.leaves b.slots s y (publication r) w.moment good w.leaf.leaf thawed stand swaps
+  was-durable = durable-status-now s y (publication r) w.moment good w.leaf.leaf thawed stand swaps
 
   count-was : (page (words s.past.config (here s) r.slot)).count ≡ (status r.status).count + 1
   count-was = ap (λ z. (status z).count) was ∙ ap (λ z. z.count) reads
@@ -87,24 +73,24 @@ module _ (b : Laws) (s : Scene) (y : Instant) (r : NewRecord) (good : IsScene s)
   block-durable = ap (λ z. (status z).block) was-durable ∙ ap (λ z. z.block) reads
 
   whole : Whole (node s.past.config (here s).image r.slot) (page (durable s.past.config (here s) r.slot)) ((form_at s.past.config (here s)).low r.slot) ((form_at s.past.config (here s)).high r.slot)
-  whole = (b.rules s.past.config.nodes (node s.past.config (here s).image r.slot) (durable s.past.config (here s) r.slot) _ _).0 now.leaf.whole
+  whole = (leaf_rules_are_facts s.past.config.nodes (node s.past.config (here s).image r.slot) (durable s.past.config (here s) r.slot) _ _).0 now.leaf.whole
 
   -- the words of the record stand in the image
   raw-stands : Stands (node s.past.config (here s).image r.slot) r
   raw-stands i l = node-at s.past.config (here s).image r.slot (offset_of r + i) (omega (arith, l, f.room.fits)) ∙ ((h.flushed i l).image ∙ h.stored i l)
 
   plain-raw : (i : ℕ) → i < size_of r → (here s).image (address_of s.past.config r i) < 2 ^ 61
-  plain-raw i l = subst (λ z. z < 2 ^ 61) (sym ((h.flushed i l).image ∙ h.stored i l)) (word-plain b.small r f i l)
+  plain-raw i l = subst (λ z. z < 2 ^ 61) (sym ((h.flushed i l).image ∙ h.stored i l)) (word-plain r f i l)
 
   durable-stands : Stands (durable s.past.config (here s) r.slot) r
-  durable-stands i l = node-at s.past.config (resolve (here s).image) r.slot (offset_of r + i) (omega (arith, l, f.room.fits)) ∙ (b.plain (here s).image (address_of s.past.config r i) (plain-raw i l) ∙ ((h.flushed i l).image ∙ h.stored i l))
+  durable-stands i l = node-at s.past.config (resolve (here s).image) r.slot (offset_of r + i) (omega (arith, l, f.room.fits)) ∙ (plain_words_stand_for_themselves (here s).image (address_of s.past.config r i) (plain-raw i l) ∙ ((h.flushed i l).image ∙ h.stored i l))
 
   -- its place is the reserved one
   reserved-meta : durable s.past.config (here s) r.slot (META_AT + (status r.status).count) ≡ meta_word (Reserved (place_of r))
-  reserved-meta = now-good.shown r.slot (META_AT + (status r.status).count) now.leaf.reached (inl (omega (arith, count-was))) ∙ finds-meta s.past.config (publication r) (here s) y b.slots swaps (omega (arith, f.room.fits)) stand
+  reserved-meta = now-good.shown r.slot (META_AT + (status r.status).count) now.leaf.reached (inl (omega (arith, count-was))) ∙ finds-meta s.past.config (publication r) (here s) y swaps (omega (arith, f.room.fits)) stand
 
   reserved-there : (page (durable s.past.config (here s) r.slot)).meta (status r.status).count ≡ Reserved (place_of r)
-  reserved-there = ap meta_of reserved-meta ∙ reserved-says b.statuses b.metas b.small r f
+  reserved-there = ap meta_of reserved-meta ∙ reserved-says r f
 
   hidden-there : visible ((page (durable s.past.config (here s) r.slot)).meta (status r.status).count) ≡ false
   hidden-there = ap visible reserved-there ∙ reserved-hidden (place_of r)
@@ -114,7 +100,7 @@ module _ (b : Laws) (s : Scene) (y : Instant) (r : NewRecord) (good : IsScene s)
   extent-is = visible-extent (place_of r)
 
   weighs : weight (Visible (place_of r)) ≡ size_of r
-  weighs = ap extent_words extent-is ∙ sizes-agree b.statuses b.metas b.small r f
+  weighs = ap extent_words extent-is ∙ sizes-agree r f
 
   in-block : IsInBlock (page (durable s.past.config (here s) r.slot)) (Visible (place_of r))
   in-block = record {
@@ -143,10 +129,10 @@ module _ (b : Laws) (s : Scene) (y : Instant) (r : NewRecord) (good : IsScene s)
     lengths = leaf-record r (Visible (place_of r)) f extent-is;
     in_block = λ t. in-block;
     apart = λ i l ne t u. apart i l ne u;
-    key = λ v. subst (IsPlainKey (node s.past.config (here s).image r.slot) (durable s.past.config (here s) r.slot)) (sym extent-is) (plain-key b.small r f _ _ raw-stands durable-stands);
-    payload = λ v. subst (IsPlainPayload (node s.past.config (here s).image r.slot) (durable s.past.config (here s) r.slot)) (sym extent-is) (plain-payload b.small r f _ _ raw-stands durable-stands);
-    is_key = λ v. ap (key_in (durable s.past.config (here s) r.slot)) extent-is ∙ reads-key b.small r f _ durable-stands;
-    is_new = λ v. ap Some (ap (payload_in (durable s.past.config (here s) r.slot)) extent-is ∙ reads-payload b.small r f _ durable-stands);
+    key = λ v. subst (IsPlainKey (node s.past.config (here s).image r.slot) (durable s.past.config (here s) r.slot)) (sym extent-is) (plain-key r f _ _ raw-stands durable-stands);
+    payload = λ v. subst (IsPlainPayload (node s.past.config (here s).image r.slot) (durable s.past.config (here s) r.slot)) (sym extent-is) (plain-payload r f _ _ raw-stands durable-stands);
+    is_key = λ v. ap (key_in (durable s.past.config (here s) r.slot)) extent-is ∙ reads-key r f _ durable-stands;
+    is_new = λ v. ap Some (ap (payload_in (durable s.past.config (here s) r.slot)) extent-is ∙ reads-payload r f _ durable-stands);
     tail = λ v. inl unsorted;
     distinct = λ i l ne v u. not-found (durable s.past.config (here s) r.slot) (page (durable s.past.config (here s) r.slot)).meta r.key (page (durable s.past.config (here s) r.slot)).count absent i l u;
     was_key = λ v. absurd (true≢false (sym v ∙ hidden-there));
@@ -155,8 +141,8 @@ module _ (b : Laws) (s : Scene) (y : Instant) (r : NewRecord) (good : IsScene s)
 
   states : Restates (status_reserved r) (status_published r)
   states =
-      let p = published-reads b.statuses b.metas b.small r f in record {
-        plain = published-plain b.statuses b.metas b.small r f;
+      let p = published-reads r f in record {
+        plain = published-plain r f;
         thawed = ap (λ z. z.frozen) p ∙ thawed;
         count = ap (λ z. z.count) p;
         block = ap (λ z. z.block) p;
@@ -165,10 +151,10 @@ module _ (b : Laws) (s : Scene) (y : Instant) (r : NewRecord) (good : IsScene s)
 
   dead : (status (status_published r)).dead + shown (Visible (place_of r)) ≡ (status (status_reserved r)).dead + shown (meta_of (meta_word (Reserved (place_of r))))
   dead =
-      let now-dead : (status (status_published r)).dead ≡ (status r.status).dead = ap (λ z. z.dead) (published-reads b.statuses b.metas b.small r f) in
+      let now-dead : (status (status_published r)).dead ≡ (status r.status).dead = ap (λ z. z.dead) (published-reads r f) in
       let old-dead : (status (status_reserved r)).dead ≡ (status r.status).dead + size_of r = ap (λ z. z.dead) reads in
       let all : shown (Visible (place_of r)) ≡ size_of r = rw (visible-shown (place_of r)) weighs in
-      let none : shown (meta_of (meta_word (Reserved (place_of r)))) ≡ 0 = ap shown (reserved-says b.statuses b.metas b.small r f) ∙ rw (reserved-hidden (place_of r)) refl in
+      let none : shown (meta_of (meta_word (Reserved (place_of r)))) ≡ 0 = ap shown (reserved-says r f) ∙ rw (reserved-hidden (place_of r)) refl in
       omega (arith, now-dead, old-dead, all, none)
 
   own : (i : ℕ) → (extent_of (Visible (place_of r))).offset ≤ i → i < (extent_of (Visible (place_of r))).offset + weight (Visible (place_of r)) → IsMineAndDurable s (node_address s.past.config r.slot + i)
@@ -186,10 +172,10 @@ module _ (b : Laws) (s : Scene) (y : Instant) (r : NewRecord) (good : IsScene s)
     states = states;
     dead = dead;
     counted = omega (arith, ap (λ z. z.count) reads);
-    says = visible-says b.statuses b.metas b.small r f;
+    says = visible-says r f;
     rewrites = rewrites;
     own = λ i v from to. own i from to;
   }
 
-pub publishing : Laws → RewritesAreGood → PublicationsAreGood
-publishing b good-rewrites s y r good f w h stand swaps = good-rewrites s y (publication r) (Visible (place_of r)) (inserts r) good (rewrite-of b s y r good f w h stand swaps) stand swaps
+pub publishing : PublicationsAreGood
+publishing s y r good f w h stand swaps = rewriting s y (publication r) (Visible (place_of r)) (inserts r) good (rewrite-of s y r good f w h stand swaps) stand swaps

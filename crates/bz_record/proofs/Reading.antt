@@ -5,10 +5,10 @@ use Rattle.std.proofs.lemmas.Bool.{cases_eq, cases_lt, true≢false}
 use Rattle.std.proofs.lemmas.List.{ext_get_or, get_or_append_left, get_or-append-add}
 use Rattle.std.proofs.lemmas.List.FromFn.{length-map-range_with_len, get_or-map-range_with_len}
 use Rattle.std.proofs.lemmas.Slice.Eq.{bytes_eq-Decides}
-use Rattle.bz_key.specs.Laws.{PackingIsSmall}
 use Rattle.bz_key.specs.Packing.{packed, packed_len, unpacked, unpacked_key, unpacked_payload}
 use Rattle.bz_key.proofs.PackingLaws.{unpacked-packed}
 use Rattle.bz_key.proofs.UnpackingLaws.{unpacked_key-complete, unpacked_payload-complete}
+use Rattle.bz_key.proofs.Proved.{packing_is_small}
 use Rattle.bz_slotted.specs.FromNode.Reading.{payload_at, payload_len}
 use Rattle.bz_slotted.specs.Page.{words_at, visible, extent_of}
 use Rattle.bz_slotted.specs.Records.{key_words, payload_words, key_in, payload_in, search_to}
@@ -29,20 +29,20 @@ words-are n from count ws e h =
 abbrev pub Stands : (ℕ → ℕ) → NewRecord → Type 0
 Stands n r = (i : ℕ) → i < size_of r → n (offset_of r + i) ≡ slice_index (words_in r) i
 
-module _ (small : PackingIsSmall) (r : NewRecord) (f : Fits r) where
+module _ (r : NewRecord) (f : Fits r) where
   key-count : length (packed r.key) ≡ packed_len (length r.key)
-  key-count = (small r.key f.key.each).0
+  key-count = (packing_is_small r.key f.key.each).0
 
   payload-count : length (packed r.payload) ≡ packed_len (length r.payload)
-  payload-count = (small r.payload f.payload.each).0
+  payload-count = (packing_is_small r.payload f.payload.each).0
 
   -- its words are plain values
   pub word-plain : (i : ℕ) → i < size_of r → slice_index (words_in r) i < 2 ^ 61
   word-plain i l = elim (cases_lt i (length (packed r.key))) [
-    | inl k ↦ (let p : get_or (packed r.key) i 0 < 2 ^ 56 = (small r.key f.key.each).1 i 0 k in omega (arith, p, get_or_append_left (packed r.key) (packed r.payload) 0 i k))
+    | inl k ↦ (let p : get_or (packed r.key) i 0 < 2 ^ 56 = (packing_is_small r.key f.key.each).1 i 0 k in omega (arith, p, get_or_append_left (packed r.key) (packed r.payload) 0 i k))
     | inr k ↦ (
         let j : i ≡ length (packed r.key) + (i - length (packed r.key)) = omega (arith, k) in
-        let p : get_or (packed r.payload) (i - length (packed r.key)) 0 < 2 ^ 56 = (small r.payload f.payload.each).1 (i - length (packed r.key)) 0 (omega (arith, l, k)) in
+        let p : get_or (packed r.payload) (i - length (packed r.key)) 0 < 2 ^ 56 = (packing_is_small r.payload f.payload.each).1 (i - length (packed r.key)) 0 (omega (arith, l, k)) in
         omega (arith, p, ap (slice_index (words_in r)) j, get_or-append-add (packed r.key) (packed r.payload) (i - length (packed r.key)) 0))
   ]
 

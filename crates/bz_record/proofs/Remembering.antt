@@ -56,10 +56,10 @@ was-reserved r p q w n = record {
 pub leaves-were : LeavesWere
 leaves-were = record { leaf = leaf-of; reserved = was-reserved }
 
-abbrev found : LeavesWere → (key payload : List ℕ) (k st place : ℕ) (e : Extent) (p q : Past) → WasRecord key payload k st place e p → Continues p q → WasRecord key payload k st place e q
-found were key payload k st place e p q w n = record {
+abbrev found : (key payload : List ℕ) (k st place : ℕ) (e : Extent) (p q : Past) → WasRecord key payload k st place e p → Continues p q → WasRecord key payload k st place e q
+found key payload k st place e p q w n = record {
   moment = w.moment;
-  leaf = were.leaf key (Some payload) k st w.moment p q w.leaf n;
+  leaf = leaves-were.leaf key (Some payload) k st w.moment p q w.leaf n;
   counted = w.counted;
   extent = w.extent;
   some = w.some;
@@ -69,11 +69,11 @@ found were key payload k st place e p q w n = record {
   is_key = moved p q n (λ c x. key_at (page (durable c x k)) place ≡ key) w.moment w.leaf.leaf.now w.is_key;
 }
 
-pub remembering : LeavesWere → RecordsWere
-remembering were = record {
-  found = found were;
+pub remembering : RecordsWere
+remembering = record {
+  found = found;
   grown = λ r old place e p q g n. record {
-    was = found were r.key old r.slot (status_grown r) place e p q g.was n;
+    was = found r.key old r.slot (status_grown r) place e p q g.was n;
     older = moved p q n (λ c x. (i : ℕ) → i < (status r.status).count → held ((page (durable c x r.slot)).meta i) ≡ true → NODE_WORDS ≤ (extent_of ((page (durable c x r.slot)).meta i)).offset + (status r.status).block) g.was.moment g.was.leaf.leaf.now g.older;
     swapped = had-swapped g.was.moment p q g.was.leaf.leaf.since g.was.leaf.leaf.now g.swapped n;
   };

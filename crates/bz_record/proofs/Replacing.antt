@@ -2,31 +2,26 @@
 use Rattle.std.proofs.Common.{◌≡◌, ℕ, ◌+◌, ◌-◌, ◌^◌, ◌<◌, ◌≤◌, true, false, List, arith, sym, ap, subst, ◌∙◌, inl, inr}
 use Rattle.std.specs.Prelude.{Some}
 use Rattle.std.proofs.lemmas.Bool.{true≢false}
-use Rattle.bz_key.specs.Laws.{PackingIsSmall}
 use Rattle.bz_layout.specs.Addresses.{node_address}
 use Rattle.bz_layout.specs.declared.sizes.TheConstants.{NODE_WORDS, STATUS_AT, META_AT}
 use Rattle.bz_slotted.specs.FromNode.Reading.{extent_words}
-use Rattle.bz_slotted.specs.Laws.{LeafRulesAreFacts}
 use Rattle.bz_slotted.specs.Page.{meta_of, visible, held, extent_of, page}
 use Rattle.bz_slotted.specs.Records.{key_in, payload_in, key_at, weight, shown}
 use Rattle.bz_slotted.specs.Whole.{Whole, IsInBlock, IsPlainKey, IsPlainPayload, Disjoint}
-use Rattle.bz_word.specs.Metas.{meta_word, meta, IsMeta, IsMetaWord}
-use Rattle.bz_word.specs.Statements.{IsCodec}
-use Rattle.bz_word.specs.Statuses.{status_word, status, IsStatus, IsStatusWord}
+use Rattle.bz_slotted.proofs.Proved.{leaf_rules_are_facts}
+use Rattle.bz_word.specs.Metas.{meta_word}
+use Rattle.bz_word.specs.Statuses.{status}
 use Rattle.bz_word.specs.declared.meta.Extent.{Extent}
-use Rattle.bz_word.specs.declared.meta.Meta.{Meta}
 use Rattle.bz_word.specs.declared.meta.Meta.TheVariants.{Visible}
-use Rattle.bz_word.specs.declared.status.Status.{Status}
 use Rattle.bz_content.specs.Image.{node}
-use Rattle.bz_content.specs.Laws.{PlainWordsStandForThemselves}
 use Rattle.bz_content.specs.Resolving.{resolve}
+use Rattle.bz_content.proofs.Proved.{plain_words_stand_for_themselves}
 use Rattle.bz_task.specs.Good.{IsGood}
 use Rattle.bz_task.specs.Instant.{Instant, durable, form_at}
-use Rattle.bz_task.specs.Laws.{SwapsShowInSlots}
 use Rattle.bz_task.specs.Scene.{Scene, IsScene, here}
 use Rattle.bz_task.specs.Steps.{next_stamp}
 use Rattle.bz_task.specs.Swaps.{Stand, SwapsTo, IsMineAndDurable}
-use Rattle.bz_record.specs.Laws.{SameLeaf, LeavesStay, IsRewriteOf, IsRewrite, RewritesAreGood}
+use Rattle.bz_record.specs.Laws.{SameLeaf, IsRewriteOf, IsRewrite}
 use Rattle.bz_record.specs.Records.{size_of, offset_of, place_of, address_of, Fits}
 use Rattle.bz_record.specs.Replacing.{status_grown, replacement, WasGrown}
 use Rattle.bz_record.specs.ReplacingLaws.{updates, ReplacementsAreGood}
@@ -39,29 +34,20 @@ use Rattle.bz_record.proofs.Found.{counted-plain, counted-reads, visible-reads, 
 use Rattle.bz_record.proofs.Growing.{grown-plain, grown-reads}
 use Rattle.bz_record.proofs.Publishing.{node-at}
 use Rattle.bz_record.proofs.Reading.{Stands, word-plain, reads-key, reads-payload, plain-key, plain-payload}
+use Rattle.bz_record.proofs.Rewriting.{rewriting}
 
--- the laws that these proofs stand on
-pub record Laws : Type 0 where
-  pub leaves : LeavesStay
-  pub slots : SwapsShowInSlots
-  pub rules : LeafRulesAreFacts
-  pub plain : PlainWordsStandForThemselves
-  pub statuses : IsCodec Status IsStatus IsStatusWord status_word status
-  pub metas : IsCodec Meta IsMeta IsMetaWord meta_word meta
-  pub small : PackingIsSmall
-
-module _ (b : Laws) (s : Scene) (y : Instant) (r : NewRecord) (old : List ℕ) (place : ℕ) (e : Extent) (good : IsScene s) (f : Fits r) (g : WasGrown r old place e s.past) (h : HasWritten r s) (stand : Stand (entries_of s.past.config (replacement r place e)) (here s)) (swaps : SwapsTo s.past.config (entries_of s.past.config (replacement r place e)) (here s) y) where
+module _ (s : Scene) (y : Instant) (r : NewRecord) (old : List ℕ) (place : ℕ) (e : Extent) (good : IsScene s) (f : Fits r) (g : WasGrown r old place e s.past) (h : HasWritten r s) (stand : Stand (entries_of s.past.config (replacement r place e)) (here s)) (swaps : SwapsTo s.past.config (entries_of s.past.config (replacement r place e)) (here s) y) where
   reads : status (status_grown r) ≡ record (status r.status) { block = (status r.status).block + size_of r; dead = (status r.status).dead + size_of r; stamp = next_stamp (status r.status).stamp }
-  reads = grown-reads b.statuses r f
+  reads = grown-reads r f
 
   thawed : (status (status_grown r)).frozen ≡ false
   thawed = ap (λ z. z.frozen) reads ∙ f.room.thawed
 
   now : SameLeaf s.past.config (s.past.at g.was.moment) (here s) r.slot
-  now = same-now b.leaves b.slots s y (replacement r place e) g.was.moment good g.was.leaf.leaf thawed stand swaps
+  now = same-now s y (replacement r place e) g.was.moment good g.was.leaf.leaf thawed stand swaps
 
   was-durable : durable s.past.config (here s) r.slot STATUS_AT ≡ status_grown r
-  was-durable = durable-status-now b.leaves b.slots s y (replacement r place e) g.was.moment good g.was.leaf.leaf thawed stand swaps
+  was-durable = durable-status-now s y (replacement r place e) g.was.moment good g.was.leaf.leaf thawed stand swaps
 
   count-durable : (page (durable s.past.config (here s) r.slot)).count ≡ (status r.status).count
   count-durable = ap (λ z. (status z).count) was-durable ∙ ap (λ z. z.count) reads
@@ -73,34 +59,34 @@ module _ (b : Laws) (s : Scene) (y : Instant) (r : NewRecord) (old : List ℕ) (
   counted = omega (arith, g.was.counted, ap (λ z. z.count) reads)
 
   whole : Whole (node s.past.config (here s).image r.slot) (page (durable s.past.config (here s) r.slot)) ((form_at s.past.config (here s)).low r.slot) ((form_at s.past.config (here s)).high r.slot)
-  whole = (b.rules s.past.config.nodes (node s.past.config (here s).image r.slot) (durable s.past.config (here s) r.slot) _ _).0 now.leaf.whole
+  whole = (leaf_rules_are_facts s.past.config.nodes (node s.past.config (here s).image r.slot) (durable s.past.config (here s) r.slot) _ _).0 now.leaf.whole
 
   -- the words of the record stand in the image
   raw-stands : Stands (node s.past.config (here s).image r.slot) r
   raw-stands i l = node-at s.past.config (here s).image r.slot (offset_of r + i) (omega (arith, l, f.room.fits)) ∙ ((h.flushed i l).image ∙ h.stored i l)
 
   plain-raw : (i : ℕ) → i < size_of r → (here s).image (address_of s.past.config r i) < 2 ^ 61
-  plain-raw i l = subst (λ z. z < 2 ^ 61) (sym ((h.flushed i l).image ∙ h.stored i l)) (word-plain b.small r f i l)
+  plain-raw i l = subst (λ z. z < 2 ^ 61) (sym ((h.flushed i l).image ∙ h.stored i l)) (word-plain r f i l)
 
   durable-stands : Stands (durable s.past.config (here s) r.slot) r
-  durable-stands i l = node-at s.past.config (resolve (here s).image) r.slot (offset_of r + i) (omega (arith, l, f.room.fits)) ∙ (b.plain (here s).image (address_of s.past.config r i) (plain-raw i l) ∙ ((h.flushed i l).image ∙ h.stored i l))
+  durable-stands i l = node-at s.past.config (resolve (here s).image) r.slot (offset_of r + i) (omega (arith, l, f.room.fits)) ∙ (plain_words_stand_for_themselves (here s).image (address_of s.past.config r i) (plain-raw i l) ∙ ((h.flushed i l).image ∙ h.stored i l))
 
   -- the old record is there, and of the key
   there : (page (durable s.past.config (here s) r.slot)).meta place ≡ Visible e
-  there = now-says b.metas s r.key old r.slot (status_grown r) place e good g.was now
+  there = now-says s r.key old r.slot (status_grown r) place e good g.was now
 
   there-visible : visible ((page (durable s.past.config (here s) r.slot)).meta place) ≡ true
   there-visible = ap visible there ∙ visible-shown e
 
   there-key : key_at (page (durable s.past.config (here s) r.slot)) place ≡ r.key
-  there-key = now-key b.metas s r.key old r.slot (status_grown r) place e good g.was now
+  there-key = now-key s r.key old r.slot (status_grown r) place e good g.was now
 
   -- the fields of the new record
   extent-is : extent_of (Visible (place_of r)) ≡ place_of r
   extent-is = visible-extent (place_of r)
 
   weighs : weight (Visible (place_of r)) ≡ size_of r
-  weighs = ap extent_words extent-is ∙ sizes-agree b.statuses b.metas b.small r f
+  weighs = ap extent_words extent-is ∙ sizes-agree r f
 
   in-block : IsInBlock (page (durable s.past.config (here s) r.slot)) (Visible (place_of r))
   in-block = record {
@@ -127,10 +113,10 @@ module _ (b : Laws) (s : Scene) (y : Instant) (r : NewRecord) (old : List ℕ) (
     lengths = leaf-record r (Visible (place_of r)) f extent-is;
     in_block = λ t. in-block;
     apart = λ i l ne t u. apart i l u;
-    key = λ v. subst (IsPlainKey (node s.past.config (here s).image r.slot) (durable s.past.config (here s) r.slot)) (sym extent-is) (plain-key b.small r f _ _ raw-stands durable-stands);
-    payload = λ v. subst (IsPlainPayload (node s.past.config (here s).image r.slot) (durable s.past.config (here s) r.slot)) (sym extent-is) (plain-payload b.small r f _ _ raw-stands durable-stands);
-    is_key = λ v. ap (key_in (durable s.past.config (here s) r.slot)) extent-is ∙ reads-key b.small r f _ durable-stands;
-    is_new = λ v. ap Some (ap (payload_in (durable s.past.config (here s) r.slot)) extent-is ∙ reads-payload b.small r f _ durable-stands);
+    key = λ v. subst (IsPlainKey (node s.past.config (here s).image r.slot) (durable s.past.config (here s) r.slot)) (sym extent-is) (plain-key r f _ _ raw-stands durable-stands);
+    payload = λ v. subst (IsPlainPayload (node s.past.config (here s).image r.slot) (durable s.past.config (here s) r.slot)) (sym extent-is) (plain-payload r f _ _ raw-stands durable-stands);
+    is_key = λ v. ap (key_in (durable s.past.config (here s) r.slot)) extent-is ∙ reads-key r f _ durable-stands;
+    is_new = λ v. ap Some (ap (payload_in (durable s.past.config (here s) r.slot)) extent-is ∙ reads-payload r f _ durable-stands);
     tail = λ v. inr there-visible;
     distinct = λ i l ne v u q. whole.distinct i place l (omega (arith, counted, count-durable)) ne u there-visible (q ∙ sym there-key);
     was_key = λ v. there-key;
@@ -141,12 +127,12 @@ module _ (b : Laws) (s : Scene) (y : Instant) (r : NewRecord) (old : List ℕ) (
   dead-small = omega (arith, f.dead, f.room.fits, g.was.small)
 
   counts : status ((replacement r place e).new_status) ≡ record (status (status_grown r)) { dead = (status r.status).dead + extent_words e; stamp = next_stamp (status (status_grown r)).stamp }
-  counts = counted-reads b.statuses (status_grown r) ((status r.status).dead + extent_words e) (grown-plain b.statuses r f) dead-small
+  counts = counted-reads (status_grown r) ((status r.status).dead + extent_words e) (grown-plain r f) dead-small
 
   dead : (status ((replacement r place e).new_status)).dead + shown (Visible (place_of r)) ≡ (status (status_grown r)).dead + shown (meta_of (meta_word (Visible e)))
   dead =
       let new : shown (Visible (place_of r)) ≡ size_of r = rw (visible-shown (place_of r)) weighs in
-      let gone : shown (meta_of (meta_word (Visible e))) ≡ extent_words e = ap shown (visible-reads b.metas e g.was.extent) ∙ rw (visible-shown e) (ap extent_words (visible-extent e)) in
+      let gone : shown (meta_of (meta_word (Visible e))) ≡ extent_words e = ap shown (visible-reads e g.was.extent) ∙ rw (visible-shown e) (ap extent_words (visible-extent e)) in
       omega (arith, new, gone, ap (λ z. z.dead) counts, ap (λ z. z.dead) reads)
 
   own : (i : ℕ) → (extent_of (Visible (place_of r))).offset ≤ i → i < (extent_of (Visible (place_of r))).offset + weight (Visible (place_of r)) → IsMineAndDurable s (node_address s.past.config r.slot + i)
@@ -162,7 +148,7 @@ module _ (b : Laws) (s : Scene) (y : Instant) (r : NewRecord) (old : List ℕ) (
     leaf = g.was.leaf;
     thawed = thawed;
     states = record {
-      plain = counted-plain b.statuses (status_grown r) ((status r.status).dead + extent_words e) (grown-plain b.statuses r f) dead-small;
+      plain = counted-plain (status_grown r) ((status r.status).dead + extent_words e) (grown-plain r f) dead-small;
       thawed = ap (λ z. z.frozen) counts ∙ thawed;
       count = ap (λ z. z.count) counts;
       block = ap (λ z. z.block) counts;
@@ -170,10 +156,10 @@ module _ (b : Laws) (s : Scene) (y : Instant) (r : NewRecord) (old : List ℕ) (
     };
     dead = dead;
     counted = g.was.counted;
-    says = visible-says b.statuses b.metas b.small r f;
+    says = visible-says r f;
     rewrites = rewrites;
     own = λ i v from to. own i from to;
   }
 
-pub replacing : Laws → RewritesAreGood → ReplacementsAreGood
-replacing b rewrite s y r old place e good f g h stand swaps = rewrite s y (replacement r place e) (Visible (place_of r)) (updates r old) good (rewrite-of b s y r old place e good f g h stand swaps) stand swaps
+pub replacing : ReplacementsAreGood
+replacing s y r old place e good f g h stand swaps = rewriting s y (replacement r place e) (Visible (place_of r)) (updates r old) good (rewrite-of s y r old place e good f g h stand swaps) stand swaps

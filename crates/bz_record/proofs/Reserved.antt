@@ -1,43 +1,31 @@
 -- A leaf before and after the swap that reserves a place in it.
 use Rattle.std.proofs.Common.{◌≡◌, ◌≢◌, ℕ, ◌+◌, ◌^◌, ◌<◌, ◌≤◌, Bool, true, false, arith, sym, ap, subst, ◌∙◌, inl, inr}
 use Rattle.std.proofs.lemmas.Bool.{cases_lt, true≢false}
-use Rattle.bz_key.specs.Laws.{PackingIsSmall}
 use Rattle.bz_layout.specs.declared.sizes.TheConstants.{NODE_WORDS, STATUS_AT, HEADER_AT, META_AT}
 use Rattle.bz_slotted.specs.FromNode.Reading.{extent_words}
 use Rattle.bz_slotted.specs.Changes.{Reserves}
-use Rattle.bz_slotted.specs.LeafLaws.{AnswersAlike, ReservationIsQuiet}
+use Rattle.bz_slotted.specs.LeafLaws.{AnswersAlike}
 use Rattle.bz_slotted.specs.Page.{meta_of, visible, extent_of, page}
 use Rattle.bz_slotted.specs.Records.{weight}
+use Rattle.bz_slotted.proofs.Proved.{reservation_is_quiet}
 use Rattle.bz_word.specs.Headers.{header}
-use Rattle.bz_word.specs.Metas.{meta_word, meta, IsMeta, IsMetaWord}
-use Rattle.bz_word.specs.Statements.{IsCodec}
-use Rattle.bz_word.specs.Statuses.{status_word, status, IsStatus, IsStatusWord}
-use Rattle.bz_word.specs.declared.meta.Meta.{Meta}
+use Rattle.bz_word.specs.Metas.{meta_word}
+use Rattle.bz_word.specs.Statuses.{status}
 use Rattle.bz_word.specs.declared.meta.Meta.TheVariants.{Reserved}
 use Rattle.bz_word.specs.declared.status.Status.{Status}
 use Rattle.bz_content.specs.Image.{node}
 use Rattle.bz_task.specs.Instant.{Instant, words, durable, form_at}
-use Rattle.bz_task.specs.Laws.{SwapsShowInSlots}
 use Rattle.bz_task.specs.Scene.{Scene, IsScene, here}
 use Rattle.bz_task.specs.Shown.{IsOfRecord, IsShown}
 use Rattle.bz_task.specs.Steps.{Moves, next_stamp}
 use Rattle.bz_task.specs.Swaps.{Stand, SwapsTo}
-use Rattle.bz_record.specs.Laws.{SameLeaf, LeavesStay}
+use Rattle.bz_record.specs.Laws.{SameLeaf}
 use Rattle.bz_record.specs.Leaves.{WasLeafThen}
 use Rattle.bz_record.specs.Records.{size_of, place_of, Fits}
 use Rattle.bz_record.specs.Swaps.{entries_of, reservation}
 use Rattle.bz_record.specs.declared.new_record.NewRecord.{NewRecord}
 use Rattle.bz_record.proofs.Coding.{reserved-plain, reserved-reads, reserved-says, sizes-agree, reserved-held, reserved-hidden, reserved-used, reserved-extent, leaf-record}
 use Rattle.bz_record.proofs.Entries.{sets-status, sets-durable-status, sets-meta, sets-durable-meta, leaves-others, leaves-durable-others, leaves-raw, status-now, same-now, durable-status-now}
-
--- the laws that these proofs stand on
-pub record Laws : Type 0 where
-  pub leaves : LeavesStay
-  pub slots : SwapsShowInSlots
-  pub quiet : ReservationIsQuiet
-  pub statuses : IsCodec Status IsStatus IsStatusWord status_word status
-  pub metas : IsCodec Meta IsMeta IsMetaWord meta_word meta
-  pub small : PackingIsSmall
 
 -- a word of a record whose metadata word stays
 pub of-record : (n m : ℕ → ℕ) (i j : ℕ) → m (META_AT + j) ≡ n (META_AT + j) → j < (page n).count → IsOfRecord m i j → IsOfRecord n i j
@@ -48,34 +36,34 @@ of-record n m i j e l r = record {
   to = subst (λ z. i < (extent_of (meta_of z)).offset + weight (meta_of z)) e r.to;
 }
 
-module _ (b : Laws) (s : Scene) (y : Instant) (r : NewRecord) (moment : ℕ) (good : IsScene s) (f : Fits r) (leaf : WasLeafThen r.slot r.status moment s.past) (stand : Stand (entries_of s.past.config (reservation r)) (here s)) (swaps : SwapsTo s.past.config (entries_of s.past.config (reservation r)) (here s) y) where
+module _ (s : Scene) (y : Instant) (r : NewRecord) (moment : ℕ) (good : IsScene s) (f : Fits r) (leaf : WasLeafThen r.slot r.status moment s.past) (stand : Stand (entries_of s.past.config (reservation r)) (here s)) (swaps : SwapsTo s.past.config (entries_of s.past.config (reservation r)) (here s) y) where
   pub place : META_AT + (status r.status).count < NODE_WORDS
   place = omega (arith, f.room.fits)
 
   pub same : SameLeaf s.past.config (s.past.at moment) (here s) r.slot
-  same = same-now b.leaves b.slots s y (reservation r) moment good leaf f.room.thawed stand swaps
+  same = same-now s y (reservation r) moment good leaf f.room.thawed stand swaps
 
   pub was : words s.past.config (here s) r.slot STATUS_AT ≡ r.status
-  was = status-now b.leaves b.slots s y (reservation r) moment good leaf f.room.thawed stand swaps
+  was = status-now s y (reservation r) moment good leaf f.room.thawed stand swaps
 
   pub was-durable : durable s.past.config (here s) r.slot STATUS_AT ≡ r.status
-  was-durable = durable-status-now b.leaves b.slots s y (reservation r) moment good leaf f.room.thawed stand swaps
+  was-durable = durable-status-now s y (reservation r) moment good leaf f.room.thawed stand swaps
 
   reads : status ((reservation r).new_status) ≡ record (status r.status) { count = (status r.status).count + 1; block = (status r.status).block + size_of r; dead = (status r.status).dead + size_of r; stamp = next_stamp (status r.status).stamp }
-  reads = reserved-reads b.statuses b.metas b.small r f
+  reads = reserved-reads r f
 
   pub is : words s.past.config y r.slot STATUS_AT ≡ (reservation r).new_status
-  is = sets-status s.past.config (reservation r) (here s) y b.slots swaps place
+  is = sets-status s.past.config (reservation r) (here s) y swaps place
 
   is-durable : durable s.past.config y r.slot STATUS_AT ≡ (reservation r).new_status
-  is-durable = sets-durable-status s.past.config (reservation r) (here s) y b.slots swaps place
+  is-durable = sets-durable-status s.past.config (reservation r) (here s) y swaps place
 
   -- a field of the status afterwards
   field-is : (A : Type 0) (g : Status → A) (n : ℕ → ℕ) → n STATUS_AT ≡ (reservation r).new_status → g (status (n STATUS_AT)) ≡ g (record (status r.status) { count = (status r.status).count + 1; block = (status r.status).block + size_of r; dead = (status r.status).dead + size_of r; stamp = next_stamp (status r.status).stamp })
   field-is A g n e = ap (λ z. g (status z)) e ∙ ap g reads
 
   pub others : (i : ℕ) → i ≢ STATUS_AT → i ≢ META_AT + (status r.status).count → words s.past.config y r.slot i ≡ words s.past.config (here s) r.slot i
-  others = leaves-others s.past.config (reservation r) (here s) y b.slots swaps place
+  others = leaves-others s.past.config (reservation r) (here s) y swaps place
 
   pub count-was : (page (words s.past.config (here s) r.slot)).count ≡ (status r.status).count
   count-was = ap (λ z. (status z).count) was
@@ -102,7 +90,7 @@ module _ (b : Laws) (s : Scene) (y : Instant) (r : NewRecord) (moment : ℕ) (go
   }
 
   weighs : weight (Reserved (place_of r)) ≡ size_of r
-  weighs = ap extent_words (reserved-extent (place_of r)) ∙ sizes-agree b.statuses b.metas b.small r f
+  weighs = ap extent_words (reserved-extent (place_of r)) ∙ sizes-agree r f
 
   pub count-durable : (page (durable s.past.config (here s) r.slot)).count ≡ (status r.status).count
   count-durable = ap (λ z. (status z).count) was-durable
@@ -114,18 +102,18 @@ module _ (b : Laws) (s : Scene) (y : Instant) (r : NewRecord) (moment : ℕ) (go
   dead-durable = ap (λ z. (status z).dead) was-durable
 
   said : durable s.past.config y r.slot (META_AT + (status r.status).count) ≡ meta_word (Reserved (place_of r))
-  said = sets-durable-meta s.past.config (reservation r) (here s) y b.slots swaps place
+  said = sets-durable-meta s.past.config (reservation r) (here s) y swaps place
 
   pub reserves : Reserves (node s.past.config (here s).image r.slot) (node s.past.config y.image r.slot) (durable s.past.config (here s) r.slot) (durable s.past.config y r.slot) (Reserved (place_of r))
   reserves = record {
-    others = λ i n m. leaves-durable-others s.past.config (reservation r) (here s) y b.slots swaps place i n (λ e. m (omega (arith, e, count-durable)));
-    raw = λ i l. leaves-raw s.past.config (reservation r) (here s) y b.slots swaps place i;
-    status = subst (λ z. z < 2 ^ 61) (sym is-durable) (reserved-plain b.statuses b.metas b.small r f);
+    others = λ i n m. leaves-durable-others s.past.config (reservation r) (here s) y swaps place i n (λ e. m (omega (arith, e, count-durable)));
+    raw = λ i l. leaves-raw s.past.config (reservation r) (here s) y swaps place i;
+    status = subst (λ z. z < 2 ^ 61) (sym is-durable) (reserved-plain r f);
     count = omega (arith, count-durable, field-is ℕ (λ z. z.count) (durable s.past.config y r.slot) is-durable);
     block = omega (arith, block-durable, weighs, field-is ℕ (λ z. z.block) (durable s.past.config y r.slot) is-durable);
     dead = omega (arith, dead-durable, weighs, field-is ℕ (λ z. z.dead) (durable s.past.config y r.slot) is-durable);
     room = omega (arith, count-durable, block-durable, weighs, f.room.fits);
-    said = ap (λ z. meta_of (durable s.past.config y r.slot (META_AT + z))) count-durable ∙ (ap meta_of said ∙ reserved-says b.statuses b.metas b.small r f);
+    said = ap (λ z. meta_of (durable s.past.config y r.slot (META_AT + z))) count-durable ∙ (ap meta_of said ∙ reserved-says r f);
     holds = reserved-held (place_of r);
     hidden = reserved-hidden (place_of r);
     taken = reserved-used (place_of r);
@@ -134,11 +122,11 @@ module _ (b : Laws) (s : Scene) (y : Instant) (r : NewRecord) (moment : ℕ) (go
   }
 
   pub alike : AnswersAlike s.past.config.nodes (node s.past.config y.image r.slot) (durable s.past.config (here s) r.slot) (durable s.past.config y r.slot) ((form_at s.past.config (here s)).low r.slot) ((form_at s.past.config (here s)).high r.slot)
-  alike = b.quiet s.past.config.nodes (node s.past.config (here s).image r.slot) (node s.past.config y.image r.slot) (durable s.past.config (here s) r.slot) (durable s.past.config y r.slot) _ _ (Reserved (place_of r)) same.leaf.whole reserves
+  alike = reservation_is_quiet s.past.config.nodes (node s.past.config (here s).image r.slot) (node s.past.config y.image r.slot) (durable s.past.config (here s) r.slot) (durable s.past.config y r.slot) _ _ (Reserved (place_of r)) same.leaf.whole reserves
 
   -- the new record is not visible
   pub hidden : visible ((page (words s.past.config y r.slot)).meta (status r.status).count) ≡ false
-  hidden = ap (λ z. visible (meta_of z)) (sets-meta s.past.config (reservation r) (here s) y b.slots swaps place) ∙ (ap visible (reserved-says b.statuses b.metas b.small r f) ∙ reserved-hidden (place_of r))
+  hidden = ap (λ z. visible (meta_of z)) (sets-meta s.past.config (reservation r) (here s) y swaps place) ∙ (ap visible (reserved-says r f) ∙ reserved-hidden (place_of r))
 
   -- so a word of a visible record is one of a record that was visible
   pub record-before : (i j : ℕ) → IsOfRecord (words s.past.config y r.slot) i j → IsOfRecord (words s.past.config (here s) r.slot) i j

@@ -4,21 +4,22 @@ use Rattle.bz_layout.specs.declared.sizes.TheConstants.{STATUS_AT, META_AT, SHAR
 use Rattle.bz_task.specs.FromSwap.SwapMemory.{is_target}
 use Rattle.bz_word.specs.Statuses.{status}
 use Rattle.bz_task.specs.Instant.{Instant}
-use Rattle.bz_task.specs.LeafSwaps.{IsLeafSwap, LeafSwapsAreGood}
+use Rattle.bz_task.specs.LeafSwaps.{IsLeafSwap}
 use Rattle.bz_task.specs.Requests.{IsTarget}
 use Rattle.bz_task.specs.Scene.{Scene, IsScene, here}
 use Rattle.bz_task.specs.Swaps.{Change, Stand, SwapsTo}
+use Rattle.bz_task.proofs.Proved.{leaf_swaps_are_good}
 use Rattle.bz_record.specs.Laws.{SameLeaf, ReservationsAreGood}
 use Rattle.bz_record.specs.Leaves.{WasLeafThen}
 use Rattle.bz_record.specs.Records.{Fits}
 use Rattle.bz_record.specs.Swaps.{entries_of, reservation}
 use Rattle.bz_record.specs.declared.new_record.NewRecord.{NewRecord}
 use Rattle.bz_record.proofs.Entries.{target-of, each-target}
-use Rattle.bz_record.proofs.Reserved.{Laws, place, same, count-was, block-was, moves, alike, shown-before}
+use Rattle.bz_record.proofs.Reserved.{place, same, count-was, block-was, moves, alike, shown-before}
 
-module _ (b : Laws) (swap : LeafSwapsAreGood) (s : Scene) (y : Instant) (r : NewRecord) (moment : ℕ) (change : Change) (good : IsScene s) (f : Fits r) (leaf : WasLeafThen r.slot r.status moment s.past) (stand : Stand (entries_of s.past.config (reservation r)) (here s)) (swaps : SwapsTo s.past.config (entries_of s.past.config (reservation r)) (here s) y) where
+module _ (s : Scene) (y : Instant) (r : NewRecord) (moment : ℕ) (change : Change) (good : IsScene s) (f : Fits r) (leaf : WasLeafThen r.slot r.status moment s.past) (stand : Stand (entries_of s.past.config (reservation r)) (here s)) (swaps : SwapsTo s.past.config (entries_of s.past.config (reservation r)) (here s) y) where
   now : SameLeaf s.past.config (s.past.at moment) (here s) r.slot
-  now = same b s y r moment good f leaf stand swaps
+  now = same s y r moment good f leaf stand swaps
 
   named : (a : ℕ) → is_target (entries_of s.past.config (reservation r)) a ≡ true → IsTarget s a
   named = each-target (IsTarget s) s.past.config (reservation r)
@@ -27,9 +28,9 @@ module _ (b : Laws) (swap : LeafSwapsAreGood) (s : Scene) (y : Instant) (r : New
         slot = r.slot;
         place = META_AT + (status r.status).count;
         address = refl;
-        within = place b s y r moment good f leaf stand swaps;
+        within = place s y r moment good f leaf stand swaps;
         reached = now.leaf.reached;
-        kind = inr (inl (record { leaf = (same b s y r moment good f leaf stand swaps).leaf.flat; from = omega arith; to = omega (arith, count-was b s y r moment good f leaf stand swaps); free = omega (arith, block-was b s y r moment good f leaf stand swaps, some) }));
+        kind = inr (inl (record { leaf = (same s y r moment good f leaf stand swaps).leaf.flat; from = omega arith; to = omega (arith, count-was s y r moment good f leaf stand swaps); free = omega (arith, block-was s y r moment good f leaf stand swaps, some) }));
       })))
     where
       some : (status r.status).count + (status r.status).block < SHARED_WORDS
@@ -41,14 +42,14 @@ module _ (b : Laws) (swap : LeafSwapsAreGood) (s : Scene) (y : Instant) (r : New
     inside = now.leaf.inside;
     slot = leaf.slot;
     leaf = now.leaf.leaf;
-    place = target-of s (reservation r) (place b s y r moment good f leaf stand swaps);
+    place = target-of s (reservation r) (place s y r moment good f leaf stand swaps);
     targets = named;
-    moves = moves b s y r moment good f leaf stand swaps;
-    whole = (alike b s y r moment good f leaf stand swaps).none;
-    says = (alike b s y r moment good f leaf stand swaps).same;
-    shown = λ i l h. inl (shown-before b s y r moment good f leaf stand swaps i h);
+    moves = moves s y r moment good f leaf stand swaps;
+    whole = (alike s y r moment good f leaf stand swaps).none;
+    says = (alike s y r moment good f leaf stand swaps).same;
+    shown = λ i l h. inl (shown-before s y r moment good f leaf stand swaps i h);
   }
 
-pub reserving : Laws → LeafSwapsAreGood → ReservationsAreGood
-reserving b swap s y r moment change good f leaf stand swaps =
-    swap false change (entries_of s.past.config (reservation r)) s r.slot y good (leaf-swap b swap s y r moment change good f leaf stand swaps)
+pub reserving : ReservationsAreGood
+reserving s y r moment change good f leaf stand swaps =
+    leaf_swaps_are_good false change (entries_of s.past.config (reservation r)) s r.slot y good (leaf-swap s y r moment change good f leaf stand swaps)

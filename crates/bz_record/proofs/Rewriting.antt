@@ -7,38 +7,30 @@ use Rattle.bz_layout.specs.Addresses.{node_address}
 use Rattle.bz_layout.specs.declared.sizes.TheConstants.{NODE_WORDS, STATUS_AT, HEADER_AT, META_AT}
 use Rattle.bz_shape.specs.Order.{is_within}
 use Rattle.bz_slotted.specs.Changes.{Rewrites}
-use Rattle.bz_slotted.specs.Laws.{LeafRulesAreFacts}
-use Rattle.bz_slotted.specs.LeafLaws.{AnswersRewritten, RewriteChangesOneKey}
+use Rattle.bz_slotted.specs.LeafLaws.{AnswersRewritten}
 use Rattle.bz_slotted.specs.Page.{meta_of, visible, extent_of, page}
 use Rattle.bz_slotted.specs.Readers.{found_of}
 use Rattle.bz_slotted.specs.Records.{key_in, payload_in, key_at, weight, shown}
 use Rattle.bz_slotted.specs.Whole.{Whole}
+use Rattle.bz_slotted.proofs.Proved.{leaf_rules_are_facts, rewrite_changes_one_key}
 use Rattle.bz_task.specs.FromSwap.SwapMemory.{is_target}
 use Rattle.bz_word.specs.Headers.{header}
 use Rattle.bz_word.specs.Statuses.{status}
 use Rattle.bz_word.specs.declared.meta.Meta.{Meta}
 use Rattle.bz_content.specs.Image.{node}
 use Rattle.bz_task.specs.Instant.{Instant, words, durable, form_at}
-use Rattle.bz_task.specs.Laws.{SwapsShowInSlots}
-use Rattle.bz_task.specs.LeafSwaps.{SaysChange, IsLeafSwap, LeafSwapsAreGood}
+use Rattle.bz_task.specs.LeafSwaps.{SaysChange, IsLeafSwap}
 use Rattle.bz_task.specs.Requests.{IsTarget}
 use Rattle.bz_task.specs.Scene.{Scene, IsScene, here}
 use Rattle.bz_task.specs.Shown.{IsOfRecord, IsShown}
 use Rattle.bz_task.specs.Steps.{Moves, next_stamp}
 use Rattle.bz_task.specs.Swaps.{Change, Stand, SwapsTo, IsMineAndDurable}
-use Rattle.bz_record.specs.Laws.{SameLeaf, LeavesStay, IsRewrite, RewritesAreGood}
+use Rattle.bz_task.proofs.Proved.{leaf_swaps_are_good}
+use Rattle.bz_record.specs.Laws.{SameLeaf, IsRewrite, RewritesAreGood}
 use Rattle.bz_record.specs.Swaps.{entries_of}
 use Rattle.bz_record.specs.declared.record_swap.RecordSwap.{RecordSwap}
 use Rattle.bz_record.proofs.Entries.{sets-status, sets-durable-status, sets-meta, sets-durable-meta, leaves-others, leaves-durable-others, leaves-raw, finds-meta, target-of, each-target, status-now, same-now, good-now, durable-status-now}
 use Rattle.bz_record.proofs.Reserved.{of-record}
-
--- the laws that these proofs stand on
-pub record Laws : Type 0 where
-  pub leaves : LeavesStay
-  pub slots : SwapsShowInSlots
-  pub swaps : LeafSwapsAreGood
-  pub rules : LeafRulesAreFacts
-  pub rewrite : RewriteChangesOneKey
 
 -- the answers after a rewrite are the change
 says-change : (nodes : ℕ) (raw n m : ℕ → ℕ) (lo hi : Option (List ℕ)) (j : ℕ) (mt : Meta) (change : Change) → AnswersRewritten nodes raw n m lo hi j mt → (visible mt ≡ true → key_in n (extent_of mt) ≡ change.key)
@@ -56,21 +48,21 @@ says-change nodes raw n m lo hi j mt change a is_key is_new was_key gone key = g
         let ne : change.key ≢ key = λ q. true≢false (sym ((bytes_eq-Decides key change.key).1 (sym q)) ∙ e) in
         a.other key (λ v q. ne (sym (is_key v) ∙ q)) (λ v q. ne (sym (was_key v) ∙ q))
 
-module _ (b : Laws) (s : Scene) (y : Instant) (w : RecordSwap) (mt : Meta) (change : Change) (good : IsScene s) (f : IsRewrite w mt change s) (stand : Stand (entries_of s.past.config w) (here s)) (swaps : SwapsTo s.past.config (entries_of s.past.config w) (here s) y) where
+module _ (s : Scene) (y : Instant) (w : RecordSwap) (mt : Meta) (change : Change) (good : IsScene s) (f : IsRewrite w mt change s) (stand : Stand (entries_of s.past.config w) (here s)) (swaps : SwapsTo s.past.config (entries_of s.past.config w) (here s) y) where
   n : ℕ → ℕ
   n = durable s.past.config (here s) w.slot
 
   now : SameLeaf s.past.config (s.past.at f.moment) (here s) w.slot
-  now = same-now b.leaves b.slots s y w f.moment good f.leaf.leaf f.thawed stand swaps
+  now = same-now s y w f.moment good f.leaf.leaf f.thawed stand swaps
 
   was : words s.past.config (here s) w.slot STATUS_AT ≡ w.status
-  was = status-now b.leaves b.slots s y w f.moment good f.leaf.leaf f.thawed stand swaps
+  was = status-now s y w f.moment good f.leaf.leaf f.thawed stand swaps
 
   was-durable : durable s.past.config (here s) w.slot STATUS_AT ≡ w.status
-  was-durable = durable-status-now b.leaves b.slots s y w f.moment good f.leaf.leaf f.thawed stand swaps
+  was-durable = durable-status-now s y w f.moment good f.leaf.leaf f.thawed stand swaps
 
   whole : Whole (node s.past.config (here s).image w.slot) (page (durable s.past.config (here s) w.slot)) ((form_at s.past.config (here s)).low w.slot) ((form_at s.past.config (here s)).high w.slot)
-  whole = (b.rules s.past.config.nodes (node s.past.config (here s).image w.slot) (durable s.past.config (here s) w.slot) _ _).0 now.leaf.whole
+  whole = (leaf_rules_are_facts s.past.config.nodes (node s.past.config (here s).image w.slot) (durable s.past.config (here s) w.slot) _ _).0 now.leaf.whole
 
   count-durable : (page (durable s.past.config (here s) w.slot)).count ≡ (status w.status).count
   count-durable = ap (λ z. (status z).count) was-durable
@@ -88,16 +80,16 @@ module _ (b : Laws) (s : Scene) (y : Instant) (w : RecordSwap) (mt : Meta) (chan
   place = omega (arith, f.counted, count-durable, whole.filled.room)
 
   is : words s.past.config y w.slot STATUS_AT ≡ w.new_status
-  is = sets-status s.past.config w (here s) y b.slots swaps place
+  is = sets-status s.past.config w (here s) y swaps place
 
   is-durable : durable s.past.config y w.slot STATUS_AT ≡ w.new_status
-  is-durable = sets-durable-status s.past.config w (here s) y b.slots swaps place
+  is-durable = sets-durable-status s.past.config w (here s) y swaps place
 
   meta-durable : durable s.past.config (here s) w.slot (META_AT + w.place) ≡ w.meta
-  meta-durable = (good-now b.leaves b.slots s y w f.moment good f.leaf.leaf f.thawed stand swaps).shown w.slot (META_AT + w.place) now.leaf.reached (inl (omega (arith, f.counted, count-was))) ∙ finds-meta s.past.config w (here s) y b.slots swaps place stand
+  meta-durable = (good-now s y w f.moment good f.leaf.leaf f.thawed stand swaps).shown w.slot (META_AT + w.place) now.leaf.reached (inl (omega (arith, f.counted, count-was))) ∙ finds-meta s.past.config w (here s) y swaps place stand
 
   others : (i : ℕ) → i ≢ STATUS_AT → i ≢ META_AT + w.place → words s.past.config y w.slot i ≡ words s.past.config (here s) w.slot i
-  others = leaves-others s.past.config w (here s) y b.slots swaps place
+  others = leaves-others s.past.config w (here s) y swaps place
 
   count-is : (page (words s.past.config y w.slot)).count ≡ (status w.status).count
   count-is = ap (λ z. (status z).count) is ∙ f.states.count
@@ -110,14 +102,14 @@ module _ (b : Laws) (s : Scene) (y : Instant) (w : RecordSwap) (mt : Meta) (chan
 
   rewrites : Rewrites (node s.past.config (here s).image w.slot) (node s.past.config y.image w.slot) (durable s.past.config (here s) w.slot) (durable s.past.config y w.slot) ((form_at s.past.config (here s)).low w.slot) ((form_at s.past.config (here s)).high w.slot) w.place mt
   rewrites = record {
-    others = leaves-durable-others s.past.config w (here s) y b.slots swaps place;
-    raw = λ i l. leaves-raw s.past.config w (here s) y b.slots swaps place i;
+    others = leaves-durable-others s.past.config w (here s) y swaps place;
+    raw = λ i l. leaves-raw s.past.config w (here s) y swaps place i;
     status = subst (λ z. z < 2 ^ 61) (sym is-durable) f.states.plain;
     count = ap (λ z. (status z).count) is-durable ∙ (f.states.count ∙ sym count-durable);
     block = ap (λ z. (status z).block) is-durable ∙ (f.states.block ∙ sym block-durable);
     dead = ap (λ z. (status z).dead + shown mt) is-durable ∙ (f.dead ∙ (ap (λ z. (status z).dead + shown (meta_of w.meta)) (sym was-durable) ∙ ap (λ z. (page (durable s.past.config (here s) w.slot)).dead + shown (meta_of z)) (sym meta-durable)));
     inside = omega (arith, f.counted, count-durable);
-    said = ap meta_of (sets-durable-meta s.past.config w (here s) y b.slots swaps place) ∙ f.says;
+    said = ap meta_of (sets-durable-meta s.past.config w (here s) y swaps place) ∙ f.says;
     taken = f.rewrites.used;
     lengths = f.rewrites.lengths;
     in_block = f.rewrites.in_block;
@@ -130,7 +122,7 @@ module _ (b : Laws) (s : Scene) (y : Instant) (w : RecordSwap) (mt : Meta) (chan
   }
 
   answers : AnswersRewritten s.past.config.nodes (node s.past.config y.image w.slot) (durable s.past.config (here s) w.slot) (durable s.past.config y w.slot) ((form_at s.past.config (here s)).low w.slot) ((form_at s.past.config (here s)).high w.slot) w.place mt
-  answers = b.rewrite s.past.config.nodes (node s.past.config (here s).image w.slot) (node s.past.config y.image w.slot) (durable s.past.config (here s) w.slot) (durable s.past.config y w.slot) _ _ w.place mt now.leaf.whole rewrites
+  answers = rewrite_changes_one_key s.past.config.nodes (node s.past.config (here s).image w.slot) (node s.past.config y.image w.slot) (durable s.past.config (here s) w.slot) (durable s.past.config y w.slot) _ _ w.place mt now.leaf.whole rewrites
 
   says : SaysChange change (durable s.past.config (here s) w.slot) (durable s.past.config y w.slot) ((form_at s.past.config (here s)).low w.slot) ((form_at s.past.config (here s)).high w.slot)
   says = record {
@@ -155,7 +147,7 @@ module _ (b : Laws) (s : Scene) (y : Instant) (w : RecordSwap) (mt : Meta) (chan
   record-shown : (i j : ℕ) → IsOfRecord (words s.past.config y w.slot) i j → IsShown (words s.past.config (here s) w.slot) i ⊎ IsMineAndDurable s (node_address s.past.config w.slot + i)
   record-shown i j o = elim (cases_eq j w.place) [
     | inl e ↦ (
-        let q : meta_of (words s.past.config y w.slot (META_AT + j)) ≡ mt = ap (λ z. meta_of (words s.past.config y w.slot (META_AT + z))) e ∙ (ap meta_of (sets-meta s.past.config w (here s) y b.slots swaps place) ∙ f.says) in
+        let q : meta_of (words s.past.config y w.slot (META_AT + j)) ≡ mt = ap (λ z. meta_of (words s.past.config y w.slot (META_AT + z))) e ∙ (ap meta_of (sets-meta s.past.config w (here s) y swaps place) ∙ f.says) in
         inr (f.own i (sym (ap visible q) ∙ o.visible) (subst (λ z. (extent_of z).offset ≤ i) q o.from) (subst (λ z. i < (extent_of z).offset + weight z) q o.to)))
     | inr ne ↦ inl (inr (inr (inr (j, of-record (words s.past.config (here s) w.slot) (words s.past.config y w.slot) i j (others (META_AT + j) (λ e. omega (arith, e)) (λ e. ne (omega (arith, e)))) (omega (arith, o.counted, count-was, count-is)) o))))
   ]
@@ -192,5 +184,5 @@ module _ (b : Laws) (s : Scene) (y : Instant) (w : RecordSwap) (mt : Meta) (chan
     shown = λ i l h. shown-after i h;
   }
 
-pub rewriting : Laws → RewritesAreGood
-rewriting b s y w mt change good f stand swaps = b.swaps true change (entries_of s.past.config w) s w.slot y good (leaf-swap b s y w mt change good f stand swaps)
+pub rewriting : RewritesAreGood
+rewriting s y w mt change good f stand swaps = leaf_swaps_are_good true change (entries_of s.past.config w) s w.slot y good (leaf-swap s y w mt change good f stand swaps)

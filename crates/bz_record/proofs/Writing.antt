@@ -2,10 +2,9 @@
 use Rattle.std.proofs.Common.{◌≡◌, ℕ, ◌+◌, ◌-◌, ◌*◌, ◌<◌, ◌≤◌, arith, refl, sym, subst, ◌∙◌, inl, inr}
 use Rattle.std.specs.Prelude.{slice_index}
 use Rattle.std.proofs.lemmas.Bool.{cases_lt, cases_eq}
-use Rattle.bz_key.specs.Laws.{PackingIsSmall}
-use Rattle.bz_layout.specs.Addresses.{AddressesFit}
 use Rattle.bz_layout.specs.Slots.{FreeSlots}
 use Rattle.bz_layout.specs.declared.config.Config.{Config}
+use Rattle.bz_layout.proofs.Laws.{addresses_fit}
 use Rattle.bz_task.specs.OwnActs.{Stores, Flushes, gained}
 use Rattle.bz_task.specs.Requests.{IsReadable}
 use Rattle.bz_task.specs.Scene.{Scene, IsMine, IsFlushed, IsScene, IsLawful, here}
@@ -69,20 +68,20 @@ no-slot r words lines s free w = record { mine = λ i l. gained-mine s free free
 written-no-slot : (r : NewRecord) (s : Scene) (free : FreeSlots) → HasWritten r s → HasWritten r (gained s free free)
 written-no-slot r s free w = record { mine = λ i l. gained-mine s free free (address_of s.past.config r i) (w.mine i l); stored = w.stored; flushed = w.flushed }
 
-may-flush : AddressesFit → (r : NewRecord) (line : ℕ) (s : Scene) → IsScene s → Fits r → r.slot < s.past.config.nodes → line_in s.past.config r 0 + line ≤ line_in s.past.config r (size_of r - 1) → IsReadable s (8 * (line_in s.past.config r 0 + line))
-may-flush fit r line s good f l h = record {
+may-flush : (r : NewRecord) (line : ℕ) (s : Scene) → IsScene s → Fits r → r.slot < s.past.config.nodes → line_in s.past.config r 0 + line ≤ line_in s.past.config r (size_of r - 1) → IsReadable s (8 * (line_in s.past.config r 0 + line))
+may-flush r line s good f l h = record {
   outside = inr (omega (arith, f.room.fits));
-  within = omega (arith, h, f.some, (fit s.past.config good.config).node_words r.slot 127 l (omega arith), f.room.fits);
+  within = omega (arith, h, f.some, (addresses_fit s.past.config good.config).node_words r.slot 127 l (omega arith), f.room.fits);
 }
 
-pub written : PackingIsSmall → AddressesFit → RecordsAreWritten
-written small fit = record {
+pub written : RecordsAreWritten
+written = record {
   stays = stays;
   written_stays = written-stays;
   no_slot = no-slot;
   written_no_slot = written-no-slot;
   stores = stores;
   flushes = flushes;
-  may_store = λ r i words lines s f l w. record { mine = w.mine i l; value = word-plain small r f i l };
-  may_flush = may-flush fit;
+  may_store = λ r i words lines s f l w. record { mine = w.mine i l; value = word-plain r f i l };
+  may_flush = may-flush;
 }

@@ -30,7 +30,6 @@ impl FoundRecord {
         requires { visible (meta_of found.now.meta) ≡ true }
         ensures { result ≡ record_of found.now }
     {
-        bz_word::laws::metas();
         match Meta::unpack(found.meta) {
             Some(meta) => FoundRecord {
                 place: found.index,

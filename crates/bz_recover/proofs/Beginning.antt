@@ -3,10 +3,10 @@ use Rattle.std.proofs.Common.{◌≡◌, ℕ, suc, ◌+◌, ◌-◌, ◌%◌, �
 use Rattle.std.proofs.lemmas.Bool.{cases_lt}
 use Rattle.bz_content.specs.Content.{IsWellFormed, view_in}
 use Rattle.bz_content.specs.Image.{node, root}
-use Rattle.bz_content.specs.Laws.{WellFormedImagesHaveNoFault}
 use Rattle.bz_content.specs.Resolving.{resolve}
 use Rattle.bz_content.proofs.Honesty.{no}
 use Rattle.bz_content.proofs.Reached.{is as same}
+use Rattle.bz_content.proofs.Proved.{well_formed_images_have_no_fault}
 use Rattle.bz_layout.specs.Addresses.{node_address}
 use Rattle.bz_layout.specs.Slots.{all_free, without}
 use Rattle.bz_layout.specs.declared.config.Config.{Config}
@@ -14,11 +14,9 @@ use Rattle.bz_layout.specs.declared.sizes.TheConstants.{HEADER_AT}
 use Rattle.bz_layout.specs.declared.thresholds.TheConstants.{MAX_LEVELS}
 use Rattle.bz_layout.proofs.Laws.{all_slots_are_free}
 use Rattle.bz_shape.specs.Stack.{pending}
-use Rattle.bz_shape.specs.TreeLaws.{SlotsComeOnce}
 use Rattle.bz_shape.specs.View.{View}
 use Rattle.bz_shape.specs.Walk.{Visit, kid, kids, start, visits, walk}
 use Rattle.bz_shape.proofs.Stacks.{pending-inner, pending-leaf}
-use Rattle.bz_slotted.specs.Laws.{InnerRulesAreFacts}
 use Rattle.bz_slotted.specs.Readers.{level_of}
 use Rattle.bz_word.specs.Headers.{header}
 use Rattle.bz_recover.specs.Walking.{IsTreeOf, IsBetween, IsBefore, IsInner, HasCome, above}
@@ -36,9 +34,9 @@ walk-begins v one tall =
     ∙ (pending-inner v (v.height - 1) (start v) [] e ∙ (λ t. start v ∷ pending v (kids v (start v) (v.height - 1) 0 (one t) ++ [])))
 
 -- where every slot is free, the walk is before its root
-pub before-root : WellFormedImagesHaveNoFault → (c : Config) (values image : ℕ → ℕ) → IsTreeOf c values image → IsBefore (view_in c image) (all_free c.nodes).free
-before-root formed c values image t =
-    let well : IsWellFormed c image = (formed c image).0 t.none in
+pub before-root : (c : Config) (values image : ℕ → ℕ) → IsTreeOf c values image → IsBefore (view_in c image) (all_free c.nodes).free
+before-root c values image t =
+    let well : IsWellFormed c image = (well_formed_images_have_no_fault c image).0 t.none in
     record {
       behind = start (view_in c image) ∷ [];
       whole = walk-begins (view_in c image) well.tree.one well.tree.tall;
@@ -52,7 +50,7 @@ pub record RootTaken (v : View) (ways : List Way) (free : List ℕ) (slot level 
   pub leaf : level ≡ 0 → IsBetween v [] (without slot free)
   pub inner : 0 < level → HasCome v level ways (without slot free) level slot
 
-module _ (formed : WellFormedImagesHaveNoFault) (once : SlotsComeOnce) (facts : InnerRulesAreFacts) (c : Config) (values image : ℕ → ℕ) (ways : List Way) (free : List ℕ) (slot y : ℕ) (t : IsTreeOf c values image) (inside : slot < c.nodes) (b : IsBefore (view_in c image) free) (is : root (resolve image) ≡ slot) (told : values (node_address c slot + HEADER_AT) ≡ y) where
+module _ (c : Config) (values image : ℕ → ℕ) (ways : List Way) (free : List ℕ) (slot y : ℕ) (t : IsTreeOf c values image) (inside : slot < c.nodes) (b : IsBefore (view_in c image) free) (is : root (resolve image) ≡ slot) (told : values (node_address c slot + HEADER_AT) ≡ y) where
   abbrev v : View
   v = view_in c image
 
@@ -60,7 +58,7 @@ module _ (formed : WellFormedImagesHaveNoFault) (once : SlotsComeOnce) (facts : 
   u = kid v (start v) (v.height - 1) 0
 
   s : IsSound (view_in c image)
-  s = sound formed once c values image t
+  s = sound c values image t
 
   root-slot : u.slot ≡ slot
   root-slot = rw (same c.nodes) is
@@ -107,7 +105,7 @@ module _ (formed : WellFormedImagesHaveNoFault) (once : SlotsComeOnce) (facts : 
   root-taken = elim (cases_lt 0 u.level) [
     | inl high ↦ record {
       was_free = subst (Contains free) root-slot (inner-taken high).was_free;
-      low = omega (arith, (inner-facts facts c image u (y % 2 ^ 8) (is-inner high)).level.lowest, root-level);
+      low = omega (arith, (inner-facts c image u (y % 2 ^ 8) (is-inner high)).level.lowest, root-level);
       leaf = λ none. absurd (omega (arith, none, root-level, high));
       inner = come;
     }

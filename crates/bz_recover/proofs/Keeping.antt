@@ -10,23 +10,23 @@ use Rattle.bz_content.proofs.Sames.{node-same, same-super}
 use Rattle.bz_content.specs.Content.{image_fault, image_of, is_super, view_in, IsWellFormed}
 use Rattle.bz_content.specs.Image.{node, root}
 use Rattle.bz_content.specs.Lawful.{is_fixed, is_in_descriptor, is_lawful, is_value, is_word}
-use Rattle.bz_content.specs.Laws.{WellFormedImagesHaveNoFault, ViewsAreHonest}
 use Rattle.bz_content.specs.Resolving.{resolve}
+use Rattle.bz_content.proofs.Proved.{views_are_honest, well_formed_images_have_no_fault}
 use Rattle.bz_layout.specs.Addresses.{node_address}
 use Rattle.bz_layout.specs.declared.config.Config.{Config}
 use Rattle.bz_layout.specs.declared.sizes.TheConstants.{NODE_WORDS, SUPERBLOCK_WORDS, ROOT_AT, ROOT_STATUS_AT}
 use Rattle.bz_shape.specs.Outcomes.{SameTree, SameContent}
 use Rattle.bz_shape.specs.Slots.{SameSlot, SameTop}
-use Rattle.bz_shape.specs.SwapLaws.{UnreachedSlotsDoNotMatter}
 use Rattle.bz_shape.specs.Walk.{form, form_of}
-use Rattle.bz_slotted.specs.Laws.{LeafRulesAreFacts, InnerRulesAreFacts}
+use Rattle.bz_shape.proofs.Proved.{unreached_slots_do_not_matter}
 use Rattle.bz_slotted.specs.Page.{page, words_at}
 use Rattle.bz_slotted.specs.Readers.{level_of, count_of, child_of, key_of, found_of}
 use Rattle.bz_slotted.specs.Rules.{node_fault}
 use Rattle.bz_slotted.specs.Whole.{Whole, WholeInner, IsPlainKey, IsPlainPayload}
+use Rattle.bz_slotted.proofs.Proved.{inner_rules_are_facts, leaf_rules_are_facts}
 use Rattle.bz_task.specs.Good.{IsGood}
-use Rattle.bz_task.specs.Laws.{RootsAreReached}
-use Rattle.bz_task.specs.Settled.{settled, SettledMemoriesAreGood}
+use Rattle.bz_task.specs.Settled.{settled}
+use Rattle.bz_task.proofs.Proved.{roots_are_reached, settled_memories_are_good}
 use Rattle.bz_word.specs.declared.meta.Extent.{Extent}
 use Rattle.bz_sweep.specs.Areas.{area_of}
 use Rattle.bz_sweep.proofs.Entries.{every-same}
@@ -34,16 +34,6 @@ use Rattle.bz_sweep.proofs.Images.{plain-resolved}
 use Rattle.bz_sweep.proofs.Named.{not-in-descriptor}
 use Rattle.bz_recover.specs.Contents.{ResolvesSome, SaysTheSame, ResolvingKeepsTheContent}
 use Rattle.bz_recover.specs.Sweep.{IsShared}
-
--- the laws that these proofs stand on
-pub record Laws : Type 0 where
-  pub formed : WellFormedImagesHaveNoFault
-  pub honest : ViewsAreHonest
-  pub settled : SettledMemoriesAreGood
-  pub roots : RootsAreReached
-  pub unreached : UnreachedSlotsDoNotMatter
-  pub leaf : LeafRulesAreFacts
-  pub inner : InnerRulesAreFacts
 
 -- each word of a node stands as it stood, or as it resolves
 abbrev StandsOrIs : (r s n : ℕ → ℕ) → Type 0
@@ -102,11 +92,11 @@ inner-kept nodes r s n l lo hi each w = record {
 }
 
 -- so a node breaks no rule anew
-node-kept : Laws → (nodes : ℕ) (r s n : ℕ → ℕ) (l : ℕ) (lo hi : Option (List ℕ)) → StandsOrIs r s n → node_fault nodes r n l lo hi ≡ None → node_fault nodes s n l lo hi ≡ None
-node-kept b nodes r s n zero lo hi each e = (b.leaf nodes s n lo hi).1 (leaf-kept r s n lo hi each ((b.leaf nodes r n lo hi).0 e))
-node-kept b nodes r s n (suc l) lo hi each e =
+node-kept : (nodes : ℕ) (r s n : ℕ → ℕ) (l : ℕ) (lo hi : Option (List ℕ)) → StandsOrIs r s n → node_fault nodes r n l lo hi ≡ None → node_fault nodes s n l lo hi ≡ None
+node-kept nodes r s n zero lo hi each e = (leaf_rules_are_facts nodes s n lo hi).1 (leaf-kept r s n lo hi each ((leaf_rules_are_facts nodes r n lo hi).0 e))
+node-kept nodes r s n (suc l) lo hi each e =
     let above : 0 < suc l = omega arith in
-    (b.inner nodes s n (suc l) lo hi above).1 (inner-kept nodes r s n (suc l) lo hi each ((b.inner nodes r n (suc l) lo hi above).0 e))
+    (inner_rules_are_facts nodes s n (suc l) lo hi above).1 (inner-kept nodes r s n (suc l) lo hi each ((inner_rules_are_facts nodes r n (suc l) lo hi above).0 e))
 
 -- the word of a slot
 node-word : (c : Config) (f : ℕ → ℕ) (k i : ℕ) → i < NODE_WORDS → node c f k i ≡ f (node_address c k + i)
@@ -136,12 +126,12 @@ fixed-plain c raw a fix t =
     let v : is_value (raw a) ≡ true = rw (d, fix) at p.1 in
     grind (arith, nat_tests)
 
-module _ (b : Laws) (c : Config) (v x y : ℕ → ℕ) (none : image_fault c x ≡ None) (r : ResolvesSome c v x y) where
+module _ (c : Config) (v x y : ℕ → ℕ) (none : image_fault c x ≡ None) (r : ResolvesSome c v x y) where
   well : IsWellFormed c x
-  well = (b.formed c x).0 none
+  well = (well_formed_images_have_no_fault c x).0 none
 
   good : IsGood c (settled c x)
-  good = b.settled c x none
+  good = settled_memories_are_good c x none
 
   slot : (k : ℕ) → (form (view_in c x)).inside k ≡ true → k ≢ c.nodes → k < c.nodes
   slot k i ne = good.slots k (good.inside k i ne)
@@ -177,7 +167,7 @@ module _ (b : Laws) (c : Config) (v x y : ℕ → ℕ) (none : image_fault c x �
     child = λ j. rw (no k c.nodes ne) (ap (λ n. child_of n j) same);
     key = λ j. rw (no k c.nodes ne) (ap (λ n. key_of n j) same);
     found = λ key. rw (no k c.nodes ne) (ap (λ n. found_of n key) same);
-    fault = λ l lo hi e. rw (no k c.nodes ne) (ap (λ n. node_fault c.nodes (node c y k) n l lo hi) same ∙ node-kept b c.nodes (node c x k) (node c y k) (node c (resolve x) k) l lo hi (stands k (slot k i ne)) (rw (no k c.nodes ne) at e));
+    fault = λ l lo hi e. rw (no k c.nodes ne) (ap (λ n. node_fault c.nodes (node c y k) n l lo hi) same ∙ node-kept c.nodes (node c x k) (node c y k) (node c (resolve x) k) l lo hi (stands k (slot k i ne)) (rw (no k c.nodes ne) at e));
   }
     where
       same : node c (resolve y) k ≡ node c (resolve x) k
@@ -197,11 +187,11 @@ module _ (b : Laws) (c : Config) (v x y : ℕ → ℕ) (none : image_fault c x �
     top = refl;
     height =
         ap (λ n. level_of (node c (resolve y) n) + 1) (ap (λ n. n - 1) pointer-same)
-        ∙ ap (λ f. level_of f + 1) (words-same (root (resolve x)) (b.roots c (settled c x) good).slot);
+        ∙ ap (λ f. level_of f + 1) (words-same (root (resolve x)) (roots_are_reached c (settled c x) good).slot);
   }
 
   both : SameTree (view_in c x) (view_in c y) × SameContent (view_in c x) (view_in c y)
-  both = b.unreached (view_in c x) (view_in c y) well.tree (b.honest c (image_of y)) same-top each-slot
+  both = unreached_slots_do_not_matter (view_in c x) (view_in c y) well.tree (views_are_honest c (image_of y)) same-top each-slot
 
   -- fixed words stand for themselves
   fixed-same : (a : ℕ) → is_fixed a ≡ true → y a ≡ x a
@@ -215,10 +205,10 @@ module _ (b : Laws) (c : Config) (v x y : ℕ → ℕ) (none : image_fault c x �
 
   says : SaysTheSame c x y
   says = record {
-    well_formed = (b.formed c y).1 formed;
+    well_formed = (well_formed_images_have_no_fault c y).1 formed;
     inside = λ k. ap (λ us. (form_of us).inside k) both.0.walk;
     content = both.1.content;
   }
 
-pub keeps-content : Laws → ResolvingKeepsTheContent
-keeps-content b c v x y none r = says b c v x y none r
+pub keeps-content : ResolvingKeepsTheContent
+keeps-content c v x y none r = says c v x y none r

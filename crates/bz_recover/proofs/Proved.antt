@@ -1,13 +1,9 @@
 -- What this crate proves, as lemmas that other crates cite by these names.
 use Rattle.std.proofs.Common.{ap, ◌+◌}
-use Rattle.bz_content.proofs.Proved.{views_are_honest, well_formed_images_have_no_fault}
-use Rattle.bz_shape.proofs.Proved.{unreached_slots_do_not_matter}
-use Rattle.bz_slotted.proofs.Proved.{inner_rules_are_facts, leaf_rules_are_facts}
-use Rattle.bz_sweep.proofs.Proved.{acts_are_these as sweep_acts_are_these, acts_left_stay as sweep_acts_left_stay, cuts_keep_the_image as sweep_cuts_keep_the_image, lawful_words_are_these, recovered_memories_may_be_renewed as sweep_recovered_memories_may_be_renewed, sweeps_know}
+use Rattle.bz_sweep.proofs.Proved.{acts_are_these as sweep_acts_are_these, acts_left_stay as sweep_acts_left_stay, cuts_keep_the_image as sweep_cuts_keep_the_image, recovered_memories_may_be_renewed as sweep_recovered_memories_may_be_renewed}
 use Rattle.bz_sweep.specs.Areas.{area_of}
 use Rattle.bz_sweep.specs.Duties.{asks_of as sweep_asks}
 use Rattle.bz_sweep.specs.Laws.{ActsAreThese}
-use Rattle.bz_task.proofs.Proved.{roots_are_reached, settled_memories_are_good}
 use Rattle.bz_recover.proofs.Images.{powered-of, to-area}
 use Rattle.bz_recover.proofs.Joining.{finishes, held}
 use Rattle.bz_recover.proofs.Keeping.{keeps-content}
@@ -21,8 +17,8 @@ use Rattle.bz_recover.specs.Walking.{walk_left}
 -- a power cut, in a recovery too, leaves an image that resolves to the same values
 pub cuts_keep_the_image : CutsKeepTheImage
 cuts_keep_the_image = λ config v old new image cuts.
-    powered-of lawful_words_are_these config v new
-    (sweep_cuts_keep_the_image (area_of config) v old new (to-area lawful_words_are_these config v old.durable image) cuts)
+    powered-of config v new
+    (sweep_cuts_keep_the_image (area_of config) v old new (to-area config v old.durable image) cuts)
 
 -- the acts of a simulated memory are those of which a recovery's facts speak
 pub acts_are_these : ActsAreThese
@@ -34,23 +30,20 @@ recovered_memories_may_be_renewed = λ config v m same cached durable idle h. sw
 
 -- what every recovery knows of the memory, and what it knows after its own acts and those of others
 pub recoveries_know : RecoveriesKnow
-recoveries_know =
-    let same = lawful_words_are_these in
-    let know = sweeps_know in
-    record {
-      stable = λ t v stage old new copied ready k h. stable same know t ready v stage old new copied k h;
-      resolves = λ t v stage old new copied ready k h. resolves same know t ready v stage old new copied k h;
-      loaded = λ t v m a ready e k. loaded same know t ready v m a e k;
-      stored = λ t v old new a x ready e k s. stored same know t ready v old new a x e k s;
-      flushed = λ t v old new line ready e k s. flushed same know t ready v old new line e k s;
-      image = λ t v stage m ready k. image same know t ready v stage m k;
-      near = λ t v stage m ready k. near same know t ready v stage m k;
-      words = λ t v stage m a ready k within. words same know t ready v stage m a k within;
-      askable = λ t v m todo ready k e. askable same know t ready v m todo k e;
-      finishes = λ t e. finishes (sweep_asks t.sweep) t.walk.config t.walk.step e;
-      ends = λ t v stage m ready k e. ends same know t ready v stage m k e;
-      reached = λ t v image slots ready n walks tree e. held t v image slots ready n walks tree e;
-    }
+recoveries_know = record {
+  stable = λ t v stage old new copied ready k h. stable t ready v stage old new copied k h;
+  resolves = λ t v stage old new copied ready k h. resolves t ready v stage old new copied k h;
+  loaded = λ t v m a ready e k. loaded t ready v m a e k;
+  stored = λ t v old new a x ready e k s. stored t ready v old new a x e k s;
+  flushed = λ t v old new line ready e k s. flushed t ready v old new line e k s;
+  image = λ t v stage m ready k. image t ready v stage m k;
+  near = λ t v stage m ready k. near t ready v stage m k;
+  words = λ t v stage m a ready k within. words t ready v stage m a k within;
+  askable = λ t v m todo ready k e. askable t ready v m todo k e;
+  finishes = λ t e. finishes (sweep_asks t.sweep) t.walk.config t.walk.step e;
+  ends = λ t v stage m ready k e. ends t ready v stage m k e;
+  reached = λ t v image slots ready n walks tree e. held t v image slots ready n walks tree e;
+}
 
 -- no store, flush or eviction of anybody changes how many acts are left
 pub acts_left_stay : ActsLeftStay
@@ -61,12 +54,4 @@ acts_left_stay = record {
 
 -- where words outside the descriptors become what they stand for, the image breaks no rule anew and holds the same
 pub resolving_keeps_the_content : ResolvingKeepsTheContent
-resolving_keeps_the_content = keeps-content (record {
-  formed = well_formed_images_have_no_fault;
-  honest = views_are_honest;
-  settled = settled_memories_are_good;
-  roots = roots_are_reached;
-  unreached = unreached_slots_do_not_matter;
-  leaf = leaf_rules_are_facts;
-  inner = inner_rules_are_facts;
-})
+resolving_keeps_the_content = keeps-content

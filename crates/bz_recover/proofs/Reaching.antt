@@ -3,14 +3,11 @@ use Rattle.std.proofs.Common.{◌≡◌, ◌≢◌, ℕ, ◌+◌, ◌-◌, ◌<�
 use Rattle.std.proofs.lemmas.Bool.{cases_lt}
 use Rattle.bz_content.specs.Content.{view_in}
 use Rattle.bz_content.specs.Image.{node}
-use Rattle.bz_content.specs.Laws.{WellFormedImagesHaveNoFault}
 use Rattle.bz_content.specs.Resolving.{resolve}
 use Rattle.bz_layout.specs.Addresses.{node_address}
 use Rattle.bz_layout.specs.Slots.{without}
 use Rattle.bz_layout.specs.declared.config.Config.{Config}
-use Rattle.bz_shape.specs.TreeLaws.{SlotsComeOnce}
 use Rattle.bz_shape.specs.View.{View}
-use Rattle.bz_slotted.specs.Laws.{InnerRulesAreFacts}
 use Rattle.bz_slotted.specs.Page.{page}
 use Rattle.bz_slotted.specs.Records.{pointer_at}
 use Rattle.bz_recover.specs.Walking.{IsTreeOf, HasCome, GoesOn, way_at}
@@ -27,10 +24,10 @@ pub record ChildTaken (c : Config) (v : View) (top : ℕ) (ways : List Way) (fre
   pub inner : child + 1 ≡ pointer → 1 < l → l ≤ top → (ways-after : List Way) → way_at ways-after l ≡ after way → ((j : ℕ) → j ≢ l → way_at ways-after j ≡ way_at ways j) →
       HasCome v top ways-after (without child free) (l - 1) child
 
-pub child-taken : WellFormedImagesHaveNoFault → SlotsComeOnce → InnerRulesAreFacts → (c : Config) (values image : ℕ → ℕ) (top : ℕ) (ways : List Way) (free : List ℕ) (l : ℕ) (way : Way) (child pointer place : ℕ) →
+pub child-taken : (c : Config) (values image : ℕ → ℕ) (top : ℕ) (ways : List Way) (free : List ℕ) (l : ℕ) (way : Way) (child pointer place : ℕ) →
     IsTreeOf c values image → GoesOn (view_in c image) top ways free l way → way.next < way.count → pointer_at (page (node c (resolve image) way.slot)) way.next ≡ place → values (node_address c way.slot + place) ≡ pointer →
     ChildTaken c (view_in c image) top ways free l way child pointer
-child-taken formed once facts c values image top ways free l way child pointer place t g more at told = record {
+child-taken c values image top ways free l way child pointer place t g more at told = record {
   some = d.some;
   slot = d.slot;
   was_free = λ e. subst (Contains free) (is e) was-free;
@@ -42,13 +39,13 @@ child-taken formed once facts c values image top ways free l way child pointer p
     v = view_in c image
 
     s : IsSound v
-    s = sound formed once c values image t
+    s = sound c values image t
 
     less : way.next < v.count g.visit.slot
     less = omega (arith, more, g.on_way.count)
 
     d : IsChild c v g.visit.slot way.next pointer
-    d = pointer-read facts c values image g.visit l way.slot way.next place pointer t g.on_way.inner g.on_way.slot less at told
+    d = pointer-read c values image g.visit l way.slot way.next place pointer t g.on_way.inner g.on_way.slot less at told
 
     inside : v.child g.visit.slot way.next < v.top
     inside = omega (arith, d.child, d.slot)

@@ -105,7 +105,6 @@ impl Recover {
         // and exactly the slots of the tree are held
         ensures reached { (values image : ℕ → ℕ) (slots : FreeSlots) → slots.nodes ≡ (config_of self.now).nodes → WalksIn self.now values slots → IsTreeOf (config_of self.now) values image → end_of self.now ≡ Some Recovered → AreReached (config_of self.now) image slots }
     {
-        sweep_laws::sweeps_know();
         sweep_laws::lawful_words_are_these();
     }
 
@@ -115,7 +114,6 @@ impl Recover {
         ensures stored { (values : ℕ → ℕ) (old new : Memory) (a x : ℕ) → asks_of self.now ≡ Some (Store a x) → Knows self.now values Waiting old → StoresWord old new a x → Knows self.now values Took new }
         ensures flushed { (values : ℕ → ℕ) (old new : Memory) (line : ℕ) → asks_of self.now ≡ Some (Flush line) → Knows self.now values Waiting old → Flushes old new line → Knows self.now values Took new }
     {
-        sweep_laws::sweeps_know();
         sweep_laws::lawful_words_are_these();
     }
 }

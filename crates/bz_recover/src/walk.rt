@@ -140,7 +140,6 @@ impl Walk {
         ensures nearer { walk_left self.new.left result < walk_left self.old.left self.old.step }
         ensures learns { (values : ℕ → ℕ) → Walks self.old values slots.old → answers_in (asks_of_walk self.old) seen values → Walks (record self.new { step = result }) values slots.new }
     {
-        bz_content::laws::well_formed_images_have_no_fault();
         match (self.step, seen) {
             (Step::Fresh, _) => {
                 slots.free_all();
@@ -217,7 +216,6 @@ impl Walk {
         ensures nearer { walk_left self.now.left result < walk_left self.now.left Step.Root }
         ensures leads { (free : List ℕ) → Leads self.now free Step.Root pointer self.now free result }
     {
-        bz_content::laws::well_formed_images_have_no_fault();
         match self.slot_of(pointer) {
             Some(root) => Step::Header(root),
             None => Step::Done,
@@ -237,9 +235,6 @@ impl Walk {
         ensures nearer { walk_left self.new.left result < walk_left self.old.left (Step.Header root) }
         ensures leads { Leads self.old slots.old.free (Step.Header root) header self.new slots.new.free result }
     {
-        bz_content::laws::well_formed_images_have_no_fault();
-        bz_shape::laws::slots_come_once();
-        bz_slotted::laws::inner_rules_are_facts();
         let level = (header % LEVELS) as u32;
         if !self.holds(root, slots) || level == 0 || level >= MAX_LEVELS {
             return Step::Done;
@@ -258,7 +253,6 @@ impl Walk {
         ensures nearer { walk_left self.now.left result < walk_left self.now.left (Step.Status level slot) }
         ensures leads { (free : List ℕ) → Leads self.now free (Step.Status level slot) status self.now free result }
     {
-        bz_slotted::laws::inner_rules_are_facts();
         match Status::unpack(status) {
             Some(status) if status.count <= SHARED_WORDS => {
                 let count = status.count;
@@ -290,9 +284,6 @@ impl Walk {
         ensures nearer { walk_left self.new.left result ≤ SLOT_ACTS * self.old.left }
         ensures leads { (place : ℕ) → Leads self.old slots.old.free (Step.Pointer level way place) pointer self.new slots.new.free result }
     {
-        bz_content::laws::well_formed_images_have_no_fault();
-        bz_shape::laws::slots_come_once();
-        bz_slotted::laws::inner_rules_are_facts();
         let child = match self.slot_of(pointer) {
             Some(child) => child,
             None => return Step::Done,
@@ -377,7 +368,6 @@ fn linked(level: u32, way: Way, meta: u64) -> Step
     ensures nearer { (left : ℕ) → walk_left left result < walk_left left (Step.Meta level way) }
     ensures leads { (w : Walker) (free : List ℕ) → Leads w free (Step.Meta level way) meta w free result }
 {
-    bz_slotted::laws::inner_rules_are_facts();
     match extent_at(meta) {
         Some(extent) => {
             let place = extent.offset + words_for(extent.key);

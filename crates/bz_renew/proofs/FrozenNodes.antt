@@ -32,7 +32,7 @@ frozen_with_stamp st = record (status st) { frozen = true; stamp = next_stamp (s
 
 module _ (codec : IsCodec Status IsStatus IsStatusWord status_word status) (st : ℕ) (n m : ℕ → ℕ) (plain : st < 2 ^ 61) (t : IsFrozenNow st n m) where
   reads : status (m STATUS_AT) ≡ frozen_with_stamp st
-  reads = ap status t.status ∙ frozen-reads codec st plain
+  reads = ap status t.status ∙ frozen-reads st plain
 
   field-stays : (f : Status → ℕ) → f (frozen_with_stamp st) ≡ f (status st) → f (status (m STATUS_AT)) ≡ f (status (n STATUS_AT))
   field-stays f e = ap f reads ∙ (e ∙ ap (λ z. f (status z)) (sym t.was))

@@ -1,7 +1,6 @@
 -- The swap of a consolidation puts the copy in the place of the key's leaf.
 use Rattle.std.proofs.Common.{arith, ◌≡◌, ℕ, List, [], ◌∷◌, Some, sym, ap, subst, ◌∙◌, inl, inr}
 use Rattle.bz_layout.specs.declared.config.Config.{Config}
-use Rattle.bz_layout.specs.declared.sizes.TheConstants.{NODE_WORDS, NODE_LINES}
 use Rattle.bz_slotted.specs.Page.{page}
 use Rattle.bz_slotted.specs.ReadingLaws.{node_of}
 use Rattle.bz_slotted.specs.Readers.{found_of}
@@ -9,45 +8,34 @@ use Rattle.bz_slotted.specs.Rules.{node_fault}
 use Rattle.bz_word.specs.declared.entry.Entry.{Entry}
 use Rattle.bz_content.specs.Content.{image_of, leaf_in}
 use Rattle.bz_content.specs.Image.{node}
-use Rattle.bz_content.specs.Laws.{PlainWordsStandForThemselves}
 use Rattle.bz_content.specs.Swaps.{Consolidates, TurnsLink}
+use Rattle.bz_content.proofs.Proved.{plain_words_stand_for_themselves}
 use Rattle.bz_task.specs.Instant.{Instant, durable, form_at}
 use Rattle.bz_task.specs.Laws.{SamePlace}
 use Rattle.bz_task.specs.Scene.{Scene, Waiting, IsScene, here}
 use Rattle.bz_task.specs.Swaps.{Stand, SwapsTo}
 use Rattle.bz_task.specs.declared.todo.Todo.TheVariants.{Swap as Swaps_for}
-use Rattle.bz_renew.specs.FrozenLeaves.{StandsStill, FrozenLeavesStandStill}
+use Rattle.bz_renew.specs.FrozenLeaves.{StandsStill}
 use Rattle.bz_renew.specs.LinkSwaps.{IsFresh}
 use Rattle.bz_renew.specs.Renewals.{renewal}
-use Rattle.bz_renew.specs.Turning.{TurnsAt, RootLinksTurn, ChildLinksTurn}
+use Rattle.bz_renew.specs.Turning.{TurnsAt}
 use Rattle.bz_renew.proofs.FreshSlots.{outside-tree, raw-is, durable-is}
+use Rattle.bz_renew.proofs.Proved.{child_links_turn, frozen_leaves_stand_still, root_links_turn}
 use Rattle.bz_alone.specs.FromConsol.Duties.{renewal_of}
 use Rattle.bz_alone.specs.FromConsol.Facts.{Renewal, consol_plan, consol_asks, consol_facts}
 use Rattle.bz_writer.specs.Laws.{IsWritten}
 use Rattle.bz_writer.specs.declared.phase.WritePhase.{WritePhase}
 use Rattle.bz_writer.specs.declared.phase.WritePhase.TheVariants.{Swap}
 use Rattle.bz_writer.proofs.Written.{holds, fresh as fresh-slot}
-use Rattle.bz_stage.specs.Laws.{CopiesGiveRoom}
-use Rattle.bz_stage.specs.Made.{MadeLeavesAreRoomy}
 use Rattle.bz_stage.specs.Swaps.{IsRoomy}
-use Rattle.bz_alone.specs.Laws.{ConsolidationsGoOn}
+use Rattle.bz_stage.proofs.Proved.{copies_give_room}
+use Rattle.bz_alone.proofs.Proved.{consolidations_go_on}
 use Rattle.bz_rounds.specs.Laws.{LoneCopiesGiveRoom}
 use Rattle.bz_rounds.proofs.Lacking.{lacks-room}
-use Rattle.bz_rounds.proofs.Lone.{Basis, tree-now, leaf-now, same-entries}
+use Rattle.bz_rounds.proofs.Lone.{tree-now, leaf-now, same-entries}
 use Rattle.bz_rounds.proofs.Made.{copy-has-room}
 
--- the laws on which it rests
-pub record Laws : Type 0 where
-  pub basis : Basis
-  pub plain : PlainWordsStandForThemselves
-  pub root : RootLinksTurn
-  pub child : ChildLinksTurn
-  pub still : FrozenLeavesStandStill
-  pub go : ConsolidationsGoOn
-  pub made : MadeLeavesAreRoomy
-  pub room : CopiesGiveRoom
-
-module _ (b : Laws) (r : Renewal) (s : Scene) (y : Instant) (good : IsScene s) (f : IsWritten (consol_plan r) s) (swaps : SwapsTo s.past.config (renewal r.link (r.slot 0)) (here s) y) where
+module _ (r : Renewal) (s : Scene) (y : Instant) (good : IsScene s) (f : IsWritten (consol_plan r) s) (swaps : SwapsTo s.past.config (renewal r.link (r.slot 0)) (here s) y) where
   abbrev c : Config
   c = s.past.config
 
@@ -59,16 +47,16 @@ module _ (b : Laws) (r : Renewal) (s : Scene) (y : Instant) (good : IsScene s) (
 
   module _ (p i : ℕ) (changed : List ℕ) (t : TurnsAt r.link (r.slot 0) (old ∷ []) s y p i changed) where
     leaf : StandsStill old f.ready.viewed.moment s
-    leaf = b.still s old f.ready.viewed.moment good f.ready.viewed.leaf
+    leaf = frozen_leaves_stand_still s old f.ready.viewed.moment good f.ready.viewed.leaf
 
     place : SamePlace c (s.past.at f.ready.viewed.moment) (here s) old
     place = leaf.place t.inside
 
     raw-after : node c y.image (r.slot 0) ≡ node_of r.image
-    raw-after = raw-is b.plain r.link (r.slot 0) (old ∷ []) s y p i changed (r.slot 0) good fresh t swaps ∙ holds (consol_plan r) s f 0 (omega arith)
+    raw-after = raw-is plain_words_stand_for_themselves r.link (r.slot 0) (old ∷ []) s y p i changed (r.slot 0) good fresh t swaps ∙ holds (consol_plan r) s f 0 (omega arith)
 
     after : durable c y (r.slot 0) ≡ node_of r.image
-    after = durable-is b.plain r.link (r.slot 0) (old ∷ []) s y p i changed (r.slot 0) good fresh t swaps ∙ holds (consol_plan r) s f 0 (omega arith)
+    after = durable-is plain_words_stand_for_themselves r.link (r.slot 0) (old ∷ []) s y p i changed (r.slot 0) good fresh t swaps ∙ holds (consol_plan r) s f 0 (omega arith)
 
     turns : TurnsLink c (image_of (here s).image) (image_of y.image) ((form_at c (here s)).up old) ((form_at c (here s)).index old) (r.slot 0) (old ∷ [])
     turns =
@@ -91,8 +79,8 @@ module _ (b : Laws) (r : Renewal) (s : Scene) (y : Instant) (good : IsScene s) (
   -- where the link stands
   pub copied : Stand (renewal r.link (r.slot 0)) (here s) → IsRoomy (page (node_of r.image)) → Consolidates c (image_of (here s).image) (image_of y.image) old (r.slot 0) × IsRoomy (page (durable c y (r.slot 0)))
   copied stand roomy = elim f.ready.viewed.guard.under [
-    | inl root ↦ copies-with-room c.nodes 0 [] (b.root s y r.link (r.slot 0) (old ∷ []) good root fresh.slot stand swaps) roomy
-    | inr node ↦ copies-with-room node.parent node.child.child (node.parent ∷ []) (b.child s y r.link (r.slot 0) (old ∷ []) good f.ready.viewed.guard f.ready.viewed.thawed node fresh.slot stand swaps) roomy
+    | inl root ↦ copies-with-room c.nodes 0 [] (root_links_turn s y r.link (r.slot 0) (old ∷ []) good root fresh.slot stand swaps) roomy
+    | inr node ↦ copies-with-room node.parent node.child.child (node.parent ∷ []) (child_links_turn s y r.link (r.slot 0) (old ∷ []) good f.ready.viewed.guard f.ready.viewed.thawed node fresh.slot stand swaps) roomy
   ]
 
 -- a consolidation that asks for a swap has its copy ready
@@ -100,15 +88,15 @@ swapping : (c : Config) (r : Renewal) (phase : WritePhase) (s : Scene) (entries 
 swapping c r Swap s entries f e = (f.1, same-entries (renewal r.link (r.slot 0)) entries e)
 swapping c r phase s entries f e = absurd (cc)
 
-pub copies : Laws → LoneCopiesGiveRoom
-copies b t key read words entries s y l was m few =
+pub copies : LoneCopiesGiveRoom
+copies t key read words entries s y l was m few =
     let r : Renewal = renewal_of t in
     let f = swapping t.config r t.phase s entries l.knows l.asks in
-    let stand : Stand entries (here s) = (b.go t s l.config l.good l.knows l.alone).stands entries l.asks in
-    let leaf : leaf_in s.past.config (here s).image key ≡ t.link.slot = leaf-now b.basis s l.good key t.link.slot l.alone was in
-    let d = copied b r s y l.good f.0 (subst (λ z. SwapsTo s.past.config z (here s) y) (sym f.1) l.leads) (subst (λ z. Stand z (here s)) (sym f.1) stand) (copy-has-room b.made read t.image.0 m) in
+    let stand : Stand entries (here s) = (consolidations_go_on t s l.config l.good l.knows l.alone).stands entries l.asks in
+    let leaf : leaf_in s.past.config (here s).image key ≡ t.link.slot = leaf-now s l.good key t.link.slot l.alone was in
+    let d = copied r s y l.good f.0 (subst (λ z. SwapsTo s.past.config z (here s) y) (sym f.1) l.leads) (subst (λ z. Stand z (here s)) (sym f.1) stand) (copy-has-room read t.image.0 m) in
     record {
-      lacked = lacks-room b.basis s l.good key t.link.slot l.alone was (b.still s t.link.slot f.0.ready.viewed.moment l.good f.0.ready.viewed.leaf).frozen words;
-      room = b.room s.past.config (image_of (here s).image) (image_of y.image) key words (r.slot 0) (tree-now b.basis s l.good)
+      lacked = lacks-room s l.good key t.link.slot l.alone was (frozen_leaves_stand_still s t.link.slot f.0.ready.viewed.moment l.good f.0.ready.viewed.leaf).frozen words;
+      room = copies_give_room s.past.config (image_of (here s).image) (image_of y.image) key words (r.slot 0) (tree-now s l.good)
           (subst (λ (k : ℕ). Consolidates s.past.config (image_of (here s).image) (image_of y.image) k (r.slot 0)) (sym leaf) d.0) d.1 few;
     }

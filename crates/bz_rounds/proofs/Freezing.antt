@@ -2,13 +2,13 @@
 use Rattle.std.proofs.Common.{◌≡◌, ◌≢◌, ℕ, ◌+◌, ◌^◌, ◌<◌, ◌==◌, true, false, List, [], ◌∷◌, Some, arith, refl, sym, ap, subst, ◌∙◌, inl, inr}
 use Rattle.std.proofs.lemmas.Bool.{cases_lt}
 use Rattle.std.proofs.lemmas.Bool.Decides.{nat_tests}
-use Rattle.bz_layout.specs.Addresses.{node_address, SlotsApart}
+use Rattle.bz_layout.specs.Addresses.{node_address}
 use Rattle.bz_layout.specs.declared.config.Config.{Config}
 use Rattle.bz_layout.specs.declared.sizes.TheConstants.{NODE_WORDS, STATUS_AT, SUPERBLOCK_WORDS, ROOT_AT, ROOT_STATUS_AT}
+use Rattle.bz_layout.proofs.Laws.{slots_apart}
 use Rattle.bz_shape.specs.Form.{Holds}
 use Rattle.bz_slotted.specs.Changes.{Restamps}
-use Rattle.bz_word.specs.Statements.{IsCodec}
-use Rattle.bz_word.specs.Statuses.{status_word, status, IsStatus, IsStatusWord}
+use Rattle.bz_word.specs.Statuses.{status}
 use Rattle.bz_word.specs.declared.entry.Entry.{Entry}
 use Rattle.bz_word.specs.declared.status.Status.{Status}
 use Rattle.bz_content.specs.Content.{image_of, leaf_in}
@@ -17,37 +17,23 @@ use Rattle.bz_content.specs.Resolving.{resolve}
 use Rattle.bz_content.specs.Swaps.{OnLeaf}
 use Rattle.bz_task.specs.Good.{IsGood}
 use Rattle.bz_task.specs.Instant.{Instant, durable, form_at}
-use Rattle.bz_task.specs.Laws.{SwapsShowInSlots, SlotWords}
+use Rattle.bz_task.specs.Laws.{SlotWords}
 use Rattle.bz_task.specs.Scene.{Scene, Waiting, IsScene, here}
 use Rattle.bz_task.specs.Steps.{next_stamp, frozen_word}
 use Rattle.bz_task.specs.Swaps.{Stand, SwapsTo, swapped}
 use Rattle.bz_task.specs.declared.todo.Todo.TheVariants.{Swap as Swaps_for}
 use Rattle.bz_task.proofs.FrozenWords.{frozen-plain, frozen-reads}
+use Rattle.bz_task.proofs.Proved.{swaps_show_in_slots}
 use Rattle.bz_freeze.specs.Facts.{WasLeaf, entry_of, freeze_asks, freeze_facts}
 use Rattle.bz_freeze.specs.declared.phase.Phase.{Phase}
 use Rattle.bz_freeze.specs.declared.phase.Phase.TheVariants.{Swap}
-use Rattle.bz_stage.specs.Laws.{FreezesLowerTheStage}
 use Rattle.bz_stage.specs.Stages.{stage_in}
 use Rattle.bz_stage.specs.Swaps.{FreezesLeaf}
-use Rattle.bz_alone.specs.Laws.{FreezesGoOn}
+use Rattle.bz_stage.proofs.Proved.{freezes_lower_the_stage}
+use Rattle.bz_alone.proofs.Proved.{freezes_go_on}
 use Rattle.bz_rounds.specs.Laws.{LoneFreezesLowerTheStage}
-use Rattle.bz_rounds.proofs.Staying.{Laws as Staying}
 use Rattle.bz_rounds.proofs.Wanting.{lacks-now}
-use Rattle.bz_rounds.proofs.Lone.{Basis, at-most, good-now, tree-now, leaf-now, holds-now, below-top, same-entries}
-
--- the laws on which the swap of a freeze rests, whose ever it is
-pub record Swapping : Type 0 where
-  pub basis : Basis
-  pub slots : SwapsShowInSlots
-  pub apart : SlotsApart
-  pub codec : IsCodec Status IsStatus IsStatusWord status_word status
-
--- and those of a task that freezes the key's leaf
-pub record Laws : Type 0 where
-  pub swapping : Swapping
-  pub stays : Staying
-  pub go : FreezesGoOn
-  pub lower : FreezesLowerTheStage
+use Rattle.bz_rounds.proofs.Lone.{at-most, good-now, tree-now, leaf-now, holds-now, below-top, same-entries}
 
 -- what one entry sets and leaves
 set-one : (e : Entry) (f : ℕ → ℕ) (a : ℕ) → e.target ≡ a → swapped (e ∷ []) f a ≡ e.new
@@ -56,7 +42,7 @@ set-one e f a h = let t : (e.target == a) ≡ true = grind (arith, nat_tests) in
 leave-one : (e : Entry) (f : ℕ → ℕ) (a : ℕ) → e.target ≢ a → swapped (e ∷ []) f a ≡ f a
 leave-one e f a h = let t : (e.target == a) ≡ false = grind (arith, nat_tests) in rw t refl
 
-module _ (b : Swapping) (s : Scene) (y : Instant) (k st : ℕ) (good : IsScene s) (inside : (form_at s.past.config (here s)).inside k ≡ true) (leaf : (form_at s.past.config (here s)).level k ≡ 0) (below : k ≢ s.past.config.nodes) (w : WasLeaf k st s.past)
+module _ (s : Scene) (y : Instant) (k st : ℕ) (good : IsScene s) (inside : (form_at s.past.config (here s)).inside k ≡ true) (leaf : (form_at s.past.config (here s)).level k ≡ 0) (below : k ≢ s.past.config.nodes) (w : WasLeaf k st s.past)
     (stand : Stand (entry_of s.past.config k st ∷ []) (here s)) (swaps : SwapsTo s.past.config (entry_of s.past.config k st ∷ []) (here s) y) where
   abbrev c : Config
   c = s.past.config
@@ -65,10 +51,10 @@ module _ (b : Swapping) (s : Scene) (y : Instant) (k st : ℕ) (good : IsScene s
   entry = entry_of s.past.config k st
 
   g : IsGood s.past.config (here s)
-  g = good-now b.basis s good
+  g = good-now s good
 
   slot : (j : ℕ) → SlotWords s.past.config (entry ∷ []) (here s) y j
-  slot j = b.slots s.past.config (entry ∷ []) (here s) y j swaps
+  slot j = swaps_show_in_slots s.past.config (entry ∷ []) (here s) y j swaps
 
   was : durable c (here s) k STATUS_AT ≡ st
   was = g.shown k STATUS_AT (g.inside k inside below) (inl (omega arith)) ∙ (((slot k).within STATUS_AT (omega arith)).before ∙ stand 0 entry (omega arith))
@@ -83,7 +69,7 @@ module _ (b : Swapping) (s : Scene) (y : Instant) (k st : ℕ) (good : IsScene s
   ]
 
   reads : status (durable c y k STATUS_AT) ≡ record (status st) { frozen = true; stamp = next_stamp (status st).stamp }
-  reads = ap status is ∙ frozen-reads b.codec st w.plain
+  reads = ap status is ∙ frozen-reads st w.plain
 
   field-stays : (f : Status → ℕ) → f (record (status st) { frozen = true; stamp = next_stamp (status st).stamp }) ≡ f (status st) → f (status (durable c y k STATUS_AT)) ≡ f (status (durable c (here s) k STATUS_AT))
   field-stays f e = ap f reads ∙ (e ∙ ap (λ z. f (status z)) (sym was))
@@ -92,7 +78,7 @@ module _ (b : Swapping) (s : Scene) (y : Instant) (k st : ℕ) (good : IsScene s
   restamps = record {
     others = others;
     raw = λ i l. (slot k).raw i;
-    status = subst (λ z. z < 2 ^ 61) (sym is) (frozen-plain b.codec st w.plain);
+    status = subst (λ z. z < 2 ^ 61) (sym is) (frozen-plain st w.plain);
     count = field-stays (λ z. z.count) refl;
     block = field-stays (λ z. z.block) refl;
     dead = field-stays (λ z. z.dead) refl;
@@ -100,7 +86,7 @@ module _ (b : Swapping) (s : Scene) (y : Instant) (k st : ℕ) (good : IsScene s
 
   -- the words of other slots and of the superblock
   far : (j i : ℕ) → j ≢ k → i < NODE_WORDS → node_address c k + STATUS_AT ≢ node_address c j + i
-  far j i ne l e = ne (sym (b.apart c k j STATUS_AT i (omega arith) l e).0)
+  far j i ne l e = ne (sym (slots_apart c k j STATUS_AT i (omega arith) l e).0)
 
   at-root : (a : ℕ) → a < SUPERBLOCK_WORDS → resolve y.image a ≡ resolve (here s).image a
   at-root a l = swaps.resolved a (inl l) ∙ leave-one entry (resolve (here s).image) a (λ e. absurd (omega (arith, e, l)))
@@ -124,15 +110,15 @@ swapping : (c : Config) (k st : ℕ) (phase : Phase) (s : Scene) (entries : List
 swapping c k st Swap s entries f e = (f.1, same-entries (entry_of c k st ∷ []) entries e)
 swapping c k st phase s entries f e = absurd (cc)
 
-pub freezes : Laws → LoneFreezesLowerTheStage
-freezes b t key words entries s y l lacked =
+pub freezes : LoneFreezesLowerTheStage
+freezes t key words entries s y l lacked =
     let f = swapping t.config t.slot t.status t.phase s entries l.knows l.asks in
     let is : entry_of s.past.config t.slot t.status ∷ [] ≡ entries = ap (λ (z : Config). entry_of z t.slot t.status ∷ []) l.config ∙ f.1 in
-    let stand : Stand entries (here s) = (b.go t s l.config l.good l.knows l.alone).stands entries l.asks in
-    let h : Holds (form_at s.past.config (here s)) key t.slot = holds-now b.swapping.basis s l.good key t.slot l.alone lacked.was in
-    let leaf : leaf_in s.past.config (here s).image key ≡ t.slot = leaf-now b.swapping.basis s l.good key t.slot l.alone lacked.was in
+    let stand : Stand entries (here s) = (freezes_go_on t s l.config l.good l.knows l.alone).stands entries l.asks in
+    let h : Holds (form_at s.past.config (here s)) key t.slot = holds-now s l.good key t.slot l.alone lacked.was in
+    let leaf : leaf_in s.past.config (here s).image key ≡ t.slot = leaf-now s l.good key t.slot l.alone lacked.was in
     let z : FreezesLeaf s.past.config (image_of (here s).image) (image_of y.image) t.slot =
-    freezes-leaf b.swapping s y t.slot t.status l.good h.inside h.leaf (below-top b.swapping.basis s l.good key t.slot l.alone lacked.was) f.0 (subst (λ d. Stand d (here s)) (sym is) stand) (subst (λ d. SwapsTo s.past.config d (here s) y) (sym is) l.leads) in
+    freezes-leaf s y t.slot t.status l.good h.inside h.leaf (below-top s l.good key t.slot l.alone lacked.was) f.0 (subst (λ d. Stand d (here s)) (sym is) stand) (subst (λ d. SwapsTo s.past.config d (here s) y) (sym is) l.leads) in
     at-most (stage_in s.past.config y.image key words + 1) (stage_in s.past.config (here s).image key words)
-    (b.lower s.past.config (image_of (here s).image) (image_of y.image) key words (tree-now b.swapping.basis s l.good) (subst (λ j. FreezesLeaf s.past.config (image_of (here s).image) (image_of y.image) j) (sym leaf) z)
-    (lacks-now (record { stays = b.stays; lonely = b.swapping.basis.lonely; tiles = b.swapping.basis.tiles }) s l.good l.alone key words t.slot lacked))
+    (freezes_lower_the_stage s.past.config (image_of (here s).image) (image_of y.image) key words (tree-now s l.good) (subst (λ j. FreezesLeaf s.past.config (image_of (here s).image) (image_of y.image) j) (sym leaf) z)
+    (lacks-now s l.good l.alone key words t.slot lacked))

@@ -10,17 +10,17 @@ use Rattle.bz_slotted.specs.ReadingLaws.{node_of}
 use Rattle.bz_slotted.specs.Rules.{node_fault}
 use Rattle.bz_word.specs.declared.entry.Entry.{Entry}
 use Rattle.bz_content.specs.Content.{image_of, view_in}
-use Rattle.bz_content.specs.Laws.{PlainWordsStandForThemselves}
 use Rattle.bz_content.specs.Restructures.{children_of, Splits}
 use Rattle.bz_task.specs.Instant.{Instant, words, durable, form_at}
 use Rattle.bz_task.specs.Laws.{SamePlace}
 use Rattle.bz_task.specs.Scene.{Scene, Waiting, IsScene, here}
 use Rattle.bz_task.specs.Swaps.{Stand, SwapsTo}
 use Rattle.bz_task.specs.declared.todo.Todo.TheVariants.{Swap as Swaps_for}
-use Rattle.bz_halves.specs.Parents.{HasRoomToPart, IsPartedParent, ParentsOfHalvesAreWhole}
-use Rattle.bz_parted.specs.Laws.{ChildrenPartInHalves}
+use Rattle.bz_halves.specs.Parents.{HasRoomToPart, IsPartedParent}
+use Rattle.bz_halves.proofs.Proved.{parents_of_halves_are_whole}
 use Rattle.bz_renew.specs.Standing.{StillLeads}
-use Rattle.bz_renew.specs.Turning.{TurnsWith, AreGoing, RootLinksTurnWith, ChildLinksTurnWith}
+use Rattle.bz_renew.specs.Turning.{TurnsWith, AreGoing}
+use Rattle.bz_renew.proofs.Proved.{child_links_turn_with, root_links_turn_with}
 use Rattle.bz_tally.specs.FromSplit.BelowSplits.{AreLinksDown}
 use Rattle.bz_ascent.specs.FromBranch.InnerSplits.{both_freezings, inner_swap}
 use Rattle.bz_ascent.specs.FromBranch.Nodes.{IsOpenLink}
@@ -32,41 +32,28 @@ use Rattle.bz_alone.specs.FromFork.Phase.TheVariants.{Writing}
 use Rattle.bz_writer.specs.Laws.{IsWritten}
 use Rattle.bz_writer.specs.declared.phase.WritePhase.TheVariants.{Swap}
 use Rattle.bz_alone.specs.FromFork.SplitInner.{SplitInner}
-use Rattle.bz_stage.specs.Laws.{InnerSplitsLowerTheStage, LeavesALevel, SplitsLeaveALevel, PathsAreOfKeys}
-use Rattle.bz_stage.specs.Made.{MadeInnersTakeTheirEntries}
+use Rattle.bz_stage.specs.Laws.{LeavesALevel}
 use Rattle.bz_stage.specs.Paths.{on_path}
 use Rattle.bz_stage.specs.Swaps.{IsRoomyInner}
-use Rattle.bz_alone.specs.Laws.{InnerSplitsGoOn}
+use Rattle.bz_stage.proofs.Proved.{inner_splits_lower_the_stage, paths_are_of_keys, splits_leave_a_level}
 use Rattle.bz_alone.specs.Quiet.{IsQuietSince}
 use Rattle.bz_alone.specs.FromRunning.MadeFor.{HasComeTo, WasCrowded}
-use Rattle.bz_rounds.specs.Crowded.{IsRisen, AscentsAreCrowded}
+use Rattle.bz_alone.proofs.Proved.{inner_splits_go_on, lonely_times_are_quiet}
+use Rattle.bz_rounds.specs.Crowded.{IsRisen}
 use Rattle.bz_rounds.specs.Falls.{Falls}
 use Rattle.bz_rounds.specs.Laws.{LoneInnerSplitsLowerTheStage}
 use Rattle.bz_rounds.specs.Left.{LoneInnerSplitsLeaveALevel}
 use Rattle.bz_rounds.specs.Lone.{IsLoneSwap}
-use Rattle.bz_rounds.proofs.Lone.{Basis, tree-now, fits-now, same-entries}
+use Rattle.bz_rounds.proofs.Lone.{tree-now, fits-now, same-entries}
 use Rattle.bz_rounds.proofs.Made.{IsFew, left-few, right-few}
 use Rattle.bz_rounds.proofs.Nodes.{SplitsNode}
-use Rattle.bz_rounds.proofs.Parents.{Links, node-leads, node-place, node-words, node-freezable, not-above}
+use Rattle.bz_rounds.proofs.Parents.{node-leads, node-place, node-words, node-freezable, not-above}
+use Rattle.bz_rounds.proofs.Rising.{ascents-are-crowded}
 use Rattle.bz_tally.proofs.Links.{in-parent, out-one, out-two}
 use Rattle.bz_tally.proofs.Splitting.{Holds, IsReady, after, splits}
 use Rattle.bz_tally.proofs.Stored.{node-held, node-fresh, are-three}
 
--- the laws on which it rests
-pub record Laws : Type 0 where
-  pub basis : Basis
-  pub links : Links
-  pub plain : PlainWordsStandForThemselves
-  pub root : RootLinksTurnWith
-  pub child : ChildLinksTurnWith
-  pub wholes : ParentsOfHalvesAreWhole
-  pub go : InnerSplitsGoOn
-  pub part : ChildrenPartInHalves
-  pub made : MadeInnersTakeTheirEntries
-  pub paths : PathsAreOfKeys
-  pub crowded : AscentsAreCrowded
-
-module _ (b : Laws) (r : Fork) (s : Scene) (y : Instant) (good : IsScene s) (quiet : IsQuietSince s.past.since s.past) (f : IsWritten (fork_plan r) s) where
+module _ (r : Fork) (s : Scene) (y : Instant) (good : IsScene s) (quiet : IsQuietSince s.past.since s.past) (f : IsWritten (fork_plan r) s) where
   abbrev c : Config
   c = s.past.config
 
@@ -86,20 +73,20 @@ module _ (b : Laws) (r : Fork) (s : Scene) (y : Instant) (good : IsScene s) (qui
   inside = f.ready.planned.links.node
 
   leads : StillLeads r.middle s d.guard.guarded p d.under.child.child
-  leads = node-leads b.links s good quiet p r.middle above
+  leads = node-leads s good quiet p r.middle above
 
   -- the parent, and the node, as they were read
   parent-place : SamePlace c (s.past.at f.ready.planned.links.guarded) (here s) p
-  parent-place = subst (λ m. SamePlace c (s.past.at m) (here s) p) f.ready.planned.links.is_guarded (node-place b.links s good quiet p r.middle above)
+  parent-place = subst (λ m. SamePlace c (s.past.at m) (here s) p) f.ready.planned.links.is_guarded (node-place s good quiet p r.middle above)
 
   parent-now : durable c (here s) p ≡ node_of r.above
-  parent-now = node-words b.links s good quiet p r.middle above ∙ (ap (λ m. words c (s.past.at m) p) f.ready.planned.links.is_guarded ∙ f.ready.planned.parent.were)
+  parent-now = node-words s good quiet p r.middle above ∙ (ap (λ m. words c (s.past.at m) p) f.ready.planned.links.is_guarded ∙ f.ready.planned.parent.were)
 
   own-place : SamePlace c (s.past.at f.ready.planned.links.counted) (here s) a
-  own-place = subst (λ m. SamePlace c (s.past.at m) (here s) a) f.ready.planned.links.is_counted (node-place b.links s good quiet a r.lower inside)
+  own-place = subst (λ m. SamePlace c (s.past.at m) (here s) a) f.ready.planned.links.is_counted (node-place s good quiet a r.lower inside)
 
   own-now : durable c (here s) a ≡ node_of r.read
-  own-now = node-words b.links s good quiet a r.lower inside ∙ (ap (λ m. words c (s.past.at m) a) f.ready.planned.links.is_counted ∙ f.ready.planned.node.were)
+  own-now = node-words s good quiet a r.lower inside ∙ (ap (λ m. words c (s.past.at m) a) f.ready.planned.links.is_counted ∙ f.ready.planned.node.were)
 
   level : (form_at c (here s)).level a ≡ f.ready.planned.node.level
   level = own-place.level ∙ f.ready.planned.node.level_is
@@ -119,7 +106,7 @@ module _ (b : Laws) (r : Fork) (s : Scene) (y : Instant) (good : IsScene s) (qui
   }
 
   made : IsPartedParent c.nodes (node_of r.above) (children_in r.above) f.ready.planned.parent.low f.ready.planned.parent.high f.ready.planned.parent.level f.ready.planned.links.child (r.slot 1) (r.slot 2) f.ready.planned.sep
-  made = b.wholes c.nodes (node_of r.above) (children_in r.above) f.ready.planned.parent.low f.ready.planned.parent.high f.ready.planned.parent.level f.ready.planned.links.child (r.slot 1) (r.slot 2) f.ready.planned.sep f.ready.planned.parent.parent.partable.may room f.ready.planned.parent.parent.partable.has
+  made = parents_of_halves_are_whole c.nodes (node_of r.above) (children_in r.above) f.ready.planned.parent.low f.ready.planned.parent.high f.ready.planned.parent.level f.ready.planned.links.child (r.slot 1) (r.slot 2) f.ready.planned.sep f.ready.planned.parent.parent.partable.may room f.ready.planned.parent.parent.partable.has
 
   wider : Wider (children_of (durable c (here s) p)) (children_of (node_of (r.image 0))) d.under.child.child (r.slot 1) (r.slot 2) f.ready.planned.sep
   wider = subst (λ n. Wider (children_of n) (children_of (node_of (r.image 0))) d.under.child.child (r.slot 1) (r.slot 2) f.ready.planned.sep) (sym parent-now)
@@ -156,7 +143,7 @@ module _ (b : Laws) (r : Fork) (s : Scene) (y : Instant) (good : IsScene s) (qui
 
   going : AreGoing (both_freezings r.upper r.middle r.lower) (a ∷ p ∷ []) s
   going = record {
-    freezable = (node-freezable b.links s good quiet a r.lower inside, (out-one p a apart, (node-freezable b.links s good quiet p r.middle above, (refl, tt))));
+    freezable = (node-freezable s good quiet a r.lower inside, (out-one p a apart, (node-freezable s good quiet p r.middle above, (refl, tt))));
     go = λ k e. e;
   }
 
@@ -166,23 +153,23 @@ module _ (b : Laws) (r : Fork) (s : Scene) (y : Instant) (good : IsScene s) (qui
   module _ (swaps : SwapsTo c (inner_swap c r.upper r.middle r.lower (r.slot 0)) (here s) y) where
     halved-at : (top j : ℕ) (changed : List ℕ) → TurnsWith r.upper (r.slot 0) (both_freezings r.upper r.middle r.lower) (a ∷ p ∷ []) s y top j changed → IsHalved
     halved-at top j changed t = (
-      splits b.plain s y good r.upper (both_freezings r.upper r.middle r.lower) (r.slot 0) (a ∷ p ∷ []) top j changed t swaps a d.under.child.child (r.slot 1) (r.slot 2) f.ready.halves.cut f.ready.planned.sep (node_of (r.image 0)) (node_of (r.image 1)) (node_of (r.image 2)) ready refl,
+      splits s y good r.upper (both_freezings r.upper r.middle r.lower) (r.slot 0) (a ∷ p ∷ []) top j changed t swaps a d.under.child.child (r.slot 1) (r.slot 2) f.ready.halves.cut f.ready.planned.sep (node_of (r.image 0)) (node_of (r.image 1)) (node_of (r.image 2)) ready refl,
       (
-        subst IsFew (sym (after b.plain s y good r.upper (both_freezings r.upper r.middle r.lower) (r.slot 0) (a ∷ p ∷ []) top j changed t swaps (r.slot 1) (node_of (r.image 1)) (stored 1 (omega arith))))
-            (left-few b.made b.part c.nodes r.read (r.image 1) (r.image 2) f.ready.planned.sep f.ready.planned.node.level f.ready.planned.node.low f.ready.planned.node.high f.ready.planned.node.node f.ready.planned.many f.ready.halves),
-        subst IsFew (sym (after b.plain s y good r.upper (both_freezings r.upper r.middle r.lower) (r.slot 0) (a ∷ p ∷ []) top j changed t swaps (r.slot 2) (node_of (r.image 2)) (stored 2 (omega arith))))
-            (right-few b.made b.part c.nodes r.read (r.image 1) (r.image 2) f.ready.planned.sep f.ready.planned.node.level f.ready.planned.node.low f.ready.planned.node.high f.ready.planned.node.node f.ready.planned.many f.ready.halves),
+        subst IsFew (sym (after s y good r.upper (both_freezings r.upper r.middle r.lower) (r.slot 0) (a ∷ p ∷ []) top j changed t swaps (r.slot 1) (node_of (r.image 1)) (stored 1 (omega arith))))
+            (left-few c.nodes r.read (r.image 1) (r.image 2) f.ready.planned.sep f.ready.planned.node.level f.ready.planned.node.low f.ready.planned.node.high f.ready.planned.node.node f.ready.planned.many f.ready.halves),
+        subst IsFew (sym (after s y good r.upper (both_freezings r.upper r.middle r.lower) (r.slot 0) (a ∷ p ∷ []) top j changed t swaps (r.slot 2) (node_of (r.image 2)) (stored 2 (omega arith))))
+            (right-few c.nodes r.read (r.image 1) (r.image 2) f.ready.planned.sep f.ready.planned.node.level f.ready.planned.node.low f.ready.planned.node.high f.ready.planned.node.node f.ready.planned.many f.ready.halves),
       ),
     )
 
     -- where the upper link stands
     pub halved : Stand (inner_swap c r.upper r.middle r.lower (r.slot 0)) (here s) → IsHalved
     halved stand = elim d.upper_guard.under [
-      | inl root ↦ halved-at c.nodes 0 (a ∷ p ∷ []) (b.root s y r.upper (r.slot 0) (both_freezings r.upper r.middle r.lower) (a ∷ p ∷ []) good root (f.writing.slots.within 0 (omega arith)) going stand swaps)
+      | inl root ↦ halved-at c.nodes 0 (a ∷ p ∷ []) (root_links_turn_with s y r.upper (r.slot 0) (both_freezings r.upper r.middle r.lower) (a ∷ p ∷ []) good root (f.writing.slots.within 0 (omega arith)) going stand swaps)
       | inr node ↦ halved-at node.parent node.child.child (node.parent ∷ a ∷ p ∷ [])
-          (b.child s y r.upper (r.slot 0) (both_freezings r.upper r.middle r.lower) (a ∷ p ∷ []) good d.upper_guard d.upper_thawed node
-          (out-two a p node.parent (λ e. absurd (omega (arith, ap (form_at c (here s)).level e, not-above b.links s good quiet r.upper r.middle d node, leads.stands.level)))
-          (λ e. absurd (omega (arith, ap (form_at c (here s)).level e, not-above b.links s good quiet r.upper r.middle d node))))
+          (child_links_turn_with s y r.upper (r.slot 0) (both_freezings r.upper r.middle r.lower) (a ∷ p ∷ []) good d.upper_guard d.upper_thawed node
+          (out-two a p node.parent (λ e. absurd (omega (arith, ap (form_at c (here s)).level e, not-above s good quiet r.upper r.middle d node, leads.stands.level)))
+          (λ e. absurd (omega (arith, ap (form_at c (here s)).level e, not-above s good quiet r.upper r.middle d node))))
           (f.writing.slots.within 0 (omega arith)) going stand swaps)
     ]
 
@@ -193,24 +180,24 @@ swapping c r (Writing Swap) s entries f e = (f.1, same-entries (inner_swap c r.u
 swapping c r phase s entries f e = absurd (cc)
 
 -- the split of the node to which an ascent has come
-halves-node : Laws → (t : SplitInner) (a : Ascent) (key : List ℕ) (entries : List Entry) (s : Scene) (y : Instant) → IsLoneSwap t.config (asks_fork t) (facts_fork t) entries s y → IsAscent a s.past → HasComeTo key t.middle.slot a s.past
+halves-node : (t : SplitInner) (a : Ascent) (key : List ℕ) (entries : List Entry) (s : Scene) (y : Instant) → IsLoneSwap t.config (asks_fork t) (facts_fork t) entries s y → IsAscent a s.past → HasComeTo key t.middle.slot a s.past
     → SplitsNode s.past.config (image_of (here s).image) (image_of y.image) a.key ((form_at s.past.config (here s)).level a.node.slot)
-halves-node b t a key entries s y l up-to come =
+halves-node t a key entries s y l up-to come =
     let r : Fork = fork_of t in
     let f = swapping t.config r t.phase s entries l.knows l.asks in
-    let quiet : IsQuietSince s.past.since s.past = b.basis.lonely.whole s l.good l.alone in
+    let quiet : IsQuietSince s.past.since s.past = lonely_times_are_quiet.whole s l.good l.alone in
     let is : inner_swap s.past.config r.upper r.middle r.lower (r.slot 0) ≡ entries = ap (λ (z : Config). inner_swap z r.upper r.middle r.lower (r.slot 0)) l.config ∙ f.1 in
-    let stand : Stand entries (here s) = (b.go t s l.config l.good l.knows l.alone).stands entries l.asks in
+    let stand : Stand entries (here s) = (inner_splits_go_on t s l.config l.good l.knows l.alone).stands entries l.asks in
     let crowded : WasCrowded a.key come.view s.past = subst (λ k. WasCrowded k come.view s.past) (sym come.key_is) come.leaf in
-    let up : IsRisen a s = b.crowded a come.view s l.good l.alone up-to crowded in
+    let up : IsRisen a s = ascents-are-crowded a come.view s l.good l.alone up-to crowded in
     let n : ℕ = (form_at s.past.config (here s)).level a.node.slot in
     let below : a.node.slot ≢ s.past.config.nodes = λ e. absurd (omega (arith, e, come.node, node-below s t.middle.slot t.lower l.good f.0.ready.planned.links.node)) in
-    let within : n < (view_in s.past.config (here s).image).height = ((fits-now b.basis s l.good).hangs a.node.slot up.stands.inside below).lower in
-    let on : on_path (view_in s.past.config (here s).image) a.key n ≡ t.middle.slot = (b.paths (view_in s.past.config (here s).image) a.key n a.node.slot (tree-now b.basis s l.good) (omega (arith, within))).0 up.stands ∙ come.node in
-    let d = halved b r s y l.good quiet f.0 (subst (λ z. SwapsTo s.past.config z (here s) y) (sym is) l.leads) (subst (λ z. Stand z (here s)) (sym is) stand) in
+    let within : n < (view_in s.past.config (here s).image).height = ((fits-now s l.good).hangs a.node.slot up.stands.inside below).lower in
+    let on : on_path (view_in s.past.config (here s).image) a.key n ≡ t.middle.slot = (paths_are_of_keys (view_in s.past.config (here s).image) a.key n a.node.slot (tree-now s l.good) (omega (arith, within))).0 up.stands ∙ come.node in
+    let d = halved r s y l.good quiet f.0 (subst (λ z. SwapsTo s.past.config z (here s) y) (sym is) l.leads) (subst (λ z. Stand z (here s)) (sym is) stand) in
     record {
-      tree = tree-now b.basis s l.good;
-      some = subst (λ k. 0 < (form_at s.past.config (here s)).level k) (sym come.node) (high b r s y l.good quiet f.0);
+      tree = tree-now s l.good;
+      some = subst (λ k. 0 < (form_at s.past.config (here s)).level k) (sym come.node) (high r s y l.good quiet f.0);
       crowded = up.crowded;
       above = r.slot 0;
       left = r.slot 1;
@@ -222,14 +209,14 @@ halves-node b t a key entries s y l up-to come =
       right_roomy = d.1.1;
     }
 
-pub inner-halves : Laws → InnerSplitsLowerTheStage → LoneInnerSplitsLowerTheStage
-inner-halves b lower t a key words entries s y l up-to come =
-    let z : SplitsNode s.past.config (image_of (here s).image) (image_of y.image) a.key ((form_at s.past.config (here s)).level a.node.slot) = halves-node b t a key entries s y l up-to come in
+pub inner-halves : LoneInnerSplitsLowerTheStage
+inner-halves t a key words entries s y l up-to come =
+    let z : SplitsNode s.past.config (image_of (here s).image) (image_of y.image) a.key ((form_at s.past.config (here s)).level a.node.slot) = halves-node t a key entries s y l up-to come in
     subst (λ k. Falls s.past.config (here s) y k words) come.key_is
-    (lower s.past.config (image_of (here s).image) (image_of y.image) a.key words ((form_at s.past.config (here s)).level a.node.slot) z.above z.left z.right z.cut z.separator z.tree z.some z.crowded z.splits z.left_roomy z.right_roomy)
+    (inner_splits_lower_the_stage s.past.config (image_of (here s).image) (image_of y.image) a.key words ((form_at s.past.config (here s)).level a.node.slot) z.above z.left z.right z.cut z.separator z.tree z.some z.crowded z.splits z.left_roomy z.right_roomy)
 
-pub inner-halves-leave : Laws → SplitsLeaveALevel → LoneInnerSplitsLeaveALevel
-inner-halves-leave b leave t a key words entries s y l up-to come =
-    let z : SplitsNode s.past.config (image_of (here s).image) (image_of y.image) a.key ((form_at s.past.config (here s)).level a.node.slot) = halves-node b t a key entries s y l up-to come in
+pub inner-halves-leave : LoneInnerSplitsLeaveALevel
+inner-halves-leave t a key words entries s y l up-to come =
+    let z : SplitsNode s.past.config (image_of (here s).image) (image_of y.image) a.key ((form_at s.past.config (here s)).level a.node.slot) = halves-node t a key entries s y l up-to come in
     subst (λ k. LeavesALevel s.past.config (image_of y.image) k words ((form_at s.past.config (here s)).level a.node.slot)) come.key_is
-    (leave.inner s.past.config (image_of (here s).image) (image_of y.image) a.key words ((form_at s.past.config (here s)).level a.node.slot) z.above z.left z.right z.cut z.separator z.tree z.some z.crowded z.splits z.left_roomy z.right_roomy)
+    (splits_leave_a_level.inner s.past.config (image_of (here s).image) (image_of y.image) a.key words ((form_at s.past.config (here s)).level a.node.slot) z.above z.left z.right z.cut z.separator z.tree z.some z.crowded z.splits z.left_roomy z.right_roomy)

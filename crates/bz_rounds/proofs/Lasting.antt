@@ -10,8 +10,8 @@ use Rattle.bz_layout.specs.declared.thresholds.TheConstants.{SPLIT_ABOVE, INNER_
 use Rattle.bz_shape.proofs.TreeForms.{fits}
 use Rattle.bz_shape.specs.Form.{Fits, Holds}
 use Rattle.bz_shape.specs.Order.{is_at_least, is_below}
-use Rattle.bz_shape.specs.TreeLaws.{LeavesTileTheKeys}
 use Rattle.bz_shape.specs.Walk.{IsTree}
+use Rattle.bz_shape.proofs.Proved.{leaves_tile_the_keys}
 use Rattle.bz_slotted.specs.Page.{page, meta_of}
 use Rattle.bz_slotted.specs.Readers.{level_of}
 use Rattle.bz_slotted.specs.Records.{live_to, live_words}
@@ -20,8 +20,8 @@ use Rattle.bz_word.specs.Statuses.{status}
 use Rattle.bz_content.proofs.Reached.{root-stands, root-below}
 use Rattle.bz_content.specs.Content.{image_of, leaf_in, view_in}
 use Rattle.bz_content.specs.Image.{root}
-use Rattle.bz_content.specs.Laws.{WellFormedImagesHaveNoFault}
 use Rattle.bz_content.specs.Resolving.{resolve}
+use Rattle.bz_content.proofs.Proved.{well_formed_images_have_no_fault}
 use Rattle.bz_stage.specs.FromLeaves.Neighbours.{leaf_page}
 use Rattle.bz_task.specs.Good.{IsGood}
 use Rattle.bz_task.specs.Instant.{Instant, words, durable, form_at, is_inside}
@@ -34,17 +34,11 @@ use Rattle.bz_stage.proofs.Runs.{run-same}
 use Rattle.bz_stage.specs.Paths.{on_path, run_from, StandsOver}
 use Rattle.bz_stage.specs.Rooms.{is_crowded, is_full, words_taken}
 use Rattle.bz_stage.specs.Stages.{page_on_path, root_level, full_above}
-use Rattle.bz_alone.specs.Quiet.{IsQuietSince, IsIn, ReadValuesStand}
-use Rattle.bz_alone.specs.Trees.{SameTree, TreesStand}
+use Rattle.bz_alone.specs.Quiet.{IsQuietSince, IsIn}
+use Rattle.bz_alone.specs.Trees.{SameTree}
+use Rattle.bz_alone.proofs.Proved.{read_values_stand, trees_stand}
 use Rattle.bz_rounds.specs.Stands.{SameStage, StagesStand}
 use Rattle.bz_tally.proofs.Lives.{live-same}
-
--- the laws on which it rests
-pub record Laws : Type 0 where
-  pub formed : WellFormedImagesHaveNoFault
-  pub values : ReadValuesStand
-  pub trees : TreesStand
-  pub tiles : LeavesTileTheKeys
 
 -- the stage of a leaf by all that it depends on
 abbrev stage_by : Bool → ℕ → Bool → ℕ → ℕ → ℕ
@@ -53,7 +47,7 @@ stage_by frozen taken crowded full need =
     else if frozen then 1 + (if crowded then full else 0)
     else 1 + (1 + (if crowded then full else 0))
 
-module _ (b : Laws) (s : Scene) (m i j : ℕ) (key : List ℕ) (good : IsScene s) (q : IsQuietSince m s.past) (in-i : IsIn m s.past i) (in-j : IsIn m s.past j) where
+module _ (s : Scene) (m i j : ℕ) (key : List ℕ) (good : IsScene s) (q : IsQuietSince m s.past) (in-i : IsIn m s.past i) (in-j : IsIn m s.past j) where
   abbrev c : Config
   c = s.past.config
 
@@ -70,16 +64,16 @@ module _ (b : Laws) (s : Scene) (m i j : ℕ) (key : List ℕ) (good : IsScene s
   good-y = good.history.good j (omega (arith, q.since, in-j.from)) in-j.to
 
   tree-x : IsTree (view_in s.past.config (s.past.at i).image)
-  tree-x = ((b.formed c x.image).0 good-x.form).tree
+  tree-x = ((well_formed_images_have_no_fault c x.image).0 good-x.form).tree
 
   tree-y : IsTree (view_in s.past.config (s.past.at j).image)
-  tree-y = ((b.formed c y.image).0 good-y.form).tree
+  tree-y = ((well_formed_images_have_no_fault c y.image).0 good-y.form).tree
 
   fits-x : Fits (view_in s.past.config (s.past.at i).image) (form_at s.past.config (s.past.at i))
   fits-x = fits (view_in c x.image) tree-x
 
   same : SameTree s.past.config (s.past.at i) (s.past.at j)
-  same = b.trees s m i j good q in-i in-j
+  same = trees_stand s m i j good q in-i in-j
 
   -- a node of the tree
   module _ (k : ℕ) (ne : k ≢ s.past.config.nodes) (inside : is_inside s.past.config (s.past.at i) k ≡ true) where
@@ -93,7 +87,7 @@ module _ (b : Laws) (s : Scene) (m i j : ℕ) (key : List ℕ) (good : IsScene s
     word-same p h = elim (cases_lt p NODE_WORDS) [
       | inl l ↦
           node-at c y.value k p l
-          ∙ (b.values s m i (node_address c k + p) good q in-i (inr (inr (record { slot = k; place = p; address = refl; within = l; reached = reached-x; shown = h }))) j i in-j in-i ∙ sym (node-at c x.value k p l))
+          ∙ (read_values_stand s m i (node_address c k + p) good q in-i (inr (inr (record { slot = k; place = p; address = refl; within = l; reached = reached-x; shown = h }))) j i in-j in-i ∙ sym (node-at c x.value k p l))
       | inr l ↦ node-past c y.value k p l ∙ sym (node-past c x.value k p l)
     ]
 
@@ -121,7 +115,7 @@ module _ (b : Laws) (s : Scene) (m i j : ℕ) (key : List ℕ) (good : IsScene s
   leaf = leaf_in s.past.config (s.past.at i).image key
 
   holds : Holds (form_at s.past.config (s.past.at i)) key (leaf_in s.past.config (s.past.at i).image key)
-  holds = (b.tiles (view_in c x.image) tree-x key leaf).1 refl
+  holds = (leaves_tile_the_keys (view_in c x.image) tree-x key leaf).1 refl
 
   leaf-below : leaf_in s.past.config (s.past.at i).image key ≢ s.past.config.nodes
   leaf-below e = absurd (omega (arith, holds.leaf, fits-x.height, fits-x.tall, ap (form_at c x).level e))
@@ -143,7 +137,7 @@ module _ (b : Laws) (s : Scene) (m i j : ℕ) (key : List ℕ) (good : IsScene s
 
   -- the root, and its level
   root-same : root (resolve y.image) ≡ root (resolve x.image)
-  root-same = ap (λ z. z - 1) (good-y.root ∙ (b.values s m i ROOT_AT good q in-i (inl refl) j i in-j in-i ∙ sym good-x.root))
+  root-same = ap (λ z. z - 1) (good-y.root ∙ (read_values_stand s m i ROOT_AT good q in-i (inl refl) j i in-j in-i ∙ sym good-x.root))
 
   levels-same : root_level c (image_of y.image) ≡ root_level c (image_of x.image)
   unfolding level_of
@@ -185,5 +179,5 @@ module _ (b : Laws) (s : Scene) (m i j : ℕ) (key : List ℕ) (good : IsScene s
     stage = λ need t. stage_by (frozen-same t) (taken-same t) (crowded-same t) (above-same t) need;
   }
 
-pub stages-stand : Laws → StagesStand
-stages-stand b s m i j key good q in-i in-j = same-stage b s m i j key good q in-i in-j
+pub stages-stand : StagesStand
+stages-stand s m i j key good q in-i in-j = same-stage s m i j key good q in-i in-j

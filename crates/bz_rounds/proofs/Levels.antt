@@ -17,20 +17,24 @@ use Rattle.bz_task.specs.Outcomes.{IsPath, IsLink, EndsAtLeaf, IsUnderNode}
 use Rattle.bz_task.specs.Scene.{Scene, IsScene, here}
 use Rattle.bz_task.specs.declared.path.Link.{Link}
 use Rattle.bz_task.specs.declared.path.Path.{Path}
+use Rattle.bz_task.proofs.Proved.{headers_say_the_level}
 use Rattle.bz_renew.proofs.Words.{node-at}
-use Rattle.bz_renew.specs.Standing.{StillLeads, GuardedLinksStand}
+use Rattle.bz_renew.specs.Standing.{StillLeads}
+use Rattle.bz_renew.proofs.Proved.{guarded_links_stand}
 use Rattle.bz_stage.proofs.Leaves.{less, stage-split}
 use Rattle.bz_stage.proofs.Runs.{run-reaches}
 use Rattle.bz_stage.specs.Rooms.{words_taken, is_full}
 use Rattle.bz_stage.specs.Stages.{page_on_path, root_level, full_above, stage}
 use Rattle.bz_stage.specs.Swaps.{IsCrowdedBelow}
 use Rattle.bz_alone.specs.Quiet.{IsQuietSince}
-use Rattle.bz_rounds.specs.Crowded.{IsRisen, AscentsAreCrowded}
+use Rattle.bz_alone.proofs.Proved.{lonely_times_are_quiet}
+use Rattle.bz_rounds.specs.Crowded.{IsRisen}
 use Rattle.bz_rounds.specs.Levels.{AscentsStandAtLevels, LoneAscentsAreBelowTheStage}
-use Rattle.bz_rounds.proofs.Staying.{Laws as Staying, not-top, below-height, word-stays, inside-now}
-use Rattle.bz_rounds.proofs.Thawed.{Laws as Thawed, guard-thawed, status-again}
+use Rattle.bz_rounds.proofs.Staying.{not-top, below-height, word-stays, inside-now}
+use Rattle.bz_rounds.proofs.Thawed.{guard-thawed, status-again}
+use Rattle.bz_rounds.proofs.Rising.{ascents-are-crowded}
 
-module _ (b : Thawed) (stand : GuardedLinksStand) (s : Scene) (good : IsScene s) (q : IsQuietSince s.past.since s.past) (key : List ℕ) (path : Path) (is : IsPath key path s.past) where
+module _ (s : Scene) (good : IsScene s) (q : IsQuietSince s.past.since s.past) (key : List ℕ) (path : Path) (is : IsPath key path s.past) where
   abbrev c : Config
   c = s.past.config
 
@@ -45,18 +49,18 @@ module _ (b : Thawed) (stand : GuardedLinksStand) (s : Scene) (good : IsScene s)
   at-foot i link deep e =
       let on : IsLink key s.past link = is.links i link (omega (arith, deep)) e in
       let end : EndsAtLeaf s.past link = is.leaf i link deep e in
-      let inside = inside-now b.stays s good q on.was on.since on.now link.slot on.slot on.inside in
+      let inside = inside-now s good q on.was on.since on.now link.slot on.slot on.inside in
       let flat : (page_at c (here s) link.slot).level ≡ 0 =
-      subst (λ z. (header z).level ≡ 0) (sym (word-stays b.stays s good q end.was end.since end.now link.slot HEADER_AT end.reached (inl (omega arith)))) end.leaf in
-      sym (b.stays.headers c (here s) link.slot here-good (not-top b.stays c (here s) link.slot here-good on.slot inside) inside).level ∙ flat
+      subst (λ z. (header z).level ≡ 0) (sym (word-stays s good q end.was end.since end.now link.slot HEADER_AT end.reached (inl (omega arith)))) end.leaf in
+      sym (headers_say_the_level c (here s) link.slot here-good (not-top c (here s) link.slot here-good on.slot inside) inside).level ∙ flat
 
   -- a node hangs from the one before
   module _ (above next : Link) (to : IsLink key s.past above) (on : IsLink key s.past next) (at : next.guard ≡ node_address s.past.config above.slot + STATUS_AT) (thawed : (status next.status).frozen ≡ false) where
     hangs : IsUnderNode s.past next on.guarded.guarded → level next.slot + 1 ≡ level above.slot
     hangs u =
         let guard : (here s).value next.guard ≡ next.status =
-        ap (here s).value at ∙ (sym (node-at c (here s).value above.slot STATUS_AT (omega arith)) ∙ status-again b s good q next on.guarded key above to at u) in
-        let leads : StillLeads next s on.guarded.guarded u.parent u.child.child = stand s next good on.guarded thawed u guard in
+        ap (here s).value at ∙ (sym (node-at c (here s).value above.slot STATUS_AT (omega arith)) ∙ status-again s good q next on.guarded key above to at u) in
+        let leads : StillLeads next s on.guarded.guarded u.parent u.child.child = guarded_links_stand s next good on.guarded thawed u guard in
         let same : u.parent ≡ above.slot = omega (arith, u.guard, at) in
         leads.stands.level ∙ ap (form_at c (here s)).level same
 
@@ -73,13 +77,13 @@ module _ (b : Thawed) (stand : GuardedLinksStand) (s : Scene) (good : IsScene s)
         let rest : level next.slot ≡ n = level-at last end n (i + 1) next (omega (arith, deep)) found.2 in
         let up : level next.slot + 1 ≡ level link.slot =
         one-up link next (is.links i link (omega (arith, deep)) e) (is.links (i + 1) next (omega (arith, deep)) found.2) (is.below i link next (omega (arith, deep)) e found.2)
-        (guard-thawed b s good q key path is (i + 1) next (omega (arith, deep)) found.2).is in
+        (guard-thawed s good q key path is (i + 1) next (omega (arith, deep)) found.2).is in
         omega (arith, rest, up))
   ]
 
-pub ascents-stand : Thawed → GuardedLinksStand → AscentsStandAtLevels
-ascents-stand b stand a last s good alone up end =
-    level-at b stand s good (b.lonely.whole s good alone) a.key a.path up.path last end (a.path.depth - 1 - a.place) a.place a.node (omega (arith, up.within)) up.node
+pub ascents-stand : AscentsStandAtLevels
+ascents-stand a last s good alone up end =
+    level-at s good (lonely_times_are_quiet.whole s good alone) a.key a.path up.path last end (a.path.depth - 1 - a.place) a.place a.node (omega (arith, up.within)) up.node
 
 -- a leaf that has to be split below so many full nodes
 below-stage : (c : Config) (x : Image) (key : List ℕ) (level words : ℕ) → IsCrowdedBelow c x key level → level ≤ root_level c x → level + 1 ≤ stage c x key words
@@ -89,11 +93,11 @@ below-stage c x key level words z le =
     run-reaches (λ n. is_full (page_on_path c x key n)) 1 (root_level c x) level (λ i some lt. less INNER_LIMIT (words_taken (page_on_path c x key i)) (z.full i (omega (arith, some)) (omega (arith, lt)))) le in
     omega (arith, many, full)
 
-pub ascents-below : Staying → AscentsAreCrowded → AscentsStandAtLevels → LoneAscentsAreBelowTheStage
-ascents-below b crowded stands a last view words s good alone up end w =
-    let risen : IsRisen a s = crowded a view s good alone up w in
+pub ascents-below : LoneAscentsAreBelowTheStage
+ascents-below a last view words s good alone up end w =
+    let risen : IsRisen a s = ascents-are-crowded a view s good alone up w in
     let on : IsLink a.key s.past a.node = up.path.links a.place a.node up.within up.node in
     let now : IsGood s.past.config (here s) = good.history.good s.past.now good.begun (omega arith) in
-    let low = below-height b s.past.config (here s) a.node.slot now on.slot risen.stands.inside in
+    let low = below-height s.past.config (here s) a.node.slot now on.slot risen.stands.inside in
     let under = below-stage s.past.config (image_of (here s).image) a.key ((form_at s.past.config (here s)).level a.node.slot) words risen.crowded (omega (arith, low)) in
-    omega (arith, under, stands a last s good alone up end)
+    omega (arith, under, ascents-stand a last s good alone up end)

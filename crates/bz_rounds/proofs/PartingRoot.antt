@@ -7,7 +7,6 @@ use Rattle.bz_layout.specs.declared.config.Config.{Config}
 use Rattle.bz_layout.specs.declared.sizes.TheConstants.{ROOT_AT}
 use Rattle.bz_layout.specs.declared.thresholds.TheConstants.{SPLIT_SLOTS}
 use Rattle.bz_shape.specs.Slots.{Halves, AreTwo}
-use Rattle.bz_slotted.specs.Laws.{LeafRulesAreFacts, InnerRulesAreFacts}
 use Rattle.bz_slotted.specs.ReadingLaws.{node_of}
 use Rattle.bz_slotted.specs.Readers.{level_of}
 use Rattle.bz_slotted.specs.Rules.{node_fault}
@@ -15,23 +14,25 @@ use Rattle.bz_word.specs.declared.entry.Entry.{Entry}
 use Rattle.bz_content.proofs.Reached.{level-at}
 use Rattle.bz_content.specs.Content.{image_of}
 use Rattle.bz_content.specs.Image.{Image, node, root}
-use Rattle.bz_content.specs.Laws.{PlainWordsStandForThemselves}
 use Rattle.bz_content.specs.Resolving.{resolve}
 use Rattle.bz_content.specs.Restructures.{children_of, SplitsRoot}
 use Rattle.bz_content.specs.Swaps.{TurnsLink}
 use Rattle.bz_task.specs.Good.{IsGood}
 use Rattle.bz_task.specs.Instant.{Instant, words, durable, form_at}
-use Rattle.bz_task.specs.Laws.{SamePlace, HasRoot, RootsAreReached}
+use Rattle.bz_task.specs.Laws.{SamePlace, HasRoot}
 use Rattle.bz_task.specs.Scene.{Scene, Waiting, IsScene, here}
 use Rattle.bz_task.specs.Swaps.{Stand, SwapsTo}
 use Rattle.bz_task.specs.declared.todo.Todo.TheVariants.{Swap as Swaps_for}
-use Rattle.bz_parted.specs.Laws.{ChildrenPartInHalves, IsTallRoot, RootsStandAtLevels}
+use Rattle.bz_task.proofs.Proved.{roots_are_reached}
+use Rattle.bz_parted.specs.Laws.{IsTallRoot}
+use Rattle.bz_parted.proofs.Proved.{roots_stand_at_levels}
 use Rattle.bz_renew.specs.Renewals.{link_entry, guard_entry}
 use Rattle.bz_renew.specs.Standing.{StillLeads}
-use Rattle.bz_renew.specs.Turning.{TurnsWith, AreGoing, RootLinksTurnWith}
+use Rattle.bz_renew.specs.Turning.{TurnsWith, AreGoing}
 use Rattle.bz_renew.proofs.Freezings.{renewal-holds}
 use Rattle.bz_renew.proofs.FreshSlots.{outside-tree}
 use Rattle.bz_renew.proofs.TwoEntries.{both-stand}
+use Rattle.bz_renew.proofs.Proved.{root_links_turn_with}
 use Rattle.bz_tally.specs.FromSplit.BelowSplits.{parent_freezing, below_swap}
 use Rattle.bz_ascent.specs.FromBranch.Nodes.{IsOpenLink}
 use Rattle.bz_ascent.proofs.FromBranch.Standing.{node-below}
@@ -42,41 +43,27 @@ use Rattle.bz_alone.specs.FromCrown.Phase.TheVariants.{Writing}
 use Rattle.bz_writer.specs.Laws.{IsWritten}
 use Rattle.bz_writer.specs.declared.phase.WritePhase.TheVariants.{Swap}
 use Rattle.bz_alone.specs.FromCrown.SplitInnerRoot.{SplitInnerRoot}
-use Rattle.bz_stage.specs.Laws.{RootSplitsLowerTheStage, LeavesALevel, SplitsLeaveALevel}
-use Rattle.bz_stage.specs.Made.{MadeInnersTakeTheirEntries}
+use Rattle.bz_stage.specs.Laws.{LeavesALevel}
 use Rattle.bz_stage.specs.Stages.{root_level}
 use Rattle.bz_stage.specs.Swaps.{IsCrowdedBelow, IsRoomyInner}
-use Rattle.bz_alone.specs.Laws.{InnerRootSplitsGoOn}
+use Rattle.bz_stage.proofs.Proved.{root_splits_lower_the_stage, splits_leave_a_level}
 use Rattle.bz_alone.specs.Quiet.{IsQuietSince}
 use Rattle.bz_alone.specs.FromRunning.MadeFor.{HasComeTo, WasCrowded}
-use Rattle.bz_rounds.specs.Crowded.{IsRisen, AscentsAreCrowded}
+use Rattle.bz_alone.proofs.Proved.{inner_root_splits_go_on, lonely_times_are_quiet}
+use Rattle.bz_rounds.specs.Crowded.{IsRisen}
 use Rattle.bz_rounds.specs.Falls.{Falls}
 use Rattle.bz_rounds.specs.Laws.{LoneRootSplitsLowerTheStage}
 use Rattle.bz_rounds.specs.Left.{LoneRootSplitsLeaveALevel}
 use Rattle.bz_rounds.specs.Lone.{IsLoneSwap}
-use Rattle.bz_rounds.proofs.Lone.{Basis, good-now, tree-now, fits-now, same-entries}
+use Rattle.bz_rounds.proofs.Lone.{good-now, tree-now, fits-now, same-entries}
 use Rattle.bz_rounds.proofs.Made.{IsFew, left-few, right-few}
 use Rattle.bz_rounds.proofs.Nodes.{SplitsTop}
-use Rattle.bz_rounds.proofs.Parents.{Links, node-leads, node-place, node-words, node-freezable}
+use Rattle.bz_rounds.proofs.Parents.{node-leads, node-place, node-words, node-freezable}
+use Rattle.bz_rounds.proofs.Rising.{ascents-are-crowded}
 use Rattle.bz_tally.proofs.Splitting.{Holds, raw-after, after}
 use Rattle.bz_tally.proofs.Stored.{node-held, node-fresh, are-three}
 
--- the laws on which it rests
-pub record Laws : Type 0 where
-  pub basis : Basis
-  pub links : Links
-  pub leaves : LeafRulesAreFacts
-  pub inners : InnerRulesAreFacts
-  pub plain : PlainWordsStandForThemselves
-  pub turn : RootLinksTurnWith
-  pub roots : RootsAreReached
-  pub over : RootsStandAtLevels
-  pub go : InnerRootSplitsGoOn
-  pub part : ChildrenPartInHalves
-  pub made : MadeInnersTakeTheirEntries
-  pub crowded : AscentsAreCrowded
-
-module _ (b : Laws) (r : Crown) (s : Scene) (y : Instant) (good : IsScene s) (quiet : IsQuietSince s.past.since s.past) (f : IsWritten (crown_plan r) s) (stand : Stand (below_swap s.past.config r.upper r.lower (r.slot 0)) (here s)) where
+module _ (r : Crown) (s : Scene) (y : Instant) (good : IsScene s) (quiet : IsQuietSince s.past.since s.past) (f : IsWritten (crown_plan r) s) (stand : Stand (below_swap s.past.config r.upper r.lower (r.slot 0)) (here s)) where
   abbrev c : Config
   c = s.past.config
 
@@ -90,17 +77,17 @@ module _ (b : Laws) (r : Crown) (s : Scene) (y : Instant) (good : IsScene s) (qu
   x = image_of (here s).image
 
   g : IsGood s.past.config (here s)
-  g = good-now b.basis s good
+  g = good-now s good
 
   leads : StillLeads r.lower s inside.guard.guarded a inside.under.child.child
-  leads = node-leads b.links s good quiet a r.lower inside
+  leads = node-leads s good quiet a r.lower inside
 
   -- the root, as it was read
   place : SamePlace c (s.past.at f.ready.planned.links.guarded) (here s) a
-  place = subst (λ m. SamePlace c (s.past.at m) (here s) a) f.ready.planned.links.is_guarded (node-place b.links s good quiet a r.lower inside)
+  place = subst (λ m. SamePlace c (s.past.at m) (here s) a) f.ready.planned.links.is_guarded (node-place s good quiet a r.lower inside)
 
   own-now : durable c (here s) a ≡ node_of r.read
-  own-now = node-words b.links s good quiet a r.lower inside ∙ (ap (λ m. words c (s.past.at m) a) f.ready.planned.links.is_guarded ∙ f.ready.planned.node.were)
+  own-now = node-words s good quiet a r.lower inside ∙ (ap (λ m. words c (s.past.at m) a) f.ready.planned.links.is_guarded ∙ f.ready.planned.node.were)
 
   led : (here s).value ROOT_AT ≡ a + 1
   led =
@@ -113,13 +100,13 @@ module _ (b : Laws) (r : Crown) (s : Scene) (y : Instant) (good : IsScene s) (qu
   holds-all : HasRoot c (here s) a
   holds-all =
       let at : (here s).value ROOT_AT - 1 ≡ a = omega (arith, led) in
-      subst (HasRoot c (here s)) at (b.roots c (here s) g)
+      subst (HasRoot c (here s)) at (roots_are_reached c (here s) g)
 
   level-now : (form_at c (here s)).level a ≡ f.ready.planned.node.level
   level-now = place.level ∙ f.ready.planned.node.level_is
 
   pub at-top : root_level s.past.config (image_of (here s).image) ≡ (form_at s.past.config (here s)).level r.upper.slot
-  at-top = ap (λ k. level_of (durable c (here s) k)) root-is ∙ level-at b.leaves b.inners c x a (fits-now b.basis s good) leads.inside (λ e. absurd (omega (arith, e, node-below s a r.lower good inside)))
+  at-top = ap (λ k. level_of (durable c (here s) k)) root-is ∙ level-at c x a (fits-now s good) leads.inside (λ e. absurd (omega (arith, e, node-below s a r.lower good inside)))
 
   level : root_level c x ≡ f.ready.planned.node.level
   level = at-top ∙ level-now
@@ -134,26 +121,26 @@ module _ (b : Laws) (r : Crown) (s : Scene) (y : Instant) (good : IsScene s) (qu
   no-high = sym holds-all.high ∙ (place.high ∙ f.ready.planned.node.high_is)
 
   made : IsTallRoot c.nodes (r.slot 1) (r.slot 2) f.ready.sep (f.ready.planned.node.level + 1)
-  made = b.over c.nodes (r.slot 1) (r.slot 2) (f.ready.planned.node.level + 1) f.ready.sep good.config.nodes_in_range.at_most (f.writing.slots.within 1 (omega arith)) (f.writing.slots.within 2 (omega arith)) f.ready.parts.separator (omega arith) f.ready.planned.low_enough
+  made = roots_stand_at_levels c.nodes (r.slot 1) (r.slot 2) (f.ready.planned.node.level + 1) f.ready.sep good.config.nodes_in_range.at_most (f.writing.slots.within 1 (omega arith)) (f.writing.slots.within 2 (omega arith)) f.ready.parts.separator (omega arith) f.ready.planned.low_enough
 
   stored : (n : ℕ) → n < SPLIT_SLOTS → Holds s (r.slot n) (node_of (r.image n))
   stored n h = record { fresh = node-fresh r.slot r.image s f.plain f.writing n h; has = node-held r.slot r.image s f.plain f.writing n h }
 
   going : AreGoing (parent_freezing r.upper r.lower ∷ []) (a ∷ []) s
-  going = record { freezable = (node-freezable b.links s good quiet a r.lower inside, (refl, tt)); go = λ k e. e }
+  going = record { freezable = (node-freezable s good quiet a r.lower inside, (refl, tt)); go = λ k e. e }
 
   module _ (swaps : SwapsTo c (below_swap c r.upper r.lower (r.slot 0)) (here s) y) where
     abbrev z : Image
     z = image_of y.image
 
     t : TurnsWith r.upper (r.slot 0) (parent_freezing r.upper r.lower ∷ []) (a ∷ []) s y c.nodes 0 (a ∷ [])
-    t = b.turn s y r.upper (r.slot 0) (parent_freezing r.upper r.lower ∷ []) (a ∷ []) good f.ready.planned.links.under (f.writing.slots.within 0 (omega arith)) going stand swaps
+    t = root_links_turn_with s y r.upper (r.slot 0) (parent_freezing r.upper r.lower ∷ []) (a ∷ []) good f.ready.planned.links.under (f.writing.slots.within 0 (omega arith)) going stand swaps
 
     has : (n : ℕ) → n < SPLIT_SLOTS → durable c y (r.slot n) ≡ node_of (r.image n)
-    has n h = after b.plain s y good r.upper (parent_freezing r.upper r.lower ∷ []) (r.slot 0) (a ∷ []) c.nodes 0 (a ∷ []) t swaps (r.slot n) (node_of (r.image n)) (stored n h)
+    has n h = after s y good r.upper (parent_freezing r.upper r.lower ∷ []) (r.slot 0) (a ∷ []) c.nodes 0 (a ∷ []) t swaps (r.slot n) (node_of (r.image n)) (stored n h)
 
     has-raw : (n : ℕ) → n < SPLIT_SLOTS → node c y.image (r.slot n) ≡ node_of (r.image n)
-    has-raw n h = raw-after b.plain s y good r.upper (parent_freezing r.upper r.lower ∷ []) (r.slot 0) (a ∷ []) c.nodes 0 (a ∷ []) t swaps (r.slot n) (node_of (r.image n)) (stored n h)
+    has-raw n h = raw-after s y good r.upper (parent_freezing r.upper r.lower ∷ []) (r.slot 0) (a ∷ []) c.nodes 0 (a ∷ []) t swaps (r.slot n) (node_of (r.image n)) (stored n h)
 
     halves : Halves (children_of (durable c (here s) a)) (children_of (durable c y (r.slot 1))) (children_of (durable c y (r.slot 2))) f.ready.parts.cut f.ready.sep
     halves = subst (λ n. Halves (children_of n) (children_of (durable c y (r.slot 1))) (children_of (durable c y (r.slot 2))) f.ready.parts.cut f.ready.sep) (sym own-now)
@@ -180,11 +167,11 @@ module _ (b : Laws) (r : Crown) (s : Scene) (y : Instant) (good : IsScene s) (qu
 
     pub left-roomy : IsRoomyInner c (image_of y.image) (r.slot 1)
     left-roomy = subst IsFew (sym (has 1 (omega arith)))
-        (left-few b.made b.part c.nodes r.read (r.image 1) (r.image 2) f.ready.sep f.ready.planned.node.level f.ready.planned.node.low f.ready.planned.node.high f.ready.planned.node.node f.ready.planned.many f.ready.parts)
+        (left-few c.nodes r.read (r.image 1) (r.image 2) f.ready.sep f.ready.planned.node.level f.ready.planned.node.low f.ready.planned.node.high f.ready.planned.node.node f.ready.planned.many f.ready.parts)
 
     pub right-roomy : IsRoomyInner c (image_of y.image) (r.slot 2)
     right-roomy = subst IsFew (sym (has 2 (omega arith)))
-        (right-few b.made b.part c.nodes r.read (r.image 1) (r.image 2) f.ready.sep f.ready.planned.node.level f.ready.planned.node.low f.ready.planned.node.high f.ready.planned.node.node f.ready.planned.many f.ready.parts)
+        (right-few c.nodes r.read (r.image 1) (r.image 2) f.ready.sep f.ready.planned.node.level f.ready.planned.node.low f.ready.planned.node.high f.ready.planned.node.node f.ready.planned.many f.ready.parts)
 
 -- a split that asks for a swap has its nodes ready
 swapping : (c : Config) (r : Crown) (phase : Phase) (s : Scene) (entries : List Entry) → crown_facts r phase Waiting s → crown_asks c r phase ≡ Some (Swaps_for entries)
@@ -193,42 +180,42 @@ swapping c r (Writing Swap) s entries f e = (f.1, same-entries (below_swap c r.u
 swapping c r phase s entries f e = absurd (cc)
 
 -- the split of the root, to which an ascent has come
-parts-top : Laws → (t : SplitInnerRoot) (a : Ascent) (key : List ℕ) (entries : List Entry) (s : Scene) (y : Instant) → IsLoneSwap t.config (asks_crown t) (facts_crown t) entries s y → IsAscent a s.past → HasComeTo key t.upper.slot a s.past
+parts-top : (t : SplitInnerRoot) (a : Ascent) (key : List ℕ) (entries : List Entry) (s : Scene) (y : Instant) → IsLoneSwap t.config (asks_crown t) (facts_crown t) entries s y → IsAscent a s.past → HasComeTo key t.upper.slot a s.past
     → SplitsTop s.past.config (image_of (here s).image) (image_of y.image) a.key ((form_at s.past.config (here s)).level a.node.slot)
-parts-top b t a key entries s y l up-to come =
+parts-top t a key entries s y l up-to come =
     let r : Crown = crown_of t in
     let f = swapping t.config r t.phase s entries l.knows l.asks in
-    let quiet : IsQuietSince s.past.since s.past = b.basis.lonely.whole s l.good l.alone in
+    let quiet : IsQuietSince s.past.since s.past = lonely_times_are_quiet.whole s l.good l.alone in
     let is : below_swap s.past.config r.upper r.lower (r.slot 0) ≡ entries = ap (λ (z : Config). below_swap z r.upper r.lower (r.slot 0)) l.config ∙ f.1 in
-    let stand : Stand (below_swap s.past.config r.upper r.lower (r.slot 0)) (here s) = subst (λ z. Stand z (here s)) (sym is) ((b.go t s l.config l.good l.knows l.alone).stands entries l.asks) in
+    let stand : Stand (below_swap s.past.config r.upper r.lower (r.slot 0)) (here s) = subst (λ z. Stand z (here s)) (sym is) ((inner_root_splits_go_on t s l.config l.good l.knows l.alone).stands entries l.asks) in
     let swaps : SwapsTo s.past.config (below_swap s.past.config r.upper r.lower (r.slot 0)) (here s) y = subst (λ z. SwapsTo s.past.config z (here s) y) (sym is) l.leads in
     let crowded : WasCrowded a.key come.view s.past = subst (λ k. WasCrowded k come.view s.past) (sym come.key_is) come.leaf in
-    let up : IsRisen a s = b.crowded a come.view s l.good l.alone up-to crowded in
-    let top : (form_at s.past.config (here s)).level a.node.slot ≡ root_level s.past.config (image_of (here s).image) = ap (form_at s.past.config (here s)).level come.node ∙ sym (at-top b r s y l.good quiet f.0 stand) in
+    let up : IsRisen a s = ascents-are-crowded a come.view s l.good l.alone up-to crowded in
+    let top : (form_at s.past.config (here s)).level a.node.slot ≡ root_level s.past.config (image_of (here s).image) = ap (form_at s.past.config (here s)).level come.node ∙ sym (at-top r s y l.good quiet f.0 stand) in
     record {
       at_level = top;
-      tree = tree-now b.basis s l.good;
-      some = high b r s y l.good quiet f.0 stand;
+      tree = tree-now s l.good;
+      some = high r s y l.good quiet f.0 stand;
       crowded = subst (λ n. IsCrowdedBelow s.past.config (image_of (here s).image) a.key n) top up.crowded;
       above = r.slot 0;
       left = r.slot 1;
       right = r.slot 2;
       cut = f.0.ready.parts.cut;
       separator = f.0.ready.sep;
-      splits = parts-root b r s y l.good quiet f.0 stand swaps;
-      left_roomy = left-roomy b r s y l.good quiet f.0 stand swaps;
-      right_roomy = right-roomy b r s y l.good quiet f.0 stand swaps;
+      splits = parts-root r s y l.good quiet f.0 stand swaps;
+      left_roomy = left-roomy r s y l.good quiet f.0 stand swaps;
+      right_roomy = right-roomy r s y l.good quiet f.0 stand swaps;
     }
 
-pub root-parts : Laws → RootSplitsLowerTheStage → LoneRootSplitsLowerTheStage
-root-parts b lower t a key words entries s y l up-to come =
-    let z : SplitsTop s.past.config (image_of (here s).image) (image_of y.image) a.key ((form_at s.past.config (here s)).level a.node.slot) = parts-top b t a key entries s y l up-to come in
+pub root-parts : LoneRootSplitsLowerTheStage
+root-parts t a key words entries s y l up-to come =
+    let z : SplitsTop s.past.config (image_of (here s).image) (image_of y.image) a.key ((form_at s.past.config (here s)).level a.node.slot) = parts-top t a key entries s y l up-to come in
     subst (λ k. Falls s.past.config (here s) y k words) come.key_is
-    (lower s.past.config (image_of (here s).image) (image_of y.image) a.key words z.above z.left z.right z.cut z.separator z.tree z.some z.crowded z.splits z.left_roomy z.right_roomy)
+    (root_splits_lower_the_stage s.past.config (image_of (here s).image) (image_of y.image) a.key words z.above z.left z.right z.cut z.separator z.tree z.some z.crowded z.splits z.left_roomy z.right_roomy)
 
-pub root-parts-leave : Laws → SplitsLeaveALevel → LoneRootSplitsLeaveALevel
-root-parts-leave b leave t a key words entries s y l up-to come =
-    let z : SplitsTop s.past.config (image_of (here s).image) (image_of y.image) a.key ((form_at s.past.config (here s)).level a.node.slot) = parts-top b t a key entries s y l up-to come in
+pub root-parts-leave : LoneRootSplitsLeaveALevel
+root-parts-leave t a key words entries s y l up-to come =
+    let z : SplitsTop s.past.config (image_of (here s).image) (image_of y.image) a.key ((form_at s.past.config (here s)).level a.node.slot) = parts-top t a key entries s y l up-to come in
     subst (λ k. LeavesALevel s.past.config (image_of y.image) k words ((form_at s.past.config (here s)).level a.node.slot)) come.key_is
     (subst (λ n. LeavesALevel s.past.config (image_of y.image) a.key words n) (sym z.at_level)
-    (leave.root s.past.config (image_of (here s).image) (image_of y.image) a.key words z.above z.left z.right z.cut z.separator z.tree z.some z.crowded z.splits z.left_roomy z.right_roomy))
+    (splits_leave_a_level.root s.past.config (image_of (here s).image) (image_of y.image) a.key words z.above z.left z.right z.cut z.separator z.tree z.some z.crowded z.splits z.left_roomy z.right_roomy))

@@ -1,13 +1,11 @@
 -- The swap of a root leaf's split puts a new root over its two halves: the leaf of each key is one of them then.
 use Rattle.std.proofs.Common.{◌≡◌, ◌≢◌, ℕ, zero, suc, ◌+◌, ◌-◌, ◌<◌, ◌≤◌, ◌⊎◌, List, [], ◌∷◌, Some, arith, refl, sym, ap, subst, ◌∙◌, inl, inr}
-use Rattle.bz_layout.specs.Rooms.{SettledLeafTakesRecord}
 use Rattle.bz_layout.specs.declared.config.Config.{Config}
 use Rattle.bz_layout.specs.declared.thresholds.TheConstants.{SPLIT_SLOTS}
 use Rattle.bz_shape.proofs.Descents.{pick-le}
 use Rattle.bz_shape.specs.Descent.{choice, descend, leaf_of}
 use Rattle.bz_shape.specs.Slots.{AreTwo}
 use Rattle.bz_shape.specs.View.{View}
-use Rattle.bz_slotted.specs.Laws.{LeafRulesAreFacts, InnerRulesAreFacts}
 use Rattle.bz_slotted.specs.Page.{page}
 use Rattle.bz_slotted.specs.ReadingLaws.{node_of}
 use Rattle.bz_slotted.specs.Readers.{level_of}
@@ -16,49 +14,35 @@ use Rattle.bz_content.proofs.Honesty.{no}
 use Rattle.bz_content.proofs.Reached.{is, level-is}
 use Rattle.bz_content.specs.Content.{image_of, leaf_in}
 use Rattle.bz_content.specs.Image.{Image, node, root}
-use Rattle.bz_content.specs.Laws.{PlainWordsStandForThemselves}
 use Rattle.bz_content.specs.Resolving.{resolve}
 use Rattle.bz_content.specs.Restructures.{children_of}
 use Rattle.bz_content.specs.View.{view_of}
+use Rattle.bz_content.proofs.Proved.{plain_words_stand_for_themselves}
 use Rattle.bz_stage.specs.FromLeaves.Neighbours.{leaf_page}
 use Rattle.bz_task.specs.Instant.{Instant, durable}
 use Rattle.bz_task.specs.Scene.{Scene, Waiting, IsScene, here}
 use Rattle.bz_task.specs.Swaps.{Stand, SwapsTo}
 use Rattle.bz_task.specs.declared.todo.Todo.TheVariants.{Swap as Swaps_for}
-use Rattle.bz_halves.specs.Laws.{IsRootOver, LeavesPartInHalves, RootsStandOverTwo}
-use Rattle.bz_renew.specs.FrozenLeaves.{FrozenLeavesStandStill}
+use Rattle.bz_halves.specs.Laws.{IsRootOver}
+use Rattle.bz_halves.proofs.Proved.{roots_stand_over_two}
 use Rattle.bz_renew.specs.Renewals.{renewal}
-use Rattle.bz_renew.specs.Turning.{TurnsAt, RootLinksTurn}
+use Rattle.bz_renew.specs.Turning.{TurnsAt}
 use Rattle.bz_renew.proofs.FreshSlots.{durable-is}
+use Rattle.bz_renew.proofs.Proved.{frozen_leaves_stand_still, root_links_turn}
 use Rattle.bz_tally.specs.FromSplit.Duties.{split_of}
 use Rattle.bz_tally.specs.FromSplit.Facts.{Split, split_plan, split_asks, split_facts}
 use Rattle.bz_writer.specs.Laws.{IsWritten}
 use Rattle.bz_writer.specs.declared.phase.WritePhase.{WritePhase}
 use Rattle.bz_writer.specs.declared.phase.WritePhase.TheVariants.{Swap}
 use Rattle.bz_stage.proofs.Leaves.{roomy-ready}
-use Rattle.bz_stage.specs.Made.{MadeLeavesAreRoomy}
 use Rattle.bz_stage.specs.Stages.{full_above}
 use Rattle.bz_stage.specs.Swaps.{IsRoomy, IsRoomyLeaf}
-use Rattle.bz_alone.specs.Laws.{RootSplitsGoOn}
+use Rattle.bz_alone.proofs.Proved.{root_splits_go_on}
 use Rattle.bz_rounds.specs.Laws.{LoneRootLeafSplitsGiveRoom}
 use Rattle.bz_rounds.proofs.Lacking.{lacks-room}
-use Rattle.bz_rounds.proofs.Lone.{Basis, same-entries}
+use Rattle.bz_rounds.proofs.Lone.{same-entries}
 use Rattle.bz_rounds.proofs.Made.{HasRoom, left-has-room, right-has-room}
 use Rattle.bz_tally.proofs.Stored.{node-held, node-fresh}
-
--- the laws on which it rests
-pub record Laws : Type 0 where
-  pub basis : Basis
-  pub leaves : LeafRulesAreFacts
-  pub inners : InnerRulesAreFacts
-  pub plain : PlainWordsStandForThemselves
-  pub turn : RootLinksTurn
-  pub still : FrozenLeavesStandStill
-  pub go : RootSplitsGoOn
-  pub over : RootsStandOverTwo
-  pub part : LeavesPartInHalves
-  pub made : MadeLeavesAreRoomy
-  pub settled : SettledLeafTakesRecord
 
 two-down : (v : View) (key : List ℕ) → v.height ≡ 2 → leaf_of v key ≡ v.child (v.child v.top (choice v v.top key)) (choice v (v.child v.top (choice v v.top key)) key)
 unfolding descend
@@ -115,7 +99,7 @@ module _ (c : Config) (y : Image) (key : List ℕ) (q l r : ℕ) (sep : List ℕ
         | inr e ↦ inr (to-leaf ∙ (ap (v.child q) e ∙ (has 1 ∙ two.child_r)))
       ]
 
-module _ (b : Laws) (r : Split) (s : Scene) (y : Instant) (good : IsScene s) (f : IsWritten (split_plan r) s) (stand : Stand (renewal r.link (r.slot 0)) (here s)) (swaps : SwapsTo s.past.config (renewal r.link (r.slot 0)) (here s) y) where
+module _ (r : Split) (s : Scene) (y : Instant) (good : IsScene s) (f : IsWritten (split_plan r) s) (stand : Stand (renewal r.link (r.slot 0)) (here s)) (swaps : SwapsTo s.past.config (renewal r.link (r.slot 0)) (here s) y) where
   abbrev c : Config
   c = s.past.config
 
@@ -123,15 +107,15 @@ module _ (b : Laws) (r : Split) (s : Scene) (y : Instant) (good : IsScene s) (f 
   slot-below n h = f.writing.slots.within n h
 
   t : TurnsAt r.link (r.slot 0) (r.link.slot ∷ []) s y c.nodes 0 []
-  t = b.turn s y r.link (r.slot 0) (r.link.slot ∷ []) good f.ready.parted.under (slot-below 0 (omega arith)) stand swaps
+  t = root_links_turn s y r.link (r.slot 0) (r.link.slot ∷ []) good f.ready.parted.under (slot-below 0 (omega arith)) stand swaps
 
   after : (n : ℕ) → n < SPLIT_SLOTS → durable c y (r.slot n) ≡ node_of (r.image n)
   after n h =
-      durable-is b.plain r.link (r.slot 0) (r.link.slot ∷ []) s y c.nodes 0 [] (r.slot n) good (node-fresh r.slot r.image s f.plain f.writing n h) t swaps
+      durable-is plain_words_stand_for_themselves r.link (r.slot 0) (r.link.slot ∷ []) s y c.nodes 0 [] (r.slot n) good (node-fresh r.slot r.image s f.plain f.writing n h) t swaps
       ∙ node-held r.slot r.image s f.plain f.writing n h
 
   over : IsRootOver c.nodes (r.slot 1) (r.slot 2) r.sep
-  over = b.over c.nodes (r.slot 1) (r.slot 2) r.sep good.config.nodes_in_range.at_most (slot-below 1 (omega arith)) (slot-below 2 (omega arith)) f.ready.parted.separator
+  over = roots_stand_over_two c.nodes (r.slot 1) (r.slot 2) r.sep good.config.nodes_in_range.at_most (slot-below 1 (omega arith)) (slot-below 2 (omega arith)) f.ready.parted.separator
 
   root-words : durable c y (r.slot 0) ≡ node_of (r.image 0)
   root-words = after 0 (omega arith)
@@ -140,7 +124,7 @@ module _ (b : Laws) (r : Split) (s : Scene) (y : Instant) (good : IsScene s) (f 
   root-is = omega (arith, (t.turns.at_root refl).pointer)
 
   level : level_of (durable c y (r.slot 0)) ≡ 1
-  level = ap level_of (root-words ∙ ap node_of f.ready.over) ∙ level-is b.leaves b.inners c.nodes 1 _ _ _ _ over.none
+  level = ap level_of (root-words ∙ ap node_of f.ready.over) ∙ level-is c.nodes 1 _ _ _ _ over.none
 
   two : AreTwo (children_of (durable c y (r.slot 0))) (r.slot 1) (r.slot 2) r.sep
   two = subst (λ n. AreTwo (children_of n) (r.slot 1) (r.slot 2) r.sep) (sym (root-words ∙ ap node_of f.ready.over)) over.two
@@ -159,14 +143,14 @@ swapping : (c : Config) (r : Split) (phase : WritePhase) (s : Scene) (entries : 
 swapping c r Swap s entries f e = (f.1, same-entries (renewal r.link (r.slot 0)) entries e)
 swapping c r phase s entries f e = absurd (cc)
 
-pub root-halves : Laws → LoneRootLeafSplitsGiveRoom
-root-halves b t key read words entries s y l was m few =
+pub root-halves : LoneRootLeafSplitsGiveRoom
+root-halves t key read words entries s y l was m few =
     let r : Split = split_of t in
     let f = swapping t.config r t.phase s entries l.knows l.asks in
-    let stand : Stand entries (here s) = (b.go t s l.config l.good l.knows l.alone).stands entries l.asks in
-    let d = leaf-roomy b r s y l.good f.0 (subst (λ z. Stand z (here s)) (sym f.1) stand) (subst (λ z. SwapsTo s.past.config z (here s) y) (sym f.1) l.leads) key
-    (left-has-room b.made b.part read t.halves.left.0 t.halves.right.0 t.halves.separator m) (right-has-room b.made b.part read t.halves.left.0 t.halves.right.0 t.halves.separator m) in
+    let stand : Stand entries (here s) = (root_splits_go_on t s l.config l.good l.knows l.alone).stands entries l.asks in
+    let d = leaf-roomy r s y l.good f.0 (subst (λ z. Stand z (here s)) (sym f.1) stand) (subst (λ z. SwapsTo s.past.config z (here s) y) (sym f.1) l.leads) key
+    (left-has-room read t.halves.left.0 t.halves.right.0 t.halves.separator m) (right-has-room read t.halves.left.0 t.halves.right.0 t.halves.separator m) in
     record {
-      lacked = lacks-room b.basis s l.good key t.link.slot l.alone was (b.still s t.link.slot f.0.ready.parted.moment l.good f.0.ready.parted.leaf).frozen words;
-      room = roomy-ready b.settled (leaf_page s.past.config (image_of y.image) key) (full_above s.past.config (image_of y.image) key) words d few;
+      lacked = lacks-room s l.good key t.link.slot l.alone was (frozen_leaves_stand_still s t.link.slot f.0.ready.parted.moment l.good f.0.ready.parted.leaf).frozen words;
+      room = roomy-ready (leaf_page s.past.config (image_of y.image) key) (full_above s.past.config (image_of y.image) key) words d few;
     }

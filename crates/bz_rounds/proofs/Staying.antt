@@ -13,28 +13,23 @@ use Rattle.bz_slotted.specs.Rules.{node_fault}
 use Rattle.bz_content.proofs.Honesty.{no}
 use Rattle.bz_content.specs.Content.{view_in}
 use Rattle.bz_content.specs.Image.{node}
-use Rattle.bz_content.specs.Laws.{WellFormedImagesHaveNoFault}
+use Rattle.bz_content.proofs.Proved.{well_formed_images_have_no_fault}
 use Rattle.bz_task.specs.Good.{IsGood}
 use Rattle.bz_task.specs.Instant.{Instant, words, durable, form_at, is_inside}
-use Rattle.bz_task.specs.Laws.{SamePlace, HeadersSayTheLevel}
+use Rattle.bz_task.specs.Laws.{SamePlace}
 use Rattle.bz_task.specs.Scene.{Scene, IsScene, here}
 use Rattle.bz_task.specs.Shown.{IsShown}
+use Rattle.bz_task.proofs.Proved.{headers_say_the_level}
 use Rattle.bz_renew.proofs.Words.{node-at, node-past, and-left, and-right}
 use Rattle.bz_stage.specs.Paths.{StandsOver}
-use Rattle.bz_alone.specs.Quiet.{IsQuietSince, IsIn, ReadValuesStand}
-use Rattle.bz_alone.specs.Trees.{SameTree, TreesStand}
-
--- the laws on which it rests
-pub record Laws : Type 0 where
-  pub formed : WellFormedImagesHaveNoFault
-  pub headers : HeadersSayTheLevel
-  pub values : ReadValuesStand
-  pub trees : TreesStand
+use Rattle.bz_alone.specs.Quiet.{IsQuietSince, IsIn}
+use Rattle.bz_alone.specs.Trees.{SameTree}
+use Rattle.bz_alone.proofs.Proved.{read_values_stand, trees_stand}
 
 -- a node of the tree, in a good memory
-module _ (b : Laws) (c : Config) (x : Instant) (k : ℕ) (g : IsGood c x) (within : k < c.nodes) (inside : is_inside c x k ≡ true) where
+module _ (c : Config) (x : Instant) (k : ℕ) (g : IsGood c x) (within : k < c.nodes) (inside : is_inside c x k ≡ true) where
   pub tree-at : IsTree (view_in c x.image)
-  tree-at = ((b.formed c x.image).0 g.form).tree
+  tree-at = ((well_formed_images_have_no_fault c x.image).0 g.form).tree
 
   fits-at : Fits (view_in c x.image) (form_at c x)
   fits-at = fits (view_in c x.image) tree-at
@@ -53,9 +48,9 @@ module _ (b : Laws) (c : Config) (x : Instant) (k : ℕ) (g : IsGood c x) (withi
 
   -- all words of an inner node are read
   pub inner-shown : 0 < (form_at c x).level k → (i : ℕ) → IsShown (words c x k) i
-  inner-shown high i = inr (inr (inl (omega (arith, high, (b.headers c x k g not-top inside).level))))
+  inner-shown high i = inr (inr (inl (omega (arith, high, (headers_say_the_level c x k g not-top inside).level))))
 
-module _ (b : Laws) (s : Scene) (good : IsScene s) (q : IsQuietSince s.past.since s.past) (m : ℕ) (from : s.past.since ≤ m) (to : m ≤ s.past.now) where
+module _ (s : Scene) (good : IsScene s) (q : IsQuietSince s.past.since s.past) (m : ℕ) (from : s.past.since ≤ m) (to : m ≤ s.past.now) where
   abbrev c : Config
   c = s.past.config
 
@@ -72,14 +67,14 @@ module _ (b : Laws) (s : Scene) (good : IsScene s) (q : IsQuietSince s.past.sinc
   good-then = good.history.good m from to
 
   pub same-tree : SameTree c (s.past.at m) (here s)
-  same-tree = b.trees s s.past.since m s.past.now good q in-time in-now
+  same-tree = trees_stand s s.past.since m s.past.now good q in-time in-now
 
   -- a word that is read
   pub word-stays : (k i : ℕ) → (s.past.at m).reached k ≡ true → IsShown (words c (s.past.at m) k) i → words c (here s) k i ≡ words c (s.past.at m) k i
   word-stays k i r h = elim (cases_lt i NODE_WORDS) [
     | inl l ↦
         node-at c (here s).value k i l
-        ∙ (b.values s s.past.since m (node_address c k + i) good q in-time (inr (inr (record { slot = k; place = i; address = refl; within = l; reached = r; shown = h }))) s.past.now m in-now in-time ∙ sym (node-at c (s.past.at m).value k i l))
+        ∙ (read_values_stand s s.past.since m (node_address c k + i) good q in-time (inr (inr (record { slot = k; place = i; address = refl; within = l; reached = r; shown = h }))) s.past.now m in-now in-time ∙ sym (node-at c (s.past.at m).value k i l))
     | inr l ↦ node-past c (here s).value k i l ∙ sym (node-past c (s.past.at m).value k i l)
   ]
 
@@ -88,7 +83,7 @@ module _ (b : Laws) (s : Scene) (good : IsScene s) (q : IsQuietSince s.past.sinc
     inside-now = same-tree.inside k ∙ inside
 
     pub place-now : SamePlace c (s.past.at m) (here s) k
-    place-now = same-tree.place k (not-top b c x k good-then within inside) inside
+    place-now = same-tree.place k (not-top c x k good-then within inside) inside
 
     -- the words of an inner node, in the image
     pub inner-stays : 0 < (form_at c (s.past.at m)).level k → durable c (here s) k ≡ durable c (s.past.at m) k
@@ -99,9 +94,9 @@ module _ (b : Laws) (s : Scene) (good : IsScene s) (q : IsQuietSince s.past.sinc
 
         each : (i : ℕ) → durable s.past.config (here s) k i ≡ durable s.past.config (s.past.at m) k i
         each i =
-            now.shown k i (reached-at b c (here s) k now within inside-now) (inner-shown b c (here s) k now within inside-now (omega (arith, high, place-now.level)) i)
-            ∙ (word-stays k i (reached-at b c x k good-then within inside) (inner-shown b c x k good-then within inside high i)
-            ∙ sym (good-then.shown k i (reached-at b c x k good-then within inside) (inner-shown b c x k good-then within inside high i)))
+            now.shown k i (reached-at c (here s) k now within inside-now) (inner-shown c (here s) k now within inside-now (omega (arith, high, place-now.level)) i)
+            ∙ (word-stays k i (reached-at c x k good-then within inside) (inner-shown c x k good-then within inside high i)
+            ∙ sym (good-then.shown k i (reached-at c x k good-then within inside) (inner-shown c x k good-then within inside high i)))
 
     -- a node in whose range the key was
     pub stands-over : (key : List ℕ) (level : ℕ) → (form_at c (s.past.at m)).level k ≡ level → is_within key ((form_at c (s.past.at m)).low k) ((form_at c (s.past.at m)).high k) ≡ true → StandsOver (form_at c (here s)) key level k

@@ -10,42 +10,39 @@ use Rattle.bz_layout.specs.declared.sizes.TheConstants.{STATUS_AT, HEADER_AT, RO
 use Rattle.bz_renew.specs.Due.{IsStatusOf}
 use Rattle.bz_shape.proofs.TreeForms.{fits}
 use Rattle.bz_shape.specs.declared.rule.ShapeRule.TheVariants.{Root}
-use Rattle.bz_slotted.specs.Laws.{InnerRulesAreFacts}
 use Rattle.bz_slotted.specs.Page.{page}
 use Rattle.bz_slotted.specs.Whole.{WholeInner}
+use Rattle.bz_slotted.proofs.Proved.{inner_rules_are_facts}
 use Rattle.bz_word.specs.Headers.{header}
 use Rattle.bz_word.specs.Statuses.{status}
 use Rattle.bz_content.specs.Content.{view_in}
 use Rattle.bz_content.specs.Image.{node}
 use Rattle.bz_content.specs.Resolving.{resolve}
 use Rattle.bz_content.specs.View.{root_fault}
+use Rattle.bz_content.proofs.Proved.{well_formed_images_have_no_fault}
 use Rattle.bz_task.specs.Good.{IsGood}
 use Rattle.bz_task.specs.Instant.{Instant, words, durable, page_at, form_at, is_inside}
 use Rattle.bz_task.specs.Outcomes.{IsPath, IsLink, IsUnderRoot, IsUnderNode, IsGuarded}
 use Rattle.bz_task.specs.Scene.{Scene, IsScene, here}
 use Rattle.bz_task.specs.declared.path.Link.{Link}
 use Rattle.bz_task.specs.declared.path.Path.{Path}
+use Rattle.bz_task.proofs.Proved.{headers_say_the_level}
 use Rattle.bz_renew.proofs.Words.{node-at}
-use Rattle.bz_alone.specs.Quiet.{IsQuietSince, LonelyTimesAreQuiet}
+use Rattle.bz_alone.specs.Quiet.{IsQuietSince}
+use Rattle.bz_alone.proofs.Proved.{lonely_times_are_quiet}
 use Rattle.bz_rounds.specs.Due.{LoneGuardsAreThawed}
-use Rattle.bz_rounds.proofs.Staying.{Laws as Staying, not-top, reached-at, no-fault, good-then, word-stays, inside-now}
-
--- the laws on which it rests
-pub record Laws : Type 0 where
-  pub stays : Staying
-  pub lonely : LonelyTimesAreQuiet
-  pub inner : InnerRulesAreFacts
+use Rattle.bz_rounds.proofs.Staying.{not-top, reached-at, no-fault, good-then, word-stays, inside-now}
 
 -- an inner node of the tree
-module _ (b : Laws) (c : Config) (x : Instant) (k : ℕ) (g : IsGood c x) (within : k < c.nodes) (inside : is_inside c x k ≡ true) (high : 0 < (page_at c x k).level) where
+module _ (c : Config) (x : Instant) (k : ℕ) (g : IsGood c x) (within : k < c.nodes) (inside : is_inside c x k ≡ true) (high : 0 < (page_at c x k).level) where
   level : (page_at c x k).level ≡ (form_at c x).level k
-  level = (b.stays.headers c x k g (not-top b.stays c x k g within inside) inside).level
+  level = (headers_say_the_level c x k g (not-top c x k g within inside) inside).level
 
   whole : WholeInner c.nodes (node c x.image k) (page (durable c x k)) ((form_at c x).level k) ((form_at c x).low k) ((form_at c x).high k)
-  whole = (b.inner c.nodes (node c x.image k) (durable c x k) ((form_at c x).level k) ((form_at c x).low k) ((form_at c x).high k) (omega (arith, level, high))).0 (no-fault b.stays c x k g within inside)
+  whole = (inner_rules_are_facts c.nodes (node c x.image k) (durable c x k) ((form_at c x).level k) ((form_at c x).low k) ((form_at c x).high k) (omega (arith, level, high))).0 (no-fault c x k g within inside)
 
   inner-thawed : IsStatusOf false (words c x k STATUS_AT)
-  inner-thawed = subst (λ z. IsStatusOf false z) (g.shown k STATUS_AT (reached-at b.stays c x k g within inside) (inl (omega arith))) (record { plain = whole.filled.status; is = whole.settled.thawed })
+  inner-thawed = subst (λ z. IsStatusOf false z) (g.shown k STATUS_AT (reached-at c x k g within inside) (inl (omega arith))) (record { plain = whole.filled.status; is = whole.settled.thawed })
 
 -- the root status
 root-tested : (nodes pointer st : ℕ) → root_fault nodes pointer st ≡ None → st < 2 ^ 32
@@ -65,20 +62,20 @@ stamp-alone st l = let e : st / 2 ^ 60 % 2 ^ 1 ≡ 0 = omega (arith, l) in rw e 
 itself : (a : ℕ) → (a == a) ≡ true
 itself a = grind (arith, nat_tests)
 
-root-thawed : Laws → (c : Config) (x : Instant) → IsGood c x → IsStatusOf false (x.value ROOT_STATUS_AT)
-root-thawed b c x g =
+root-thawed : (c : Config) (x : Instant) → IsGood c x → IsStatusOf false (x.value ROOT_STATUS_AT)
+root-thawed c x g =
     let none : root_fault c.nodes (resolve x.image ROOT_AT) (resolve x.image ROOT_STATUS_AT) ≡ None =
-    rw (itself c.nodes) at ((fits (view_in c x.image) ((b.stays.formed c x.image).0 g.form).tree).super) in
+    rw (itself c.nodes) at ((fits (view_in c x.image) ((well_formed_images_have_no_fault c x.image).0 g.form).tree).super) in
     let few : x.value ROOT_STATUS_AT < 2 ^ 32 = subst (λ z. z < 2 ^ 32) g.root_status (root-tested c.nodes (resolve x.image ROOT_AT) (resolve x.image ROOT_STATUS_AT) none) in
     record { plain = omega (arith, few); is = stamp-alone (x.value ROOT_STATUS_AT) few }
 
-module _ (b : Laws) (s : Scene) (good : IsScene s) (q : IsQuietSince s.past.since s.past) (link : Link) (g : IsGuarded s.past link) where
+module _ (s : Scene) (good : IsScene s) (q : IsQuietSince s.past.since s.past) (link : Link) (g : IsGuarded s.past link) where
   until : g.guarded ≤ s.past.now
   until = omega (arith, g.order, g.now)
 
   -- the root's link
   under-root : IsUnderRoot link → IsStatusOf false link.status
-  under-root u = subst (λ z. IsStatusOf false z) (ap (s.past.at g.guarded).value (sym u.guard) ∙ g.status) (root-thawed b s.past.config (s.past.at g.guarded) (good-then b.stays s good q g.guarded g.since until))
+  under-root u = subst (λ z. IsStatusOf false z) (ap (s.past.at g.guarded).value (sym u.guard) ∙ g.status) (root-thawed s.past.config (s.past.at g.guarded) (good-then s good q g.guarded g.since until))
 
   -- a link in a node to which another one has led: that is an inner node of the tree, whose status is the guard
   module _ (key : List ℕ) (above : Link) (l : IsLink key s.past above) (at : link.guard ≡ node_address s.past.config above.slot + STATUS_AT) (u : IsUnderNode s.past link g.guarded) where
@@ -89,7 +86,7 @@ module _ (b : Laws) (s : Scene) (good : IsScene s) (q : IsQuietSince s.past.sinc
     reached = subst (λ z. (s.past.at g.guarded).reached z ≡ true) parent u.reached
 
     front-stays : (i : ℕ) → i ≤ HEADER_AT → words s.past.config (here s) above.slot i ≡ words s.past.config (s.past.at g.guarded) above.slot i
-    front-stays i le = word-stays b.stays s good q g.guarded g.since until above.slot i reached (inl (omega (arith, le)))
+    front-stays i le = word-stays s good q g.guarded g.since until above.slot i reached (inl (omega (arith, le)))
 
     pub status-again : words s.past.config (here s) above.slot STATUS_AT ≡ link.status
     status-again =
@@ -103,35 +100,35 @@ module _ (b : Laws) (s : Scene) (good : IsScene s) (q : IsQuietSince s.past.sinc
     now = good.history.good s.past.now good.begun (omega arith)
 
     pub inside-here : is_inside s.past.config (here s) above.slot ≡ true
-    inside-here = inside-now b.stays s good q l.was l.since l.now above.slot l.slot l.inside
+    inside-here = inside-now s good q l.was l.since l.now above.slot l.slot l.inside
 
     under-node : IsStatusOf false link.status
-    under-node = subst (λ z. IsStatusOf false z) status-again (inner-thawed b s.past.config (here s) above.slot now l.slot inside-here inner-now)
+    under-node = subst (λ z. IsStatusOf false z) status-again (inner-thawed s.past.config (here s) above.slot now l.slot inside-here inner-now)
 
 before : (i : ℕ) → 0 < i → i ≡ i - 1 + 1
 before i h = omega (arith, h)
 
 -- a link of a path
-module _ (b : Laws) (s : Scene) (good : IsScene s) (q : IsQuietSince s.past.since s.past) (key : List ℕ) (path : Path) (is : IsPath key path s.past) where
+module _ (s : Scene) (good : IsScene s) (q : IsQuietSince s.past.since s.past) (key : List ℕ) (path : Path) (is : IsPath key path s.past) where
   below : (i : ℕ) (link : Link) → 0 < i → i < path.depth → slice_get path.links i ≡ Some link → (g : IsGuarded s.past link) → IsUnderNode s.past link g.guarded → IsStatusOf false link.status
   below i link some lt e g u = elim (slice_get_cases path.links (i - 1)).1 [
     | inr past ↦ absurd (omega (arith, slice_get_within path.links i link e, past.0))
     | inl found ↦ (
         let above : Link = found.0 in
         let next : slice_get path.links (i - 1 + 1) ≡ Some link = subst (λ z. slice_get path.links z ≡ Some link) (before i some) e in
-        under-node b s good q link g key above (is.links (i - 1) above (omega (arith, lt)) found.2) (is.below (i - 1) above link (omega (arith, some, lt)) found.2 next) u)
+        under-node s good q link g key above (is.links (i - 1) above (omega (arith, lt)) found.2) (is.below (i - 1) above link (omega (arith, some, lt)) found.2 next) u)
   ]
 
   pub guard-thawed : (i : ℕ) (link : Link) → i < path.depth → slice_get path.links i ≡ Some link → IsStatusOf false link.status
   guard-thawed i link lt e = elim (is.links i link lt e).guarded.under [
-    | inl u ↦ under-root b s good q link (is.links i link lt e).guarded u
+    | inl u ↦ under-root s good q link (is.links i link lt e).guarded u
     | inr u ↦ elim (cases_lt 0 i) [
       | inl some ↦ below i link some lt e (is.links i link lt e).guarded u
       | inr none ↦ (
           let first : i ≡ 0 = omega (arith, none) in
-          under-root b s good q link (is.links i link lt e).guarded (is.first link (subst (λ z. slice_get path.links z ≡ Some link) first e)))
+          under-root s good q link (is.links i link lt e).guarded (is.first link (subst (λ z. slice_get path.links z ≡ Some link) first e)))
     ]
   ]
 
-pub guards-thawed : Laws → LoneGuardsAreThawed
-guards-thawed b key path s good alone is i link lt e = guard-thawed b s good (b.lonely.whole s good alone) key path is i link lt e
+pub guards-thawed : LoneGuardsAreThawed
+guards-thawed key path s good alone is i link lt e = guard-thawed s good (lonely_times_are_quiet.whole s good alone) key path is i link lt e

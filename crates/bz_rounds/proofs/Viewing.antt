@@ -5,15 +5,16 @@ use Rattle.bz_layout.specs.declared.config.Config.{Config}
 use Rattle.bz_layout.specs.declared.sizes.TheConstants.{STATUS_AT, META_AT}
 use Rattle.bz_layout.specs.declared.thresholds.TheConstants.{SPLIT_ABOVE}
 use Rattle.bz_shape.specs.Form.{Holds}
-use Rattle.bz_shape.specs.TreeLaws.{LeavesTileTheKeys}
-use Rattle.bz_slotted.specs.Laws.{LeafRulesAreFacts}
+use Rattle.bz_shape.proofs.Proved.{leaves_tile_the_keys}
 use Rattle.bz_slotted.specs.Page.{page, meta_of}
 use Rattle.bz_slotted.specs.ReadingLaws.{node_of}
 use Rattle.bz_slotted.specs.Readers.{live_of}
 use Rattle.bz_slotted.specs.Records.{live_to, live_words}
 use Rattle.bz_slotted.specs.Whole.{Whole}
+use Rattle.bz_slotted.proofs.Proved.{leaf_rules_are_facts}
 use Rattle.bz_word.specs.Statuses.{status}
 use Rattle.bz_content.specs.Content.{image_of, leaf_in, view_in}
+use Rattle.bz_content.proofs.Proved.{well_formed_images_have_no_fault}
 use Rattle.bz_stage.specs.FromLeaves.Neighbours.{leaf_page}
 use Rattle.bz_task.specs.Good.{IsGood}
 use Rattle.bz_task.specs.Instant.{words, durable, form_at}
@@ -21,16 +22,16 @@ use Rattle.bz_task.specs.Outcomes.{IsView}
 use Rattle.bz_task.specs.Scene.{Scene, IsScene, here}
 use Rattle.bz_task.specs.declared.view.LeafView.{LeafView}
 use Rattle.bz_alone.specs.Quiet.{IsQuietSince}
+use Rattle.bz_alone.proofs.Proved.{lonely_times_are_quiet}
 use Rattle.bz_rounds.specs.Stands.{LoneViewsTellTheLeaf}
 use Rattle.bz_tally.proofs.Lives.{live-same}
-use Rattle.bz_rounds.proofs.Seeing.{Laws}
-use Rattle.bz_rounds.proofs.Staying.{Laws as Staying, reached-at, good-then, same-tree, word-stays}
+use Rattle.bz_rounds.proofs.Staying.{reached-at, good-then, same-tree, word-stays}
 
 live-is : (n : ℕ → ℕ) → live_of n ≡ live_words (page n)
 unfolding live_of
 live-is n = refl
 
-module _ (stays : Staying) (tiles : LeavesTileTheKeys) (rules : LeafRulesAreFacts) (s : Scene) (good : IsScene s) (q : IsQuietSince s.past.since s.past) (key : List ℕ) (view : LeafView) (w : IsView key view s.past) where
+module _ (s : Scene) (good : IsScene s) (q : IsQuietSince s.past.since s.past) (key : List ℕ) (view : LeafView) (w : IsView key view s.past) where
   abbrev c : Config
   c = s.past.config
 
@@ -38,19 +39,19 @@ module _ (stays : Staying) (tiles : LeavesTileTheKeys) (rules : LeafRulesAreFact
   now = good.history.good s.past.now good.begun (omega arith)
 
   earlier : IsGood s.past.config (s.past.at view.at)
-  earlier = good-then stays s good q view.at w.since w.now
+  earlier = good-then s good q view.at w.since w.now
 
   holds : Holds (form_at c (s.past.at view.at)) key view.slot
-  holds = (tiles (view_in c (s.past.at view.at).image) ((stays.formed c (s.past.at view.at).image).0 earlier.form).tree key view.slot).1 w.leaf
+  holds = (leaves_tile_the_keys (view_in c (s.past.at view.at).image) ((well_formed_images_have_no_fault c (s.past.at view.at).image).0 earlier.form).tree key view.slot).1 w.leaf
 
   reached : (s.past.at view.at).reached view.slot ≡ true
-  reached = reached-at stays c (s.past.at view.at) view.slot earlier w.slot holds.inside
+  reached = reached-at c (s.past.at view.at) view.slot earlier w.slot holds.inside
 
   reached-now : (here s).reached view.slot ≡ true
-  reached-now = reached-at stays c (here s) view.slot now w.slot ((same-tree stays s good q view.at w.since w.now).inside view.slot ∙ holds.inside)
+  reached-now = reached-at c (here s) view.slot now w.slot ((same-tree s good q view.at w.since w.now).inside view.slot ∙ holds.inside)
 
   leaf : leaf_in c (here s).image key ≡ view.slot
-  leaf = (same-tree stays s good q view.at w.since w.now).leaf key ∙ w.leaf
+  leaf = (same-tree s good q view.at w.since w.now).leaf key ∙ w.leaf
 
   -- a word of its front as it was viewed
   status-viewed : slice_index view.image.0 STATUS_AT ≡ words c (s.past.at view.at) view.slot STATUS_AT
@@ -59,7 +60,7 @@ module _ (stays : Staying) (tiles : LeavesTileTheKeys) (rules : LeafRulesAreFact
   status-now : durable c (here s) view.slot STATUS_AT ≡ slice_index view.image.0 STATUS_AT
   status-now =
       now.shown view.slot STATUS_AT reached-now (inl (omega arith))
-      ∙ (word-stays stays s good q view.at w.since w.now view.slot STATUS_AT reached (inl (omega arith)) ∙ sym status-viewed)
+      ∙ (word-stays s good q view.at w.since w.now view.slot STATUS_AT reached (inl (omega arith)) ∙ sym status-viewed)
 
   count-then : (status (words c (s.past.at view.at) view.slot STATUS_AT)).count ≡ (status (slice_index view.image.0 STATUS_AT)).count
   count-then = ap (λ z. (status z).count) (sym status-viewed)
@@ -68,12 +69,12 @@ module _ (stays : Staying) (tiles : LeavesTileTheKeys) (rules : LeafRulesAreFact
   count-now = ap (λ z. (status z).count) (sym (now.shown view.slot STATUS_AT reached-now (inl (omega arith))) ∙ status-now)
 
   whole : Whole (node_of view.image.0) (page (node_of view.image.0)) ((form_at c (s.past.at view.at)).low view.slot) ((form_at c (s.past.at view.at)).high view.slot)
-  whole = (rules c.nodes (node_of view.image.0) (node_of view.image.0) ((form_at c (s.past.at view.at)).low view.slot) ((form_at c (s.past.at view.at)).high view.slot)).0 w.whole
+  whole = (leaf_rules_are_facts c.nodes (node_of view.image.0) (node_of view.image.0) ((form_at c (s.past.at view.at)).low view.slot) ((form_at c (s.past.at view.at)).high view.slot)).0 w.whole
 
   meta-now : (j : ℕ) → j < (page (node_of view.image.0)).count → durable c (here s) view.slot (META_AT + j) ≡ slice_index view.image.0 (META_AT + j)
   meta-now j l =
       now.shown view.slot (META_AT + j) reached-now (inl (omega (arith, l, count-now)))
-      ∙ (word-stays stays s good q view.at w.since w.now view.slot (META_AT + j) reached (inl (omega (arith, l, count-then)))
+      ∙ (word-stays s good q view.at w.since w.now view.slot (META_AT + j) reached (inl (omega (arith, l, count-then)))
       ∙ sym (w.words (META_AT + j) (omega (arith, l, whole.filled.room)) (inl (omega (arith, l, count-then)))))
 
   live : live_words (page (durable c (here s) view.slot)) ≡ live_of (node_of view.image.0)
@@ -87,7 +88,7 @@ module _ (stays : Staying) (tiles : LeavesTileTheKeys) (rules : LeafRulesAreFact
   pub live-now : live_words (leaf_page c (image_of (here s).image) key) ≡ live_of (node_of view.image.0)
   live-now = ap (λ k. live_words (page (durable c (here s) k))) leaf ∙ live
 
-pub views-tell-leaf : Laws → LeafRulesAreFacts → LoneViewsTellTheLeaf
-views-tell-leaf b rules key view s good alone v =
-    let q : IsQuietSince s.past.since s.past = b.lonely.whole s good alone in
-    record { frozen = frozen-now b.stays b.tiles rules s good q key view v; crowded = ap (λ n. nat_lt SPLIT_ABOVE n) (live-now b.stays b.tiles rules s good q key view v) }
+pub views-tell-leaf : LoneViewsTellTheLeaf
+views-tell-leaf key view s good alone v =
+    let q : IsQuietSince s.past.since s.past = lonely_times_are_quiet.whole s good alone in
+    record { frozen = frozen-now s good q key view v; crowded = ap (λ n. nat_lt SPLIT_ABOVE n) (live-now s good q key view v) }

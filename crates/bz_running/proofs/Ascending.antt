@@ -3,8 +3,8 @@ use Rattle.std.proofs.Common.{◌≡◌, ℕ, ◌-◌, List, arith, sym, ap, sub
 use Rattle.std.specs.Prelude.{slice_get}
 use Rattle.bz_call.specs.declared.replies.Spent.TheVariants.{Height}
 use Rattle.bz_ascent.specs.Ascents.{IsAscent, IsAtLeaf, IsOneUp}
-use Rattle.bz_ascent.specs.Laws.{AscentsStay}
 use Rattle.bz_ascent.specs.declared.ascent.Ascent.{Ascent}
+use Rattle.bz_ascent.proofs.Proved.{ascents_stay}
 use Rattle.bz_layout.specs.Slots.{FreeSlots}
 use Rattle.bz_task.specs.Contract.{MayHear, GoesOn, Learns, IsSound, ActsWell}
 use Rattle.bz_task.specs.Scene.{Past, Scene, Continues}
@@ -20,8 +20,8 @@ pub same-ascent : (x y : Ascent) → Some x ≡ Some y → x ≡ y
 same-ascent x y e = cc
 
 -- it stays
-keeps : AscentsStay → (a : Ascent) (v : TaskView) (p q : Past) → Continues p q → IsAscent a p × LooksUp a v.means → IsAscent a q × LooksUp a v.means
-keeps stay a v p q n f = (stay a p q f.0 n, f.1)
+keeps : (a : Ascent) (v : TaskView) (p q : Past) → Continues p q → IsAscent a p × LooksUp a v.means → IsAscent a q × LooksUp a v.means
+keeps a v p q n f = (ascents_stay a p q f.0 n, f.1)
 
 -- also of what the task has become, whose ends mean no more
 pub meant-so : (a : Ascent) (means next : Outcome → Scene → Type 0) (p : Past) → ((o : Outcome) (s : Scene) → next o s → means o s) → IsAscent a p × LooksUp a means → IsAscent a p × LooksUp a next
@@ -61,9 +61,9 @@ goes-on-ascent a v w g = record {
 pub learns-on-ascent : (a : Ascent) (v w : TaskView) (seen : Seen) (moment : ℕ) (free left : FreeSlots) → ((o : Outcome) (s : Scene) → w.means o s → v.means o s) → Learns v w seen moment free left → Learns (on_ascent a v) (on_ascent a w) seen moment free left
 learns-on-ascent a v w seen moment free left meant l stage s now same good none f tells = (l stage s now same good none f.0 tells, meant-so a v.means w.means s.past meant f.1)
 
-pub sound-on-ascent : AscentsStay → (a : Ascent) (v : TaskView) → IsSound v → IsSound (on_ascent a v)
-sound-on-ascent stay a v k = record {
-  stable = λ stage s after same f good l. (k.stable stage s after same f.0 good l, keeps stay a v s.past after.past l.continues f.1);
+pub sound-on-ascent : (a : Ascent) (v : TaskView) → IsSound v → IsSound (on_ascent a v)
+sound-on-ascent a v k = record {
+  stable = λ stage s after same f good l. (k.stable stage s after same f.0 good l, keeps a v s.past after.past l.continues f.1);
   askable = λ s todo same f good e. k.askable s todo same f.0 good e;
   cause = λ s seen same f d. k.cause s seen same f.0 d;
   few = k.few;
@@ -71,12 +71,12 @@ sound-on-ascent stay a v k = record {
   ends = λ s outcome f e. k.ends s outcome f.0 e;
 }
 
-pub acts-on-ascent : AscentsStay → (a : Ascent) (v : TaskView) → ActsWell v → ActsWell (on_ascent a v)
-acts-on-ascent stay a v k = record {
+pub acts-on-ascent : (a : Ascent) (v : TaskView) → ActsWell v → ActsWell (on_ascent a v)
+acts-on-ascent a v k = record {
   effect = λ s y entries same f good e stand swaps. k.effect s y entries same f.0 good e stand swaps;
-  took = λ s after entries same f good later e stand t. (k.took s after entries same f.0 good later e stand t, keeps stay a v s.past after.past t.continues f.1);
-  stored = λ s after at x same f good later e t. (k.stored s after at x same f.0 good later e t, keeps stay a v s.past after.past t.continues f.1);
-  flushed = λ s after line same f good later e t. (k.flushed s after line same f.0 good later e t, keeps stay a v s.past after.past t.continues f.1);
+  took = λ s after entries same f good later e stand t. (k.took s after entries same f.0 good later e stand t, keeps a v s.past after.past t.continues f.1);
+  stored = λ s after at x same f good later e t. (k.stored s after at x same f.0 good later e t, keeps a v s.past after.past t.continues f.1);
+  flushed = λ s after line same f good later e t. (k.flushed s after line same f.0 good later e t, keeps a v s.past after.past t.continues f.1);
 }
 
 -- from the leaf on, the last two links of the path are the ones that the ascent names

@@ -23,10 +23,10 @@ use Rattle.bz_mutate.specs.declared.delete.Delete.{Delete}
 use Rattle.bz_task.specs.Basis.{Basis}
 use Rattle.bz_task.specs.FromContent.Content.{leaf_in}
 use Rattle.bz_task.specs.Instant.{words as words_at, page_at}
-use Rattle.bz_task.specs.Laws.{ViewsStay}
 use Rattle.bz_task.specs.Outcomes.{IsView}
 use Rattle.bz_task.specs.Scene.{Past, Continues}
 use Rattle.bz_task.specs.declared.view.LeafView.{LeafView}
+use Rattle.bz_task.proofs.Proved.{views_stay}
 use Rattle.bz_word.specs.Statuses.{status}
 use Rattle.bz_running.specs.Duties.{ascent_of}
 use Rattle.bz_running.specs.MadeFor.{HasFoot, WasLeafOf, LackedWords, WasCrowded, WasSmallLeafOf, IsCopyFor, AreHalvesFor, HasComeTo, HasComeBelow, HasComeToRoot, IsMadeFor, IsMergeOf, IsMergeFor, IsSmallMerge}
@@ -132,9 +132,9 @@ module _ (p q : Past) (n : Continues p q) where
       λ t. (page_at (n.config t) (n.at l.was.moment l.was.now t) slot).count + (page_at (n.config t) (n.at l.was.moment l.was.now t) slot).block in
       record { within = omega (arith, l.within, nodes); was = leaf-stays key slot l.was; lacked = subst (λ z. SHARED_WORDS < z + words) (sym taken) l.lacked }
 
-  module _ (views : ViewsStay) (key : List ℕ) where
+  module _ (key : List ℕ) where
     crowded-stays : (view : LeafView) → WasCrowded key view p → WasCrowded key view q
-    crowded-stays view w = record { is = views key view p q w.is n; frozen = w.frozen; many = w.many }
+    crowded-stays view w = record { is = views_stay key view p q w.is n; frozen = w.frozen; many = w.many }
 
     halves-stay : (slot : ℕ) (left right sep : List ℕ) → AreHalvesFor key slot left right sep p → AreHalvesFor key slot left right sep q
     halves-stay slot left right sep m = record { view = m.view; leaf = crowded-stays m.view m.leaf; at = m.at; halves = m.halves }
@@ -142,31 +142,31 @@ module _ (p q : Past) (n : Continues p q) where
     come-stays : (slot : ℕ) (a : Ascent) → HasComeTo key slot a p → HasComeTo key slot a q
     come-stays slot a m = record { key_is = m.key_is; node = m.node; foot = m.foot; view = m.view; leaf = crowded-stays m.view m.leaf }
 
-pub made-stays : ViewsStay → (t : AnyTask) (key : List ℕ) (words : ℕ) (p q : Past) → IsMadeFor t key words p → Continues p q → IsMadeFor t key words q
+pub made-stays : (t : AnyTask) (key : List ℕ) (words : ℕ) (p q : Past) → IsMadeFor t key words p → Continues p q → IsMadeFor t key words q
 unfolding IsMadeFor
-made-stays v (Seeking t) key words p q m n = absurd m
-made-stays v (Finding t) key words p q m n = absurd m
-made-stays v (Reading t) key words p q m n = absurd m
-made-stays v (Inserting t) key words p q m n = absurd m
-made-stays v (Updating t) key words p q m n = absurd m
-made-stays v (Deleting t) key words p q m n = absurd m
-made-stays v (Freezing t) key words p q m n = lacked-stays p q n key words t.slot m
-made-stays v (Consolidating t) key words p q m n = record { view = m.view; is = v key m.view p q m.is n; at = m.at; small = m.small }
-made-stays v (Splitting t) key words p q m n = halves-stay p q n v key t.link.slot t.halves.left.0 t.halves.right.0 t.halves.separator m
-made-stays v (SplittingBelow t a) key words p q m n = record { halves = halves-stay p q n v key t.lower.slot t.halves.left.0 t.halves.right.0 t.halves.separator m.halves; foot = m.foot }
-made-stays v (SplittingInner t a) key words p q m n = record { come = come-stays p q n v key t.middle.slot a m.come; below = m.below }
-made-stays v (SplittingInnerRoot t a) key words p q m n = record { come = come-stays p q n v key t.upper.slot a m.come; root = m.root }
-made-stays v (Merging t) key words p q m n = absurd m
+made-stays (Seeking t) key words p q m n = absurd m
+made-stays (Finding t) key words p q m n = absurd m
+made-stays (Reading t) key words p q m n = absurd m
+made-stays (Inserting t) key words p q m n = absurd m
+made-stays (Updating t) key words p q m n = absurd m
+made-stays (Deleting t) key words p q m n = absurd m
+made-stays (Freezing t) key words p q m n = lacked-stays p q n key words t.slot m
+made-stays (Consolidating t) key words p q m n = record { view = m.view; is = views_stay key m.view p q m.is n; at = m.at; small = m.small }
+made-stays (Splitting t) key words p q m n = halves-stay p q n key t.link.slot t.halves.left.0 t.halves.right.0 t.halves.separator m
+made-stays (SplittingBelow t a) key words p q m n = record { halves = halves-stay p q n key t.lower.slot t.halves.left.0 t.halves.right.0 t.halves.separator m.halves; foot = m.foot }
+made-stays (SplittingInner t a) key words p q m n = record { come = come-stays p q n key t.middle.slot a m.come; below = m.below }
+made-stays (SplittingInnerRoot t a) key words p q m n = record { come = come-stays p q n key t.upper.slot a m.come; root = m.root }
+made-stays (Merging t) key words p q m n = absurd m
 
 pub merge-stays : (t : AnyTask) (key : List ℕ) (p q : Past) → IsMergeFor t key p → Continues p q → IsMergeFor t key q
 unfolding IsMergeFor
 merge-stays (Merging t) key p q m n = record { leaf = leaf-stays p q n key t.lower.slot m.leaf; frozen = m.frozen }
 merge-stays t key p q m n = absurd m
 
-pub small-stays : ViewsStay → (t : AnyTask) (key : List ℕ) (p q : Past) → IsSmallMerge t key p → Continues p q → IsSmallMerge t key q
+pub small-stays : (t : AnyTask) (key : List ℕ) (p q : Past) → IsSmallMerge t key p → Continues p q → IsSmallMerge t key q
 unfolding IsSmallMerge
-small-stays v (Merging t) key p q m n = record { view = m.view; is = v key m.view p q m.is n; at = m.at; few = m.few }
-small-stays v t key p q m n = absurd m
+small-stays (Merging t) key p q m n = record { view = m.view; is = views_stay key m.view p q m.is n; at = m.at; few = m.few }
+small-stays t key p q m n = absurd m
 
 -- at the foot of an ascent stands a leaf that has to be split
 pub record StandsOnCrowded (a : Ascent) (key : List ℕ) (p : Past) : Type 0 where

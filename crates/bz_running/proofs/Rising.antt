@@ -1,8 +1,8 @@
 -- The split of the node above knows what it must where the one below lacked the room there.
 use Rattle.std.proofs.Common.{◌≡◌, ◌-◌, slice_get, arith, refl, sym, subst, ◌∙◌, Some}
 use Rattle.bz_ascent.specs.Ascents.{IsAscent, IsOneUp}
-use Rattle.bz_ascent.specs.Laws.{AscentsRise}
 use Rattle.bz_ascent.specs.declared.ascent.Ascent.{Ascent}
+use Rattle.bz_ascent.proofs.Proved.{ascents_rise}
 use Rattle.bz_crown.specs.Due as crown
 use Rattle.bz_fork.specs.Due as fork
 use Rattle.bz_task.specs.Scene.{Scene, Waiting, IsScene}
@@ -40,14 +40,14 @@ is-rising (SplittingInner t b) a e = subst (IsRising (SplittingInner t b)) (same
 is-rising (SplittingInnerRoot t b) a e = subst (IsRising (SplittingInnerRoot t b)) (same-ascent b a e) (record { wants = refl; knows = λ s f. f.1 })
 is-rising (Merging t) a e = absurd (cc)
 
-pub rises-on : AscentsRise → (t : AnyTask) → Ends t → (a up : Ascent) (s : Scene) → ascent_of t ≡ Some a → IsOneUp a up → s.past.config ≡ config_of t → IsScene s → facts_of t Waiting s → end_of t ≡ Some NeedsRoom → IsAscent up s.past
-rises-on law t ends a up s is one same good f e =
+pub rises-on : (t : AnyTask) → Ends t → (a up : Ascent) (s : Scene) → ascent_of t ≡ Some a → IsOneUp a up → s.past.config ≡ config_of t → IsScene s → facts_of t Waiting s → end_of t ≡ Some NeedsRoom → IsAscent up s.past
+rises-on t ends a up s is one same good f e =
     let k = (is-rising t a is).knows s f in
     let l = k.1.lacks up s one (ends s NeedsRoom f e).0 in
-    law a up s l.sep one good k.0 l.lacked
+    ascents_rise a up s l.sep one good k.0 l.lacked
 
-pub goes-up : AscentsRise → (t next : AnyTask) (a up : Ascent) → Ends t → ascent_of t ≡ Some a → IsOneUp a up → IsSplitAt (config_of t) up next → GoesUp t next
-goes-up law t next a up ends is one it = record {
+pub goes-up : (t next : AnyTask) (a up : Ascent) → Ends t → ascent_of t ≡ Some a → IsOneUp a up → IsSplitAt (config_of t) up next → GoesUp t next
+goes-up t next a up ends is one it = record {
   config = it.config;
   above = record { from = a; up = up; begun = is; one = one; kind = it.kind };
   asks = it.asks;
@@ -60,7 +60,7 @@ goes-up law t next a up ends is one it = record {
   facts = λ s same good f e. (
       let k = (is-rising t a is).knows s f in
       let l = k.1.lacks up s one (ends s NeedsRoom f e).0 in
-      it.facts s same good (law a up s l.sep one good k.0 l.lacked));
+      it.facts s same good (ascents_rise a up s l.sep one good k.0 l.lacked));
   made_for = λ key words p m. (
       let w = stands-on-crowded t a is key words p m in
       subst (λ k. IsMadeFor next k words p) (one.key_is ∙ w.key_is) (it.made_for w.view words p (record { last = w.foot.last; is = subst (λ z. slice_get z.links (z.depth - 1) ≡ Some w.foot.last) (sym one.path_is) w.foot.is }) (subst (λ k. WasCrowded k w.view p) (sym (one.key_is ∙ w.key_is)) w.leaf)));

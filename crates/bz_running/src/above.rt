@@ -86,7 +86,6 @@ impl AnyTask {
         ensures due { (a up : Ascent) → ascent_of self.now ≡ Some a → IsOneUp a up → MayBeSplit up → IsSome result }
         ensures stands { (a : Ascent) → ascent_of self.now ≡ Some a → 0 < a.place → HasOneUp a }
     {
-        bz_ascent::laws::ascents_rise();
         self.learnt();
         let ascent = self.ascent()?;
         if ascent.place == 0 {

@@ -47,7 +47,7 @@ use bz_layout::{Config, ROOT_STATUS_AT, Slots};
 use bz_leaf::ReadLeaf;
 use bz_merge::{Merge, SplitRoot};
 use bz_mutate::{Delete, Update};
-use bz_task::{KeyView, LeafView, Link, Outcome, Path, Seen, Task, Todo, laws};
+use bz_task::{KeyView, LeafView, Link, Outcome, Path, Seen, Task, Todo};
 
 /// A task on the tree.
 #[derive(Drop)]
@@ -302,7 +302,6 @@ impl AnyTask {
         ensures needs_room { (upper lower : Link) (s : Scene) → slice_get path.links (path.depth - 2) ≡ Some upper → slice_get path.links (path.depth - 1) ≡ Some lower → means_of result Outcome.NeedsRoom s → LackedPart upper lower view s.past }
         ensures made_for { (words : ℕ) (p : Past) → IsView key view p → IsMadeFor result key words p }
     {
-        bz_ascent::laws::ascents_begin();
         let task = SplitBelow::new(config, path, view, page);
         AnyTask::SplittingBelow(task, Ascent::from_leaf(key, path))
     }
@@ -393,11 +392,6 @@ impl AnyTask {
     pub fn laws(&self)
         ensures { AreLaws self.now }
     {
-        bz_consol::laws::consolidations_take_one_slot();
-        bz_merge::laws::merges_take_two_slots();
-        bz_ascent::laws::ascents_end();
-        bz_ascent::laws::ascents_rise();
-        laws::views_stay();
         let _ended = self.ended();
         self.learnt();
         self.acted();
@@ -466,7 +460,6 @@ impl Task for AnyTask {
 
     #[tactic(auto, unfolding(crate::specs::Duties::view_of, crate::specs::Duties::wants_of))]
     fn learnt(&self) {
-        bz_ascent::laws::ascents_stay();
         match self {
             AnyTask::Seeking(task) => task.learnt(),
             AnyTask::Finding(task) => task.learnt(),
@@ -486,7 +479,6 @@ impl Task for AnyTask {
 
     #[tactic(auto, unfolding(crate::specs::Duties::view_of))]
     fn acted(&self) {
-        bz_ascent::laws::ascents_stay();
         match self {
             AnyTask::Seeking(task) => task.acted(),
             AnyTask::Finding(task) => task.acted(),

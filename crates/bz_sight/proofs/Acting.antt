@@ -14,15 +14,14 @@ use Rattle.bz_cells.specs.Store.{IsOutside}
 use Rattle.bz_machine.specs.declared.done.Done.{Done}
 use Rattle.bz_machine.specs.declared.done.Done.TheVariants.{Busy, Read, Swapped, Stored, Flushed}
 use Rattle.bz_swap.specs.Effects.{NoneTakesEffect, TakesEffect}
-use Rattle.bz_swap.specs.EffectPlaces.{EffectsStayInside}
 use Rattle.bz_swap.specs.Evictions.{IsEviction, EvictsIn}
 use Rattle.bz_swap.specs.Held.{Holds, IsHeld}
-use Rattle.bz_swap.specs.PlainFields.{PlainFieldsStay}
 use Rattle.bz_swap.specs.Steps.{IsStep, IsAnswer}
 use Rattle.bz_swap.specs.SwapMemory.{SwapMemory, Doing, Idle, Reading, Swapping, Loading, Storing, Flushing, doing_of, is_named, memory_words}
 use Rattle.bz_swap.specs.Writes.{StoresPrivate, StoresOwn}
 use Rattle.bz_swap.specs.declared.phase.Phase.{Phase}
 use Rattle.bz_swap.specs.declared.phase.Phase.TheVariants.{Opened, Running, Recovering}
+use Rattle.bz_swap.proofs.Proved.{effects_stay_inside, plain_fields_stay}
 use Rattle.bz_task.specs.Instant.{Instant}
 use Rattle.bz_sight.specs.Acts.{QuietStepsPass, StepsLeaveCaches, StoringStepsStore, FlushingStepsFlush, EffectStepsTakePlace, EvictionsAreSeen}
 use Rattle.bz_sight.specs.Passing.{SameRest}
@@ -136,13 +135,13 @@ flushing c x old new w made done told line seen step doing within =
       copies = λ b e. (let t : (b / 8 == line) ≡ true = grind (arith, common_steps) in ap (λ (n : Words). slice_index n.durable b) after ∙ ((flush (memory_words old) line before.memory within).durable b ∙ rw t refl));
     }
 
-pub quiet-step : PlainFieldsStay → QuietStepsPass
-quiet-step fields c x old new w made done seen step holds hidden =
+pub quiet-step : QuietStepsPass
+quiet-step c x old new w made done seen step holds hidden =
     let before : IsHeld old = held old seen.phase seen.holds in
     record {
       same = same-rest c x old new w made done None seen step holds;
       holds = holds;
-      fields = fields.step old new w made done None before.memory step seen.fields;
+      fields = plain_fields_stay.step old new w made done None before.memory step seen.fields;
       quiet = step.effect;
       durable = step-either old new made before.memory step.one.act;
       cached = λ a o private. elim (cases-storing (doing_of old w)) [
@@ -157,15 +156,15 @@ quiet-step fields c x old new w made done seen step holds hidden =
     same-address : {a b v u : ℕ} → Storing a v ≡ Storing b u → a ≡ b
     same-address e = cc
 
-pub effect-step : PlainFieldsStay → EffectsStayInside → EffectStepsTakePlace
-effect-step fields inside c x old new w made done s seen step holds =
+pub effect-step : EffectStepsTakePlace
+effect-step c x old new w made done s seen step holds =
     let before : IsHeld old = held old seen.phase seen.holds in
     record {
       same = same-rest c x old new w made done (Some s) seen step holds;
       holds = holds;
-      fields = fields.step old new w made done (Some s) before.memory step seen.fields;
+      fields = plain_fields_stay.step old new w made done (Some s) before.memory step seen.fields;
       effect = step.effect;
-      durable = (inside.step old new w made done s before.memory step).outside;
+      durable = (effects_stay_inside.step old new w made done s before.memory step).outside;
       cached = λ a o private. step.untouched a o private (λ v f. not-storing a v f);
     }
   where
@@ -215,12 +214,12 @@ evict-effect old new s ne h = go old.phase ne h
     go Running n i = i
     go Recovering n i = absurd (n refl)
 
-pub evictions : PlainFieldsStay → EffectsStayInside → EvictionsAreSeen
-evictions fields inside = record {
+pub evictions : EvictionsAreSeen
+evictions = record {
   quiet = λ c x old new a seen e holds. record {
     same = evict-same old new a None e;
     holds = holds;
-    fields = fields.eviction old new a None e seen.fields;
+    fields = plain_fields_stay.eviction old new a None e seen.fields;
     quiet = evict-quiet old new seen.phase e.effect;
     durable = evict-either old new a None e;
     cached = λ b o private. inl (ap (λ ws. slice_index ws b) (cached-same old new a None e));
@@ -229,9 +228,9 @@ evictions fields inside = record {
   effect = λ c x old new a s seen e holds. record {
     same = evict-same old new a (Some s) e;
     holds = holds;
-    fields = fields.eviction old new a (Some s) e seen.fields;
+    fields = plain_fields_stay.eviction old new a (Some s) e seen.fields;
     effect = evict-effect old new s seen.phase e.effect;
-    durable = (inside.eviction old new a s e).outside;
+    durable = (effects_stay_inside.eviction old new a s e).outside;
     cached = λ b o private. ap (λ ws. slice_index ws b) (cached-same old new a (Some s) e);
   };
 }

@@ -13,6 +13,7 @@ use Rattle.bz_swap.proofs.SettledWords.{settled-alike}
 use Rattle.bz_word.specs.declared.entry.Entry.{Entry}
 use Rattle.bz_content.specs.Lawful.{is_fixed, is_in_descriptor, is_lawful}
 use Rattle.bz_content.specs.Resolving.{resolve}
+use Rattle.bz_content.proofs.Proved.{well_formed_images_have_no_fault}
 use Rattle.bz_sight.specs.Swapped.{LeavesItsValues}
 use Rattle.bz_task.specs.Good.{IsGood}
 use Rattle.bz_task.specs.Instant.{Instant}
@@ -20,12 +21,14 @@ use Rattle.bz_task.specs.Scene.{Scene, IsMine, IsFlushed, IsScene, here}
 use Rattle.bz_task.specs.Shown.{IsRead}
 use Rattle.bz_task.specs.Steps.{IsStep}
 use Rattle.bz_task.specs.Swaps.{Stand, SwapsTo, ShowsSettled, swapped}
-use Rattle.bz_task.specs.Targets.{OwnWordsAreNoTargets, IsTargetAt}
+use Rattle.bz_task.specs.Targets.{IsTargetAt}
+use Rattle.bz_task.proofs.Proved.{targets_stay}
 use Rattle.bz_sight.specs.Effects.{TakesPlace, EffectsTakePlace, EffectsKeepOwn, effect_instant}
 use Rattle.bz_sight.specs.Sight.{IsSeen, answer_at}
-use Rattle.bz_sight.proofs.Passings.{held, outside-test, answer-named, answer-private, outside-descriptors, fixed-place, fixed-lawful, descriptor-lawful, Laws}
+use Rattle.bz_sight.proofs.Passings.{held, outside-test, answer-named, answer-private, outside-descriptors, fixed-place, fixed-lawful, descriptor-lawful}
 use Rattle.bz_sight.proofs.Leavings.{own-private, own-outside, outside-by, inside-answers}
 use Rattle.bz_sight.proofs.ReadWords.{target-read, read-outside}
+use Rattle.bz_sight.proofs.SwapMemories.{leaves-values}
 
 -- all of a list: its first and its others
 all-head : {A : Type 0} (P : A → Type 0) (x : A) (xs : List A) → All P (x ∷ xs) → P x
@@ -95,7 +98,7 @@ targeted (x ∷ es) P a h e = go (x.target == a) refl e (targeted es P a (all-ta
 all-map : {A : Type 0} (P Q R : A → Type 0) (xs : List A) → ((x : A) → P x → Q x → R x) → All P xs → All Q xs → All R xs
 all-map P Q R xs f h k = λ i d l. f (get_or xs i d) (h i d l) (k i d l)
 
-module _ (b : Laws) (c : Config) (x : Instant) (old new : SwapMemory) (s : ℕ) (seen : IsSeen c old x) (t : TakesPlace old new s) where
+module _ (c : Config) (x : Instant) (old new : SwapMemory) (s : ℕ) (seen : IsSeen c old x) (t : TakesPlace old new s) where
   abbrev y : Instant
   y = effect_instant c new x
 
@@ -106,10 +109,10 @@ module _ (b : Laws) (c : Config) (x : Instant) (old new : SwapMemory) (s : ℕ) 
   after = held new (λ e. seen.phase (sym t.same.phase ∙ e)) t.holds
 
   left-before : LeavesItsValues old
-  left-before = b.values old (record { holds = seen.holds; phase = seen.phase })
+  left-before = leaves-values old (record { holds = seen.holds; phase = seen.phase })
 
   left-after : LeavesItsValues new
-  left-after = b.values new (record { holds = t.holds; phase = λ e. seen.phase (sym t.same.phase ∙ e) })
+  left-after = leaves-values new (record { holds = t.holds; phase = λ e. seen.phase (sym t.same.phase ∙ e) })
 
   outside-new : (a : ℕ) → IsOutside old.swaps a → IsOutside new.swaps a
   outside-new a o = subst (λ n. IsOutside n a) (sym t.same.swaps) o
@@ -188,8 +191,8 @@ module _ (b : Laws) (c : Config) (x : Instant) (old new : SwapMemory) (s : ℕ) 
   lawful-after a l = go (is_in_descriptor c a) refl (is_fixed a) refl
     where
       go : (u : Bool) → is_in_descriptor c a ≡ u → (v : Bool) → is_fixed a ≡ v → is_lawful c (slice_index new.durable) a ≡ true
-      go true e v q = descriptor-lawful b c new (t.same.swaps ∙ seen.swaps) after t.fields a l e
-      go false e true q = fixed-lawful c x.image (slice_index new.durable) a e q (fixed-same a q) (((b.formed c x.image).0 seen.good.form).lawful a l)
+      go true e v q = descriptor-lawful c new (t.same.swaps ∙ seen.swaps) after t.fields a l e
+      go false e true q = fixed-lawful c x.image (slice_index new.durable) a e q (fixed-same a q) (((well_formed_images_have_no_fault c x.image).0 seen.good.form).lawful a l)
       go false e false q = left-after.lawful c a (sym (t.same.swaps ∙ seen.swaps)) (subst (λ n. IsOutside n a) (sym (t.same.swaps ∙ seen.swaps)) (outside-descriptors c a e)) q
 
   -- a word that nobody reads is private
@@ -229,7 +232,7 @@ module _ (b : Laws) (c : Config) (x : Instant) (old new : SwapMemory) (s : ℕ) 
     value = refl;
     settled = refl;
     good = good;
-    targets = λ a e. b.stay c x y a seen.good good step (seen.targets a (sym (named-same a) ∙ e));
+    targets = λ a e. targets_stay c x y a seen.good good step (seen.targets a (sym (named-same a) ∙ e));
     shown = shown-after;
   }
     where
@@ -253,31 +256,31 @@ module _ (b : Laws) (c : Config) (x : Instant) (old new : SwapMemory) (s : ℕ) 
       fixed-cached : (a : ℕ) → is_fixed a ≡ true → a < 16 → slice_index new.cached a ≡ slice_index new.durable a
       fixed-cached a fix l = t.cached a (inl l) (fixed-private a fix) ∙ (seen.fixed a fix ∙ sym (t.durable a (inl l)))
 
-  own-value : OwnWordsAreNoTargets → (v : Scene) → IsScene v → v.past.config ≡ c → here v ≡ x → (a : ℕ) → IsMine v a → answer_at new a ≡ (here v).value a
-  own-value law v good same at a mine =
-      let private : is_named old a ≡ false = own-private law c x old v seen good same at a mine in
+  own-value : (v : Scene) → IsScene v → v.past.config ≡ c → here v ≡ x → (a : ℕ) → IsMine v a → answer_at new a ≡ (here v).value a
+  own-value v good same at a mine =
+      let private : is_named old a ≡ false = own-private c x old v seen good same at a mine in
       let o : IsOutside old.swaps a = own-outside c old v seen.swaps good same a mine in
       answer-private new a (outside-new a o) (named-same a ∙ private) ∙ (t.cached a o private ∙ (sym (answer-private old a o private) ∙ (ap (λ f. f a) (sym seen.value) ∙ ap (λ z. z.value a) (sym at))))
 
   own-image : (v : Scene) → IsScene v → v.past.config ≡ c → here v ≡ x → (a : ℕ) → IsMine v a → slice_index new.durable a ≡ (here v).image a
   own-image v good same at a mine = t.durable a (own-outside c old v seen.swaps good same a mine) ∙ (ap (λ f. f a) (sym seen.image) ∙ ap (λ z. z.image a) (sym at))
 
-  own-settled : OwnWordsAreNoTargets → (v : Scene) → IsScene v → v.past.config ≡ c → here v ≡ x → (a : ℕ) → IsMine v a → IsFlushed v a → is_settled_at new a ≡ true
-  own-settled law v good same at a mine f =
-      settled-after a (own-outside c old v seen.swaps good same a mine) (own-private law c x old v seen good same at a mine) (ap (λ z. z.settled a) (sym at) ∙ f.settled)
+  own-settled : (v : Scene) → IsScene v → v.past.config ≡ c → here v ≡ x → (a : ℕ) → IsMine v a → IsFlushed v a → is_settled_at new a ≡ true
+  own-settled v good same at a mine f =
+      settled-after a (own-outside c old v seen.swaps good same a mine) (own-private c x old v seen good same at a mine) (ap (λ z. z.settled a) (sym at) ∙ f.settled)
 
-pub effects-take-place : Laws → EffectsTakePlace
-effects-take-place b c x old new s seen t = record {
-  stand = stand b c x old new s seen t;
-  swaps = swaps-to b c x old new s seen t;
-  seen = seen-after b c x old new s seen t;
+pub effects-take-place : EffectsTakePlace
+effects-take-place c x old new s seen t = record {
+  stand = stand c x old new s seen t;
+  swaps = swaps-to c x old new s seen t;
+  seen = seen-after c x old new s seen t;
 }
 
-pub effects-keep-own : Laws → OwnWordsAreNoTargets → EffectsKeepOwn
-effects-keep-own b law c x old new k s seen t good same at = record {
-  value = λ a mine. own-value b c x old new k seen t law s good same at a mine;
+pub effects-keep-own : EffectsKeepOwn
+effects-keep-own c x old new k s seen t good same at = record {
+  value = λ a mine. own-value c x old new k seen t s good same at a mine;
   flushed = λ a mine f. record {
-    image = own-image b c x old new k seen t s good same at a mine ∙ (f.image ∙ sym (own-value b c x old new k seen t law s good same at a mine));
-    settled = own-settled b c x old new k seen t law s good same at a mine f;
+    image = own-image c x old new k seen t s good same at a mine ∙ (f.image ∙ sym (own-value c x old new k seen t s good same at a mine));
+    settled = own-settled c x old new k seen t s good same at a mine f;
   };
 }

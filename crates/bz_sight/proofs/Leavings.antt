@@ -11,17 +11,18 @@ use Rattle.bz_swap.specs.SwapMemory.{SwapMemory, is_named, is_among}
 use Rattle.bz_swap.proofs.SettledWords.{settled-same, same-settled, settled-alike}
 use Rattle.bz_task.specs.Instant.{Instant, IsDurableAt}
 use Rattle.bz_task.specs.Scene.{Scene, IsMine, IsFlushed, IsScene, here}
-use Rattle.bz_task.specs.Targets.{OwnWordsAreNoTargets, IsTargetAt}
+use Rattle.bz_task.specs.Targets.{IsTargetAt}
+use Rattle.bz_task.proofs.Proved.{own_words_are_no_targets}
 use Rattle.bz_sight.specs.Passing.{Passes, AllStay, ActsLeaveAll, StoresAreSeen, FlushesAreSeen}
 use Rattle.bz_sight.specs.Sight.{IsSeen, answer_at, next_instant}
 use Rattle.bz_sight.proofs.Passings.{answer-named, answer-private}
 
 -- an own word is private
-pub own-private : OwnWordsAreNoTargets → (c : Config) (x : Instant) (m : SwapMemory) (v : Scene) → IsSeen c m x → IsScene v → v.past.config ≡ c → here v ≡ x → (a : ℕ) → IsMine v a → is_named m a ≡ false
-own-private law c x m v seen good same at a mine = go (is_named m a) refl
+pub own-private : (c : Config) (x : Instant) (m : SwapMemory) (v : Scene) → IsSeen c m x → IsScene v → v.past.config ≡ c → here v ≡ x → (a : ℕ) → IsMine v a → is_named m a ≡ false
+own-private c x m v seen good same at a mine = go (is_named m a) refl
   where
     go : (t : Bool) → is_named m a ≡ t → is_named m a ≡ false
-    go true e = absurd (law v a good mine (subst (λ d. IsTargetAt d (here v) a) (sym same) (subst (λ z. IsTargetAt c z a) (sym at) (seen.targets a e))))
+    go true e = absurd (own_words_are_no_targets v a good mine (subst (λ d. IsTargetAt d (here v) a) (sym same) (subst (λ z. IsTargetAt c z a) (sym at) (seen.targets a e))))
     go false e = e
 
 -- and lies in a slot
@@ -69,22 +70,22 @@ module _ (c : Config) (x : Instant) (old new : SwapMemory) (seen : IsSeen c old 
   value-stays a stay = answer-stays a stay ∙ ap (λ f. f a) (sym seen.value)
 
 -- an own word that is copied to the memory itself is durable, and settled
-copied : OwnWordsAreNoTargets → (c : Config) (x : Instant) (old new : SwapMemory) (v : Scene) → IsSeen c old x → Passes c x old new → AllStay old new → IsScene v → v.past.config ≡ c → here v ≡ x →
+copied : (c : Config) (x : Instant) (old new : SwapMemory) (v : Scene) → IsSeen c old x → Passes c x old new → AllStay old new → IsScene v → v.past.config ≡ c → here v ≡ x →
     (a : ℕ) → IsMine v a → slice_index new.durable a ≡ slice_index old.cached a → IsDurableAt (next_instant new x) a
-copied law c x old new v seen p all good same at a mine copy =
-    let private : is_named old a ≡ false = own-private law c x old v seen good same at a mine in
+copied c x old new v seen p all good same at a mine copy =
+    let private : is_named old a ≡ false = own-private c x old v seen good same at a mine in
     let o : IsOutside old.swaps a = own-outside c old v seen.swaps good same a mine in
     record {
       image = copy ∙ (sym (all a o private) ∙ sym (answer-private new a (outside-new c x old new seen p a o) (named-same c x old new seen p a ∙ private)));
       settled = same-settled new a (all a o private ∙ sym copy);
     }
 
-pub leaves-all : OwnWordsAreNoTargets → ActsLeaveAll
-leaves-all law c x old new v seen p all good same at = record {
+pub leaves-all : ActsLeaveAll
+leaves-all c x old new v seen p all good same at = record {
   value = λ a. value-stays c x old new seen p a (all a) ∙ ap (λ z. z.value a) (sym at);
   reached = λ k. ap (λ z. z.reached k) (sym at);
   effects = ap (λ z. z.effects) (sym at);
-  flushed = λ a mine f. copied law c x old new v seen p all good same at a mine (durable a f);
+  flushed = λ a mine f. copied c x old new v seen p all good same at a mine (durable a f);
 }
   where
     durable : (a : ℕ) → IsFlushed v a → slice_index new.durable a ≡ slice_index old.cached a
@@ -102,5 +103,5 @@ stores-seen c x old new a v seen p s = record {
   effects = refl;
 }
 
-pub flushes-seen : OwnWordsAreNoTargets → FlushesAreSeen
-flushes-seen law c x old new line v seen p all good same at copies a in-line mine = copied law c x old new v seen p all good same at a mine (copies a in-line)
+pub flushes-seen : FlushesAreSeen
+flushes-seen c x old new line v seen p all good same at copies a in-line mine = copied c x old new v seen p all good same at a mine (copies a in-line)

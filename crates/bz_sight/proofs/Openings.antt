@@ -3,31 +3,25 @@ use Rattle.std.proofs.Common.{◌≡◌, ℕ, zero, suc, ◌^◌, ◌<◌, Bool,
 use Rattle.std.proofs.lemmas.Bool.{true≢false, cases_lt}
 use Rattle.bz_layout.specs.Addresses.{swap_address}
 use Rattle.bz_layout.specs.Config.{IsConfig}
-use Rattle.bz_layout.specs.Fresh.{FreshWordsSay, SaysFresh, fresh_words}
+use Rattle.bz_layout.specs.Fresh.{SaysFresh, fresh_words}
 use Rattle.bz_layout.specs.declared.config.Config.{Config}
 use Rattle.bz_layout.specs.declared.sizes.TheConstants.{SUPERBLOCK_USED}
+use Rattle.bz_layout.proofs.Laws.{fresh_words_say}
 use Rattle.bz_cells.specs.Store.{is_outside, field_address}
-use Rattle.bz_content.specs.Laws.{PlainWordsStandForThemselves, FreshMemoryIsEmpty}
 use Rattle.bz_content.specs.Resolving.{resolve}
+use Rattle.bz_content.proofs.Proved.{fresh_memory_is_empty, plain_words_stand_for_themselves}
 use Rattle.bz_swap.specs.Held.{Holds}
-use Rattle.bz_swap.specs.PlainFields.{PlainFieldsStay, ArePlainFields}
+use Rattle.bz_swap.specs.PlainFields.{ArePlainFields}
 use Rattle.bz_swap.specs.Power.{AreRecovered, opened}
 use Rattle.bz_swap.specs.SwapMemory.{SwapMemory}
 use Rattle.bz_swap.proofs.SettledWords.{same-settled}
 use Rattle.bz_swap.specs.declared.phase.Phase.TheVariants.{Opened}
-use Rattle.bz_task.specs.Settled.{SettledMemoriesAreGood}
+use Rattle.bz_swap.proofs.Proved.{plain_fields_stay}
+use Rattle.bz_task.proofs.Proved.{settled_memories_are_good}
 use Rattle.bz_sight.specs.Opening.{FreshMemoryIsSeen, fresh_image, fresh_instant}
 use Rattle.bz_sight.specs.Sight.{IsSeen, answer_at}
 use Rattle.bz_sight.proofs.Leavings.{inside-answers, outside-by}
 use Rattle.bz_sight.proofs.Passings.{outside-test, answer-private}
-
--- the laws that these proofs stand on
-pub record Laws : Type 0 where
-  pub says : FreshWordsSay
-  pub plain : PlainWordsStandForThemselves
-  pub empty : FreshMemoryIsEmpty
-  pub settled : SettledMemoriesAreGood
-  pub fields : PlainFieldsStay
 
 -- each word of fresh memory is plain
 used-plain : (c : Config) → IsConfig c → SaysFresh c (fresh_words c) → (a : ℕ) → a < SUPERBLOCK_USED → fresh_image c a < 2 ^ 61
@@ -44,12 +38,12 @@ fresh-plain c good says a = elim (cases_lt a SUPERBLOCK_USED) [
   | inr l ↦ subst (λ n. n < 2 ^ 61) (sym (says.rest a (omega (arith, l)))) (omega arith)
 ]
 
-module _ (b : Laws) (c : Config) (config : IsConfig c) where
+module _ (c : Config) (config : IsConfig c) where
   abbrev first : SwapMemory
   first = opened Opened (fresh_words c) c.swaps c.workers
 
   says : SaysFresh c (fresh_words c)
-  says = b.says c
+  says = fresh_words_say c
 
   plain : (a : ℕ) → fresh_image c a < 2 ^ 61
   plain = fresh-plain c config says
@@ -68,7 +62,7 @@ module _ (b : Laws) (c : Config) (config : IsConfig c) where
   ]
 
   answers : (a : ℕ) → resolve (fresh_image c) a ≡ answer_at first a
-  answers a = b.plain (fresh_image c) a (plain a) ∙ go (is_outside c.swaps a) refl
+  answers a = plain_words_stand_for_themselves (fresh_image c) a (plain a) ∙ go (is_outside c.swaps a) refl
     where
       go : (t : Bool) → is_outside c.swaps a ≡ t → fresh_image c a ≡ answer_at first a
       go true e = sym (answer-private first a (outside-by c.swaps a e) refl)
@@ -81,22 +75,22 @@ module _ (b : Laws) (c : Config) (config : IsConfig c) where
     size = says.size;
     phase = λ e. cc;
     holds = holds;
-    fields = b.fields.opening Opened (fresh_words c) c.swaps c.workers plain-fields;
+    fields = plain_fields_stay.opening Opened (fresh_words c) c.swaps c.workers plain-fields;
     fixed = λ a e. refl;
     image = refl;
     value = λ t a. answers a t;
     settled = λ t a. sym (same-settled first a refl) t;
-    good = b.settled c (fresh_image c) (b.empty c config).0;
+    good = settled_memories_are_good c (fresh_image c) (fresh_memory_is_empty c config).0;
     targets = λ a e. absurd (true≢false (sym e));
     shown = λ a r e. refl;
   }
 
-pub fresh-seen : Laws → FreshMemoryIsSeen
-fresh-seen b c m fresh =
-    let phase : fresh.opened.phase ≡ Opened = fresh.opened.needs_none.1 (recovered b c fresh.config) in
+pub fresh-seen : FreshMemoryIsSeen
+fresh-seen c m fresh =
+    let phase : fresh.opened.phase ≡ Opened = fresh.opened.needs_none.1 (recovered c fresh.config) in
     let same : m ≡ opened Opened (fresh_words c) c.swaps c.workers = fresh.opened.is ∙ ap (λ p. opened p (fresh_words c) c.swaps c.workers) phase in
     record {
-      seen = subst (λ z. IsSeen c z (fresh_instant c)) (sym same) (first-seen b c fresh.config (subst Holds same fresh.holds));
-      well_formed = (b.empty c fresh.config).0;
-      content = (b.empty c fresh.config).1;
+      seen = subst (λ z. IsSeen c z (fresh_instant c)) (sym same) (first-seen c fresh.config (subst Holds same fresh.holds));
+      well_formed = (fresh_memory_is_empty c fresh.config).0;
+      content = (fresh_memory_is_empty c fresh.config).1;
     }

@@ -3,9 +3,10 @@ use Rattle.std.proofs.Common.{◌≡◌, ◌≢◌, ℕ, zero, suc, ◌+◌, ◌
 use Rattle.std.specs.Prelude.{nat_lt, nat_le}
 use Rattle.std.proofs.lemmas.Bool.{cases_lt}
 use Rattle.std.proofs.lemmas.Bool.Decides.{nat_tests}
-use Rattle.bz_layout.specs.Addresses.{swap_address, node_address, words_of as size_of, SlotsApart, AddressesArePlaced, swap_of, swap_word_of}
+use Rattle.bz_layout.specs.Addresses.{swap_address, node_address, words_of as size_of, swap_of, swap_word_of}
 use Rattle.bz_layout.specs.declared.config.Config.{Config}
 use Rattle.bz_layout.specs.declared.sizes.TheConstants.{NODE_WORDS, SHARED_WORDS, META_AT, STATUS_AT, ROOT_AT, ROOT_STATUS_AT, SUPERBLOCK_WORDS, SWAP_STATUS_AT}
+use Rattle.bz_layout.proofs.Laws.{addresses_are_placed, slots_apart}
 use Rattle.bz_cells.specs.Store.{IsOutside, is_outside, status_word, status_at}
 use Rattle.bz_machine.specs.declared.status.SwapStatus.{SwapStatus}
 use Rattle.bz_machine.specs.declared.status.SwapStatus.TheVariants.{Free, Undecided, Deciding, Decided}
@@ -13,42 +14,32 @@ use Rattle.bz_machine.specs.declared.status.Verdict.TheVariants.{Succeeded, Fail
 use Rattle.bz_swap.specs.PlainFields.{HavePlainFields}
 use Rattle.bz_swap.specs.SwapMemory.{SwapMemory, value_at, is_named, is_among}
 use Rattle.bz_content.specs.Image.{node}
-use Rattle.bz_content.specs.Laws.{WellFormedImagesHaveNoFault}
 use Rattle.bz_content.specs.Lawful.{is_fixed, is_in_descriptor, is_lawful, is_word, is_value, LAST_STATUS}
 use Rattle.bz_content.specs.Resolving.{resolve}
-use Rattle.bz_sight.specs.Swapped.{HeldMemoriesLeaveTheirValues, LeavesItsValues}
+use Rattle.bz_content.proofs.Proved.{well_formed_images_have_no_fault}
+use Rattle.bz_sight.specs.Swapped.{LeavesItsValues}
 use Rattle.bz_swap.specs.Held.{Holds, HoldsIn, IsHeld}
 use Rattle.bz_swap.specs.declared.phase.Phase.{Phase}
 use Rattle.bz_swap.specs.declared.phase.Phase.TheVariants.{Opened, Running, Recovering}
-use Rattle.bz_slotted.specs.Laws.{LeafRulesAreFacts}
 use Rattle.bz_slotted.specs.Page.{page, visible, held as is_held, extent_of, meta_of}
 use Rattle.bz_word.specs.Statuses.{status}
 use Rattle.bz_word.specs.declared.meta.Meta.{Meta}
 use Rattle.bz_word.specs.declared.meta.Meta.TheVariants.{Unused, Reserved, Visible, Deleted}
 use Rattle.bz_slotted.specs.Records.{pointer_at}
 use Rattle.bz_slotted.specs.Whole.{Whole, IsInBlock}
+use Rattle.bz_slotted.proofs.Proved.{leaf_rules_are_facts}
 use Rattle.bz_task.specs.Instant.{Instant, words, durable, page_at, form_at, is_inside}
-use Rattle.bz_task.specs.Laws.{HeadersSayTheLevel, LeavesAreInTrees, IsLeafInTree}
+use Rattle.bz_task.specs.Laws.{IsLeafInTree}
 use Rattle.bz_task.specs.Requests.{IsMetaPlace, IsPointerPlace}
-use Rattle.bz_task.specs.Resting.{Rests, HoldsTheSame, RestingMemoriesAreGood}
+use Rattle.bz_task.specs.Resting.{Rests, HoldsTheSame}
 use Rattle.bz_task.specs.Shown.{IsShown, IsOfRecord}
 use Rattle.bz_task.specs.Steps.{IsQuiet}
-use Rattle.bz_task.specs.Targets.{IsTargetAt, TargetsStay}
+use Rattle.bz_task.specs.Targets.{IsTargetAt}
+use Rattle.bz_task.proofs.Proved.{headers_say_the_level, leaves_are_in_trees, resting_memories_are_good, targets_stay}
 use Rattle.bz_sight.specs.Passing.{Passes, ActsPass}
 use Rattle.bz_sight.specs.Sight.{IsSeen, IsHidden, answer_at, next_instant}
 use Rattle.bz_sight.proofs.ReadWords.{read-before, read-settled}
-
--- the laws that these proofs stand on
-pub record Laws : Type 0 where
-  pub formed : WellFormedImagesHaveNoFault
-  pub values : HeldMemoriesLeaveTheirValues
-  pub resting : RestingMemoriesAreGood
-  pub stay : TargetsStay
-  pub headers : HeadersSayTheLevel
-  pub leaves : LeavesAreInTrees
-  pub placed : AddressesArePlaced
-  pub rules : LeafRulesAreFacts
-  pub apart : SlotsApart
+use Rattle.bz_sight.proofs.SwapMemories.{leaves-values}
 
 -- outside a recovery time the memory is held
 pub held : (m : SwapMemory) → m.phase ≢ Recovering → Holds m → IsHeld m
@@ -135,10 +126,10 @@ held-visible (Deleted k t) h = absurd (cc)
 held-visible Unused h = absurd (cc)
 
 -- the words of descriptors are such as an image may hold
-pub descriptor-lawful : Laws → (c : Config) (m : SwapMemory) → m.swaps ≡ c.swaps → IsHeld m → HavePlainFields m → (a : ℕ) → a < size_of c → is_in_descriptor c a ≡ true → is_lawful c (slice_index m.durable) a ≡ true
-descriptor-lawful b c m e good fields a l h =
+pub descriptor-lawful : (c : Config) (m : SwapMemory) → m.swaps ≡ c.swaps → IsHeld m → HavePlainFields m → (a : ℕ) → a < size_of c → is_in_descriptor c a ≡ true → is_lawful c (slice_index m.durable) a ≡ true
+descriptor-lawful c m e good fields a l h =
     let within : (SUPERBLOCK_WORDS ≤ a) × (a < node_address c 0) = in-descriptor c a h in
-    let at : (swap_of a < c.swaps) × (a ≡ swap_address (swap_of a) + swap_word_of a) = (b.placed c a l).in_descriptor within.0 within.1 in
+    let at : (swap_of a < c.swaps) × (a ≡ swap_address (swap_of a) + swap_word_of a) = (addresses_are_placed c a l).in_descriptor within.0 within.1 in
     by-word (swap_of a) (swap_word_of a) refl (subst (λ n. swap_of a < n) (sym e) at.0) at.1
   where
     by-word : (s i : ℕ) → swap_word_of a ≡ i → s < m.swaps → a ≡ swap_address s + i → is_lawful c (slice_index m.durable) a ≡ true
@@ -153,7 +144,7 @@ descriptor-lawful b c m e good fields a l h =
         let no : (suc k == SWAP_STATUS_AT) ≡ false = grind (arith, nat_tests) in
         descriptor-by c (slice_index m.durable) a h fit.0 (rw (q, no) fit.1)
 
-module _ (b : Laws) (c : Config) (x : Instant) (old new : SwapMemory) (seen : IsSeen c old x) (p : Passes c x old new) where
+module _ (c : Config) (x : Instant) (old new : SwapMemory) (seen : IsSeen c old x) (p : Passes c x old new) where
   abbrev y : Instant
   y = next_instant new x
 
@@ -164,10 +155,10 @@ module _ (b : Laws) (c : Config) (x : Instant) (old new : SwapMemory) (seen : Is
   after = held new (λ e. seen.phase (sym p.same.phase ∙ e)) p.holds
 
   left-before : LeavesItsValues old
-  left-before = b.values old (record { holds = seen.holds; phase = seen.phase })
+  left-before = leaves-values old (record { holds = seen.holds; phase = seen.phase })
 
   left-after : LeavesItsValues new
-  left-after = b.values new (record { holds = p.holds; phase = λ e. seen.phase (sym p.same.phase ∙ e) })
+  left-after = leaves-values new (record { holds = p.holds; phase = λ e. seen.phase (sym p.same.phase ∙ e) })
 
   outside-new : (a : ℕ) → IsOutside old.swaps a → IsOutside new.swaps a
   outside-new a o = subst (λ n. IsOutside n a) (sym p.same.swaps) o
@@ -242,7 +233,7 @@ module _ (b : Laws) (c : Config) (x : Instant) (old new : SwapMemory) (seen : Is
       place (inl q) = absurd (omega (arith, q))
       place (inr (inl q)) = absurd (omega (arith, q))
       place (inr (inr t)) =
-          let same : (k ≡ t.slot) × (i ≡ t.place) = b.apart c k t.slot i t.place l t.within t.address in
+          let same : (k ≡ t.slot) × (i ≡ t.place) = slots_apart c k t.slot i t.place l t.within t.address in
           subst (λ j. (i ≡ STATUS_AT) ⊎ (IsMetaPlace (page_at c x j) i ⊎ IsPointerPlace (page_at c x j) i)) (sym same.0)
           (subst (λ j. (j ≡ STATUS_AT) ⊎ (IsMetaPlace (page_at c x t.slot) j ⊎ IsPointerPlace (page_at c x t.slot) j)) (sym same.1) t.kind)
 
@@ -264,8 +255,8 @@ module _ (b : Laws) (c : Config) (x : Instant) (old new : SwapMemory) (seen : Is
   record-place : (k i j : ℕ) → k ≢ c.nodes → is_inside c x k ≡ true → (page_at c x k).level ≡ 0 → IsOfRecord (words c x k) i j → NODE_WORDS ≤ i + (page_at c x k).block
   record-place k i j ne ins flat o =
       let e : x.reached k ≡ true = seen.good.inside k ins ne in
-      let leaf : IsLeafInTree c x k = b.leaves c x k seen.good (seen.good.slots k e) ins (sym (b.headers c x k seen.good ne ins).level ∙ flat) in
-      let w : Whole (node c x.image k) (page (durable c x k)) ((form_at c x).low k) ((form_at c x).high k) = (b.rules c.nodes (node c x.image k) (durable c x k) _ _).0 leaf.whole in
+      let leaf : IsLeafInTree c x k = leaves_are_in_trees c x k seen.good (seen.good.slots k e) ins (sym (headers_say_the_level c x k seen.good ne ins).level ∙ flat) in
+      let w : Whole (node c x.image k) (page (durable c x k)) ((form_at c x).low k) ((form_at c x).high k) = (leaf_rules_are_facts c.nodes (node c x.image k) (durable c x k) _ _).0 leaf.whole in
       let stands : durable c x k STATUS_AT ≡ words c x k STATUS_AT = seen.good.shown k STATUS_AT e (inl (omega arith)) in
       let meta : durable c x k (META_AT + j) ≡ words c x k (META_AT + j) = seen.good.shown k (META_AT + j) e (inl (omega (arith, o.counted))) in
       let here : (page (durable c x k)).meta j ≡ (page_at c x k).meta j = ap meta_of meta in
@@ -278,8 +269,8 @@ module _ (b : Laws) (c : Config) (x : Instant) (old new : SwapMemory) (seen : Is
   record-room : (k i j : ℕ) → k ≢ c.nodes → is_inside c x k ≡ true → (page_at c x k).level ≡ 0 → IsOfRecord (words c x k) i j → (page_at c x k).block ≤ SHARED_WORDS
   record-room k i j ne ins flat o =
       let e : x.reached k ≡ true = seen.good.inside k ins ne in
-      let leaf : IsLeafInTree c x k = b.leaves c x k seen.good (seen.good.slots k e) ins (sym (b.headers c x k seen.good ne ins).level ∙ flat) in
-      let w : Whole (node c x.image k) (page (durable c x k)) ((form_at c x).low k) ((form_at c x).high k) = (b.rules c.nodes (node c x.image k) (durable c x k) _ _).0 leaf.whole in
+      let leaf : IsLeafInTree c x k = leaves_are_in_trees c x k seen.good (seen.good.slots k e) ins (sym (headers_say_the_level c x k seen.good ne ins).level ∙ flat) in
+      let w : Whole (node c x.image k) (page (durable c x k)) ((form_at c x).low k) ((form_at c x).high k) = (leaf_rules_are_facts c.nodes (node c x.image k) (durable c x k) _ _).0 leaf.whole in
       let stands : durable c x k STATUS_AT ≡ words c x k STATUS_AT = seen.good.shown k STATUS_AT e (inl (omega arith)) in
       omega (arith, w.filled.room, ap (λ w. (status w).block) stands)
 
@@ -334,8 +325,8 @@ module _ (b : Laws) (c : Config) (x : Instant) (old new : SwapMemory) (seen : Is
       out e = subst (λ n. IsOutside n a) (sym (p.same.swaps ∙ seen.swaps)) (outside-descriptors c a e)
 
       descriptor : (t : Bool) → is_in_descriptor c a ≡ t → (u : Bool) → is_fixed a ≡ u → is_lawful c y.image a ≡ true
-      descriptor true e u q = descriptor-lawful b c new (p.same.swaps ∙ seen.swaps) after p.fields a l e
-      descriptor false e true q = fixed-lawful c x.image y.image a e q (fixed-same a q ∙ ap (λ f. f a) (sym seen.image)) (((b.formed c x.image).0 seen.good.form).lawful a l)
+      descriptor true e u q = descriptor-lawful c new (p.same.swaps ∙ seen.swaps) after p.fields a l e
+      descriptor false e true q = fixed-lawful c x.image y.image a e q (fixed-same a q ∙ ap (λ f. f a) (sym seen.image)) (((well_formed_images_have_no_fault c x.image).0 seen.good.form).lawful a l)
       descriptor false e false q = left-after.lawful c a (sym (p.same.swaps ∙ seen.swaps)) (out e) q
 
   quiet-for-readers : IsQuiet c x y
@@ -362,7 +353,7 @@ module _ (b : Laws) (c : Config) (x : Instant) (old new : SwapMemory) (seen : Is
   }
 
   same : HoldsTheSame c x y
-  same = b.resting c x y seen.good rests
+  same = resting_memories_are_good c x y seen.good rests
 
   seen-after : IsSeen c new y
   seen-after = record {
@@ -377,13 +368,13 @@ module _ (b : Laws) (c : Config) (x : Instant) (old new : SwapMemory) (seen : Is
     value = refl;
     settled = refl;
     good = same.good;
-    targets = λ a e. b.stay c x y a seen.good same.good (inl quiet-for-readers) (seen.targets a (sym (named-same a) ∙ e));
+    targets = λ a e. targets_stay c x y a seen.good same.good (inl quiet-for-readers) (seen.targets a (sym (named-same a) ∙ e));
     shown = λ a r e. read-settled c x old new a seen p (read-before c x y a quiet-for-readers r) (sym (named-same a) ∙ e);
   }
 
-pub acts-pass : Laws → ActsPass
-acts-pass b c x old new seen p = record {
-  seen = seen-after b c x old new seen p;
-  rests = rests b c x old new seen p;
-  same = same b c x old new seen p;
+pub acts-pass : ActsPass
+acts-pass c x old new seen p = record {
+  seen = seen-after c x old new seen p;
+  rests = rests c x old new seen p;
+  same = same c x old new seen p;
 }

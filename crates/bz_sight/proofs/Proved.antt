@@ -1,9 +1,4 @@
 -- What this crate proves, as lemmas that other crates cite by these names.
-use Rattle.bz_content.proofs.Proved.{fresh_memory_is_empty, plain_words_stand_for_themselves, well_formed_images_have_no_fault}
-use Rattle.bz_layout.proofs.Laws.{addresses_are_placed, fresh_words_say, slots_apart}
-use Rattle.bz_slotted.proofs.Proved.{leaf_rules_are_facts}
-use Rattle.bz_swap.proofs.Proved.{effects_stay_inside, plain_fields_stay}
-use Rattle.bz_task.proofs.Proved.{headers_say_the_level, leaves_are_in_trees, own_words_are_no_targets, resting_memories_are_good, settled_memories_are_good, targets_are_of_the_memory, targets_stay}
 use Rattle.bz_sight.proofs.Acting.{effect-step, evictions, flushing, leave-caches, quiet-step, storing}
 use Rattle.bz_sight.proofs.Effecting.{effects-keep-own, effects-take-place}
 use Rattle.bz_sight.proofs.Leavings.{flushes-seen, leaves-all, stores-seen}
@@ -24,7 +19,7 @@ use Rattle.bz_sight.specs.Swapped.{EffectsShowOnTheImage, HeldMemoriesLeaveTheir
 
 -- such an act, which is nobody's private store, leaves all that anybody owns
 pub acts_leave_all : ActsLeaveAll
-acts_leave_all = leaves-all own_words_are_no_targets
+acts_leave_all = leaves-all
 
 -- a private store is seen as one
 pub stores_are_seen : StoresAreSeen
@@ -32,11 +27,11 @@ stores_are_seen = stores-seen
 
 -- a flush makes what its worker owns in the line durable
 pub flushes_are_seen : FlushesAreSeen
-flushes_are_seen = flushes-seen own_words_are_no_targets
+flushes_are_seen = flushes-seen
 
 -- a step that tells no effect is an act by which none takes effect
 pub quiet_steps_pass : QuietStepsPass
-quiet_steps_pass = quiet-step plain_fields_stay
+quiet_steps_pass = quiet-step
 
 -- a step that is no private store leaves every private word in the caches
 pub steps_leave_caches : StepsLeaveCaches
@@ -52,11 +47,11 @@ flushing_steps_flush = flushing
 
 -- a step that tells an effect
 pub effect_steps_take_place : EffectStepsTakePlace
-effect_steps_take_place = effect-step plain_fields_stay effects_stay_inside
+effect_steps_take_place = effect-step
 
 -- evictions, with an effect and without
 pub evictions_are_seen : EvictionsAreSeen
-evictions_are_seen = evictions plain_fields_stay effects_stay_inside
+evictions_are_seen = evictions
 
 -- what one owns is hidden from all others
 pub own_words_are_hidden : OwnWordsAreHidden
@@ -68,21 +63,11 @@ hidden_words_are_values = hidden-values
 
 -- fresh memory, as it is opened, is seen as a settled memory that holds nothing
 pub fresh_memory_is_seen : FreshMemoryIsSeen
-fresh_memory_is_seen = fresh-seen (record {
-  says = fresh_words_say;
-  plain = plain_words_stand_for_themselves;
-  empty = fresh_memory_is_empty;
-  settled = settled_memories_are_good;
-  fields = plain_fields_stay;
-})
+fresh_memory_is_seen = fresh-seen
 
 -- a memory that is renewed when its recovery has ended is seen as a settled one
 pub renewed_memories_are_seen : RenewedMemoriesAreSeen
-renewed_memories_are_seen = renewed-seen (record {
-  plain = plain_words_stand_for_themselves;
-  settled = settled_memories_are_good;
-  fields = plain_fields_stay;
-})
+renewed_memories_are_seen = renewed-seen
 
 -- a word that is lawful to the swap resolves to its value there
 pub words_resolve_to_values : ResolvesAsTheSwap
@@ -94,62 +79,32 @@ words_are_lawful = lawful-as
 
 -- outside a recovery time a swap memory leaves its values
 pub held_memories_leave_their_values : HeldMemoriesLeaveTheirValues
-held_memories_leave_their_values = leaves-values words_resolve_to_values words_are_lawful
+held_memories_leave_their_values = leaves-values
 
 -- a swap that takes effect changes its targets in the image, and no other named word
 pub effects_show_on_the_image : EffectsShowOnTheImage
-effects_show_on_the_image = effect-shows held_memories_leave_their_values
+effects_show_on_the_image = effect-shows
 
 -- where no swap takes effect, no named word changes
 pub quiet_moments_change_nothing : QuietMomentsChangeNothing
-quiet_moments_change_nothing = changes-nothing held_memories_leave_their_values
+quiet_moments_change_nothing = changes-nothing
 
 -- an act by which no swap takes effect leaves a memory that is seen as before, but for words that nobody reads
 pub acts_pass : ActsPass
-acts_pass = acts-pass (record {
-  formed = well_formed_images_have_no_fault;
-  values = held_memories_leave_their_values;
-  resting = resting_memories_are_good;
-  stay = targets_stay;
-  headers = headers_say_the_level;
-  leaves = leaves_are_in_trees;
-  placed = addresses_are_placed;
-  rules = leaf_rules_are_facts;
-  apart = slots_apart;
-})
+acts_pass = acts-pass
 
 -- the effect of a swap is seen as one: its entries change for readers, and nothing else
 pub effects_take_place : EffectsTakePlace
-effects_take_place = effects-take-place (record {
-  formed = well_formed_images_have_no_fault;
-  values = held_memories_leave_their_values;
-  resting = resting_memories_are_good;
-  stay = targets_stay;
-  headers = headers_say_the_level;
-  leaves = leaves_are_in_trees;
-  placed = addresses_are_placed;
-  rules = leaf_rules_are_facts;
-  apart = slots_apart;
-})
+effects_take_place = effects-take-place
 
 -- it leaves what anybody owns
 pub effects_keep_own : EffectsKeepOwn
-effects_keep_own = effects-keep-own (record {
-  formed = well_formed_images_have_no_fault;
-  values = held_memories_leave_their_values;
-  resting = resting_memories_are_good;
-  stay = targets_stay;
-  headers = headers_say_the_level;
-  leaves = leaves_are_in_trees;
-  placed = addresses_are_placed;
-  rules = leaf_rules_are_facts;
-  apart = slots_apart;
-}) own_words_are_no_targets
+effects_keep_own = effects-keep-own
 
 -- what a task may ask for may be started
 pub tasks_may_start : TasksMayStart
-tasks_may_start = may-start (record { memory = targets_are_of_the_memory; own = own_words_are_no_targets; fields = plain_fields_stay })
+tasks_may_start = may-start
 
 -- a start makes no act: the same memory is seen
 pub starts_are_seen : StartsAreSeen
-starts_are_seen = starts-seen (record { memory = targets_are_of_the_memory; own = own_words_are_no_targets; fields = plain_fields_stay })
+starts_are_seen = starts-seen

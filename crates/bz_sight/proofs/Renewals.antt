@@ -7,38 +7,33 @@ use Rattle.bz_layout.specs.declared.config.Config.{Config}
 use Rattle.bz_layout.specs.declared.sizes.TheConstants.{NODE_WORDS, ROOT_AT, ROOT_STATUS_AT, SUPERBLOCK_WORDS}
 use Rattle.bz_cells.specs.Store.{IsOutside}
 use Rattle.bz_content.specs.Content.{view_in}
-use Rattle.bz_content.specs.Laws.{PlainWordsStandForThemselves}
 use Rattle.bz_content.specs.Resolving.{resolve}
+use Rattle.bz_content.proofs.Proved.{plain_words_stand_for_themselves}
 use Rattle.bz_shape.specs.Walk.{form}
-use Rattle.bz_swap.specs.PlainFields.{PlainFieldsStay}
 use Rattle.bz_swap.specs.Power.{renewed}
 use Rattle.bz_swap.specs.SwapMemory.{SwapMemory}
 use Rattle.bz_swap.proofs.SettledWords.{same-settled}
+use Rattle.bz_swap.proofs.Proved.{plain_fields_stay}
 use Rattle.bz_task.specs.Good.{IsGood}
 use Rattle.bz_task.specs.Instant.{Instant, words, durable}
-use Rattle.bz_task.specs.Settled.{settled, SettledMemoriesAreGood}
+use Rattle.bz_task.specs.Settled.{settled}
+use Rattle.bz_task.proofs.Proved.{settled_memories_are_good}
 use Rattle.bz_sight.specs.Renewal.{IsRenewable, RenewedMemoriesAreSeen, renewed_instant}
 use Rattle.bz_sight.specs.Sight.{IsSeen, answer_at}
 use Rattle.bz_sight.proofs.Passings.{answer-private, node-at, node-past, fixed-place}
 use Rattle.bz_sight.proofs.ReadWords.{read-outside}
 
--- the laws that these proofs stand on
-pub record Laws : Type 0 where
-  pub plain : PlainWordsStandForThemselves
-  pub settled : SettledMemoriesAreGood
-  pub fields : PlainFieldsStay
-
-module _ (b : Laws) (c : Config) (m : SwapMemory) (h : IsRenewable c m) where
+module _ (c : Config) (m : SwapMemory) (h : IsRenewable c m) where
   abbrev y : Instant
   y = renewed_instant c m
 
   before : IsGood c (settled c (slice_index m.durable))
-  before = b.settled c (slice_index m.durable) h.form
+  before = settled_memories_are_good c (slice_index m.durable) h.form
 
   -- outside the descriptors a read answers what the image has
   answers : (a : ℕ) → IsOutside m.swaps a → resolve (slice_index m.durable) a ≡ answer_at (renewed m) a
   answers a o =
-      b.plain (slice_index m.durable) a (h.may_renew.durable.plain a o) ∙ (sym (h.may_renew.same a o) ∙ sym (answer-private (renewed m) a o refl))
+      plain_words_stand_for_themselves (slice_index m.durable) a (h.may_renew.durable.plain a o) ∙ (sym (h.may_renew.same a o) ∙ sym (answer-private (renewed m) a o refl))
 
   at-top : (a : ℕ) → a < SUPERBLOCK_WORDS → resolve (slice_index m.durable) a ≡ answer_at (renewed m) a
   at-top a l = answers a (inl l)
@@ -68,7 +63,7 @@ module _ (b : Laws) (c : Config) (m : SwapMemory) (h : IsRenewable c m) where
     size = h.size;
     phase = λ e. cc;
     holds = h.holds;
-    fields = b.fields.renewal m h.fields;
+    fields = plain_fields_stay.renewal m h.fields;
     fixed = λ a fix. h.may_renew.same a (inl (fixed-place a fix).0);
     image = refl;
     value = refl;
@@ -78,5 +73,5 @@ module _ (b : Laws) (c : Config) (m : SwapMemory) (h : IsRenewable c m) where
     shown = λ a r e. same-settled (renewed m) a (h.may_renew.same a (read-outside c m.swaps y a h.swaps r));
   }
 
-pub renewed-seen : Laws → RenewedMemoriesAreSeen
-renewed-seen b c m h = seen b c m h
+pub renewed-seen : RenewedMemoriesAreSeen
+renewed-seen c m h = seen c m h

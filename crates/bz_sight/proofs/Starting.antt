@@ -7,17 +7,18 @@ use Rattle.bz_layout.specs.declared.config.Config.{Config}
 use Rattle.bz_layout.specs.declared.sizes.TheConstants.{LINE_WORDS}
 use Rattle.bz_cells.specs.Store.{IsOutside, is_outside}
 use Rattle.bz_swap.specs.Held.{Holds, IsHeld}
-use Rattle.bz_swap.specs.PlainFields.{PlainFieldsStay}
 use Rattle.bz_swap.specs.Starts.{IsAddress, MayStore, MayFlush, MaySwap, IsEntry, IsPrivateStore, IsPrivateFlush, swapping, phase_of}
 use Rattle.bz_swap.specs.SwapMemory.{SwapMemory, is_named, is_among, is_settled_at, is_target}
 use Rattle.bz_swap.proofs.SettledWords.{settled-same}
 use Rattle.bz_swap.specs.declared.phase.Phase.TheVariants.{Recovering}
+use Rattle.bz_swap.proofs.Proved.{plain_fields_stay}
 use Rattle.bz_word.specs.declared.entry.Entry.{Entry}
 use Rattle.bz_task.specs.Instant.{Instant, words}
 use Rattle.bz_task.specs.Requests.{IsTarget, IsReadable, IsEntryToAsk}
 use Rattle.bz_task.specs.Scene.{Scene, IsMine, here}
 use Rattle.bz_task.specs.Shown.{IsShown}
-use Rattle.bz_task.specs.Targets.{IsTargetAt, TargetsAreOfTheMemory, OwnWordsAreNoTargets}
+use Rattle.bz_task.specs.Targets.{IsTargetAt}
+use Rattle.bz_task.proofs.Proved.{targets_are_of_the_memory}
 use Rattle.bz_sight.specs.Laws.{HiddenWordsAreValues}
 use Rattle.bz_sight.specs.Sight.{IsSeen, IsHidden, answer_at}
 use Rattle.bz_sight.specs.Starts.{Sees, StoresAreHidden, TasksMayStart, OwnWordsAreHidden, StartsAreSeen}
@@ -25,12 +26,6 @@ use Rattle.bz_sight.proofs.Effecting.{targeted}
 use Rattle.bz_sight.proofs.Leavings.{own-private, inside-answers, outside-by}
 use Rattle.bz_sight.proofs.Passings.{held, answer-named, answer-private}
 use Rattle.bz_sight.proofs.ReadWords.{target-read, hidden-unread}
-
--- the laws that these proofs stand on
-pub record Laws : Type 0 where
-  pub memory : TargetsAreOfTheMemory
-  pub own : OwnWordsAreNoTargets
-  pub fields : PlainFieldsStay
 
 pub hidden : OwnWordsAreHidden
 hidden c x s a v mine = record {
@@ -72,12 +67,12 @@ target-address c x m a seen (inr (inr t)) =
 target-settled : (c : Config) (x : Instant) (m : SwapMemory) (a : ℕ) → IsSeen c m x → IsTargetAt c x a → is_named m a ≡ false → is_settled_at m a ≡ true
 target-settled c x m a seen t private = ap (λ f. f a) (sym seen.settled) ∙ seen.shown a (target-read c x a t) private
 
-target-of : Laws → (c : Config) (x : Instant) (s : Scene) (a : ℕ) → Sees c x s → IsTarget s a → IsTargetAt c x a
-target-of b c x s a v t = subst (λ d. IsTargetAt d x a) v.config (subst (λ z. IsTargetAt s.past.config z a) v.here (b.memory s a t))
+target-of : (c : Config) (x : Instant) (s : Scene) (a : ℕ) → Sees c x s → IsTarget s a → IsTargetAt c x a
+target-of c x s a v t = subst (λ d. IsTargetAt d x a) v.config (subst (λ z. IsTargetAt s.past.config z a) v.here (targets_are_of_the_memory s a t))
 
-entry : Laws → (c : Config) (x : Instant) (m : SwapMemory) (s : Scene) (e : Entry) → IsSeen c m x → StoresAreHidden c x m → Sees c x s → IsEntryToAsk s e → IsEntry m e
-entry b c x m s e seen stores v ask =
-    let t : IsTargetAt c x e.target = target-of b c x s e.target v ask.target in record {
+entry : (c : Config) (x : Instant) (m : SwapMemory) (s : Scene) (e : Entry) → IsSeen c m x → StoresAreHidden c x m → Sees c x s → IsEntryToAsk s e → IsEntry m e
+entry c x m s e seen stores v ask =
+    let t : IsTargetAt c x e.target = target-of c x s e.target v ask.target in record {
       address = target-address c x m e.target seen t;
       expected = ask.expected;
       value = ask.new;
@@ -93,19 +88,19 @@ may-flush : (m : SwapMemory) (w line : ℕ) → 0 < w → IsPrivateFlush m w lin
 may-flush m zero line l p = absurd (omega (arith, l))
 may-flush m (suc w) line l p = p
 
-pub may-start : Laws → TasksMayStart
-may-start b = record {
+pub may-start : TasksMayStart
+may-start = record {
   read = λ c x m s w a seen v work r. record { work = work; address = address c x m s a seen v r };
   store = λ c x m s w a u seen v work own. may-store m w a u work.some (record {
     work = work;
     address = own-address c x m s a seen v own.mine;
     value = own.value;
-    private = own-private b.own c x m s seen v.scene v.config v.here a own.mine;
+    private = own-private c x m s seen v.scene v.config v.here a own.mine;
   });
   flush = λ c x m s w line seen v work r. may-flush m w line work.some (record { work = work; address = subst (IsAddress m) (omega arith) (address c x m s (LINE_WORDS * line) seen v r) });
   swap = λ c x m s w entries seen stores v work asks. record {
     work = work;
-    each = λ i d l. entry b c x m s (get_or entries i d) seen stores v (asks i d l);
+    each = λ i d l. entry c x m s (get_or entries i d) seen stores v (asks i d l);
   };
 }
   where
@@ -140,12 +135,12 @@ among-more (es ∷ begun) entries a = ap (λ t. is_target es a || t) (among-more
     associates true q r = refl
     associates false q r = refl
 
-module _ (b : Laws) (c : Config) (x : Instant) (m : SwapMemory) (w : ℕ) (entries : List Entry) (s : Scene) (seen : IsSeen c m x) (v : Sees c x s) (may : MaySwap m w entries) (asks : All (IsEntryToAsk s) entries) (holds : Holds (swapping m w entries)) where
+module _ (c : Config) (x : Instant) (m : SwapMemory) (w : ℕ) (entries : List Entry) (s : Scene) (seen : IsSeen c m x) (v : Sees c x s) (may : MaySwap m w entries) (asks : All (IsEntryToAsk s) entries) (holds : Holds (swapping m w entries)) where
   abbrev after : SwapMemory
   after = swapping m w entries
 
   target : (a : ℕ) → is_target entries a ≡ true → IsTargetAt c x a
-  target a e = target-of b c x s a v (targeted entries (IsTarget s) a (λ i d l. (asks i d l).target) e)
+  target a e = target-of c x s a v (targeted entries (IsTarget s) a (λ i d l. (asks i d l).target) e)
 
   answers : (a : ℕ) → answer_at after a ≡ answer_at m a
   answers a = outer (is_outside m.swaps a) refl
@@ -180,7 +175,7 @@ module _ (b : Laws) (c : Config) (x : Instant) (m : SwapMemory) (w : ℕ) (entri
     size = seen.size;
     phase = running w may.work.some;
     holds = holds;
-    fields = b.fields.swap m w entries seen.fields;
+    fields = plain_fields_stay.swap m w entries seen.fields;
     fixed = seen.fixed;
     image = seen.image;
     value = seen.value ∙ (λ t a. sym (answers a) t);
@@ -190,15 +185,15 @@ module _ (b : Laws) (c : Config) (x : Instant) (m : SwapMemory) (w : ℕ) (entri
     shown = λ a r e. seen.shown a r (named-before a e);
   }
 
-pub starts-seen : Laws → StartsAreSeen
-starts-seen b = record {
+pub starts-seen : StartsAreSeen
+starts-seen = record {
   start = λ c x m w doing seen some holds. record {
     config = seen.config;
     swaps = seen.swaps;
     size = seen.size;
     phase = running w some;
     holds = holds;
-    fields = b.fields.start m w doing seen.fields;
+    fields = plain_fields_stay.start m w doing seen.fields;
     fixed = seen.fixed;
     image = seen.image;
     value = seen.value;
@@ -207,7 +202,7 @@ starts-seen b = record {
     targets = seen.targets;
     shown = seen.shown;
   };
-  swap = λ c x m w entries s seen v may asks holds. swap-seen b c x m w entries s seen v may asks holds;
+  swap = λ c x m w entries s seen v may asks holds. swap-seen c x m w entries s seen v may asks holds;
 }
 
 -- a hidden word is private

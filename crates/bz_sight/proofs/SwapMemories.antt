@@ -5,7 +5,8 @@ use Rattle.bz_swap.specs.Held.{IsHeld, HoldsIn}
 use Rattle.bz_swap.specs.SwapMemory.{SwapMemory}
 use Rattle.bz_swap.specs.declared.phase.Phase.{Phase}
 use Rattle.bz_swap.specs.declared.phase.Phase.TheVariants.{Opened, Running, Recovering}
-use Rattle.bz_sight.specs.Swapped.{ResolvesAsTheSwap, LawfulAsTheSwap, LeavesItsValues, HeldMemoriesLeaveTheirValues, EffectsShowOnTheImage, QuietMomentsChangeNothing}
+use Rattle.bz_sight.specs.Swapped.{LeavesItsValues, HeldMemoriesLeaveTheirValues, EffectsShowOnTheImage, QuietMomentsChangeNothing}
+use Rattle.bz_sight.proofs.Swapped.{lawful-as, resolves-as}
 
 -- the memory is held
 held : (p : Phase) (m : SwapMemory) → HoldsIn p m → p ≢ Recovering → IsHeld m
@@ -13,10 +14,10 @@ held Opened m h ne = h
 held Running m h ne = h
 held Recovering m h ne = absurd (ne refl)
 
-pub leaves-values : ResolvesAsTheSwap → LawfulAsTheSwap → HeldMemoriesLeaveTheirValues
-leaves-values resolves lawful m w = record {
-  values = λ a outside. resolves m.swaps m.durable a outside (h.lawful a outside);
-  lawful = λ c a same outside fixed. lawful c m.swaps m.durable a same outside fixed (h.lawful a outside);
+pub leaves-values : HeldMemoriesLeaveTheirValues
+leaves-values m w = record {
+  values = λ a outside. resolves-as m.swaps m.durable a outside (h.lawful a outside);
+  lawful = λ c a same outside fixed. lawful-as c m.swaps m.durable a same outside fixed (h.lawful a outside);
 }
   where
     h : IsHeld m
@@ -26,19 +27,19 @@ leaves-values resolves lawful m w = record {
 still : (old new : SwapMemory) (a : ℕ) → new.swaps ≡ old.swaps → IsOutside old.swaps a → IsOutside new.swaps a
 still old new a same outside = subst (λ n. IsOutside n a) (sym same) outside
 
-pub effect-shows : HeldMemoriesLeaveTheirValues → EffectsShowOnTheImage
-effect-shows law old new s w targets t = record {
+pub effect-shows : EffectsShowOnTheImage
+effect-shows old new s w targets t = record {
   expected = λ k d less. before.values _ (targets k d less) ∙ t.expected k d less;
   value = λ k d less. after.values _ (still old new _ w.swaps (targets k d less)) ∙ t.value k d less;
   others = λ a outside named other. after.values a (still old new a w.swaps outside) ∙ (t.others a named other ∙ sym (before.values a outside));
 }
   where
     before : LeavesItsValues old
-    before = law old w.before
+    before = leaves-values old w.before
 
     after : LeavesItsValues new
-    after = law new w.after
+    after = leaves-values new w.after
 
-pub changes-nothing : HeldMemoriesLeaveTheirValues → QuietMomentsChangeNothing
-changes-nothing law old new w q a outside named =
-    (law new w.after).values a (still old new a w.swaps outside) ∙ (q.values a named ∙ sym ((law old w.before).values a outside))
+pub changes-nothing : QuietMomentsChangeNothing
+changes-nothing old new w q a outside named =
+    (leaves-values new w.after).values a (still old new a w.swaps outside) ∙ (q.values a named ∙ sym ((leaves-values old w.before).values a outside))

@@ -1,30 +1,18 @@
 //! Laws of what tasks see of a swap memory. Each function does nothing: its contract is the law.
 
-ghost use Rattle.bz_sight.specs.Acts.{QuietStepsPass, StepsLeaveCaches, StoringStepsStore, FlushingStepsFlush, EffectStepsTakePlace, EvictionsAreSeen};
-ghost use Rattle.bz_sight.specs.Effects.{EffectsTakePlace, EffectsKeepOwn};
+ghost use Rattle.bz_sight.specs.Acts.{QuietStepsPass, StepsLeaveCaches, StoringStepsStore, FlushingStepsFlush};
+ghost use Rattle.bz_sight.specs.Effects.{EffectsTakePlace};
 ghost use Rattle.bz_sight.specs.Starts.{TasksMayStart, OwnWordsAreHidden, StartsAreSeen};
-ghost use Rattle.bz_sight.specs.Passing.{ActsPass, ActsLeaveAll};
-
-pub mod swap;
+ghost use Rattle.bz_sight.specs.Passing.{ActsPass};
 
 /// An act by which no swap takes effect leaves a memory that is seen as before, but for words that nobody reads.
 pub fn acts_pass()
     ensures { ActsPass }
 {}
 
-/// Such an act, which is nobody's private store, leaves all that anybody owns.
-pub fn acts_leave_all()
-    ensures { ActsLeaveAll }
-{}
-
 /// The effect of a swap is seen as one: its entries change for readers, and nothing else.
 pub fn effects_take_place()
     ensures { EffectsTakePlace }
-{}
-
-/// It leaves what anybody owns.
-pub fn effects_keep_own()
-    ensures { EffectsKeepOwn }
 {}
 
 /// A step that tells no effect is an act by which none takes effect.
@@ -45,16 +33,6 @@ pub fn storing_steps_store()
 /// The step of a private flush.
 pub fn flushing_steps_flush()
     ensures { FlushingStepsFlush }
-{}
-
-/// A step that tells an effect.
-pub fn effect_steps_take_place()
-    ensures { EffectStepsTakePlace }
-{}
-
-/// Evictions, with an effect and without.
-pub fn evictions_are_seen()
-    ensures { EvictionsAreSeen }
 {}
 
 /// What one owns is hidden from all others.

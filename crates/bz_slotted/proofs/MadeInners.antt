@@ -8,11 +8,12 @@ use Rattle.std.proofs.lemmas.List.FromFn.{get_or-map-range_with_len}
 use Rattle.bz_key.specs.Packing.{packed, packed_len, unpacked}
 use Rattle.bz_key.proofs.PackingLaws.{length-packed, length-unpacked}
 use Rattle.bz_key.specs.declared.limits.TheConstants.{KEY_BYTES}
-use Rattle.bz_node.specs.Laws.{ReadsAsInner, InnerNodesAreRead}
+use Rattle.bz_node.specs.Laws.{ReadsAsInner}
 use Rattle.bz_node.specs.Layout.{Entry, IsEntry, bound_of}
 use Rattle.bz_node.specs.Reading.{payload_at, key_part, low_in, child_in}
 use Rattle.bz_node.specs.Records.{child_entry, inner_words, separators_of, IsChild, IsBound, IsAbove, IsChildList}
 use Rattle.bz_node.specs.declared.child.Child.{Child}
+use Rattle.bz_node.proofs.Proved.{inner_nodes_are_read}
 use Rattle.bz_shape.specs.Order.{is_before, is_above}
 use Rattle.bz_word.specs.declared.meta.Extent.{Extent}
 use Rattle.bz_slotted.specs.Page.{words_at, extent_of, page}
@@ -202,7 +203,7 @@ module _ (cs : List Child) (l : ℕ) (lo hi : Option (List ℕ)) (nodes : ℕ) (
     key = λ i d li. let within : i < (page inner).count = omega (arith, count) in rw (lt-t i (page inner).count within, any-default i d li) (key-is i within);
   }
 
-pub inners-made : InnerNodesAreRead → MadeInnersAreWhole
-inners-made law nodes cs l lo hi each lo_ok hi_ok list slots pos low_level fits =
-    let reads = law cs lo hi l each lo_ok hi_ok (omega arith) fits in
+pub inners-made : MadeInnersAreWhole
+inners-made nodes cs l lo hi each lo_ok hi_ok list slots pos low_level fits =
+    let reads = inner_nodes_are_read cs lo hi l each lo_ok hi_ok (omega arith) fits in
     inner-made cs l lo hi nodes each list slots (record { level = low_level; low = lo_ok; high = hi_ok; each = children-are-entries cs each; fits = fits; front = reads.front; places = reads.places; readable = reads.readable.node }) reads pos

@@ -12,10 +12,11 @@ use Rattle.std.proofs.lemmas.List.{length-append, length-map, get_or-map}
 use Rattle.std.proofs.lemmas.List.FromFn.{get_or-map-range_with_len, map-range_with_len_more}
 use Rattle.bz_key.specs.Packing.{packed, packed_len}
 use Rattle.bz_key.proofs.PackingLaws.{length-packed}
-use Rattle.bz_node.specs.Laws.{ReadsAsLeaf, LeavesAreRead}
+use Rattle.bz_node.specs.Laws.{ReadsAsLeaf}
 use Rattle.bz_node.specs.Layout.{Entry, IsEntry}
 use Rattle.bz_node.specs.Reading.{metas_in, payload_at, payload_len, shown, extent_words, words_shown, extent_in, HasPair}
 use Rattle.bz_node.specs.Records.{pair_entry, leaf_words, keys_of, IsPair, IsBefore, IsAtLeast, IsBelow, IsLeafList}
+use Rattle.bz_node.proofs.Proved.{leaves_are_read}
 use Rattle.bz_shape.specs.Order.{is_before, is_at_least, is_below, is_within}
 use Rattle.bz_word.specs.declared.meta.Meta.{Meta}
 use Rattle.bz_slotted.specs.Page.{visible, extent_of, page}
@@ -192,7 +193,7 @@ module _ (rs : List (List ℕ × List ℕ)) (lo hi : Option (List ℕ)) (each : 
     live = sym (live-range (page leaf).meta (page leaf).count) ∙ ap (sum_by words_shown) (sym metas) ∙ reads.live;
   }
 
-pub leaves-made : LeavesAreRead → MadeLeavesAreWhole
-leaves-made law nodes rs lo hi each lo_ok hi_ok list fits =
-    let reads = law rs lo hi each lo_ok hi_ok list fits in
+pub leaves-made : MadeLeavesAreWhole
+leaves-made nodes rs lo hi each lo_ok hi_ok list fits =
+    let reads = leaves_are_read rs lo hi each lo_ok hi_ok list fits in
     leaf-made rs lo hi each list (record { level = omega arith; low = lo_ok; high = hi_ok; each = pairs-are-entries rs each; fits = fits; front = reads.front; places = reads.places; readable = reads.readable.node }) reads nodes

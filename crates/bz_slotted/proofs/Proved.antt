@@ -1,5 +1,4 @@
 -- What this crate proves, as lemmas that other crates cite by these names.
-use Rattle.bz_node.proofs.Proved.{inner_nodes_are_read, leaves_are_read}
 use Rattle.bz_slotted.proofs.Faults.{inner-whole-none, none-inner-whole, none-whole, whole-none}
 use Rattle.bz_slotted.proofs.HighFences.{high-fences}
 use Rattle.bz_slotted.proofs.Honest.{found-holds, inner-rises, live-fits}
@@ -76,8 +75,8 @@ high_fences_are_read = high-fences
 
 -- a leaf made whole breaks no rule, and says of each key what its records say
 pub made_leaves_are_whole : MadeLeavesAreWhole
-made_leaves_are_whole = leaves-made leaves_are_read
+made_leaves_are_whole = leaves-made
 
 -- an inner node made whole breaks no rule, and has its children and their bounds
 pub made_inners_are_whole : MadeInnersAreWhole
-made_inners_are_whole = inners-made inner_nodes_are_read
+made_inners_are_whole = inners-made

@@ -1,9 +1,8 @@
 //! Laws of a node's words. Each function does nothing: its contract is the law.
 
-ghost use Rattle.bz_slotted.specs.InnerChanges.{PointerSwapChangesChild};
-ghost use Rattle.bz_slotted.specs.LeafLaws.{RewriteChangesOneKey, FreezeIsQuiet};
+ghost use Rattle.bz_slotted.specs.LeafLaws.{FreezeIsQuiet};
 ghost use Rattle.bz_slotted.specs.ReadingLaws.{WholeLeavesAreReadable, WholeInnersAreReadable, HighFencesAreRead, MadeLeavesAreWhole};
-ghost use Rattle.bz_slotted.specs.Laws.{LeafRulesAreFacts, InnerRulesAreFacts, InnerKeysRise, FoundKeysAreInRange, LiveWordsFit};
+ghost use Rattle.bz_slotted.specs.Laws.{LeafRulesAreFacts, InnerRulesAreFacts, InnerKeysRise, LiveWordsFit};
 
 /// A leaf breaks no rule exactly where each rule holds as a fact of its records.
 pub fn leaf_rules_are_facts()
@@ -20,30 +19,14 @@ pub fn inner_keys_rise()
     ensures { InnerKeysRise }
 {}
 
-/// A leaf that breaks no rule says of keys out of its range that there is none.
-pub fn found_keys_are_in_range()
-    ensures { FoundKeysAreInRange }
-{}
-
 /// The visible records of a leaf that breaks no rule fit a node.
 pub fn live_words_fit()
     ensures { LiveWordsFit }
 {}
 
-/// A publication, a delete or the second swap of an update breaks no rule, and changes the answer for the
-/// keys of its record alone.
-pub fn rewrite_changes_one_key()
-    ensures { RewriteChangesOneKey }
-{}
-
 /// A freeze breaks no rule and changes no answer.
 pub fn freeze_is_quiet()
     ensures { FreezeIsQuiet }
-{}
-
-/// A swap of one child pointer breaks no rule, and changes that child alone.
-pub fn pointer_swap_changes_child()
-    ensures { PointerSwapChangesChild }
 {}
 
 /// A leaf that breaks no rule can be read as pairs, which are its records and answer as it does.

@@ -1,6 +1,4 @@
 -- What this crate proves, as lemmas that other crates cite by these names.
-use Rattle.bz_content.proofs.Proved.{fresh_memory_is_empty, map_is_the_content, well_formed_images_have_no_fault, worked_insert_reads}
-use Rattle.bz_layout.proofs.Laws.{fresh_words_say}
 use Rattle.bz_sound.proofs.Cuts.AsBefore.{sound-as-before}
 use Rattle.bz_sound.proofs.Cuts.Follows.{power-stands, power-tells}
 use Rattle.bz_sound.proofs.Cuts.Growth.{begins, cuts-follow, effects, ends, flushes, fresh-sound, loads-settled, ons-follow, page-ends, quiet-acts, readys-follow}
@@ -27,7 +25,7 @@ use Rattle.bz_sound.specs.Power.Laws.{CutsFollow, OnsFollow, PowerMarksStand, Po
 
 -- a journal without marks over a well-formed image is sound
 pub fresh_journals_are_sound : FreshJournalsAreSound
-fresh_journals_are_sound = fresh-sound well_formed_images_have_no_fault map_is_the_content
+fresh_journals_are_sound = fresh-sound
 
 -- a load, store, compare-and-swap or ask keeps a journal sound, worker 0's in recovery among them
 pub quiet_acts_follow : QuietActsFollow
@@ -135,12 +133,7 @@ one_history = powered-history
 
 -- a small journal that was worked out by hand is sound, and those that differ from it in one thing are not
 pub worked_get_is_sound : WorkedGetIsSound
-worked_get_is_sound = worked-get (record {
-  words = fresh_words_say;
-  whole = well_formed_images_have_no_fault;
-  map = map_is_the_content;
-  fresh = fresh_memory_is_empty;
-})
+worked_get_is_sound = worked-get
 
 -- without a power cut a journal is sound exactly where it is by the definitions that have none
 pub sound_as_before : SoundAsBefore
@@ -184,8 +177,4 @@ acts_are_allowed = acts-allowed
 
 -- small journals with power cuts that were worked out by hand are sound, and those that differ from them in one thing are not
 pub worked_cuts_are_sound : WorkedCuts
-worked_cuts_are_sound = worked-cuts (record {
-  whole = well_formed_images_have_no_fault;
-  map = map_is_the_content;
-  images = worked_insert_reads;
-})
+worked_cuts_are_sound = worked-cuts

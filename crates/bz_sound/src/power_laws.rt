@@ -1,47 +1,15 @@
 //! Laws over sound journals over a memory whose power fails and comes on again. Each function does nothing but call
 //! the laws that it follows from: its contract is the law.
 ghost use Rattle.bz_sound.specs.Lonely.{LonelyCallsAreAlone};
-ghost use Rattle.bz_sound.specs.Power.CallLaws.{OpenCallsAreLast, OpenCallsLeaveRoom, EffectsStandOnce, ToldChangesTookEffect};
-ghost use Rattle.bz_sound.specs.Power.CutLaws.{CutsLeave};
-ghost use Rattle.bz_sound.specs.Power.Example.{WorkedCuts};
-ghost use Rattle.bz_sound.specs.Power.Growth.{FreshJournalsAreSound, QuietActsFollow, FlushesFollow, EffectsFollowActs, BeginsFollow, EndsFollow, PageEndsFollow, LoadsAreSettled};
+ghost use Rattle.bz_sound.specs.Power.CallLaws.{OpenCallsAreLast, OpenCallsLeaveRoom};
+ghost use Rattle.bz_sound.specs.Power.Growth.{QuietActsFollow, FlushesFollow, EffectsFollowActs, BeginsFollow, EndsFollow, PageEndsFollow, LoadsAreSettled};
 ghost use Rattle.bz_sound.specs.Power.History.{OneHistory};
-ghost use Rattle.bz_sound.specs.Power.ImageLaws.{AnswersComeFromTheImage, PagesComeFromTheImage, ChangesFollow, SameContentDecodes, EffectsAnswer, SpentAnswersFull, HeldSwapsAreSpent, HeldSlotsAreSpent};
-ghost use Rattle.bz_sound.specs.Power.Laws.{SoundAsBefore, PowerTellsWhatFollows, CutsFollow, OnsFollow, ReadysFollow};
+ghost use Rattle.bz_sound.specs.Power.ImageLaws.{AnswersComeFromTheImage, PagesComeFromTheImage, ChangesFollow, SameContentDecodes, SpentAnswersFull};
+ghost use Rattle.bz_sound.specs.Power.Laws.{SoundAsBefore};
 
 /// Without a power cut a journal is sound exactly where it is by the definitions that have none.
 pub fn sound_as_before()
     ensures { SoundAsBefore }
-{}
-
-/// The power tells which mark may follow: after a Cut nothing but an On, and an On nowhere else.
-pub fn power_tells_what_follows()
-    ensures { PowerTellsWhatFollows }
-{}
-
-/// A power cut keeps a journal sound, wherever the power is not off.
-pub fn cuts_follow()
-    ensures { CutsFollow }
-{}
-
-/// So does an On after a cut.
-pub fn ons_follow()
-    ensures { OnsFollow }
-{}
-
-/// What a cut leaves: the durable words, the map, and the calls that happened.
-pub fn cuts_leave()
-    ensures { CutsLeave }
-{}
-
-/// So does the end of recovery directly after an act of worker 0.
-pub fn readys_follow()
-    ensures { ReadysFollow }
-{}
-
-/// A journal without marks over a well-formed image is sound.
-pub fn fresh_journals_are_sound()
-    ensures { FreshJournalsAreSound }
 {}
 
 /// A load, store, compare-and-swap or ask keeps a journal sound, worker 0's in recovery among them.
@@ -94,16 +62,6 @@ pub fn lonely_calls_are_alone()
     ensures { LonelyCallsAreAlone }
 {}
 
-/// No call takes effect twice.
-pub fn effects_stand_once()
-    ensures { EffectsStandOnce }
-{}
-
-/// A call that tells of a key inserted or deleted took effect.
-pub fn told_changes_took_effect()
-    ensures { ToldChangesTookEffect }
-{}
-
 /// What the image has there for a key gives the right reply.
 pub fn answers_come_from_the_image()
     ensures { AnswersComeFromTheImage }
@@ -124,33 +82,12 @@ pub fn same_content_decodes()
     ensures { SameContentDecodes }
 {}
 
-/// A call that has an Effect is answered by the map directly before it.
-pub fn effects_answer()
-    ensures { EffectsAnswer }
-{}
-
 /// A call without one is answered Full where something is spent since the power came on.
 pub fn spent_answers_full()
     ensures { SpentAnswersFull }
 {}
 
-/// Descriptors are spent where each is taken since then or held by another worker with an open call.
-pub fn held_swaps_are_spent()
-    ensures { HeldSwapsAreSpent }
-{}
-
-/// More slots are lacking than are free where each other one is used since then or held by another worker with an open call.
-pub fn held_slots_are_spent()
-    ensures { HeldSlotsAreSpent }
-{}
-
 /// The calls of a sound journal, those among them that a cut ended after their Effect, are one history of one map.
 pub fn one_history()
     ensures { OneHistory }
-{}
-
-/// Small journals with power cuts that were worked out by hand are sound, and those that differ from them in one
-/// thing are not.
-pub fn worked_cuts_are_sound()
-    ensures { WorkedCuts }
 {}

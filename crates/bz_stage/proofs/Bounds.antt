@@ -4,8 +4,8 @@ use Rattle.std.specs.Prelude.{None}
 use Rattle.bz_layout.specs.declared.thresholds.TheConstants.{INNER_LIMIT, MAX_LEVELS}
 use Rattle.bz_shape.proofs.TreeForms.{fits}
 use Rattle.bz_shape.specs.Form.{Fits, Stands}
-use Rattle.bz_slotted.specs.Laws.{LeafRulesAreFacts, InnerRulesAreFacts}
 use Rattle.bz_slotted.specs.Rules.{node_fault}
+use Rattle.bz_slotted.proofs.Proved.{inner_rules_are_facts, leaf_rules_are_facts}
 use Rattle.bz_content.proofs.Honesty.{no}
 use Rattle.bz_content.proofs.Reached.{root-stands, root-below}
 use Rattle.bz_content.specs.Image.{node, root}
@@ -24,12 +24,12 @@ full-counted c x key full le all next =
     (λ lt. not-less INNER_LIMIT (words_taken (page_on_path c x key (full + 1))) (next lt))
 
 -- a node that breaks no rule stands at a level that a tree may have
-pub lowest : LeafRulesAreFacts → InnerRulesAreFacts → (nodes l : ℕ) (r n : ℕ → ℕ) (lo hi : Option (List ℕ)) → node_fault nodes r n l lo hi ≡ None → l < MAX_LEVELS
-lowest leaf inner nodes zero r n lo hi e = ((leaf nodes r n lo hi).0 e).level.lowest
-lowest leaf inner nodes (suc l) r n lo hi e = ((inner nodes r n (suc l) lo hi (omega arith)).0 e).level.lowest
+pub lowest : (nodes l : ℕ) (r n : ℕ → ℕ) (lo hi : Option (List ℕ)) → node_fault nodes r n l lo hi ≡ None → l < MAX_LEVELS
+lowest nodes zero r n lo hi e = ((leaf_rules_are_facts nodes r n lo hi).0 e).level.lowest
+lowest nodes (suc l) r n lo hi e = ((inner_rules_are_facts nodes r n (suc l) lo hi (omega arith)).0 e).level.lowest
 
-pub stages-bounded : LeafRulesAreFacts → InnerRulesAreFacts → StagesAreBounded
-stages-bounded leaf inner c x key words t = record {
+pub stages-bounded : StagesAreBounded
+stages-bounded c x key words t = record {
   stage = omega (arith, stage-at-most (leaf_page c x key) (full_above c x key) words, run-at-most (λ level. is_full (page_on_path c x key level)) 1 (root_level c x));
   levels = omega (arith, whole, st.level, g.height);
 }
@@ -41,5 +41,5 @@ stages-bounded leaf inner c x key words t = record {
     st = root-stands c x g
 
     whole : (form_in c x).level (root x.words) < MAX_LEVELS
-    whole = lowest leaf inner c.nodes ((form_in c x).level (root x.words)) (node c x.raw (root x.words)) (node c x.words (root x.words)) _ _
+    whole = lowest c.nodes ((form_in c x).level (root x.words)) (node c x.raw (root x.words)) (node c x.words (root x.words)) _ _
         (rw (no (root x.words) c.nodes (root-below c x g)) at (g.whole (root x.words) st.inside (root-below c x g)))

@@ -15,9 +15,9 @@ use Rattle.bz_slotted.specs.Records.{live_to, live_words}
 use Rattle.bz_content.proofs.Sames.{node-same}
 use Rattle.bz_content.specs.Changes.{SameNode}
 use Rattle.bz_content.specs.Image.{Image, node}
-use Rattle.bz_content.specs.Laws.{QuietSwapsKeepTheContent}
 use Rattle.bz_content.specs.Swaps.{form_in}
 use Rattle.bz_content.specs.View.{view_of}
+use Rattle.bz_content.proofs.Proved.{quiet_swaps_keep_the_content}
 use Rattle.bz_leaves.specs.Neighbours.{leaf_page}
 use Rattle.bz_stage.proofs.Leaves.{stage-frozen, stage-lacking}
 use Rattle.bz_stage.proofs.Paths.{below-top, path-found, path-unique}
@@ -85,5 +85,5 @@ module _ (c : Config) (x y : Image) (key : List ℕ) (t : IsTree (view_of c x)) 
       (λ i. frozen_by (live-is i) (above-same i)) in
       omega (arith, after, before, alike)
 
-pub freezes : QuietSwapsKeepTheContent → FreezesLowerTheStage
-freezes law c x y key words t z lacks = lowered c x y key t z (law c x y (leaf_of (view_of c x) key) t z.on_leaf (inr (inr (inl z.restamps)))).0 words lacks
+pub freezes : FreezesLowerTheStage
+freezes c x y key words t z lacks = lowered c x y key t z (quiet_swaps_keep_the_content c x y (leaf_of (view_of c x) key) t z.on_leaf (inr (inr (inl z.restamps)))).0 words lacks

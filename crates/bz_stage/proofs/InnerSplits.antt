@@ -14,11 +14,11 @@ use Rattle.bz_content.proofs.Reached.{level-is}
 use Rattle.bz_content.proofs.Sames.{node-same}
 use Rattle.bz_content.specs.Changes.{SameNode}
 use Rattle.bz_content.specs.Image.{Image, node, root}
-use Rattle.bz_content.specs.Laws.{SplitsKeepTheContent, RootSplitsKeepTheContent}
 use Rattle.bz_content.specs.Restructures.{Splits, SplitsRoot}
 use Rattle.bz_content.specs.Swaps.{form_in}
 use Rattle.bz_content.specs.View.{view_of}
-use Rattle.bz_stage.proofs.Anew.{Rules, FallsToLevel, inner-anew, of-three}
+use Rattle.bz_content.proofs.Proved.{root_splits_keep_the_content, splits_keep_the_content}
+use Rattle.bz_stage.proofs.Anew.{FallsToLevel, inner-anew, of-three}
 use Rattle.bz_stage.proofs.Bounds.{lowest}
 use Rattle.bz_stage.proofs.LeafSplits.{root-is}
 use Rattle.bz_stage.proofs.Paths.{above-root, below-top, leaf-on-path, path-found}
@@ -44,13 +44,13 @@ pub record FallsBelow (c : Config) (x y : Image) (key : List ℕ) (words level :
   pub falls : FallsToLevel c x y key words level
   pub levels : level + 1 < MAX_LEVELS
 
-inner-falls : Rules → SplitsKeepTheContent → (c : Config) (x y : Image) (key : List ℕ) (words level q l r m : ℕ) (sep : List ℕ) → IsTree (view_of c x) → 0 < level → IsCrowdedBelow c x key level →
+inner-falls : (c : Config) (x y : Image) (key : List ℕ) (words level q l r m : ℕ) (sep : List ℕ) → IsTree (view_of c x) → 0 < level → IsCrowdedBelow c x key level →
     Splits c x y (on_path (view_of c x) key level) q l r m sep → IsRoomyInner c y l → IsRoomyInner c y r → FallsBelow c x y key words level
-inner-falls b law c x y key words level q l r m sep t some z s left right = record {
+inner-falls c x y key words level q l r m sep t some z s left right = record {
   falls =
-      inner-anew b c x y key words level (a ∷ f.up a ∷ []) (q ∷ l ∷ r ∷ []) t (law c x y a q l r m sep t s) some within z (among-first a a (f.up a ∷ []) refl) far
+      inner-anew c x y key words level (a ∷ f.up a ∷ []) (q ∷ l ∷ r ∷ []) t (splits_keep_the_content c x y a q l r m sep t s) some within z (among-first a a (f.up a ∷ []) refl) far
       (node-same c (leaf_of (view_of c x) key) x.words y.words stays.words) (of-three c y (λ j. IsRoomyInner c y j) q l r level above left right);
-  levels = omega (arith, up, over.at_level, lowest b.leaf b.inner c.nodes (f.level (f.up a)) (node c y.raw q) (node c y.words q) _ _ s.whole_q);
+  levels = omega (arith, up, over.at_level, lowest c.nodes (f.level (f.up a)) (node c y.raw q) (node c y.words q) _ _ s.whole_q);
 }
   where
     a : ℕ
@@ -80,16 +80,16 @@ inner-falls b law c x y key words level q l r m sep t some z s left right = reco
 
     -- the new parent stands one level higher
     above : level_of (node c y.words q) ≢ level
-    above e = absurd (omega (arith, e, up, over.at_level, level-is b.leaf b.inner c.nodes (f.level (f.up a)) (node c y.raw q) (node c y.words q) _ _ s.whole_q))
+    above e = absurd (omega (arith, e, up, over.at_level, level-is c.nodes (f.level (f.up a)) (node c y.raw q) (node c y.words q) _ _ s.whole_q))
 
-root-falls : Rules → RootSplitsKeepTheContent → (c : Config) (x y : Image) (key : List ℕ) (words q l r m : ℕ) (sep : List ℕ) → IsTree (view_of c x) → 0 < root_level c x → IsCrowdedBelow c x key (root_level c x) →
+root-falls : (c : Config) (x y : Image) (key : List ℕ) (words q l r m : ℕ) (sep : List ℕ) → IsTree (view_of c x) → 0 < root_level c x → IsCrowdedBelow c x key (root_level c x) →
     SplitsRoot c x y q l r m sep → IsRoomyInner c y l → IsRoomyInner c y r → FallsBelow c x y key words (root_level c x)
-root-falls b law c x y key words q l r m sep t some z s left right = record {
+root-falls c x y key words q l r m sep t some z s left right = record {
   falls =
-      inner-anew b c x y key words (root_level c x) (root x.words ∷ []) (q ∷ l ∷ r ∷ []) t (law c x y q l r m sep t s) some (omega arith) z
+      inner-anew c x y key words (root_level c x) (root x.words ∷ []) (q ∷ l ∷ r ∷ []) t (root_splits_keep_the_content c x y q l r m sep t s) some (omega arith) z
       (among-first (root x.words) (on_path (view_of c x) key (root_level c x)) [] (root-is c x key t)) far
       (node-same c (leaf_of (view_of c x) key) x.words y.words stays.words) (of-three c y (λ j. IsRoomyInner c y j) q l r (root_level c x) above left right);
-  levels = lowest b.leaf b.inner c.nodes (root_level c x + 1) (node c y.raw q) (node c y.words q) _ _ s.whole_q;
+  levels = lowest c.nodes (root_level c x + 1) (node c y.raw q) (node c y.words q) _ _ s.whole_q;
 }
   where
     f : Form
@@ -109,7 +109,7 @@ root-falls b law c x y key words q l r m sep t some z s left right = record {
 
     -- the new root stands one level higher
     above : level_of (node c y.words q) ≢ root_level c x
-    above e = absurd (omega (arith, e, level-is b.leaf b.inner c.nodes (root_level c x + 1) (node c y.raw q) (node c y.words q) _ _ s.whole_q))
+    above e = absurd (omega (arith, e, level-is c.nodes (root_level c x + 1) (node c y.raw q) (node c y.words q) _ _ s.whole_q))
 
 lower-by-one : (c : Config) (x y : Image) (key : List ℕ) (words level : ℕ) → FallsBelow c x y key words level → stage c y key words + 1 ≤ stage c x key words
 lower-by-one c x y key words level h = omega (arith, h.falls.above, h.falls.within)
@@ -117,14 +117,14 @@ lower-by-one c x y key words level h = omega (arith, h.falls.above, h.falls.with
 leaves-a-level : (c : Config) (x y : Image) (key : List ℕ) (words level : ℕ) → FallsBelow c x y key words level → LeavesALevel c y key words level
 leaves-a-level c x y key words level h = record { stage_within = h.falls.within; one_higher = omega (arith, h.levels) }
 
-pub inner-splits : Rules → SplitsKeepTheContent → InnerSplitsLowerTheStage
-inner-splits b law c x y key words level q l r m sep t some z s left right = lower-by-one c x y key words level (inner-falls b law c x y key words level q l r m sep t some z s left right)
+pub inner-splits : InnerSplitsLowerTheStage
+inner-splits c x y key words level q l r m sep t some z s left right = lower-by-one c x y key words level (inner-falls c x y key words level q l r m sep t some z s left right)
 
-pub root-splits : Rules → RootSplitsKeepTheContent → RootSplitsLowerTheStage
-root-splits b law c x y key words q l r m sep t some z s left right = lower-by-one c x y key words (root_level c x) (root-falls b law c x y key words q l r m sep t some z s left right)
+pub root-splits : RootSplitsLowerTheStage
+root-splits c x y key words q l r m sep t some z s left right = lower-by-one c x y key words (root_level c x) (root-falls c x y key words q l r m sep t some z s left right)
 
-pub splits-leave-a-level : Rules → SplitsKeepTheContent → RootSplitsKeepTheContent → SplitsLeaveALevel
-splits-leave-a-level b law root_law = record {
-  inner = λ c x y key words level q l r m sep t some z s left right. leaves-a-level c x y key words level (inner-falls b law c x y key words level q l r m sep t some z s left right);
-  root = λ c x y key words q l r m sep t some z s left right. leaves-a-level c x y key words (root_level c x) (root-falls b root_law c x y key words q l r m sep t some z s left right);
+pub splits-leave-a-level : SplitsLeaveALevel
+splits-leave-a-level = record {
+  inner = λ c x y key words level q l r m sep t some z s left right. leaves-a-level c x y key words level (inner-falls c x y key words level q l r m sep t some z s left right);
+  root = λ c x y key words q l r m sep t some z s left right. leaves-a-level c x y key words (root_level c x) (root-falls c x y key words q l r m sep t some z s left right);
 }

@@ -3,9 +3,9 @@ use Rattle.std.proofs.Common.{◌≡◌, ℕ, ◌+◌, ◌<◌, ◌≤◌, if◌
 use Rattle.std.specs.Prelude.{not, nat_lt, nat_le}
 use Rattle.std.proofs.lemmas.Bool.{cases_lt}
 use Rattle.std.proofs.lemmas.Bool.Decides.{nat_tests}
-use Rattle.bz_layout.specs.Rooms.{SettledLeafTakesRecord}
 use Rattle.bz_layout.specs.declared.sizes.TheConstants.{SHARED_WORDS}
 use Rattle.bz_layout.specs.declared.thresholds.TheConstants.{LEAF_RECORD_WORDS, SPLIT_ABOVE}
+use Rattle.bz_layout.proofs.Laws.{settled_leaf_takes_record}
 use Rattle.bz_slotted.specs.Page.{Page}
 use Rattle.bz_slotted.specs.Records.{live_words}
 use Rattle.bz_leaves.specs.Neighbours.{leaf_page}
@@ -80,9 +80,9 @@ lacking-leaves-say = record {
 }
 
 -- a roomy leaf has room for any record, and one word more
-pub roomy-ready : SettledLeafTakesRecord → (p : Page) (full words : ℕ) → IsRoomy p → words ≤ LEAF_RECORD_WORDS + 1 → stage_of p full words ≡ 0
-roomy-ready settled p full words roomy few =
-    let fits : words_taken p + LEAF_RECORD_WORDS + 1 ≤ SHARED_WORDS = settled (words_taken p) LEAF_RECORD_WORDS roomy.few (same LEAF_RECORD_WORDS) in
+pub roomy-ready : (p : Page) (full words : ℕ) → IsRoomy p → words ≤ LEAF_RECORD_WORDS + 1 → stage_of p full words ≡ 0
+roomy-ready p full words roomy few =
+    let fits : words_taken p + LEAF_RECORD_WORDS + 1 ≤ SHARED_WORDS = settled_leaf_takes_record (words_taken p) LEAF_RECORD_WORDS roomy.few (same LEAF_RECORD_WORDS) in
     stage-ready p full words roomy.thawed (omega (arith, fits, few))
   where
     same : (n : ℕ) → n ≤ n

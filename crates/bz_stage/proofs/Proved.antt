@@ -1,9 +1,4 @@
 -- What this crate proves, as lemmas that other crates cite by these names.
-use Rattle.bz_content.proofs.Proved.{consolidations_keep_the_content, quiet_swaps_keep_the_content, root_splits_keep_the_content, splits_keep_the_content}
-use Rattle.bz_layout.proofs.Laws.{settled_leaf_takes_record}
-use Rattle.bz_node.proofs.Proved.{inner_nodes_are_read, leaves_are_read}
-use Rattle.bz_parted.proofs.Proved.{read_nodes_have_children}
-use Rattle.bz_slotted.proofs.Proved.{inner_rules_are_facts, leaf_rules_are_facts}
 use Rattle.bz_stage.proofs.Bounds.{full-counted, stages-bounded}
 use Rattle.bz_stage.proofs.Copies.{copies}
 use Rattle.bz_stage.proofs.Examples.{stages-are-told}
@@ -39,45 +34,44 @@ full_nodes_are_counted = full-counted
 
 -- a stage is at most two more than there are levels of inner nodes, of which there are fewer than levels of a tree
 pub stages_are_bounded : StagesAreBounded
-stages_are_bounded = stages-bounded leaf_rules_are_facts inner_rules_are_facts
+stages_are_bounded = stages-bounded
 
 -- a freeze of a leaf that lacks the words lowers the stage by one
 pub freezes_lower_the_stage : FreezesLowerTheStage
-freezes_lower_the_stage = freezes quiet_swaps_keep_the_content
+freezes_lower_the_stage = freezes
 
 -- a copy has room for any record
 pub copies_give_room : CopiesGiveRoom
-copies_give_room = copies (record { leaf = leaf_rules_are_facts; inner = inner_rules_are_facts }) settled_leaf_takes_record consolidations_keep_the_content
+copies_give_room = copies
 
 -- the halves of a leaf that is split have room for any record
 pub leaf_splits_give_room : LeafSplitsGiveRoom
-leaf_splits_give_room = leaf-splits (record { leaf = leaf_rules_are_facts; inner = inner_rules_are_facts }) settled_leaf_takes_record splits_keep_the_content
+leaf_splits_give_room = leaf-splits
 
 -- so have those of a root that is a leaf
 pub root_leaf_splits_give_room : RootLeafSplitsGiveRoom
-root_leaf_splits_give_room = root-leaf-splits (record { leaf = leaf_rules_are_facts; inner = inner_rules_are_facts }) settled_leaf_takes_record root_splits_keep_the_content
+root_leaf_splits_give_room = root-leaf-splits
 
 -- a split of one of the full nodes directly above the leaf lowers the stage
 pub inner_splits_lower_the_stage : InnerSplitsLowerTheStage
-inner_splits_lower_the_stage = inner-splits (record { leaf = leaf_rules_are_facts; inner = inner_rules_are_facts }) splits_keep_the_content
+inner_splits_lower_the_stage = inner-splits
 
 -- so does that of the root, where all nodes above the leaf are full
 pub root_splits_lower_the_stage : RootSplitsLowerTheStage
-root_splits_lower_the_stage = root-splits (record { leaf = leaf_rules_are_facts; inner = inner_rules_are_facts }) root_splits_keep_the_content
+root_splits_lower_the_stage = root-splits
 
 -- after both the stage is at most the level of the node that was split, above which there is one level more
 pub splits_leave_a_level : SplitsLeaveALevel
-splits_leave_a_level =
-    splits-leave-a-level (record { leaf = leaf_rules_are_facts; inner = inner_rules_are_facts }) splits_keep_the_content root_splits_keep_the_content
+splits_leave_a_level = splits-leave-a-level
 
 -- a leaf that is made of few enough records is one that has room
 pub made_leaves_are_roomy : MadeLeavesAreRoomy
-made_leaves_are_roomy = made-leaves settled_leaf_takes_record leaves_are_read
+made_leaves_are_roomy = made-leaves
 
 -- an inner node that is made of children has taken the words of their entries
 pub made_inners_take_their_entries : MadeInnersTakeTheirEntries
-made_inners_take_their_entries = made-inners inner_nodes_are_read
+made_inners_take_their_entries = made-inners
 
 -- so has each inner node that breaks no rule
 pub entries_take_the_words : EntriesTakeTheWords
-entries_take_the_words = entries-taken read_nodes_have_children
+entries_take_the_words = entries-taken

@@ -6,19 +6,20 @@ use Rattle.std.proofs.lemmas.Bool.Decides.{nat_tests}
 use Rattle.std.proofs.lemmas.List.{length-replicate}
 use Rattle.bz_cells.specs.Store.{field_address}
 use Rattle.bz_content.specs.Content.{image_fault, IsWellFormed}
-use Rattle.bz_content.specs.Laws.{WellFormedImagesHaveNoFault}
 use Rattle.bz_content.specs.Lawful.{is_in_descriptor, is_lawful, is_value, is_word}
 use Rattle.bz_content.specs.Resolving.{resolve}
+use Rattle.bz_content.proofs.Proved.{well_formed_images_have_no_fault}
 use Rattle.bz_layout.specs.Addresses.{swap_word_of, words_of as size_of}
 use Rattle.bz_layout.specs.Config.{IsConfig}
 use Rattle.bz_layout.specs.declared.config.Config.{Config}
 use Rattle.bz_layout.specs.declared.sizes.TheConstants.{SWAP_STATUS_AT}
 use Rattle.bz_swap.proofs.Fresh.{all-same}
-use Rattle.bz_swap.specs.PlainFields.{PlainFieldsStay, ArePlainFields}
+use Rattle.bz_swap.specs.PlainFields.{ArePlainFields}
 use Rattle.bz_swap.specs.Power.{opened}
 use Rattle.bz_swap.specs.SwapMemory.{Working, idle}
 use Rattle.bz_swap.specs.declared.phase.Phase.{Phase}
 use Rattle.bz_swap.specs.declared.phase.Phase.TheVariants.{Running}
+use Rattle.bz_swap.proofs.Proved.{plain_fields_stay}
 use Rattle.bz_story.specs.Recovering.{IsOff}
 use Rattle.bz_story.specs.RecoveryLaws.{ImagesAreOff}
 
@@ -37,9 +38,9 @@ fields-plain c image well s k number field =
     let later : (swap_word_of (field_address s k) == SWAP_STATUS_AT) ≡ false = grind (arith, nat_tests) in
     word-plain c (slice_index image) (field_address s k) inside later (well.lawful (field_address s k) (omega (arith, number, field)))
 
-module _ (formed : WellFormedImagesHaveNoFault) (fields : PlainFieldsStay) (c : Config) (image : List ℕ) (config : IsConfig c) (size : length image ≡ size_of c) (none : image_fault c (slice_index image) ≡ None) where
+module _ (c : Config) (image : List ℕ) (config : IsConfig c) (size : length image ≡ size_of c) (none : image_fault c (slice_index image) ≡ None) where
   well : IsWellFormed c (slice_index image)
-  well = (formed c (slice_index image)).0 none
+  well = (well_formed_images_have_no_fault c (slice_index image)).0 none
 
   off : (phase : Phase) → (phase ≡ Running → ⊥) → IsOff c (resolve (slice_index image)) (opened phase image c.swaps c.workers)
   off phase not = record {
@@ -50,7 +51,7 @@ module _ (formed : WellFormedImagesHaveNoFault) (fields : PlainFieldsStay) (c : 
       durable = size;
       workers = length-replicate (c.workers + 1) idle;
       others = λ w some. ap (λ (u : Working). u.doing) (all-same (c.workers + 1) w idle);
-      fields = fields.opening phase image c.swaps c.workers (fields-plain c image well);
+      fields = plain_fields_stay.opening phase image c.swaps c.workers (fields-plain c image well);
       form = none;
     };
     phase = not;
@@ -58,6 +59,6 @@ module _ (formed : WellFormedImagesHaveNoFault) (fields : PlainFieldsStay) (c : 
     powered = record { image = record { lawful = well.lawful; resolved = λ a s. refl }; same = λ a within. refl };
   }
 
-pub images-off : WellFormedImagesHaveNoFault → PlainFieldsStay → ImagesAreOff
-images-off formed fields c m image config size none is =
-    subst (IsOff c (resolve (slice_index image))) (sym is.is) (off formed fields c image config size none is.phase is.otherwise)
+pub images-off : ImagesAreOff
+images-off c m image config size none is =
+    subst (IsOff c (resolve (slice_index image))) (sym is.is) (off c image config size none is.phase is.otherwise)

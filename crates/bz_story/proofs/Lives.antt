@@ -5,8 +5,9 @@ use Rattle.bz_layout.specs.declared.config.Config.{Config}
 use Rattle.bz_layout.specs.declared.sizes.TheConstants.{STATUS_AT}
 use Rattle.bz_mark.proofs.MomentLaws.{at_moment-now, at_moment-earlier}
 use Rattle.bz_mark.specs.declared.marks.Mark.{Mark}
-use Rattle.bz_sight.specs.Passing.{Passed, ActsPass}
+use Rattle.bz_sight.specs.Passing.{Passed}
 use Rattle.bz_sight.specs.Sight.{IsSeen, next_instant}
+use Rattle.bz_sight.proofs.Proved.{acts_pass}
 use Rattle.bz_sound.specs.Memory.Moments.{image_at, image_after}
 use Rattle.bz_sound.specs.Memory.Spent.{is_reached_in}
 use Rattle.bz_task.specs.Good.{IsGood}
@@ -69,8 +70,8 @@ pub step-block : (c : Config) (x y : Instant) (a : ℕ) → IsStep c x y → IsI
 step-block c x y a (inl q) b = block-on c x y a b (q.reached b.slot ∙ b.reached) (node-block c x y b.slot (inl (q.nodes b.slot b.reached)))
 step-block c x y a (inr e) b = block-on c x y a b (e.reached b.slot b.reached) (node-block c x y b.slot (e.nodes b.slot b.reached))
 
-pub lives-on : ActsPass → LivesGoOn
-lives-on law c old new log story mark filled g stores = record {
+pub lives-on : LivesGoOn
+lives-on c old new log story mark filled g stores = record {
   from = omega (arith, g.living.from);
   begins = begins-more story.from log.past mark g.living.from g.living.begins;
   seen = subst (IsSeen c new) (sym (now-is story.at (length log.past) y)) passed.seen;
@@ -91,7 +92,7 @@ lives-on law c old new log story mark filled g stores = record {
     y = next_instant new (story.at (length log.past))
 
     passed : Passed c (story.at (length log.past)) new
-    passed = law c (story.at (length log.past)) old new g.living.seen g.passes
+    passed = acts_pass c (story.at (length log.past)) old new g.living.seen g.passes
 
     step : IsStep c (story.at (length log.past)) (next_instant new (story.at (length log.past)))
     step = inl passed.rests.quiet

@@ -4,7 +4,8 @@ use Rattle.std.proofs.lemmas.Bool.{true≢false}
 use Rattle.bz_layout.specs.Fresh.{fresh_words}
 use Rattle.bz_layout.specs.declared.config.Config.{Config}
 use Rattle.bz_pm.specs.Words.{Words}
-use Rattle.bz_sight.specs.Opening.{FreshMemoryIsSeen, fresh_instant}
+use Rattle.bz_sight.specs.Opening.{fresh_instant}
+use Rattle.bz_sight.proofs.Proved.{fresh_memory_is_seen}
 use Rattle.bz_sound.specs.Memory.Moments.{image_at}
 use Rattle.bz_swap.specs.Power.{IsOpened}
 use Rattle.bz_swap.specs.SwapMemory.{SwapMemory, memory_words}
@@ -19,12 +20,12 @@ images : (c : Config) (i : ℕ) → 0 ≤ i → i ≤ 0 → (fresh_instant c).im
 images c zero f l = refl
 images c (suc i) f l = absurd (omega (arith, l))
 
-pub fresh-lives : FreshMemoryIsSeen → FreshStoriesLive
-fresh-lives law c m limits fresh = record {
+pub fresh-lives : FreshStoriesLive
+fresh-lives c m limits fresh = record {
   from = omega arith;
   begins = λ w opened e. omega arith;
-  seen = (law c m fresh).seen;
-  history = record { good = λ i from to. (law c m fresh).seen.good; step = λ i from to. absurd (omega (arith, from, to)) };
+  seen = (fresh_memory_is_seen c m fresh).seen;
+  history = record { good = λ i from to. (fresh_memory_is_seen c m fresh).seen.good; step = λ i from to. absurd (omega (arith, from, to)) };
   words = opened-words m (fresh_words c) c.swaps c.workers fresh.opened;
   images = images c;
   effects = omega arith;

@@ -2,28 +2,29 @@
 use Rattle.std.proofs.Common.{◌≡◌, ◌≢◌, ℕ, ◌+◌, ◌*◌, ◌%◌, ◌^◌, ◌<◌, length, slice_index, Option, Some, None, arith, refl, sym, ap, subst, ◌∙◌}
 use Rattle.std.proofs.lemmas.List.{get_or-set_same, get_or-set_other, length-set, length-replicate}
 use Rattle.bz_content.specs.Content.{image_fault, IsWellFormed}
-use Rattle.bz_content.specs.Laws.{WellFormedImagesHaveNoFault}
 use Rattle.bz_content.specs.Resolving.{resolve}
-use Rattle.bz_layout.specs.Addresses.{AddressesFit, words_of as size_of}
+use Rattle.bz_content.proofs.Proved.{well_formed_images_have_no_fault}
+use Rattle.bz_layout.specs.Addresses.{words_of as size_of}
 use Rattle.bz_layout.specs.Config.{IsConfig}
 use Rattle.bz_layout.specs.declared.config.Config.{Config}
 use Rattle.bz_layout.specs.declared.sizes.TheConstants.{LINE_WORDS}
+use Rattle.bz_layout.proofs.Laws.{addresses_fit}
 use Rattle.bz_pm.specs.Words.{IsMemory}
 use Rattle.bz_recover.specs.Duties.{hears_in, tells_in, asks_of}
-use Rattle.bz_recover.specs.Knowledge.{RecoveriesKnow}
-use Rattle.bz_recover.specs.FromSweep.Laws.{ActsAreThese}
-use Rattle.bz_recover.specs.Laws.{IsAskable, CutsKeepTheImage}
+use Rattle.bz_recover.specs.Laws.{IsAskable}
 use Rattle.bz_recover.specs.Sweep.{IsImage}
 use Rattle.bz_recover.specs.declared.recover.Recover.{Recover}
+use Rattle.bz_recover.proofs.Proved.{acts_are_these, cuts_keep_the_image, recoveries_know}
 use Rattle.bz_sight.specs.Sight.{IsSeen}
 use Rattle.bz_swap.proofs.Fresh.{all-same}
 use Rattle.bz_swap.specs.Held.{HoldsIn, IsHeld}
-use Rattle.bz_swap.specs.PlainFields.{PlainFieldsStay, HavePlainFields}
+use Rattle.bz_swap.specs.PlainFields.{HavePlainFields}
 use Rattle.bz_swap.specs.Power.{after_cut}
 use Rattle.bz_swap.specs.Starts.{MayRecover, begins_by_flush, started}
 use Rattle.bz_swap.specs.SwapMemory.{SwapMemory, Doing, Idle, Working, idle, memory_words, doing_of}
 use Rattle.bz_swap.specs.declared.phase.Phase.{Phase}
 use Rattle.bz_swap.specs.declared.phase.Phase.TheVariants.{Opened, Running, Recovering}
+use Rattle.bz_swap.proofs.Proved.{plain_fields_stay}
 use Rattle.bz_task.specs.Instant.{Instant}
 use Rattle.bz_task.specs.declared.todo.Seen.TheVariants as seen
 use Rattle.bz_task.specs.declared.todo.Todo.{Todo}
@@ -32,32 +33,23 @@ use Rattle.bz_story.specs.Recovering.{IsInRecovery, IsOff, Turn, Asked, Started,
 use Rattle.bz_story.specs.RecoveryLaws.{CutsLeaveTheImage, RecoveriesBegin, RecoveriesGoOn, ActsMayStart}
 
 -- a memory of these sizes has whole lines
-pub whole-lines : AddressesFit → (c : Config) (m : SwapMemory) → IsConfig c → length m.cached ≡ size_of c → length m.durable ≡ size_of c → IsMemory (memory_words m)
-whole-lines fit c m config cached durable = record {
+pub whole-lines : (c : Config) (m : SwapMemory) → IsConfig c → length m.cached ≡ size_of c → length m.durable ≡ size_of c → IsMemory (memory_words m)
+whole-lines c m config cached durable = record {
   same = cached ∙ sym durable;
-  lines = subst (λ n. n % 8 ≡ 0) (sym durable) (fit c config).lines;
-  size = subst (λ n. n < 2 ^ 32) (sym durable) (fit c config).size;
+  lines = subst (λ n. n % 8 ≡ 0) (sym durable) (addresses_fit c config).lines;
+  size = subst (λ n. n < 2 ^ 32) (sym durable) (addresses_fit c config).size;
 }
 
 -- what a recovery knows of the image
-pub image-now : RecoveriesKnow → (c : Config) (v : ℕ → ℕ) (m : SwapMemory) (turn : Turn) (t : Recover) → IsRecovering c v m turn t → IsImage c v (slice_index m.durable)
-image-now know c v m turn t r = subst (λ d. IsImage d v (slice_index m.durable)) r.config (know.image t v (stage_of turn) (words_in m) r.ready r.knows)
+pub image-now : (c : Config) (v : ℕ → ℕ) (m : SwapMemory) (turn : Turn) (t : Recover) → IsRecovering c v m turn t → IsImage c v (slice_index m.durable)
+image-now c v m turn t r = subst (λ d. IsImage d v (slice_index m.durable)) r.config (recoveries_know.image t v (stage_of turn) (words_in m) r.ready r.knows)
 
 -- what it asks for lies in the memory
-pub askable-now : RecoveriesKnow → (c : Config) (v : ℕ → ℕ) (m : SwapMemory) (t : Recover) (asked : Todo) → IsRecovering c v m Asked t → asks_of t ≡ Some asked → IsAskable c asked
-askable-now know c v m t asked r e = subst (λ d. IsAskable d asked) r.config (know.askable t v (words_in m) asked r.ready r.knows e)
+pub askable-now : (c : Config) (v : ℕ → ℕ) (m : SwapMemory) (t : Recover) (asked : Todo) → IsRecovering c v m Asked t → asks_of t ≡ Some asked → IsAskable c asked
+askable-now c v m t asked r e = subst (λ d. IsAskable d asked) r.config (recoveries_know.askable t v (words_in m) asked r.ready r.knows e)
 
-pub askable-then : RecoveriesKnow → (c : Config) (v : ℕ → ℕ) (m : SwapMemory) (t : Recover) (asked : Todo) → IsRecovering c v m Started t → asks_of t ≡ Some asked → IsAskable c asked
-askable-then know c v m t asked r e = subst (λ d. IsAskable d asked) r.config (know.askable t v (words_in m) asked r.ready r.knows e)
-
--- the laws that a cut stands on
-pub record Cuts : Type 0 where
-  pub formed : WellFormedImagesHaveNoFault
-  pub fit : AddressesFit
-  pub fields : PlainFieldsStay
-  pub acts : ActsAreThese
-  pub keep : CutsKeepTheImage
-  pub know : RecoveriesKnow
+pub askable-then : (c : Config) (v : ℕ → ℕ) (m : SwapMemory) (t : Recover) (asked : Todo) → IsRecovering c v m Started t → asks_of t ≡ Some asked → IsAskable c asked
+askable-then c v m t asked r e = subst (λ d. IsAskable d asked) r.config (recoveries_know.askable t v (words_in m) asked r.ready r.knows e)
 
 -- a memory that is cut: its sizes, and an image that breaks no rule
 record MayCut (c : Config) (v : ℕ → ℕ) (m : SwapMemory) : Type 0 where
@@ -73,8 +65,8 @@ record MayCut (c : Config) (v : ℕ → ℕ) (m : SwapMemory) : Type 0 where
 rests : (m : SwapMemory) (w : ℕ) → doing_of (after_cut m) w ≡ Idle
 rests m w = ap (λ (u : Working). u.doing) (all-same (length m.workers) w idle)
 
-cut : Cuts → (c : Config) (v : ℕ → ℕ) (m : SwapMemory) → MayCut c v m → IsOff c v (after_cut m)
-cut b c v m h = record {
+cut : (c : Config) (v : ℕ → ℕ) (m : SwapMemory) → MayCut c v m → IsOff c v (after_cut m)
+cut c v m h = record {
   memory = record {
     config = h.config;
     swaps = h.swaps;
@@ -82,12 +74,12 @@ cut b c v m h = record {
     durable = h.durable;
     workers = length-replicate (length m.workers) idle ∙ h.workers;
     others = λ w some. rests m w;
-    fields = b.fields.cut m h.fields;
+    fields = plain_fields_stay.cut m h.fields;
     form = h.form;
   };
   phase = λ e. cc;
   idle = rests m 0;
-  powered = b.keep c v (words_in m) (words_in (after_cut m)) h.image (b.acts.cut (memory_words m) (whole-lines b.fit c m h.config h.cached h.durable));
+  powered = cuts_keep_the_image c v (words_in m) (words_in (after_cut m)) h.image (acts_are_these.cut (memory_words m) (whole-lines c m h.config h.cached h.durable));
 }
 
 -- outside a recovery time the memory is held
@@ -96,11 +88,11 @@ held m Opened ne h = h
 held m Running ne h = h
 held m Recovering ne h = absurd (ne refl)
 
-cut-seen : Cuts → (c : Config) (x : Instant) (m : SwapMemory) → IsSeen c m x → length m.workers ≡ c.workers + 1 → IsOff c (resolve x.image) (after_cut m)
-cut-seen b c x m seen workers =
-    let well : IsWellFormed c x.image = (b.formed c x.image).0 seen.good.form in
+cut-seen : (c : Config) (x : Instant) (m : SwapMemory) → IsSeen c m x → length m.workers ≡ c.workers + 1 → IsOff c (resolve x.image) (after_cut m)
+cut-seen c x m seen workers =
+    let well : IsWellFormed c x.image = (well_formed_images_have_no_fault c x.image).0 seen.good.form in
     let is : IsHeld m = held m m.phase seen.phase seen.holds in
-    cut b c (resolve x.image) m (record {
+    cut c (resolve x.image) m (record {
       config = seen.config;
       swaps = seen.swaps;
       cached = is.memory.same ∙ seen.size;
@@ -111,8 +103,8 @@ cut-seen b c x m seen workers =
       image = subst (IsImage c (resolve x.image)) seen.image (record { lawful = well.lawful; resolved = λ a s. refl });
     })
 
-cut-recovering : Cuts → (c : Config) (v : ℕ → ℕ) (m : SwapMemory) (turn : Turn) (t : Recover) → IsRecovering c v m turn t → IsOff c v (after_cut m)
-cut-recovering b c v m turn t r = cut b c v m (record {
+cut-recovering : (c : Config) (v : ℕ → ℕ) (m : SwapMemory) (turn : Turn) (t : Recover) → IsRecovering c v m turn t → IsOff c v (after_cut m)
+cut-recovering c v m turn t r = cut c v m (record {
   config = r.memory.config;
   swaps = r.memory.swaps;
   cached = r.memory.cached;
@@ -120,11 +112,11 @@ cut-recovering b c v m turn t r = cut b c v m (record {
   workers = r.memory.workers;
   fields = r.memory.fields;
   form = r.memory.form;
-  image = image-now b.know c v m turn t r;
+  image = image-now c v m turn t r;
 })
 
-pub cuts-leave : Cuts → CutsLeaveTheImage
-cuts-leave b = record { seen = cut-seen b; recovering = cut-recovering b }
+pub cuts-leave : CutsLeaveTheImage
+cuts-leave = record { seen = cut-seen; recovering = cut-recovering }
 
 pub begins : RecoveriesBegin
 begins c v m t off is-new = record {
@@ -153,21 +145,21 @@ goes-on c v m old new seen r next tells = record {
 }
 
 -- a start by worker 0
-start-memory : PlainFieldsStay → (c : Config) (m : SwapMemory) (d : Doing) → IsInRecovery c m → IsInRecovery c (started m 0 d)
-start-memory fields c m d h = record {
+start-memory : (c : Config) (m : SwapMemory) (d : Doing) → IsInRecovery c m → IsInRecovery c (started m 0 d)
+start-memory c m d h = record {
   config = h.config;
   swaps = h.swaps;
   cached = h.cached;
   durable = h.durable;
   workers = length-set m.workers 0 (record { doing = d; flush_next = begins_by_flush d }) ∙ h.workers;
   others = λ w some. ap (λ (u : Working). u.doing) (get_or-set_other m.workers 0 w (record { doing = d; flush_next = begins_by_flush d }) idle (omega (arith, some))) ∙ h.others w some;
-  fields = fields.start m 0 d h.fields;
+  fields = plain_fields_stay.start m 0 d h.fields;
   form = h.form;
 }
 
-start : PlainFieldsStay → (c : Config) (v : ℕ → ℕ) (m : SwapMemory) (t : Recover) (asked : Option Todo) → doing_for asked ≢ Idle → IsRecovering c v m Asked t → asks_of t ≡ asked → IsRecovering c v (started m 0 (doing_for asked)) Started t
-start fields c v m t asked busy r e = record {
-  memory = start-memory fields c m (doing_for asked) r.memory;
+start : (c : Config) (v : ℕ → ℕ) (m : SwapMemory) (t : Recover) (asked : Option Todo) → doing_for asked ≢ Idle → IsRecovering c v m Asked t → asks_of t ≡ asked → IsRecovering c v (started m 0 (doing_for asked)) Started t
+start c v m t asked busy r e = record {
+  memory = start-memory c m (doing_for asked) r.memory;
   config = r.config;
   ready = r.ready;
   phase = refl;
@@ -182,18 +174,18 @@ start fields c v m t asked busy r e = record {
 may-recover : (c : Config) (v : ℕ → ℕ) (m : SwapMemory) (t : Recover) → IsRecovering c v m Asked t → MayRecover m
 may-recover c v m t r = record { idle = r.doing; phase = r.phase }
 
-pub may-start : PlainFieldsStay → RecoveriesKnow → ActsMayStart
-may-start fields know = record {
+pub may-start : ActsMayStart
+may-start = record {
   load = λ c v m t a r e. (
-    record { zero = refl; recover = may-recover c v m t r; within = subst (λ n. a < n) (sym r.memory.cached) (askable-now know c v m t (todo.Load a) r e) },
-    start fields c v m t (Some (todo.Load a)) (λ is. cc) r e,
+    record { zero = refl; recover = may-recover c v m t r; within = subst (λ n. a < n) (sym r.memory.cached) (askable-now c v m t (todo.Load a) r e) },
+    start c v m t (Some (todo.Load a)) (λ is. cc) r e,
   );
   store = λ c v m t a x r e. (
-    record { recover = may-recover c v m t r; within = subst (λ n. a < n) (sym r.memory.cached) (askable-now know c v m t (todo.Store a x) r e).0 },
-    start fields c v m t (Some (todo.Store a x)) (λ is. cc) r e,
+    record { recover = may-recover c v m t r; within = subst (λ n. a < n) (sym r.memory.cached) (askable-now c v m t (todo.Store a x) r e).0 },
+    start c v m t (Some (todo.Store a x)) (λ is. cc) r e,
   );
   flush = λ c v m t line r e. (
-    record { recover = may-recover c v m t r; within = subst (λ n. line * LINE_WORDS < n) (sym r.memory.cached) (askable-now know c v m t (todo.Flush line) r e) },
-    start fields c v m t (Some (todo.Flush line)) (λ is. cc) r e,
+    record { recover = may-recover c v m t r; within = subst (λ n. line * LINE_WORDS < n) (sym r.memory.cached) (askable-now c v m t (todo.Flush line) r e) },
+    start c v m t (Some (todo.Flush line)) (λ is. cc) r e,
   );
 }

@@ -20,9 +20,9 @@ use Rattle.bz_pm.specs.State.{State}
 use Rattle.bz_pm.specs.Words.{Words}
 use Rattle.bz_recover.specs.Contents.{SaysTheSame}
 use Rattle.bz_recover.specs.Duties.{acts_left}
-use Rattle.bz_recover.specs.Knowledge.{RecoveriesKnow}
 use Rattle.bz_recover.specs.Walking.{IsTreeOf, AreReached}
 use Rattle.bz_recover.specs.declared.recover.Recover.{Recover}
+use Rattle.bz_recover.proofs.Proved.{recoveries_know}
 use Rattle.bz_sight.specs.Renewal.{renewed_instant}
 use Rattle.bz_sight.specs.Sight.{IsSeen}
 use Rattle.bz_sound.specs.Calls.{Open, open_call, map_after}
@@ -35,11 +35,14 @@ use Rattle.bz_swap.specs.Power.{renewed}
 use Rattle.bz_swap.specs.Steps.{IsRawStep, StepsIn}
 use Rattle.bz_swap.specs.SwapMemory.{SwapMemory, memory_words}
 use Rattle.bz_story.specs.Living.{IsLiving}
-use Rattle.bz_story.proofs.Powering.{image-now}
+use Rattle.bz_story.proofs.Powering.{image-now, begins, cuts-leave}
 use Rattle.bz_story.specs.Recovering.{IsRecovering, Turn, Asked, Made, words_in}
-use Rattle.bz_story.specs.RecoveryLaws.{CutsLeaveTheImage, ImagesAreOff, RecoveriesBegin, ActsRecover, Recovers, EvictionsLeaveRecoveries, StaysRecovering, RecoveriesRevive, IsRevived}
+use Rattle.bz_story.specs.RecoveryLaws.{Recovers, StaysRecovering, IsRevived}
 use Rattle.bz_mark.specs.Counts.{acts_by}
 use Rattle.bz_story.specs.Reviving.{to_come, IsRecoveringIn, CutsAreMarked, ImagesOpenJournals, PowerOnIsMarked, TurnsMakeNoMark, mark_of, StillDecodes, ActsAreMarked, EvictionsAreMarked, renewed_story, RecoveriesGiveLife, WalksEnd}
+use Rattle.bz_story.proofs.Booting.{images-off}
+use Rattle.bz_story.proofs.Recoveries.{acts-recover, evictions-leave}
+use Rattle.bz_story.proofs.Revivals.{revives}
 
 -- what holds what another image holds, which holds what a third one holds
 says-as : (c : Config) (x y z : ℕ → ℕ) → SaysTheSame c x y → SaysTheSame c y z → SaysTheSame c x z
@@ -112,26 +115,26 @@ marked c v old new log mark turn next t r k recovering spent = record {
   spent = omega (arith, spent, r.spent);
 }
 
-pub cuts-marked : CutsLeaveTheImage → CutsAreMarked
-cuts-marked law = record {
+pub cuts-marked : CutsAreMarked
+cuts-marked = record {
   living = λ c m log story l workers. record {
-    off = law.seen c (story.at (length log.past)) m l.seen workers;
+    off = cuts-leave.seen c (story.at (length log.past)) m l.seen workers;
     words = ap words_after_cut l.words;
     calls = λ w. refl;
   };
   recovering = λ c v m log turn t r. record {
-    off = law.recovering c v m turn t r.recovering;
+    off = cuts-leave.recovering c v m turn t r.recovering;
     words = ap words_after_cut r.words;
     calls = λ w. refl;
   };
 }
 
-pub images-open : ImagesAreOff → ImagesOpenJournals
-images-open law c m image limits config size none is = record { off = law c m image config size none is; words = ap memory_words is.is; calls = λ w. refl }
+pub images-open : ImagesOpenJournals
+images-open c m image limits config size none is = record { off = images-off c m image config size none is; words = ap memory_words is.is; calls = λ w. refl }
 
-pub on-marked : RecoveriesBegin → PowerOnIsMarked
-on-marked law c v m log t off is-new = record {
-  recovering = (law c v m t off.off is-new).recovering;
+pub on-marked : PowerOnIsMarked
+on-marked c v m log t off is-new = record {
+  recovering = (begins c v m t off.off is-new).recovering;
   words = off.words;
   calls = off.calls;
   same = subst (λ (w : Words). SaysTheSame c (slice_index w.durable) (slice_index m.durable)) off.words (record { well_formed = off.off.memory.form; inside = λ k. refl; content = λ key. refl });
@@ -151,10 +154,10 @@ turns c v m n log turn next t u r words recovering fewer = record {
   spent = omega (arith, fewer, r.spent);
 }
 
-pub acts-marked : ActsRecover → ActsAreMarked
-acts-marked law c v old new log t made answer told r s =
+pub acts-marked : ActsAreMarked
+acts-marked c v old new log t made answer told r s =
     let raw : IsRawStep old 0 made answer told new = subst (λ p. StepsIn p old 0 made answer told new) r.recovering.phase s in
-    let done : Recovers c v old new t made answer told = law c v old new t made answer told r.recovering s in
+    let done : Recovers c v old new t made answer told = acts-recover c v old new t made answer told r.recovering s in
     let k : Keeps c old new log (mark_of 0 made) = record {
       quiet = act-quiet log.start log.past made;
       before = r.words;
@@ -170,9 +173,9 @@ acts-marked law c v old new log t made answer told r s =
       decodes = still-decodes c old new log (mark_of 0 made) k;
     }
 
-pub evictions-marked : EvictionsLeaveRecoveries → EvictionsAreMarked
-evictions-marked law c v old new log turn t a told r within h =
-    let stays : StaysRecovering c v old new turn t told = law c v old new turn t a told r.recovering within h in
+pub evictions-marked : EvictionsAreMarked
+evictions-marked c v old new log turn t a told r within h =
+    let stays : StaysRecovering c v old new turn t told = evictions-leave c v old new turn t a told r.recovering within h in
     let words : memory_words new ≡ evicted (memory_words old) a = ap memory_words h.is in
     let k : Keeps c old new log (Evict a) = record {
       quiet = evict-quiet log.start log.past a;
@@ -213,21 +216,21 @@ lives c v m log t r seen = record {
   stored = λ w k e. absurd (true≢false (sym e));
 }
 
-pub gives-life : RecoveriesRevive → RecoveriesGiveLife
-gives-life law c v m log t r e =
-    let revived : IsRevived c m = law c v m t r.recovering e in
+pub gives-life : RecoveriesGiveLife
+gives-life c v m log t r e =
+    let revived : IsRevived c m = revives c v m t r.recovering e in
     record { revived = revived; untaken = r.untaken; unstored = r.unstored; living = λ holds. lives c v m log t r (revived.seen holds) }
 
 -- the slots that the recovery's walk has held
-pub walks-end : RecoveriesKnow → WalksEnd
-walks-end know c v m log t slots r e nodes walks = record {
+pub walks-end : WalksEnd
+walks-end c v m log t slots r e nodes walks = record {
   nodes = nodes;
   free = λ k l. subst (λ (b : Bool). Contains slots.free k ↔ (b ≡ false)) (r.same.inside k) (held.free k l);
 }
   where
     tree : IsTreeOf c v (slice_index m.durable)
-    tree = record { is = image-now know c v m Asked t r.recovering; none = r.recovering.memory.form }
+    tree = record { is = image-now c v m Asked t r.recovering; none = r.recovering.memory.form }
 
     held : AreReached c (slice_index m.durable) slots
     held = subst (λ (d : Config). AreReached d (slice_index m.durable) slots) r.recovering.config
-        (know.reached t v (slice_index m.durable) slots r.recovering.ready (nodes ∙ ap (λ (d : Config). d.nodes) (sym r.recovering.config)) walks (subst (λ (d : Config). IsTreeOf d v (slice_index m.durable)) (sym r.recovering.config) tree) (know.finishes t e))
+        (recoveries_know.reached t v (slice_index m.durable) slots r.recovering.ready (nodes ∙ ap (λ (d : Config). d.nodes) (sym r.recovering.config)) walks (subst (λ (d : Config). IsTreeOf d v (slice_index m.durable)) (sym r.recovering.config) tree) (recoveries_know.finishes t e))

@@ -4,26 +4,25 @@ use Rattle.bz_acts.specs.Rule.{after_act, FoundRightly}
 use Rattle.bz_acts.specs.declared.acted.Act.{Act}
 use Rattle.bz_acts.specs.declared.acted.Act.TheVariants as act
 use Rattle.bz_content.specs.Content.{image_fault}
-use Rattle.bz_layout.specs.Addresses.{AddressesFit, line_of, words_of as size_of}
+use Rattle.bz_layout.specs.Addresses.{line_of, words_of as size_of}
 use Rattle.bz_layout.specs.declared.config.Config.{Config}
 use Rattle.bz_layout.specs.declared.sizes.TheConstants.{LINE_WORDS}
 use Rattle.bz_machine.specs.declared.done.Done.{Done}
 use Rattle.bz_machine.specs.declared.done.Done.TheVariants as done
 use Rattle.bz_pm.specs.Acts.{stored, flushed, evicted}
 use Rattle.bz_pm.specs.Words.{Words, IsMemory}
-use Rattle.bz_recover.specs.Contents.{ResolvesSome, SaysTheSame, ResolvingKeepsTheContent}
+use Rattle.bz_recover.specs.Contents.{ResolvesSome, SaysTheSame}
 use Rattle.bz_recover.specs.Duties.{config_of, asks_of, acts_left, Knows, hears_in, tells_in}
-use Rattle.bz_recover.specs.Knowledge.{RecoveriesKnow, ActsLeftStay}
-use Rattle.bz_recover.specs.FromSweep.Laws.{ActsAreThese}
 use Rattle.bz_recover.specs.FromSweep.Memory.{StoresWord, Flushes, Evicts, memory_of}
 use Rattle.bz_recover.specs.declared.recover.Recover.{Recover}
+use Rattle.bz_recover.proofs.Proved.{acts_are_these, acts_left_stay, recoveries_know, resolving_keeps_the_content}
 use Rattle.bz_swap.specs.Evictions.{EvictsIn}
-use Rattle.bz_swap.specs.PlainFields.{PlainFieldsStay, WritesPlain}
-use Rattle.bz_swap.specs.Sizes.{SizesStay}
+use Rattle.bz_swap.specs.PlainFields.{WritesPlain}
 use Rattle.bz_swap.specs.Steps.{IsAnswer, IsRawStep, StepsIn, doing_after}
 use Rattle.bz_swap.specs.SwapMemory.{SwapMemory, Idle, Swapping, Working, memory_words, doing_of}
 use Rattle.bz_swap.specs.declared.phase.Phase.{Phase}
 use Rattle.bz_swap.specs.declared.phase.Phase.TheVariants.{Opened, Running, Recovering}
+use Rattle.bz_swap.proofs.Proved.{plain_fields_stay, sizes_stay}
 use Rattle.bz_task.specs.Scene.{Waiting, Took}
 use Rattle.bz_task.specs.declared.todo.Todo.{Todo}
 use Rattle.bz_task.specs.declared.todo.Todo.TheVariants as todo
@@ -31,30 +30,20 @@ use Rattle.bz_story.specs.Recovering.{IsInRecovery, Turn, Asked, Started, Made, 
 use Rattle.bz_story.specs.RecoveryLaws.{IsAsked, seen_of, Recovers, ActsRecover, EvictionsLeaveRecoveries}
 use Rattle.bz_story.proofs.Powering.{whole-lines, askable-then}
 
--- the laws that these proofs stand on
-pub record Laws : Type 0 where
-  pub fit : AddressesFit
-  pub fields : PlainFieldsStay
-  pub sizes : SizesStay
-  pub acts : ActsAreThese
-  pub know : RecoveriesKnow
-  pub left : ActsLeftStay
-  pub content : ResolvingKeepsTheContent
-
 -- an image holds what it holds
 holds-itself : (c : Config) (x : ℕ → ℕ) → image_fault c x ≡ None → SaysTheSame c x x
 holds-itself c x form = record { well_formed = form; inside = λ k. refl; content = λ key. refl }
 
 -- where words became what they stand for
-resolved : Laws → (c : Config) (v : ℕ → ℕ) (old new : SwapMemory) (turn : Turn) (t : Recover) (w : Words) → IsRecovering c v old turn t → memory_words new ≡ w → ResolvesSome (config_of t) v (slice_index old.durable) (slice_index w.durable)
+resolved : (c : Config) (v : ℕ → ℕ) (old new : SwapMemory) (turn : Turn) (t : Recover) (w : Words) → IsRecovering c v old turn t → memory_words new ≡ w → ResolvesSome (config_of t) v (slice_index old.durable) (slice_index w.durable)
     → SaysTheSame c (slice_index old.durable) (slice_index new.durable)
-resolved b c v old new turn t w r words h =
+resolved c v old new turn t w r words h =
     subst (λ (z : Words). SaysTheSame c (slice_index old.durable) (slice_index z.durable)) (sym words)
-    (b.content c v (slice_index old.durable) (slice_index w.durable) r.memory.form (subst (λ d. ResolvesSome d v (slice_index old.durable) (slice_index w.durable)) r.config h))
+    (resolving_keeps_the_content c v (slice_index old.durable) (slice_index w.durable) r.memory.form (subst (λ d. ResolvesSome d v (slice_index old.durable) (slice_index w.durable)) r.config h))
 
-module _ (b : Laws) (c : Config) (v : ℕ → ℕ) (old new : SwapMemory) (t : Recover) (made : Act) (answer : Done) (told : Option ℕ) (r : IsRecovering c v old Started t) (s : IsRawStep old 0 made answer told new) where
+module _ (c : Config) (v : ℕ → ℕ) (old new : SwapMemory) (t : Recover) (made : Act) (answer : Done) (told : Option ℕ) (r : IsRecovering c v old Started t) (s : IsRawStep old 0 made answer told new) where
   lines : IsMemory (memory_words old)
-  lines = whole-lines b.fit c old r.memory.config r.memory.cached r.memory.durable
+  lines = whole-lines c old r.memory.config r.memory.cached r.memory.durable
 
   -- what no act changes, where it writes plain words and leaves what the durable words hold
   memory : WritesPlain made → SaysTheSame c (slice_index old.durable) (slice_index new.durable) → IsInRecovery c new
@@ -62,10 +51,10 @@ module _ (b : Laws) (c : Config) (v : ℕ → ℕ) (old new : SwapMemory) (t : R
     config = r.memory.config;
     swaps = s.one.others.swaps ∙ r.memory.swaps;
     cached = s.one.others.size ∙ r.memory.cached;
-    durable = sym (b.sizes.step old new 0 made answer s.one lines).same ∙ (s.one.others.size ∙ r.memory.cached);
+    durable = sym (sizes_stay.step old new 0 made answer s.one lines).same ∙ (s.one.others.size ∙ r.memory.cached);
     workers = s.one.others.count ∙ r.memory.workers;
     others = λ w some. ap (λ (u : Working). u.doing) (s.one.others.workers w (omega (arith, some))) ∙ r.memory.others w some;
-    fields = b.fields.recovery old new 0 made answer told lines s plain r.memory.fields;
+    fields = plain_fields_stay.recovery old new 0 made answer told lines s plain r.memory.fields;
     form = same.well_formed;
   }
 
@@ -96,7 +85,7 @@ module _ (b : Laws) (c : Config) (v : ℕ → ℕ) (old new : SwapMemory) (t : R
       phase = not-running;
       busy = tt;
       doing = s.one.doing ∙ subst (λ d. doing_after (doing_of old 0) d ≡ Idle) (sym is) refl;
-      knows = known (memory_words old) words (b.know.loaded t v (words_in old) a r.ready e r.knows);
+      knows = known (memory_words old) words (recoveries_know.loaded t v (words_in old) a r.ready e r.knows);
     };
     left = ap (λ (z : Words). acts_left t (memory_of z)) words;
     same = same;
@@ -109,7 +98,7 @@ module _ (b : Laws) (c : Config) (v : ℕ → ℕ) (old new : SwapMemory) (t : R
       found = subst (FoundRightly (memory_words old)) load s.one.act.found
 
       fits : x < 2 ^ 64
-      fits = subst (λ n. n < 2 ^ 64) (sym found) (b.know.words t v Waiting (words_in old) a r.ready r.knows (b.know.askable t v (words_in old) (todo.Load a) r.ready r.knows e))
+      fits = subst (λ n. n < 2 ^ 64) (sym found) (recoveries_know.words t v Waiting (words_in old) a r.ready r.knows (recoveries_know.askable t v (words_in old) (todo.Load a) r.ready r.knows e))
 
       same : SaysTheSame c (slice_index old.durable) (slice_index new.durable)
       same = unchanged (memory_words old) words refl
@@ -127,20 +116,20 @@ module _ (b : Laws) (c : Config) (v : ℕ → ℕ) (old new : SwapMemory) (t : R
       phase = not-running;
       busy = tt;
       doing = s.one.doing ∙ subst (λ d. doing_after (doing_of old 0) d ≡ Idle) (sym is) refl;
-      knows = known (stored (memory_words old) a x) words (b.know.stored t v (words_in old) (memory_of (stored (memory_words old) a x)) a x r.ready e r.knows changes);
+      knows = known (stored (memory_words old) a x) words (recoveries_know.stored t v (words_in old) (memory_of (stored (memory_words old) a x)) a x r.ready e r.knows changes);
     };
-    left = ap (λ (z : Words). acts_left t (memory_of z)) words ∙ b.left.stored t (words_in old) (memory_of (stored (memory_words old) a x)) a x changes;
+    left = ap (λ (z : Words). acts_left t (memory_of z)) words ∙ acts_left_stay.stored t (words_in old) (memory_of (stored (memory_words old) a x)) a x changes;
     same = same;
   }
     where
       may : (a < size_of c) × (x < 2 ^ 61)
-      may = askable-then b.know c v old t (todo.Store a x) r e
+      may = askable-then c v old t (todo.Store a x) r e
 
       words : memory_words new ≡ stored (memory_words old) a x
       words = after (act.Store a x) store
 
       changes : StoresWord (words_in old) (memory_of (stored (memory_words old) a x)) a x
-      changes = b.acts.store (memory_words old) a x lines (subst (λ n. a < n) (sym r.memory.cached) may.0) (omega (arith, may.1))
+      changes = acts_are_these.store (memory_words old) a x lines (subst (λ n. a < n) (sym r.memory.cached) may.0) (omega (arith, may.1))
 
       same : SaysTheSame c (slice_index old.durable) (slice_index new.durable)
       same = unchanged (stored (memory_words old) a x) words refl
@@ -158,23 +147,23 @@ module _ (b : Laws) (c : Config) (v : ℕ → ℕ) (old new : SwapMemory) (t : R
       phase = not-running;
       busy = tt;
       doing = s.one.doing ∙ subst (λ d. doing_after (doing_of old 0) d ≡ Idle) (sym is) refl;
-      knows = known (flushed (memory_words old) line) words (b.know.flushed t v (words_in old) (memory_of (flushed (memory_words old) line)) line r.ready e r.knows changes);
+      knows = known (flushed (memory_words old) line) words (recoveries_know.flushed t v (words_in old) (memory_of (flushed (memory_words old) line)) line r.ready e r.knows changes);
     };
-    left = ap (λ (z : Words). acts_left t (memory_of z)) words ∙ b.left.copied t v Waiting (words_in old) (memory_of (flushed (memory_words old) line)) (λ k. line_of k == line) r.knows changes;
+    left = ap (λ (z : Words). acts_left t (memory_of z)) words ∙ acts_left_stay.copied t v Waiting (words_in old) (memory_of (flushed (memory_words old) line)) (λ k. line_of k == line) r.knows changes;
     same = same;
   }
     where
       may : line * LINE_WORDS < size_of c
-      may = askable-then b.know c v old t (todo.Flush line) r e
+      may = askable-then c v old t (todo.Flush line) r e
 
       words : memory_words new ≡ flushed (memory_words old) line
       words = after (act.Flush line) flush
 
       changes : Flushes (words_in old) (memory_of (flushed (memory_words old) line)) line
-      changes = b.acts.flush (memory_words old) line lines (subst (λ n. line * LINE_WORDS < n) (sym r.memory.cached) may)
+      changes = acts_are_these.flush (memory_words old) line lines (subst (λ n. line * LINE_WORDS < n) (sym r.memory.cached) may)
 
       same : SaysTheSame c (slice_index old.durable) (slice_index new.durable)
-      same = resolved b c v old new Started t (flushed (memory_words old) line) r words (b.know.resolves t v Waiting (words_in old) (memory_of (flushed (memory_words old) line)) (λ k. line_of k == line) r.ready r.knows changes)
+      same = resolved c v old new Started t (flushed (memory_words old) line) r words (recoveries_know.resolves t v Waiting (words_in old) (memory_of (flushed (memory_words old) line)) (λ k. line_of k == line) r.ready r.knows changes)
 
   -- by what was asked for
   by-asked : (q : Option Todo) (d : Done) → asks_of t ≡ q → answer ≡ d → IsAnswer new (doing_for q) made d → Recovers c v old new t made answer told
@@ -198,10 +187,10 @@ module _ (b : Laws) (c : Config) (v : ℕ → ℕ) (old new : SwapMemory) (t : R
   by-asked (Some todo.Finish) d e is h = absurd h
   by-asked None d e is h = absurd h
 
-pub acts-recover : Laws → ActsRecover
-acts-recover b c v old new t made answer told r s =
+pub acts-recover : ActsRecover
+acts-recover c v old new t made answer told r s =
     let raw : IsRawStep old 0 made answer told new = subst (λ p. StepsIn p old 0 made answer told new) r.phase s in
-    by-asked b c v old new t made answer told r raw (asks_of t) answer refl refl (subst (λ d. IsAnswer new d made answer) r.doing raw.one.answer)
+    by-asked c v old new t made answer told r raw (asks_of t) answer refl refl (subst (λ d. IsAnswer new d made answer) r.doing raw.one.answer)
 
 -- no eviction gives a swap its effect, as nobody makes one
 idle-quiet : (old new : SwapMemory) (p : Phase) (told : Option ℕ) → p ≢ Running → ((w : ℕ) → doing_of old w ≡ Idle) → EvictsIn p old told new → told ≡ None
@@ -220,18 +209,18 @@ evicts-quietly c v old new Started t told r h = subst (λ p. EvictsIn p old told
 evicts-quietly c v old new Made t told r h = idle-quiet old new old.phase told r.phase (all-idle c old r.memory r.doing) h
 
 -- evictions
-pub evictions-leave : Laws → EvictionsLeaveRecoveries
-evictions-leave b c v old new turn t a told r within h = record {
+pub evictions-leave : EvictionsLeaveRecoveries
+evictions-leave c v old new turn t a told r within h = record {
   quiet = evicts-quietly c v old new turn t told r h.effect;
   recovering = record {
     memory = record {
       config = r.memory.config;
       swaps = ap (λ (z : SwapMemory). z.swaps) h.is ∙ r.memory.swaps;
       cached = cached;
-      durable = sym (b.sizes.eviction old new a told h lines).same ∙ cached;
+      durable = sym (sizes_stay.eviction old new a told h lines).same ∙ cached;
       workers = ap (λ (z : SwapMemory). length z.workers) h.is ∙ r.memory.workers;
       others = λ w some. ap (λ z. doing_of z w) h.is ∙ r.memory.others w some;
-      fields = b.fields.eviction old new a told h r.memory.fields;
+      fields = plain_fields_stay.eviction old new a told h r.memory.fields;
       form = same.well_formed;
     };
     config = r.config;
@@ -239,14 +228,14 @@ evictions-leave b c v old new turn t a told r within h = record {
     phase = subst (IsPhaseIn turn) (sym (ap (λ (z : SwapMemory). z.phase) h.is)) r.phase;
     doing = ap (λ z. doing_of z 0) h.is ∙ r.doing;
     busy = subst (IsBusyIn turn) (sym (ap (λ z. doing_of z 0) h.is)) r.busy;
-    knows = subst (λ z. Knows t v (stage_of turn) (memory_of z)) (sym words) (b.know.stable t v (stage_of turn) (words_in old) (memory_of (evicted (memory_words old) a)) (λ k. k == a) r.ready r.knows evicts);
+    knows = subst (λ z. Knows t v (stage_of turn) (memory_of z)) (sym words) (recoveries_know.stable t v (stage_of turn) (words_in old) (memory_of (evicted (memory_words old) a)) (λ k. k == a) r.ready r.knows evicts);
   };
-  left = ap (λ (z : Words). acts_left t (memory_of z)) words ∙ b.left.copied t v (stage_of turn) (words_in old) (memory_of (evicted (memory_words old) a)) (λ k. k == a) r.knows evicts;
+  left = ap (λ (z : Words). acts_left t (memory_of z)) words ∙ acts_left_stay.copied t v (stage_of turn) (words_in old) (memory_of (evicted (memory_words old) a)) (λ k. k == a) r.knows evicts;
   same = same;
 }
   where
     lines : IsMemory (memory_words old)
-    lines = whole-lines b.fit c old r.memory.config r.memory.cached r.memory.durable
+    lines = whole-lines c old r.memory.config r.memory.cached r.memory.durable
 
     words : memory_words new ≡ evicted (memory_words old) a
     words = ap memory_words h.is
@@ -255,7 +244,7 @@ evictions-leave b c v old new turn t a told r within h = record {
     cached = ap (λ (z : SwapMemory). length z.cached) h.is ∙ r.memory.cached
 
     evicts : Evicts (words_in old) (memory_of (evicted (memory_words old) a)) a
-    evicts = b.acts.evict (memory_words old) a lines within
+    evicts = acts_are_these.evict (memory_words old) a lines within
 
     same : SaysTheSame c (slice_index old.durable) (slice_index new.durable)
-    same = resolved b c v old new turn t (evicted (memory_words old) a) r words (b.know.resolves t v (stage_of turn) (words_in old) (memory_of (evicted (memory_words old) a)) (λ k. k == a) r.ready r.knows evicts)
+    same = resolved c v old new turn t (evicted (memory_words old) a) r words (recoveries_know.resolves t v (stage_of turn) (words_in old) (memory_of (evicted (memory_words old) a)) (λ k. k == a) r.ready r.knows evicts)

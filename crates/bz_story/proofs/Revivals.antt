@@ -7,11 +7,10 @@ use Rattle.bz_cells.specs.Store.{status_at, status_of}
 use Rattle.bz_layout.specs.declared.config.Config.{Config}
 use Rattle.bz_machine.specs.Machine.{is_succeeded}
 use Rattle.bz_machine.specs.declared.status.SwapStatus.TheVariants.{Free}
-use Rattle.bz_recover.specs.Knowledge.{RecoveriesKnow}
-use Rattle.bz_recover.specs.Laws.{RecoveredMemoriesMayBeRenewed}
 use Rattle.bz_recover.specs.Sweep.{IsRecovered}
 use Rattle.bz_recover.specs.declared.recover.Recover.{Recover}
-use Rattle.bz_sight.specs.Renewal.{RenewedMemoriesAreSeen}
+use Rattle.bz_recover.proofs.Proved.{recovered_memories_may_be_renewed, recoveries_know}
+use Rattle.bz_sight.proofs.Proved.{renewed_memories_are_seen}
 use Rattle.bz_swap.specs.Power.{AreRecovered, MayRenew}
 use Rattle.bz_swap.specs.SwapMemory.{SwapMemory, Idle, doing_of}
 use Rattle.bz_task.specs.Scene.{Waiting}
@@ -40,15 +39,15 @@ free-unused swaps words h s = elim (cases_lt s swaps) [
       ap is_succeeded free)
 ]
 
-pub revives : RecoveriesKnow → RecoveredMemoriesMayBeRenewed → RenewedMemoriesAreSeen → RecoveriesRevive
-revives know may seen c v m t r e =
-    let end : IsRecovered c v (words_in m) = subst (λ d. IsRecovered d v (words_in m)) r.config (know.ends t v Waiting (words_in m) r.ready r.knows (know.finishes t e)) in
-    let renewable : MayRenew m = may c v m r.memory.swaps r.memory.cached r.memory.durable (all-idle c v m t r) end in
+pub revives : RecoveriesRevive
+revives c v m t r e =
+    let end : IsRecovered c v (words_in m) = subst (λ d. IsRecovered d v (words_in m)) r.config (recoveries_know.ends t v Waiting (words_in m) r.ready r.knows (recoveries_know.finishes t e)) in
+    let renewable : MayRenew m = recovered_memories_may_be_renewed c v m r.memory.swaps r.memory.cached r.memory.durable (all-idle c v m t r) end in
     record {
       may_renew = renewable;
       untaken = λ s number taken. taken (renewable.cached.free s (subst (λ n. s < n) (sym r.memory.swaps) number));
       unused = λ s. free-unused m.swaps m.durable renewable.durable s;
-      seen = λ holds. seen c m (record {
+      seen = λ holds. renewed_memories_are_seen c m (record {
         config = r.memory.config;
         swaps = r.memory.swaps;
         size = r.memory.durable;

@@ -4,13 +4,14 @@ use Rattle.std.proofs.lemmas.Bool.Decides.{nat_tests}
 use Rattle.bz_layout.specs.Addresses.{node_address, words_of as size_of}
 use Rattle.bz_layout.specs.declared.config.Config.{Config}
 use Rattle.bz_mark.specs.Log.{Log}
-use Rattle.bz_sight.specs.Laws.{HiddenWordsAreValues}
 use Rattle.bz_sight.specs.Starts.{Sees}
+use Rattle.bz_sight.proofs.Proved.{hidden_words_are_values}
 use Rattle.bz_sound.specs.Calls.{Open}
 use Rattle.bz_swap.specs.SwapMemory.{SwapMemory}
 use Rattle.bz_task.specs.Instant.{Instant}
-use Rattle.bz_task.specs.Others.{AreApart, IsOfReached, SharersOfNothingAreApart}
+use Rattle.bz_task.specs.Others.{AreApart, IsOfReached}
 use Rattle.bz_task.specs.Scene.{Scene, IsOfTaken, IsMine}
+use Rattle.bz_task.proofs.Proved.{sharers_of_nothing_are_apart}
 use Rattle.bz_story.specs.Laws.{ScenesAreSeen, HasBegun}
 use Rattle.bz_story.specs.Living.{IsLiving, IsInBlock}
 use Rattle.bz_story.specs.Story.{Story, scene, and_then}
@@ -22,7 +23,7 @@ now-is at n y = let t : (suc n == suc n) ≡ true = grind (arith, nat_tests) in 
 pub before-is : (at : ℕ → Instant) (n m : ℕ) (y : Instant) → m ≤ n → and_then at n y m ≡ at m
 before-is at n m y l = let t : (m == suc n) ≡ false = grind (arith, nat_tests) in rw t refl
 
-module _ (law : HiddenWordsAreValues) (c : Config) (m : SwapMemory) (log : Log) (story : Story) (w since : ℕ) (opened : Open) (living : IsLiving c m log story) (begun : HasBegun log story since) where
+module _ (c : Config) (m : SwapMemory) (log : Log) (story : Story) (w since : ℕ) (opened : Open) (living : IsLiving c m log story) (begun : HasBegun log story since) where
   s : Scene
   s = scene c log.past story w since opened
 
@@ -38,7 +39,7 @@ module _ (law : HiddenWordsAreValues) (c : Config) (m : SwapMemory) (log : Log) 
   own : (a : ℕ) → IsMine (scene c log.past story w since opened) a → (node_address c 0 ≤ a) × ((a < size_of c) × ((story.at (length log.past)).value a < 2 ^ 61))
   own a mine =
       let place : (node_address c 0 ≤ a) × (a < size_of c) = in-slot a mine.own in
-      (place.0, (place.1, law c (story.at (length log.past)) m a living.seen (record { in_slots = place.0; unread = mine.hidden })))
+      (place.0, (place.1, hidden_words_are_values c (story.at (length log.past)) m a living.seen (record { in_slots = place.0; unread = mine.hidden })))
 
   sees : Sees c (story.at (length log.past)) (scene c log.past story w since opened)
   sees = record {
@@ -55,12 +56,12 @@ module _ (law : HiddenWordsAreValues) (c : Config) (m : SwapMemory) (log : Log) 
     here = refl;
   }
 
-pub scenes-seen : HiddenWordsAreValues → ScenesAreSeen
-scenes-seen law c m log story w since opened living begun = sees law c m log story w since opened living begun
+pub scenes-seen : ScenesAreSeen
+scenes-seen c m log story w since opened living begun = sees c m log story w since opened living begun
 
 -- what one worker reserved or took is nobody else's
-pub scenes-apart : SharersOfNothingAreApart → (c : Config) (m : SwapMemory) (log : Log) (story : Story) (w v since other_since : ℕ) (opened other : Open) → IsLiving c m log story → w ≢ v → AreApart (scene c log.past story w since opened) (scene c log.past story v other_since other)
-scenes-apart law c m log story w v since other_since opened other living ne = law (scene c log.past story w since opened) (scene c log.past story v other_since other) (record {
+pub scenes-apart : (c : Config) (m : SwapMemory) (log : Log) (story : Story) (w v since other_since : ℕ) (opened other : Open) → IsLiving c m log story → w ≢ v → AreApart (scene c log.past story w since opened) (scene c log.past story v other_since other)
+scenes-apart c m log story w v since other_since opened other living ne = sharers_of_nothing_are_apart (scene c log.past story w since opened) (scene c log.past story v other_since other) (record {
   config = refl;
   here = refl;
   took = λ k p q. ne (living.took_apart w v k p q);

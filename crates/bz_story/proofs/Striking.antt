@@ -3,33 +3,35 @@ use Rattle.std.proofs.Common.{◌≡◌, ◌≢◌, ℕ, suc, ◌+◌, ◌<◌, 
 use Rattle.std.specs.Prelude.{All, nat_le, nat_lt, is_some}
 use Rattle.std.proofs.lemmas.Bool.{true≢false}
 use Rattle.std.proofs.lemmas.Bool.Decides.{nat_tests}
-use Rattle.bz_layout.specs.Addresses.{node_address, slot_of, node_word_of, SlotsApart}
+use Rattle.bz_layout.specs.Addresses.{node_address, slot_of, node_word_of}
 use Rattle.bz_layout.specs.declared.config.Config.{Config}
 use Rattle.bz_layout.specs.declared.sizes.TheConstants.{NODE_WORDS, STATUS_AT}
+use Rattle.bz_layout.proofs.Laws.{slots_apart}
 use Rattle.bz_content.specs.Image.{node}
 use Rattle.bz_mark.specs.Log.{Log, with_mark}
 use Rattle.bz_mark.specs.declared.marks.Mark.{Mark}
-use Rattle.bz_sight.specs.Effects.{TookPlace, EffectsTakePlace, KeepsOwn, EffectsKeepOwn, effect_instant}
+use Rattle.bz_sight.specs.Effects.{TookPlace, KeepsOwn, effect_instant}
 use Rattle.bz_sight.specs.Sight.{IsSeen}
 use Rattle.bz_sight.specs.Starts.{Sees}
+use Rattle.bz_sight.proofs.Proved.{effects_keep_own, effects_take_place}
 use Rattle.bz_sound.specs.Calls.{Open}
 use Rattle.bz_sound.specs.Memory.Spent.{is_reached_in}
 use Rattle.bz_sound.specs.Power.Times.{image_at_on}
 use Rattle.bz_swap.specs.EntryLists.{AreRising}
 use Rattle.bz_swap.specs.SwapMemory.{SwapMemory, entries_of, is_target}
 use Rattle.bz_task.specs.Instant.{Instant, IsDurableAt, words, page_at}
-use Rattle.bz_task.specs.Others.{AreApart, SharersOfNothingAreApart, Watches, EffectsAreLawful}
+use Rattle.bz_task.specs.Others.{AreApart, Watches}
 use Rattle.bz_task.specs.Requests.{IsTarget}
 use Rattle.bz_task.specs.Scene.{Scene, IsMine, IsLawful, here}
 use Rattle.bz_task.specs.Swaps.{Change, SwapsTo, ShowsSettled, Takes, swapped, grows_over, reserves}
-use Rattle.bz_task.proofs.Proved.{good_swaps_show_settled}
+use Rattle.bz_task.proofs.Proved.{good_swaps_show_settled, effects_are_lawful}
 use Rattle.bz_word.specs.Statuses.{status}
 use Rattle.bz_word.specs.declared.entry.Entry.{Entry}
-use Rattle.bz_story.specs.Laws.{HasBegun, ScenesAreSeen, Strikes, EffectsAreTold, strikes, opened_after}
+use Rattle.bz_story.specs.Laws.{HasBegun, Strikes, EffectsAreTold, strikes, opened_after}
 use Rattle.bz_story.specs.Living.{IsLiving, IsInBlock}
 use Rattle.bz_story.specs.Story.{Story, scene}
 use Rattle.bz_story.proofs.Lives.{history-on, images-on, step-block}
-use Rattle.bz_story.proofs.Scenes.{now-is, before-is, scenes-apart}
+use Rattle.bz_story.proofs.Scenes.{now-is, before-is, scenes-apart, scenes-seen}
 use Rattle.bz_story.proofs.Powered.{begins-more, image-as-it-was, stored-since}
 use Rattle.bz_story.proofs.Watching.{continues}
 
@@ -114,16 +116,7 @@ node-at c f k i l = let t : nat_lt i NODE_WORDS ≡ true = grind (arith, nat_tes
 in-its-slot : (c : Config) (a : ℕ) → node_address c 0 ≤ a → (a ≡ node_address c (slot_of c a) + node_word_of c a) × (node_word_of c a < NODE_WORDS)
 in-its-slot c a from = (omega (arith, from), omega arith)
 
--- the laws that these proofs stand on
-pub record Laws : Type 0 where
-  pub seen : ScenesAreSeen
-  pub effects : EffectsTakePlace
-  pub own : EffectsKeepOwn
-  pub lawful : EffectsAreLawful
-  pub apart : SlotsApart
-  pub sharers : SharersOfNothingAreApart
-
-module _ (b : Laws) (c : Config) (old new : SwapMemory) (log : Log) (story : Story) (mark : Mark) (k w since : ℕ) (opened : Open) (publishes : Bool) (change : Change) (g : Strikes c old new log story mark k w since opened publishes change) where
+module _ (c : Config) (old new : SwapMemory) (log : Log) (story : Story) (mark : Mark) (k w since : ℕ) (opened : Open) (publishes : Bool) (change : Change) (g : Strikes c old new log story mark k w since opened publishes change) where
   abbrev x : Instant
   x = story.at (length log.past)
 
@@ -134,16 +127,16 @@ module _ (b : Laws) (c : Config) (old new : SwapMemory) (log : Log) (story : Sto
   s = scene c log.past story w since opened
 
   sees : (v other_since : ℕ) (other : Open) → HasBegun log story other_since → Sees c (story.at (length log.past)) (scene c log.past story v other_since other)
-  sees v other_since other begun = b.seen c old log story v other_since other g.living begun
+  sees v other_since other begun = scenes-seen c old log story v other_since other g.living begun
 
   took : TookPlace c (story.at (length log.past)) old new k
-  took = b.effects c (story.at (length log.past)) old new k g.living.seen g.takes
+  took = effects_take_place c (story.at (length log.past)) old new k g.living.seen g.takes
 
   to : SwapsTo c (entries_of old k) (story.at (length log.past)) (effect_instant c new (story.at (length log.past)))
   to = took.swaps (omega (arith, g.living.effects, g.few))
 
   keeps : KeepsOwn (scene c log.past story w since opened) (effect_instant c new (story.at (length log.past)))
-  keeps = b.own c (story.at (length log.past)) old new k (scene c log.past story w since opened) g.living.seen g.takes (sees w since opened g.begun).scene refl refl
+  keeps = effects_keep_own c (story.at (length log.past)) old new k (scene c log.past story w since opened) g.living.seen g.takes (sees w since opened g.begun).scene refl refl
 
   before : (m : ℕ) → m ≤ length log.past → (strikes c log story new w (entries_of old k)).at m ≡ story.at m
   before m l = before-is story.at (length log.past) m (effect_instant c new (story.at (length log.past))) l
@@ -169,10 +162,10 @@ module _ (b : Laws) (c : Config) (old new : SwapMemory) (log : Log) (story : Sto
 
   effect-others : (v other_since : ℕ) (other : Open) → v ≢ w → HasBegun log story other_since → IsLawful (scene c log.past story v other_since other) (scene c (mark ∷ log.past) (strikes c log story new w (entries_of old k)) v other_since other)
   effect-others v other_since other ne begun =
-      b.lawful publishes change (entries_of old k) (scene c log.past story w since opened) (scene c log.past story v other_since other) _ (effect_instant c new (story.at (length log.past))) (sees v other_since other begun).scene apart to g.good watches
+      effects_are_lawful publishes change (entries_of old k) (scene c log.past story w since opened) (scene c log.past story v other_since other) _ (effect_instant c new (story.at (length log.past))) (sees v other_since other begun).scene apart to g.good watches
     where
       apart : AreApart (scene c log.past story w since opened) (scene c log.past story v other_since other)
-      apart = scenes-apart b.sharers c old log story w v since other_since opened other g.living (λ e. ne (sym e))
+      apart = scenes-apart c old log story w v since other_since opened other g.living (λ e. ne (sym e))
 
       or-off : (t : Bool) → t || false ≡ t
       or-off true = refl
@@ -200,7 +193,7 @@ module _ (b : Laws) (c : Config) (old new : SwapMemory) (log : Log) (story : Sto
       go (inl e) = absurd (omega (arith, e, r.reserves.target))
       go (inr (inl e)) = absurd (omega (arith, e, r.reserves.target))
       go (inr (inr t)) =
-          let same : (slot_of c a ≡ t.slot) × (STATUS_AT ≡ t.place) = b.apart c (slot_of c a) t.slot STATUS_AT t.place (omega arith) t.within (sym r.reserves.target ∙ t.address) in
+          let same : (slot_of c a ≡ t.slot) × (STATUS_AT ≡ t.place) = slots_apart c (slot_of c a) t.slot STATUS_AT t.place (omega arith) t.within (sym r.reserves.target ∙ t.address) in
           subst (λ j. (story.at (length log.past)).reached j ≡ true) (sym same.0) t.reached
 
   now-block : (a : ℕ) → reserves c (entries_of old k) a ≡ true → IsInBlock c (effect_instant c new (story.at (length log.past))) a
@@ -225,7 +218,7 @@ module _ (b : Laws) (c : Config) (old new : SwapMemory) (log : Log) (story : Sto
       let r : HasReserving c a (entries_of old k) (story.at (length log.past)).value = found a h in
       let place : (a ≡ node_address c (slot_of c a) + node_word_of c a) × (node_word_of c a < NODE_WORDS) = in-its-slot c a r.reserves.from in
       let block : IsInBlock c (story.at (length log.past)) a = g.living.reserved v a o in
-      let same : (slot_of c a ≡ block.slot) × (node_word_of c a ≡ block.place) = b.apart c (slot_of c a) block.slot (node_word_of c a) block.place place.1 block.within (sym place.0 ∙ block.address) in
+      let same : (slot_of c a ≡ block.slot) × (node_word_of c a ≡ block.place) = slots_apart c (slot_of c a) block.slot (node_word_of c a) block.place place.1 block.within (sym place.0 ∙ block.address) in
       let word : words c (story.at (length log.past)) (slot_of c a) STATUS_AT ≡ r.entry.expected =
       node-at c (story.at (length log.past)).value (slot_of c a) STATUS_AT (omega arith) ∙ (ap (story.at (length log.past)).value (sym r.reserves.target) ∙ r.expected) in
       let held : NODE_WORDS ≤ node_word_of c a + (page_at c (story.at (length log.past)) (slot_of c a)).block =
@@ -237,10 +230,10 @@ module _ (b : Laws) (c : Config) (old new : SwapMemory) (log : Log) (story : Sto
   linked-took j was is =
       let mine : IsMine (scene c log.past story w since opened) (node_address c j + 0) = g.good.linked j 0 was is (omega arith) in
       elim mine.own [
-        | inl o ↦ subst (λ i. story.took w i ≡ true) (sym (b.apart c j o.slot 0 o.place (omega arith) o.within o.address).0) o.took
+        | inl o ↦ subst (λ i. story.took w i ≡ true) (sym (slots_apart c j o.slot 0 o.place (omega arith) o.within o.address).0) o.took
         | inr r ↦ absurd (
             let block : IsInBlock c (story.at (length log.past)) (node_address c j + 0) = g.living.reserved w (node_address c j + 0) r in
-            let same : j ≡ block.slot = (b.apart c j block.slot 0 block.place (omega arith) block.within block.address).0 in
+            let same : j ≡ block.slot = (slots_apart c j block.slot 0 block.place (omega arith) block.within block.address).0 in
             true≢false (sym block.reached ∙ (ap (story.at (length log.past)).reached (sym same) ∙ was)))
       ]
 
@@ -290,9 +283,9 @@ module _ (b : Laws) (c : Config) (old new : SwapMemory) (log : Log) (story : Sto
       apart-of u v a (inr o) (inl p) = absurd (was-free v a o.1 p)
       apart-of u v a (inr o) (inr p) = o.0 ∙ sym p.0
 
-pub effects-told : Laws → EffectsAreTold
-effects-told b = record {
-  living = λ c old new log story mark k w since opened publishes change g. effect-living b c old new log story mark k w since opened publishes change g;
-  own = λ c old new log story mark k w since opened publishes change moment g. effect-own b c old new log story mark k w since opened publishes change g moment;
-  others = λ c old new log story mark k w since opened publishes change v other_since other g ne begun. effect-others b c old new log story mark k w since opened publishes change g v other_since other ne begun;
+pub effects-told : EffectsAreTold
+effects-told = record {
+  living = λ c old new log story mark k w since opened publishes change g. effect-living c old new log story mark k w since opened publishes change g;
+  own = λ c old new log story mark k w since opened publishes change moment g. effect-own c old new log story mark k w since opened publishes change g moment;
+  others = λ c old new log story mark k w since opened publishes change v other_since other g ne begun. effect-others c old new log story mark k w since opened publishes change g v other_since other ne begun;
 }

@@ -6,22 +6,23 @@ use Rattle.bz_layout.specs.declared.config.Config.{Config}
 use Rattle.bz_mark.specs.Log.{Log}
 use Rattle.bz_mark.proofs.MomentLaws.{mark_at-earlier}
 use Rattle.bz_mark.specs.declared.marks.Mark.{Mark}
-use Rattle.bz_sight.specs.Passing.{Passed, AllStay, ActsPass, ActsLeaveAll, StoresAreSeen, FlushesAreSeen}
+use Rattle.bz_sight.specs.Passing.{Passed, AllStay}
 use Rattle.bz_sight.specs.Sight.{next_instant}
 use Rattle.bz_sight.specs.Starts.{Sees}
+use Rattle.bz_sight.proofs.Proved.{acts_leave_all, acts_pass, flushes_are_seen, stores_are_seen}
 use Rattle.bz_sound.specs.Calls.{Open}
 use Rattle.bz_swap.specs.SwapMemory.{SwapMemory}
 use Rattle.bz_task.specs.Instant.{Instant, IsDurableAt, words}
-use Rattle.bz_task.specs.Laws.{SameRecordsShowTheSame}
-use Rattle.bz_task.specs.Others.{AreApart, SharersOfNothingAreApart, Watches, LeavesAll, StoresTo, QuietActsAreLawful, StoresAreLawful}
+use Rattle.bz_task.specs.Others.{AreApart, Watches, LeavesAll, StoresTo}
 use Rattle.bz_task.specs.OwnActs.{Stores, Flushes}
 use Rattle.bz_task.specs.Scene.{Scene, IsOfTaken, IsMine, Continues, IsLawful, here}
 use Rattle.bz_task.specs.Shown.{IsShown, SameShownNode, SameRecords}
 use Rattle.bz_task.specs.Steps.{IsQuiet}
+use Rattle.bz_task.proofs.Proved.{quiet_acts_are_lawful, same_records_show_the_same, stores_are_lawful}
 use Rattle.bz_word.specs.Statuses.{status}
-use Rattle.bz_story.specs.Laws.{HasBegun, ScenesAreSeen, GoesOn, QuietMarksAreLawful, IsStore, StoresAreTold, FlushesAreTold, goes_on, fills}
+use Rattle.bz_story.specs.Laws.{HasBegun, GoesOn, QuietMarksAreLawful, IsStore, StoresAreTold, FlushesAreTold, goes_on, fills}
 use Rattle.bz_story.specs.Story.{Story, scene, loaded, is_load_of}
-use Rattle.bz_story.proofs.Scenes.{now-is, before-is, scenes-apart}
+use Rattle.bz_story.proofs.Scenes.{now-is, before-is, scenes-apart, scenes-seen}
 
 -- which of the first marks are loads stays as marks are added
 loads-stay : (past : List Mark) (mark : Mark) (w moment : ℕ) → moment ≤ length past → loaded (mark ∷ past) w moment ≡ loaded past w moment
@@ -40,14 +41,14 @@ continues c past mark story after w since opened later at = record {
 }
 
 -- words that readers do not read are as little read afterwards
-pub mine-stays : SameRecordsShowTheSame → (s after : Scene) → after.past.config ≡ s.past.config → IsQuiet s.past.config (here s) (here after) → ((a : ℕ) → after.reserved a ≡ s.reserved a) → ((k : ℕ) → after.took k ≡ s.took k) → (a : ℕ) → IsMine s a → IsMine after a
-mine-stays law s after config q reserved took a mine = record {
+pub mine-stays : (s after : Scene) → after.past.config ≡ s.past.config → IsQuiet s.past.config (here s) (here after) → ((a : ℕ) → after.reserved a ≡ s.reserved a) → ((k : ℕ) → after.took k ≡ s.took k) → (a : ℕ) → IsMine s a → IsMine after a
+mine-stays s after config q reserved took a mine = record {
   own = elim mine.own [ inl o ↦ inl (still-taken o) | inr r ↦ inr (reserved a ∙ r) ];
   hidden = λ k i r l e h.
       let was : (here s).reached k ≡ true = sym (q.reached k) ∙ r in
       let same : SameRecords (words s.past.config (here s) k) (words s.past.config (here after) k) = records k (q.nodes k was) in
       mine.hidden k i was l (subst (λ c. a ≡ node_address c k + i) config e)
-      ((law (words s.past.config (here s) k) (words s.past.config (here after) k) same i).1 (subst (λ c. IsShown (words c (here after) k) i) config h));
+      ((same_records_show_the_same (words s.past.config (here s) k) (words s.past.config (here after) k) same i).1 (subst (λ c. IsShown (words c (here after) k) i) config h));
 }
   where
     still-taken : IsOfTaken s a → IsOfTaken after a
@@ -67,19 +68,7 @@ mine-stays law s after config q reserved took a mine = record {
       words = λ i ne h. n i h;
     }
 
--- the laws that these proofs stand on
-pub record Laws : Type 0 where
-  pub seen : ScenesAreSeen
-  pub pass : ActsPass
-  pub leave : ActsLeaveAll
-  pub stored : StoresAreSeen
-  pub flushed : FlushesAreSeen
-  pub quiet : QuietActsAreLawful
-  pub stores : StoresAreLawful
-  pub alike : SameRecordsShowTheSame
-  pub sharers : SharersOfNothingAreApart
-
-module _ (b : Laws) (c : Config) (old new : SwapMemory) (log : Log) (story : Story) (mark : Mark) (g : GoesOn c old new log story mark) where
+module _ (c : Config) (old new : SwapMemory) (log : Log) (story : Story) (mark : Mark) (g : GoesOn c old new log story mark) where
   abbrev x : Instant
   x = story.at (length log.past)
 
@@ -87,7 +76,7 @@ module _ (b : Laws) (c : Config) (old new : SwapMemory) (log : Log) (story : Sto
   y = next_instant new (story.at (length log.past))
 
   passed : Passed c (story.at (length log.past)) new
-  passed = b.pass c (story.at (length log.past)) old new g.living.seen g.passes
+  passed = acts_pass c (story.at (length log.past)) old new g.living.seen g.passes
 
   before : (filled : ℕ → ℕ → Bool) (m : ℕ) → m ≤ length log.past → (goes_on log story new filled).at m ≡ story.at m
   before filled m l = before-is story.at (length log.past) m (next_instant new (story.at (length log.past))) l
@@ -96,7 +85,7 @@ module _ (b : Laws) (c : Config) (old new : SwapMemory) (log : Log) (story : Sto
   later-here filled w since opened = now-is story.at (length log.past) (next_instant new (story.at (length log.past)))
 
   sees : (w since : ℕ) (opened : Open) → HasBegun log story since → Sees c (story.at (length log.past)) (scene c log.past story w since opened)
-  sees w since opened begun = b.seen c old log story w since opened g.living begun
+  sees w since opened begun = scenes-seen c old log story w since opened g.living begun
 
   -- for one who did nothing
   watches : (filled : ℕ → ℕ → Bool) (w since : ℕ) (opened : Open) → ((k : ℕ) → filled w k ≡ story.filled w k) → Watches (scene c log.past story w since opened) (scene c (mark ∷ log.past) (goes_on log story new filled) w since opened) (next_instant new (story.at (length log.past)))
@@ -110,14 +99,14 @@ module _ (b : Laws) (c : Config) (old new : SwapMemory) (log : Log) (story : Sto
   }
 
   leaves : AllStay old new → (w since : ℕ) (opened : Open) → HasBegun log story since → LeavesAll (scene c log.past story w since opened) (next_instant new (story.at (length log.past)))
-  leaves all w since opened begun = b.leave c (story.at (length log.past)) old new (scene c log.past story w since opened) g.living.seen g.passes all (sees w since opened begun).scene refl refl
+  leaves all w since opened begun = acts_leave_all c (story.at (length log.past)) old new (scene c log.past story w since opened) g.living.seen g.passes all (sees w since opened begun).scene refl refl
 
   lawful : AllStay old new → (w since : ℕ) (opened : Open) → HasBegun log story since → IsLawful (scene c log.past story w since opened) (scene c (mark ∷ log.past) (goes_on log story new story.filled) w since opened)
-  lawful all w since opened begun = b.quiet (scene c log.past story w since opened) _ (next_instant new (story.at (length log.past))) (leaves all w since opened begun) (watches story.filled w since opened (λ k. refl))
+  lawful all w since opened begun = quiet_acts_are_lawful (scene c log.past story w since opened) _ (next_instant new (story.at (length log.past))) (leaves all w since opened begun) (watches story.filled w since opened (λ k. refl))
 
   -- own words stay one's own
   own-stays : (filled : ℕ → ℕ → Bool) (w since : ℕ) (opened : Open) (a : ℕ) → IsMine (scene c log.past story w since opened) a → IsMine (scene c (mark ∷ log.past) (goes_on log story new filled) w since opened) a
-  own-stays filled w since opened = mine-stays b.alike (scene c log.past story w since opened) (scene c (mark ∷ log.past) (goes_on log story new filled) w since opened) refl (subst (IsQuiet c (story.at (length log.past))) (sym (later-here filled w since opened)) passed.rests.quiet) (λ a. refl) (λ k. refl)
+  own-stays filled w since opened = mine-stays (scene c log.past story w since opened) (scene c (mark ∷ log.past) (goes_on log story new filled) w since opened) refl (subst (IsQuiet c (story.at (length log.past))) (sym (later-here filled w since opened)) passed.rests.quiet) (λ a. refl) (λ k. refl)
 
   -- a flush of one's own
   flushes : AllStay old new → (w line since : ℕ) (opened : Open) → HasBegun log story since → ((a : ℕ) → line_of a ≡ line → slice_index new.durable a ≡ slice_index old.cached a)
@@ -129,14 +118,14 @@ module _ (b : Laws) (c : Config) (old new : SwapMemory) (log : Log) (story : Sto
     reserved = λ a. refl;
     filled = λ k. refl;
     value = λ a. ap (λ z. z.value a) (later-here story.filled w since opened) ∙ (leaves all w since opened begun).value a;
-    flushed = λ a in-line mine. subst (λ z. IsDurableAt z a) (sym (later-here story.filled w since opened)) (b.flushed c (story.at (length log.past)) old new line (scene c log.past story w since opened) g.living.seen g.passes all (sees w since opened begun).scene refl refl copies a in-line mine);
+    flushed = λ a in-line mine. subst (λ z. IsDurableAt z a) (sym (later-here story.filled w since opened)) (flushes_are_seen c (story.at (length log.past)) old new line (scene c log.past story w since opened) g.living.seen g.passes all (sees w since opened begun).scene refl refl copies a in-line mine);
     stays = λ a mine f. subst (λ z. IsDurableAt z a) (sym (later-here story.filled w since opened)) ((leaves all w since opened begun).flushed a mine f);
     mine = own-stays story.filled w since opened;
   }
 
   module _ (w a v since : ℕ) (opened : Open) (s : IsStore c old new log story w a v since opened) where
     to : StoresTo a v (story.at (length log.past)) (next_instant new (story.at (length log.past)))
-    to = b.stored c (story.at (length log.past)) old new a v g.living.seen g.passes s.stores
+    to = stores_are_seen c (story.at (length log.past)) old new a v g.living.seen g.passes s.stores
 
     store-own : Stores a v (scene c log.past story w since opened) (scene c (mark ∷ log.past) (goes_on log story new (fills c story w a)) w since opened)
     store-own = record {
@@ -153,7 +142,7 @@ module _ (b : Laws) (c : Config) (old new : SwapMemory) (log : Log) (story : Sto
 
     store-others : (u other_since : ℕ) (other : Open) → u ≢ w → HasBegun log story other_since → IsLawful (scene c log.past story u other_since other) (scene c (mark ∷ log.past) (goes_on log story new (fills c story w a)) u other_since other)
     store-others u other_since other ne begun =
-        b.stores (scene c log.past story w since opened) (scene c log.past story u other_since other) _ a v (next_instant new (story.at (length log.past))) (sees w since opened s.begun).scene s.own apart to
+        stores_are_lawful (scene c log.past story w since opened) (scene c log.past story u other_since other) _ a v (next_instant new (story.at (length log.past))) (sees w since opened s.begun).scene s.own apart to
         (watches (fills c story w a) u other_since other (λ k. let t : (u == w) ≡ false = grind (arith, nat_tests) in rw t (or-off (story.filled u k))))
       where
         or-off : (t : Bool) → t || false ≡ t
@@ -161,16 +150,16 @@ module _ (b : Laws) (c : Config) (old new : SwapMemory) (log : Log) (story : Sto
         or-off false = refl
 
         apart : AreApart (scene c log.past story w since opened) (scene c log.past story u other_since other)
-        apart = scenes-apart b.sharers c old log story w u since other_since opened other g.living (λ e. ne (sym e))
+        apart = scenes-apart c old log story w u since other_since opened other g.living (λ e. ne (sym e))
 
-pub quiet-lawful : Laws → QuietMarksAreLawful
-quiet-lawful b c old new log story mark w since opened g all begun = lawful b c old new log story mark g all w since opened begun
+pub quiet-lawful : QuietMarksAreLawful
+quiet-lawful c old new log story mark w since opened g all begun = lawful c old new log story mark g all w since opened begun
 
-pub stores-told : Laws → StoresAreTold
-stores-told b = record {
-  own = λ c old new log story mark w a v since opened g s. store-own b c old new log story mark g w a v since opened s;
-  others = λ c old new log story mark w a v since opened u other_since other g s ne begun. store-others b c old new log story mark g w a v since opened s u other_since other ne begun;
+pub stores-told : StoresAreTold
+stores-told = record {
+  own = λ c old new log story mark w a v since opened g s. store-own c old new log story mark g w a v since opened s;
+  others = λ c old new log story mark w a v since opened u other_since other g s ne begun. store-others c old new log story mark g w a v since opened s u other_since other ne begun;
 }
 
-pub flushes-told : Laws → FlushesAreTold
-flushes-told b c old new log story mark w line since opened g all begun copies = flushes b c old new log story mark g all w line since opened begun copies
+pub flushes-told : FlushesAreTold
+flushes-told c old new log story mark w line since opened g all begun copies = flushes c old new log story mark g all w line since opened begun copies

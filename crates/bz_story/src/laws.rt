@@ -1,7 +1,6 @@
 //! Laws of stories. Each function does nothing: its contract is the law.
 
-ghost use Rattle.bz_story.specs.Laws.{ScenesAreSeen, LivesGoOn, QuietMarksAreLawful, StoresAreTold, FlushesAreTold, EffectsAreTold, SlotsAreTaken};
-ghost use Rattle.bz_story.specs.Opening.{FreshStoriesLive};
+ghost use Rattle.bz_story.specs.Laws.{ScenesAreSeen, LivesGoOn, QuietMarksAreLawful, StoresAreTold, FlushesAreTold, EffectsAreTold};
 
 /// The scene of a call that has begun is one of the memory now.
 pub fn scenes_are_seen()
@@ -31,14 +30,4 @@ pub fn flushes_are_told()
 /// The effect of a swap: the memory lives on, it is one to its worker, and lawful for the others.
 pub fn effects_are_told()
     ensures { EffectsAreTold }
-{}
-
-/// Slots that a worker takes are gained by it, and the memory lives on.
-pub fn slots_are_taken()
-    ensures { SlotsAreTaken }
-{}
-
-/// Fresh memory, as it is opened, lives.
-pub fn fresh_stories_live()
-    ensures { FreshStoriesLive }
 {}

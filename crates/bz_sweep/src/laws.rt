@@ -2,16 +2,10 @@
 
 ghost use Rattle.bz_sweep.specs.Knowledge.{SweepsKnow};
 ghost use Rattle.bz_sweep.specs.Lawful.{LawfulWordsAreThese};
-ghost use Rattle.bz_sweep.specs.Laws.{CutsKeepTheImage};
 
 /// Which words of a memory are lawful does not hang on its node slots.
 pub fn lawful_words_are_these()
     ensures { LawfulWordsAreThese }
-{}
-
-/// A power cut, in a sweep too, leaves an image that resolves to the same values.
-pub fn cuts_keep_the_image()
-    ensures { CutsKeepTheImage }
 {}
 
 /// What every sweep knows of the memory, and what it knows after its own acts and those of others.

@@ -7,22 +7,24 @@ use Rattle.bz_branch.specs.FromBelow.Phase.{Phase}
 use Rattle.bz_branch.specs.FromBelow.Phase.TheVariants.{Swap}
 use Rattle.bz_branch.specs.Nodes.{IsOpenLink}
 use Rattle.bz_branch.proofs.Standing.{node-below}
-use Rattle.bz_halves.specs.Parents.{HasRoomToPart, IsPartedParent, ParentsOfHalvesAreWhole}
+use Rattle.bz_halves.specs.Parents.{HasRoomToPart, IsPartedParent}
+use Rattle.bz_halves.proofs.Proved.{parents_of_halves_are_whole}
 use Rattle.bz_layout.specs.Addresses.{node_address}
 use Rattle.bz_layout.specs.declared.config.Config.{Config}
 use Rattle.bz_layout.specs.declared.sizes.TheConstants.{STATUS_AT}
 use Rattle.bz_layout.specs.declared.thresholds.TheConstants.{SPLIT_SLOTS}
-use Rattle.bz_leaves.specs.Laws.{LeafSplitsAddOne}
+use Rattle.bz_leaves.proofs.Proved.{leaf_splits_add_one}
 use Rattle.bz_node.specs.Reading.{children_in}
 use Rattle.bz_renew.specs.Freezings.{freezing_entry}
-use Rattle.bz_renew.specs.FrozenLeaves.{StandsStill, FrozenLeavesStandStill}
+use Rattle.bz_renew.specs.FrozenLeaves.{StandsStill}
 use Rattle.bz_renew.specs.Renewals.{renewal, link_entry, guard_entry}
 use Rattle.bz_renew.specs.Standing.{StillLeads}
-use Rattle.bz_renew.specs.Turning.{TurnsWith, AreGoing, RootLinksTurnWith, ChildLinksTurnWith}
+use Rattle.bz_renew.specs.Turning.{TurnsWith, AreGoing}
 use Rattle.bz_renew.proofs.Freezings.{renewal-holds}
 use Rattle.bz_renew.proofs.Inserting.{all-inserted-first}
 use Rattle.bz_renew.proofs.TwoEntries.{both-stand}
 use Rattle.bz_renew.proofs.Words.{or-right}
+use Rattle.bz_renew.proofs.Proved.{child_links_turn_with, frozen_leaves_stand_still, guarded_links_stand, root_links_turn_with}
 use Rattle.bz_shape.proofs.Trees.{among-first}
 use Rattle.bz_shape.specs.Slots.{Wider}
 use Rattle.bz_shape.specs.Walk.{is_among}
@@ -32,8 +34,8 @@ use Rattle.bz_split.specs.BelowSplits.{parent_freezing, below_swap}
 use Rattle.bz_split.specs.Facts.{SPLIT_WORDS, SPLIT_LINES}
 use Rattle.bz_word.specs.declared.entry.Entry.{Entry}
 use Rattle.bz_content.specs.Content.{image_of}
-use Rattle.bz_content.specs.Laws.{WellFormedImagesHaveNoFault, PlainWordsStandForThemselves, SplitsKeepTheContent}
 use Rattle.bz_content.specs.Restructures.{children_of, Splits}
+use Rattle.bz_content.proofs.Proved.{splits_keep_the_content}
 use Rattle.bz_task.specs.Instant.{Instant, words, durable, form_at}
 use Rattle.bz_task.specs.Laws.{SamePlace}
 use Rattle.bz_task.specs.Outcomes.{IsGuarded, IsUnderNode}
@@ -43,28 +45,16 @@ use Rattle.bz_task.specs.declared.path.Link.{Link}
 use Rattle.bz_task.specs.declared.todo.Todo.TheVariants.{Swap as Swaps_for}
 use Rattle.bz_tally.proofs.Backs.{AreFresh, is-gone, none-back, three-fresh}
 use Rattle.bz_tally.proofs.Changes.{same-entries}
-use Rattle.bz_tally.proofs.Links.{Links, in-parent, leaf-now, node-freezable, node-leads, node-place, node-words, out-one, tree-now}
+use Rattle.bz_tally.proofs.Links.{in-parent, leaf-now, node-freezable, node-leads, node-place, node-words, out-one, tree-now}
 use Rattle.bz_tally.proofs.Splitting.{Holds, IsReady, splits}
 use Rattle.bz_tally.proofs.Stored.{node-held, node-fresh, are-three}
 use Rattle.bz_tally.specs.Laws.{LeafSplitsCount}
-
--- the laws on which it rests
-pub record Laws : Type 0 where
-  pub links : Links
-  pub formed : WellFormedImagesHaveNoFault
-  pub plain : PlainWordsStandForThemselves
-  pub root : RootLinksTurnWith
-  pub child : ChildLinksTurnWith
-  pub still : FrozenLeavesStandStill
-  pub wholes : ParentsOfHalvesAreWhole
-  pub grows : SplitsKeepTheContent
-  pub count : LeafSplitsAddOne
 
 -- the upper link with the guard that is named
 abbrev named : Below → Link
 named r = with_guard r.upper r.guard
 
-module _ (b : Laws) (r : Below) (s : Scene) (y : Instant) (good : IsScene s) (f : IsSplittingBelow r SPLIT_WORDS SPLIT_LINES s) (w : WasNamed r.upper r.guard (below_nodes r) s.past) (stand : Stand (below_swap s.past.config (named r) r.lower (r.slot 0)) (here s)) where
+module _ (r : Below) (s : Scene) (y : Instant) (good : IsScene s) (f : IsSplittingBelow r SPLIT_WORDS SPLIT_LINES s) (w : WasNamed r.upper r.guard (below_nodes r) s.past) (stand : Stand (below_swap s.past.config (named r) r.lower (r.slot 0)) (here s)) where
   abbrev c : Config
   c = s.past.config
 
@@ -91,13 +81,13 @@ module _ (b : Laws) (r : Below) (s : Scene) (y : Instant) (good : IsScene s) (f 
   link-now = both-stand (link_entry (named r) (r.slot 0)) (guard_entry (named r)) (here s) (renewal-holds c (named r) (r.slot 0) stands (parent_freezing (named r) r.lower ∷ []) stand)
 
   leads : StillLeads r.lower s f.planned.parted.links.guard.guarded p i
-  leads = node-leads b.links s p r.lower good o parent-now
+  leads = node-leads s p r.lower good o parent-now
 
   place : SamePlace c (s.past.at f.planned.parted.guarded) (here s) p
-  place = subst (λ m. SamePlace c (s.past.at m) (here s) p) f.planned.parted.is_guarded (node-place b.links s p r.lower good o parent-now)
+  place = subst (λ m. SamePlace c (s.past.at m) (here s) p) f.planned.parted.is_guarded (node-place s p r.lower good o parent-now)
 
   read-now : durable c (here s) p ≡ node_of r.read
-  read-now = node-words b.links s p r.lower good o parent-now ∙ (ap (λ m. words c (s.past.at m) p) f.planned.parted.is_guarded ∙ f.planned.parent.were)
+  read-now = node-words s p r.lower good o parent-now ∙ (ap (λ m. words c (s.past.at m) p) f.planned.parted.is_guarded ∙ f.planned.parent.were)
 
   room : HasRoomToPart c.nodes (children_in r.read) f.planned.parent.level (r.slot 1) (r.slot 2) r.sep
   room = record {
@@ -111,7 +101,7 @@ module _ (b : Laws) (r : Below) (s : Scene) (y : Instant) (good : IsScene s) (f 
   }
 
   made : IsPartedParent c.nodes (node_of r.read) (children_in r.read) f.planned.parent.low f.planned.parent.high f.planned.parent.level f.planned.parted.child (r.slot 1) (r.slot 2) r.sep
-  made = b.wholes c.nodes (node_of r.read) (children_in r.read) f.planned.parent.low f.planned.parent.high f.planned.parent.level f.planned.parted.child (r.slot 1) (r.slot 2) r.sep f.planned.parent.parent.partable.may room f.planned.parent.parent.partable.has
+  made = parents_of_halves_are_whole c.nodes (node_of r.read) (children_in r.read) f.planned.parent.low f.planned.parent.high f.planned.parent.level f.planned.parted.child (r.slot 1) (r.slot 2) r.sep f.planned.parent.parent.partable.may room f.planned.parent.parent.partable.has
 
   wider : Wider (children_of (durable c (here s) p)) (children_of (node_of (r.image 0))) i (r.slot 1) (r.slot 2) r.sep
   wider = subst (λ n. Wider (children_of n) (children_of (node_of (r.image 0))) i (r.slot 1) (r.slot 2) r.sep) (sym read-now)
@@ -120,7 +110,7 @@ module _ (b : Laws) (r : Below) (s : Scene) (y : Instant) (good : IsScene s) (f 
 
   -- the leaf
   leaf : StandsStill a f.planned.parted.moment s
-  leaf = b.still s a f.planned.parted.moment good f.planned.parted.leaf
+  leaf = frozen_leaves_stand_still s a f.planned.parted.moment good f.planned.parted.leaf
 
   leaf-place : SamePlace c (s.past.at f.planned.parted.moment) (here s) a
   leaf-place = leaf.place leads.stands.inside
@@ -150,13 +140,13 @@ module _ (b : Laws) (r : Below) (s : Scene) (y : Instant) (good : IsScene s) (f 
   }
 
   going : AreGoing (parent_freezing (named r) r.lower ∷ []) (a ∷ p ∷ []) s
-  going = record { freezable = (node-freezable b.links s p r.lower good o parent-now, (refl, tt)); go = λ k e. or-right (a == k) (is_among (p ∷ []) k) e }
+  going = record { freezable = (node-freezable s p r.lower good o parent-now, (refl, tt)); go = λ k e. or-right (a == k) (is_among (p ∷ []) k) e }
 
   module _ (swaps : SwapsTo c (below_swap c (named r) r.lower (r.slot 0)) (here s) y) where
     halved-at : (top j : ℕ) (changed : List ℕ) → TurnsWith (named r) (r.slot 0) (parent_freezing (named r) r.lower ∷ []) (a ∷ p ∷ []) s y top j changed
         → Splits c (image_of (here s).image) (image_of y.image) a (r.slot 0) (r.slot 1) (r.slot 2) 0 r.sep
     halved-at top j changed t =
-        splits b.plain s y good (named r) (parent_freezing (named r) r.lower ∷ []) (r.slot 0) (a ∷ p ∷ []) top j changed t swaps a i (r.slot 1) (r.slot 2) 0 r.sep (node_of (r.image 0)) (node_of (r.image 1)) (node_of (r.image 2)) ready refl
+        splits s y good (named r) (parent_freezing (named r) r.lower ∷ []) (r.slot 0) (a ∷ p ∷ []) top j changed t swaps a i (r.slot 1) (r.slot 2) 0 r.sep (node_of (r.image 0)) (node_of (r.image 1)) (node_of (r.image 2)) ready refl
 
     -- the guard that is named was read
     guard-now : IsGuarded s.past (named r)
@@ -176,14 +166,14 @@ module _ (b : Laws) (r : Below) (s : Scene) (y : Instant) (good : IsScene s) (f 
 
     -- the parent is none of the nodes above it
     not-above : (under : IsUnderNode s.past (named r) guard-now.guarded) → p ≢ under.parent
-    not-above under e = absurd (omega (arith, ap (form_at c (here s)).level e, (b.links.stand s (named r) good guard-now w.thawed under link-now.1).stands.level))
+    not-above under e = absurd (omega (arith, ap (form_at c (here s)).level e, (guarded_links_stand s (named r) good guard-now w.thawed under link-now.1).stands.level))
 
     -- where the upper link stands
     pub halved : Splits c (image_of (here s).image) (image_of y.image) r.lower.slot (r.slot 0) (r.slot 1) (r.slot 2) 0 r.sep
     halved = elim guard-now.under [
-      | inl root ↦ halved-at c.nodes 0 (p ∷ []) (b.root s y (named r) (r.slot 0) (parent_freezing (named r) r.lower ∷ []) (a ∷ p ∷ []) good root (f.writing.slots.within 0 (omega arith)) going stand swaps)
+      | inl root ↦ halved-at c.nodes 0 (p ∷ []) (root_links_turn_with s y (named r) (r.slot 0) (parent_freezing (named r) r.lower ∷ []) (a ∷ p ∷ []) good root (f.writing.slots.within 0 (omega arith)) going stand swaps)
       | inr node ↦ halved-at node.parent node.child.child (node.parent ∷ p ∷ [])
-          (b.child s y (named r) (r.slot 0) (parent_freezing (named r) r.lower ∷ []) (a ∷ p ∷ []) good guard-now w.thawed node (out-one p node.parent (not-above node)) (f.writing.slots.within 0 (omega arith)) going stand swaps)
+          (child_links_turn_with s y (named r) (r.slot 0) (parent_freezing (named r) r.lower ∷ []) (a ∷ p ∷ []) good guard-now w.thawed node (out-one p node.parent (not-above node)) (f.writing.slots.within 0 (omega arith)) going stand swaps)
     ]
 
   pub is-flat : (form_at c (here s)).level r.lower.slot ≡ 0
@@ -195,18 +185,18 @@ swapping : (c : Config) (r : Below) (phase : Phase) (s : Scene) (entries : List 
 swapping c r Swap s entries f e = (f.1.0, (f.1.1, same-entries (below_swap c (with_guard r.upper r.guard) r.lower (r.slot 0)) entries e))
 swapping c r phase s entries f e = absurd (cc)
 
-pub halves-below : Laws → LeafSplitsCount
-halves-below b t entries s y l =
+pub halves-below : LeafSplitsCount
+halves-below t entries s y l =
     let r : Below = below_of t in
     let f = swapping t.config r t.phase s entries l.knows l.asks in
     let is : below_swap s.past.config (named r) r.lower (r.slot 0) ≡ entries = ap (λ (z : Config). below_swap z (named r) r.lower (r.slot 0)) l.config ∙ f.1.1 in
     let stand : Stand (below_swap s.past.config (named r) r.lower (r.slot 0)) (here s) = subst (λ z. Stand z (here s)) (sym is) l.stand in
-    let d = halved b r s y l.good f.0 f.1.0 stand (subst (λ z. SwapsTo s.past.config z (here s) y) (sym is) l.leads) in
-    let flat : (form_at s.past.config (here s)).level t.lower.slot ≡ 0 = is-flat b r s y l.good f.0 f.1.0 stand in
+    let d = halved r s y l.good f.0 f.1.0 stand (subst (λ z. SwapsTo s.past.config z (here s) y) (sym is) l.leads) in
+    let flat : (form_at s.past.config (here s)).level t.lower.slot ≡ 0 = is-flat r s y l.good f.0 f.1.0 stand in
     let fresh : AreFresh s (r.slot 0 ∷ r.slot 1 ∷ r.slot 2 ∷ []) = three-fresh s (r.slot 0) (r.slot 1) (r.slot 2) (node-fresh r.slot r.image s f.0.plain f.0.writing 0 (omega arith)) (node-fresh r.slot r.image s f.0.plain f.0.writing 1 (omega arith)) (node-fresh r.slot r.image s f.0.plain f.0.writing 2 (omega arith)) in
-    let grows = b.grows s.past.config (image_of (here s).image) (image_of y.image) t.lower.slot (r.slot 0) (r.slot 1) (r.slot 2) 0 r.sep (tree-now b.formed s l.good) d in
+    let grows = splits_keep_the_content s.past.config (image_of (here s).image) (image_of y.image) t.lower.slot (r.slot 0) (r.slot 1) (r.slot 2) 0 r.sep (tree-now s l.good) d in
     record {
-      more = (b.count s.past.config (image_of (here s).image) (image_of y.image) t.lower.slot (r.slot 0) (r.slot 1) (r.slot 2) 0 r.sep (tree-now b.formed s l.good) d).leaf flat;
+      more = (leaf_splits_add_one s.past.config (image_of (here s).image) (image_of y.image) t.lower.slot (r.slot 0) (r.slot 1) (r.slot 2) 0 r.sep (tree-now s l.good) d).leaf flat;
       leaf = leaf-now s t.lower.slot d.inside flat;
       crowded = record { moment = f.0.planned.parted.moment; frozen = f.0.planned.parted.leaf; many = f.0.planned.parted.many };
       gone = is-gone s y (t.lower.slot ∷ (form_at s.past.config (here s)).up t.lower.slot ∷ []) (r.slot 0 ∷ r.slot 1 ∷ r.slot 2 ∷ []) l.good grows fresh t.lower.slot d.inside (among-first t.lower.slot t.lower.slot ((form_at s.past.config (here s)).up t.lower.slot ∷ []) refl);

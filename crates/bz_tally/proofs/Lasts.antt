@@ -18,8 +18,9 @@ use Rattle.bz_task.specs.Instant.{Instant}
 use Rattle.bz_task.specs.Scene.{Scene}
 use Rattle.bz_task.specs.declared.todo.Todo.TheVariants.{Swap as Swaps_for}
 use Rattle.bz_tally.specs.Counts.{leaves_now, leaves_then}
-use Rattle.bz_tally.specs.Laws.{CountsAtLast, LeavesFollow, MergeCounts, MergesCountAtLast, SwapsCount}
+use Rattle.bz_tally.specs.Laws.{CountsAtLast, LeavesFollow, MergeCounts, MergesCountAtLast}
 use Rattle.bz_tally.specs.Swaps.{IsOwnSwap}
+use Rattle.bz_tally.proofs.Tasks.{swaps-count}
 
 last : (t : Merge) (c : Config) (r : MergePlan) (phase : Phase) (entries : List Entry) (s : Scene) (y : Instant) → merge_asks c r phase ≡ Some (Swaps_for entries) → MergeCounts t phase s y → merge_swaps phase ≤ 1 → leaves_then s y + 1 ≡ leaves_now s
 last t c r Swap entries s y e h l = h.less
@@ -39,5 +40,5 @@ unfolding view_of kind_of
 at-last (Merging t) entries s y w h e = record { last = last t t.config (merging_of t) t.phase entries s y w.asks h; before = before t t.config (merging_of t) t.phase entries s y w.asks h }
 at-last t entries s y w h e = absurd (cc)
 
-pub merges-count-at-last : SwapsCount → MergesCountAtLast
-merges-count-at-last law t entries s y w e = at-last t entries s y w (law t entries s y w) e
+pub merges-count-at-last : MergesCountAtLast
+merges-count-at-last t entries s y w e = at-last t entries s y w (swaps-count t entries s y w) e

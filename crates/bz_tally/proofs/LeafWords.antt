@@ -1,10 +1,12 @@
 -- A swap that names words of one leaf alone, and not its header, leaves the number of leaves.
 use Rattle.std.proofs.Common.{◌≡◌, ◌≢◌, ℕ, ◌+◌, ◌<◌, ◌==◌, ◌||◌, Bool, true, false, List, [], ◌∷◌, arith, refl, sym, ap, ◌∙◌, inl, inr}
 use Rattle.std.proofs.lemmas.Bool.Decides.{nat_tests}
-use Rattle.bz_layout.specs.Addresses.{node_address, IsOutsideSwaps, SlotsApart}
+use Rattle.bz_layout.specs.Addresses.{node_address, IsOutsideSwaps}
 use Rattle.bz_layout.specs.declared.config.Config.{Config}
 use Rattle.bz_layout.specs.declared.sizes.TheConstants.{NODE_WORDS, SUPERBLOCK_WORDS, STATUS_AT, HEADER_AT, META_AT, ROOT_AT, ROOT_STATUS_AT}
-use Rattle.bz_leaves.specs.Laws.{KeepsSlots, OnLeaves, WordsOfLeavesDoNotCount}
+use Rattle.bz_layout.proofs.Laws.{slots_apart}
+use Rattle.bz_leaves.specs.Laws.{KeepsSlots, OnLeaves}
+use Rattle.bz_leaves.proofs.Proved.{words_of_leaves_do_not_count}
 use Rattle.bz_running.specs.FromMerge.Merges.{WasLeafOnce}
 use Rattle.bz_record.specs.Swaps.{entries_of}
 use Rattle.bz_record.specs.declared.record_swap.RecordSwap.{RecordSwap}
@@ -14,13 +16,13 @@ use Rattle.bz_word.specs.declared.entry.Entry.{Entry}
 use Rattle.bz_content.specs.Content.{image_of, IsWellFormed}
 use Rattle.bz_swap.specs.SwapMemory.{is_target}
 use Rattle.bz_content.specs.Image.{node}
-use Rattle.bz_content.specs.Laws.{WellFormedImagesHaveNoFault}
 use Rattle.bz_content.specs.Resolving.{resolve}
+use Rattle.bz_content.proofs.Proved.{well_formed_images_have_no_fault}
 use Rattle.bz_task.specs.Good.{IsGood}
 use Rattle.bz_task.specs.Instant.{Instant, form_at, is_inside}
-use Rattle.bz_task.specs.Laws.{RangesStay}
 use Rattle.bz_task.specs.Scene.{Scene, IsScene, here}
 use Rattle.bz_task.specs.Swaps.{SwapsTo}
+use Rattle.bz_task.proofs.Proved.{ranges_stay}
 use Rattle.bz_renew.proofs.Words.{untouched, node-at, node-same}
 use Rattle.bz_tally.proofs.Backs.{leaf-inside}
 use Rattle.bz_tally.specs.Counts.{KeepsTheLeaves}
@@ -32,18 +34,11 @@ pub record IsBody (c : Config) (k a : ℕ) : Type 0 where
   pub body : place ≢ HEADER_AT
   pub address : a ≡ node_address c k + place
 
--- the laws on which it rests
-pub record Laws : Type 0 where
-  pub apart : SlotsApart
-  pub ranges : RangesStay
-  pub formed : WellFormedImagesHaveNoFault
-  pub count : WordsOfLeavesDoNotCount
-
 header-same : (n m : ℕ → ℕ) → m HEADER_AT ≡ n HEADER_AT → level_of m ≡ level_of n
 unfolding level_of
 header-same n m e = ap (λ w. (header w).level) e
 
-module _ (b : Laws) (entries : List Entry) (s : Scene) (y : Instant) (k : ℕ) (good : IsScene s) (was : WasLeafOnce k s.past) (names : (a : ℕ) → is_target entries a ≡ true → IsBody s.past.config k a) (swaps : SwapsTo s.past.config entries (here s) y) where
+module _ (entries : List Entry) (s : Scene) (y : Instant) (k : ℕ) (good : IsScene s) (was : WasLeafOnce k s.past) (names : (a : ℕ) → is_target entries a ≡ true → IsBody s.past.config k a) (swaps : SwapsTo s.past.config entries (here s) y) where
   abbrev c : Config
   c = s.past.config
 
@@ -53,7 +48,7 @@ module _ (b : Laws) (entries : List Entry) (s : Scene) (y : Instant) (k : ℕ) (
   -- the slot is a leaf, if it is one of the tree
   flat : is_inside c (here s) k ≡ true → (form_at c (here s)).level k ≡ 0
   flat i =
-      (b.ranges c s.past.at s.past.since s.past.now was.moment s.past.now k good.history (record { since = was.since; order = was.now; until = omega arith }) (λ e. absurd (omega (arith, e, was.slot))) was.inside i).level
+      (ranges_stay c s.past.at s.past.since s.past.now was.moment s.past.now k good.history (record { since = was.since; order = was.now; until = omega arith }) (λ e. absurd (omega (arith, e, was.slot))) was.inside i).level
       ∙ was.leaf
 
   unless : (a : ℕ) → (IsBody c k a → ⊥) → is_target entries a ≡ false
@@ -67,10 +62,10 @@ module _ (b : Laws) (entries : List Entry) (s : Scene) (y : Instant) (k : ℕ) (
   super-untouched a l = unless a (λ p. absurd (omega (arith, p.address, l)))
 
   slot-untouched : (j i : ℕ) → j ≢ k → i < NODE_WORDS → is_target entries (node_address c j + i) ≡ false
-  slot-untouched j i ne l = unless (node_address c j + i) (λ p. ne (b.apart c j k i p.place l p.within p.address).0)
+  slot-untouched j i ne l = unless (node_address c j + i) (λ p. ne (slots_apart c j k i p.place l p.within p.address).0)
 
   header-untouched : (j : ℕ) → is_target entries (node_address c j + HEADER_AT) ≡ false
-  header-untouched j = unless (node_address c j + HEADER_AT) (λ p. p.body (sym (b.apart c j k HEADER_AT p.place (omega arith) p.within p.address).1))
+  header-untouched j = unless (node_address c j + HEADER_AT) (λ p. p.body (sym (slots_apart c j k HEADER_AT p.place (omega arith) p.within p.address).1))
 
   outside : (j i : ℕ) → IsOutsideSwaps c (node_address c j + i)
   outside j i = inr (omega arith)
@@ -94,7 +89,7 @@ module _ (b : Laws) (entries : List Entry) (s : Scene) (y : Instant) (k : ℕ) (
   }
 
   pub kept : KeepsSlots s.past.config (image_of (here s).image) (image_of y.image)
-  kept = let w : IsWellFormed c (here s).image = (b.formed c (here s).image).0 g.form in b.count c (image_of (here s).image) (image_of y.image) w.tree on-leaves
+  kept = let w : IsWellFormed c (here s).image = (well_formed_images_have_no_fault c (here s).image).0 g.form in words_of_leaves_do_not_count c (image_of (here s).image) (image_of y.image) w.tree on-leaves
 
   pub keeps : KeepsTheLeaves s y
   keeps = record { same = kept.leaves; back = λ k i. inl (sym (kept.inside k) ∙ i); stay = λ k leaf. kept.inside k ∙ leaf-inside s k leaf }

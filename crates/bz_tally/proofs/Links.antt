@@ -7,39 +7,33 @@ use Rattle.bz_layout.specs.Addresses.{node_address}
 use Rattle.bz_layout.specs.declared.config.Config.{Config}
 use Rattle.bz_layout.specs.declared.sizes.TheConstants.{STATUS_AT}
 use Rattle.bz_renew.specs.Freezings.{IsFreezable}
-use Rattle.bz_renew.specs.Renewals.{LinksMayBeTurned}
-use Rattle.bz_renew.specs.Standing.{StillLeads, GuardedLinksStand}
+use Rattle.bz_renew.specs.Standing.{StillLeads}
+use Rattle.bz_renew.proofs.Proved.{guarded_links_stand, links_may_be_turned}
 use Rattle.bz_shape.specs.Walk.{is_among, IsTree}
 use Rattle.bz_split.specs.BelowSplits.{AreLinksDown}
 use Rattle.bz_content.specs.Content.{view_in, IsWellFormed}
-use Rattle.bz_content.specs.Laws.{WellFormedImagesHaveNoFault}
+use Rattle.bz_content.proofs.Proved.{well_formed_images_have_no_fault}
 use Rattle.bz_task.specs.Instant.{words, durable, form_at, is_inside}
-use Rattle.bz_task.specs.Laws.{SamePlace, RangesStay}
+use Rattle.bz_task.specs.Laws.{SamePlace}
 use Rattle.bz_task.specs.Scene.{Scene, IsScene, here}
 use Rattle.bz_task.specs.declared.path.Link.{Link}
 use Rattle.bz_tally.specs.Counts.{IsLeafNow}
 
--- the laws on which it rests
-pub record Links : Type 0 where
-  pub may : LinksMayBeTurned
-  pub stand : GuardedLinksStand
-  pub ranges : RangesStay
-
-module _ (b : Links) (s : Scene) (k : ℕ) (link : Link) (good : IsScene s) (o : IsOpenLink k link s.past) (now : (here s).value (node_address s.past.config k + STATUS_AT) ≡ link.status) where
+module _ (s : Scene) (k : ℕ) (link : Link) (good : IsScene s) (o : IsOpenLink k link s.past) (now : (here s).value (node_address s.past.config k + STATUS_AT) ≡ link.status) where
   abbrev c : Config
   c = s.past.config
 
   pub node-leads : StillLeads link s o.guard.guarded k o.under.child.child
-  node-leads = subst (λ z. StillLeads link s o.guard.guarded z o.under.child.child) o.parent (b.stand s link good o.guard o.thawed o.under (ap (here s).value (guard-is s k link good o) ∙ now))
+  node-leads = subst (λ z. StillLeads link s o.guard.guarded z o.under.child.child) o.parent (guarded_links_stand s link good o.guard o.thawed o.under (ap (here s).value (guard-is s k link good o) ∙ now))
 
   pub node-place : SamePlace c (s.past.at o.guard.guarded) (here s) k
-  node-place = same-place s k link good o b.ranges o.under.child.child node-leads
+  node-place = same-place s k link good o o.under.child.child node-leads
 
   pub node-words : durable c (here s) k ≡ words c (s.past.at o.guard.guarded) k
-  node-words = same-words s k link good o b.ranges o.under.child.child node-leads
+  node-words = same-words s k link good o o.under.child.child node-leads
 
   pub node-freezable : IsFreezable (record { slot = k; status = link.status }) s
-  node-freezable = record { reached = node-leads.reached; plain = (b.may s link good o.guard o.thawed).plain; thawed = o.thawed }
+  node-freezable = record { reached = node-leads.reached; plain = (links_may_be_turned s link good o.guard o.thawed).plain; thawed = o.thawed }
 
 -- the lower one of two links that lead down
 abbrev pub in-parent : (s : Scene) (upper lower : Link) → AreLinksDown upper lower s.past → IsOpenLink upper.slot lower s.past
@@ -53,9 +47,9 @@ pub out-two : (x z k : ℕ) → x ≢ k → z ≢ k → is_among (x ∷ z ∷ []
 out-two x z k ne other = let t : (x == k) ≡ false = grind (arith, nat_tests) in let u : (z == k) ≡ false = grind (arith, nat_tests) in rw (t, u) refl
 
 -- the tree that the image is now, and a leaf of it
-pub tree-now : WellFormedImagesHaveNoFault → (s : Scene) → IsScene s → IsTree (view_in s.past.config (here s).image)
-tree-now formed s good =
-    let w : IsWellFormed s.past.config (here s).image = (formed s.past.config (here s).image).0 (good.history.good s.past.now good.begun (omega arith)).form in
+pub tree-now : (s : Scene) → IsScene s → IsTree (view_in s.past.config (here s).image)
+tree-now s good =
+    let w : IsWellFormed s.past.config (here s).image = (well_formed_images_have_no_fault s.past.config (here s).image).0 (good.history.good s.past.now good.begun (omega arith)).form in
     w.tree
 
 pub leaf-now : (s : Scene) (k : ℕ) → is_inside s.past.config (here s) k ≡ true → (form_at s.past.config (here s)).level k ≡ 0 → IsLeafNow s k

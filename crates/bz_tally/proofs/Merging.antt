@@ -4,7 +4,8 @@ use Rattle.std.specs.Prelude.{not, Some, None}
 use Rattle.std.proofs.lemmas.Bool.{true≢false}
 use Rattle.bz_branch.specs.Nodes.{IsOpenLink}
 use Rattle.bz_branch.proofs.Standing.{node-below}
-use Rattle.bz_join.specs.Parents.{ChildrenJoin, IsJoinedParent, joined_parent}
+use Rattle.bz_join.specs.Parents.{IsJoinedParent, joined_parent}
+use Rattle.bz_join.proofs.Proved.{children_join}
 use Rattle.bz_layout.specs.Addresses.{node_address}
 use Rattle.bz_layout.specs.declared.config.Config.{Config}
 use Rattle.bz_layout.specs.declared.sizes.TheConstants.{STATUS_AT}
@@ -18,12 +19,13 @@ use Rattle.bz_renew.specs.Freezings.{freezing_entry}
 use Rattle.bz_renew.specs.LinkSwaps.{IsFresh}
 use Rattle.bz_renew.specs.Renewals.{renewal, link_entry, guard_entry}
 use Rattle.bz_renew.specs.Standing.{StillLeads}
-use Rattle.bz_renew.specs.Turning.{TurnsWith, AreGoing, RootLinksTurnWith, ChildLinksTurnWith}
+use Rattle.bz_renew.specs.Turning.{TurnsWith, AreGoing}
 use Rattle.bz_renew.proofs.Freezings.{renewal-holds}
 use Rattle.bz_renew.proofs.FreshSlots.{outside-tree}
 use Rattle.bz_renew.proofs.Inserting.{all-inserted-first}
 use Rattle.bz_renew.proofs.TwoEntries.{both-stand}
 use Rattle.bz_renew.proofs.Words.{or-right}
+use Rattle.bz_renew.proofs.Proved.{child_links_turn_with, guarded_links_stand, root_links_turn_with}
 use Rattle.bz_shape.proofs.TreeForms.{fits}
 use Rattle.bz_shape.specs.Form.{Fits, Form, Holds as HoldsKey, Stands}
 use Rattle.bz_shape.specs.Order.{is_at_least, is_before, is_below}
@@ -38,7 +40,6 @@ use Rattle.bz_word.specs.declared.entry.Entry.{Entry}
 use Rattle.bz_content.proofs.Honesty.{no}
 use Rattle.bz_content.specs.Content.{image_of, view_in}
 use Rattle.bz_content.specs.Image.{node}
-use Rattle.bz_content.specs.Laws.{WellFormedImagesHaveNoFault, PlainWordsStandForThemselves}
 use Rattle.bz_content.specs.Restructures.{children_of, Merges}
 use Rattle.bz_content.specs.Swaps.{TurnsLink}
 use Rattle.bz_task.specs.Good.{IsGood}
@@ -47,22 +48,13 @@ use Rattle.bz_task.specs.Laws.{SamePlace}
 use Rattle.bz_task.specs.Outcomes.{IsUnderNode}
 use Rattle.bz_task.specs.Scene.{Scene, IsScene, here}
 use Rattle.bz_task.specs.Swaps.{Stand, SwapsTo}
-use Rattle.bz_tally.proofs.Frozen.{Frozen, still-says}
-use Rattle.bz_tally.proofs.Links.{Links, in-parent, node-freezable, node-leads, node-place, node-words, leaf-now, out-one, tree-now}
+use Rattle.bz_task.proofs.Proved.{ranges_stay}
+use Rattle.bz_tally.proofs.Frozen.{still-says}
+use Rattle.bz_tally.proofs.Links.{in-parent, node-freezable, node-leads, node-place, node-words, leaf-now, out-one, tree-now}
 use Rattle.bz_tally.proofs.Pairs.{first-child, own-once, second-child, to-first, to-second}
 use Rattle.bz_tally.proofs.Splitting.{Holds, raw-after, after}
 use Rattle.bz_tally.proofs.Stored.{each-fresh, each-held}
 use Rattle.bz_tally.specs.Counts.{IsLeafNow}
-
--- the laws on which it rests
-pub record Laws : Type 0 where
-  pub links : Links
-  pub formed : WellFormedImagesHaveNoFault
-  pub plain : PlainWordsStandForThemselves
-  pub root : RootLinksTurnWith
-  pub child : ChildLinksTurnWith
-  pub join : ChildrenJoin
-  pub leaf : Frozen
 
 -- a key in a range that ends at a separator is before it, and one in a range that begins there is not
 ends-before : (key sep : List ℕ) (high : Option (List ℕ)) → high ≡ Some sep → is_below key high ≡ true → is_before key sep ≡ true
@@ -75,7 +67,7 @@ begins-from key sep low e h = go (is_before key sep) refl (subst (λ z. is_at_le
     go true q z = absurd (true≢false (sym z))
     go false q z = refl
 
-module _ (b : Laws) (r : Merging) (s : Scene) (good : IsScene s) (f : IsMerging r MERGE_WORDS MERGE_LINES s) (stand : Stand (below_swap s.past.config r.upper r.lower (r.slot 0)) (here s)) where
+module _ (r : Merging) (s : Scene) (good : IsScene s) (f : IsMerging r MERGE_WORDS MERGE_LINES s) (stand : Stand (below_swap s.past.config r.upper r.lower (r.slot 0)) (here s)) where
   abbrev c : Config
   c = s.past.config
 
@@ -126,13 +118,13 @@ module _ (b : Laws) (r : Merging) (s : Scene) (good : IsScene s) (f : IsMerging 
   upper-now = (both-stand (link_entry r.upper q) (guard_entry r.upper) (here s) (renewal-holds c r.upper q holds (parent_freezing r.upper r.lower ∷ []) stand)).1
 
   leads : StillLeads r.lower s links.guard.guarded p links.under.child.child
-  leads = node-leads b.links s p r.lower good o parent-now
+  leads = node-leads s p r.lower good o parent-now
 
   place : SamePlace c (s.past.at plan.paired.viewed.guarded) (here s) p
-  place = subst (λ g. SamePlace c (s.past.at g) (here s) p) plan.paired.viewed.is_guarded (node-place b.links s p r.lower good o parent-now)
+  place = subst (λ g. SamePlace c (s.past.at g) (here s) p) plan.paired.viewed.is_guarded (node-place s p r.lower good o parent-now)
 
   were : durable c (here s) p ≡ old
-  were = node-words b.links s p r.lower good o parent-now ∙ (ap (λ g. words c (s.past.at g) p) plan.paired.viewed.is_guarded ∙ plan.paired.parent.were)
+  were = node-words s p r.lower good o parent-now ∙ (ap (λ g. words c (s.past.at g) p) plan.paired.viewed.is_guarded ∙ plan.paired.parent.were)
 
   p-below : p ≢ c.nodes
   p-below e = absurd (omega (arith, e, node-below s p r.lower good o))
@@ -152,11 +144,11 @@ module _ (b : Laws) (r : Merging) (s : Scene) (good : IsScene s) (f : IsMerging 
   level-one =
       let w = own-once r s.past plan in
       let l : SamePlace c (s.past.at w.moment) (here s) r.lower.slot =
-      b.links.ranges c s.past.at s.past.since s.past.now w.moment s.past.now r.lower.slot good.history (record { since = w.since; order = w.now; until = omega arith }) (λ e. absurd (omega (arith, e, w.slot))) w.inside leads.stands.inside in
+      ranges_stay c s.past.at s.past.since s.past.now w.moment s.past.now r.lower.slot good.history (record { since = w.since; order = w.now; until = omega arith }) (λ e. absurd (omega (arith, e, w.slot))) w.inside leads.stands.inside in
       omega (arith, leads.stands.level, l.level, w.leaf)
 
   g : Fits v fm
-  g = fits v (tree-now b.formed s good)
+  g = fits v (tree-now s good)
 
   stands-at : (j k : ℕ) → j < count_of old → child_of old j ≡ k → Stands v fm p j k
   stands-at j k l e = subst (Stands v fm p j) (child-now j ∙ e) (g.down p j leads.inside (omega (arith, level-one)) (subst (λ n. j < n) (sym count-now) l))
@@ -194,7 +186,7 @@ module _ (b : Laws) (r : Merging) (s : Scene) (good : IsScene s) (f : IsMerging 
 
   -- the new nodes
   joined : IsJoinedParent c.nodes r.read plan.paired.parent.level plan.paired.parent.low plan.paired.parent.high r.place m
-  joined = b.join c.nodes plan.paired.parent.raw r.read plan.paired.parent.level plan.paired.parent.low plan.paired.parent.high r.place m
+  joined = children_join c.nodes plan.paired.parent.raw r.read plan.paired.parent.level plan.paired.parent.low plan.paired.parent.high r.place m
       (record { few = plan.paired.parent.few; size = plan.paired.parent.size; inner = plan.paired.parent.inner; none = plan.paired.parent.none; within = plan.paired.pair.counted }) (f.writing.slots.within 1 (omega arith))
 
   abbrev parent : List ℕ
@@ -219,7 +211,7 @@ module _ (b : Laws) (r : Merging) (s : Scene) (good : IsScene s) (f : IsMerging 
 
   going : AreGoing (parent_freezing r.upper r.lower ∷ []) gone s
   going = record {
-    freezable = (node-freezable b.links s p r.lower good o parent-now, (refl, tt));
+    freezable = (node-freezable s p r.lower good o parent-now, (refl, tt));
     go = λ k e. or-right (first.slot == k) (is_among (second.slot ∷ p ∷ []) k) (or-right (second.slot == k) (is_among (p ∷ []) k) e);
   }
 
@@ -236,10 +228,10 @@ module _ (b : Laws) (r : Merging) (s : Scene) (good : IsScene s) (f : IsMerging 
   module _ (y : Instant) (swaps : SwapsTo c (below_swap c r.upper r.lower q) (here s) y) where
     module _ (top j : ℕ) (changed : List ℕ) (t : TurnsWith r.upper q (parent_freezing r.upper r.lower ∷ []) gone s y top j changed) where
       has : (n : ℕ) → n < MERGE_SLOTS → durable c y (r.slot n) ≡ node_of (r.image n)
-      has n h = after b.plain s y good r.upper (parent_freezing r.upper r.lower ∷ []) q gone top j changed t swaps (r.slot n) (node_of (r.image n)) (stored n h)
+      has n h = after s y good r.upper (parent_freezing r.upper r.lower ∷ []) q gone top j changed t swaps (r.slot n) (node_of (r.image n)) (stored n h)
 
       has-raw : (n : ℕ) → n < MERGE_SLOTS → node c y.image (r.slot n) ≡ node_of (r.image n)
-      has-raw n h = raw-after b.plain s y good r.upper (parent_freezing r.upper r.lower ∷ []) q gone top j changed t swaps (r.slot n) (node_of (r.image n)) (stored n h)
+      has-raw n h = raw-after s y good r.upper (parent_freezing r.upper r.lower ∷ []) q gone top j changed t swaps (r.slot n) (node_of (r.image n)) (stored n h)
 
       turns : TurnsLink c (image_of (here s).image) (image_of y.image) (fm.up p) (fm.index p) q gone
       turns =
@@ -257,13 +249,13 @@ module _ (b : Laws) (r : Merging) (s : Scene) (good : IsScene s) (f : IsMerging 
       first-says key h =
           ap (λ n. found_of n key) (has 1 (omega arith))
           ∙ (f.one.before c.nodes plan.low sep plan.first.whole key (ends-before key sep (fm.high first.slot) high-first h.high)
-          ∙ sym (still-says b.leaf s first.slot first.image good first-frozen (slot-of first.slot r.place first-stands) first-stands.inside (flat first.slot r.place first-stands) key))
+          ∙ sym (still-says s first.slot first.image good first-frozen (slot-of first.slot r.place first-stands) first-stands.inside (flat first.slot r.place first-stands) key))
 
       second-says : (key : List ℕ) → HoldsKey fm key second.slot → found_of (durable c y m) key ≡ found_of (durable c (here s) second.slot) key
       second-says key h =
           ap (λ n. found_of n key) (has 1 (omega arith))
           ∙ (f.one.from c.nodes plan.low sep plan.first.whole key (begins-from key sep (fm.low second.slot) low-second h.low)
-          ∙ sym (still-says b.leaf s second.slot second.image good second-frozen (slot-of second.slot (r.place + 1) second-stands) second-stands.inside (flat second.slot (r.place + 1) second-stands) key))
+          ∙ sym (still-says s second.slot second.image good second-frozen (slot-of second.slot (r.place + 1) second-stands) second-stands.inside (flat second.slot (r.place + 1) second-stands) key))
 
       merges-at : Merges c (image_of (here s).image) (image_of y.image) first.slot second.slot q m sep
       merges-at = record {
@@ -289,14 +281,14 @@ module _ (b : Laws) (r : Merging) (s : Scene) (good : IsScene s) (f : IsMerging 
 
     -- the parent is none of the nodes above it
     not-above : (under : IsUnderNode s.past r.upper links.upper_guard.guarded) → p ≢ under.parent
-    not-above under e = absurd (omega (arith, ap fm.level e, (b.links.stand s r.upper good links.upper_guard links.upper_thawed under upper-now).stands.level))
+    not-above under e = absurd (omega (arith, ap fm.level e, (guarded_links_stand s r.upper good links.upper_guard links.upper_thawed under upper-now).stands.level))
 
     -- what is so wherever the link to the parent stands
     by-turning : (P : Type 0) → ((top j : ℕ) (changed : List ℕ) → TurnsWith r.upper q (parent_freezing r.upper r.lower ∷ []) gone s y top j changed → P) → P
     by-turning P told = elim links.upper_guard.under [
-      | inl root ↦ told c.nodes 0 (p ∷ []) (b.root s y r.upper q (parent_freezing r.upper r.lower ∷ []) gone good root (f.writing.slots.within 0 (omega arith)) going stand swaps)
+      | inl root ↦ told c.nodes 0 (p ∷ []) (root_links_turn_with s y r.upper q (parent_freezing r.upper r.lower ∷ []) gone good root (f.writing.slots.within 0 (omega arith)) going stand swaps)
       | inr node ↦ told node.parent node.child.child (node.parent ∷ p ∷ [])
-          (b.child s y r.upper q (parent_freezing r.upper r.lower ∷ []) gone good links.upper_guard links.upper_thawed node (out-one p node.parent (not-above node)) (f.writing.slots.within 0 (omega arith)) going stand swaps)
+          (child_links_turn_with s y r.upper q (parent_freezing r.upper r.lower ∷ []) gone good links.upper_guard links.upper_thawed node (out-one p node.parent (not-above node)) (f.writing.slots.within 0 (omega arith)) going stand swaps)
     ]
 
     pub merges : Merges s.past.config (image_of (here s).image) (image_of y.image) first.slot second.slot (r.slot 0) (r.slot 1) sep

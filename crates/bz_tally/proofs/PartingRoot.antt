@@ -13,19 +13,19 @@ use Rattle.bz_layout.specs.Addresses.{node_address}
 use Rattle.bz_layout.specs.declared.config.Config.{Config}
 use Rattle.bz_layout.specs.declared.sizes.TheConstants.{ROOT_AT, STATUS_AT}
 use Rattle.bz_layout.specs.declared.thresholds.TheConstants.{SPLIT_SLOTS}
-use Rattle.bz_leaves.specs.Laws.{RootLeafSplitsAddOne}
-use Rattle.bz_parted.specs.Laws.{IsTallRoot, RootsStandAtLevels}
+use Rattle.bz_parted.specs.Laws.{IsTallRoot}
+use Rattle.bz_parted.proofs.Proved.{roots_stand_at_levels}
 use Rattle.bz_renew.specs.Freezings.{freezing_entry}
 use Rattle.bz_renew.specs.Renewals.{renewal, link_entry, guard_entry}
 use Rattle.bz_renew.specs.Standing.{StillLeads}
-use Rattle.bz_renew.specs.Turning.{TurnsWith, AreGoing, RootLinksTurnWith}
+use Rattle.bz_renew.specs.Turning.{TurnsWith, AreGoing}
 use Rattle.bz_renew.proofs.Freezings.{renewal-holds}
 use Rattle.bz_renew.proofs.FreshSlots.{outside-tree}
 use Rattle.bz_renew.proofs.Inserting.{all-inserted-first}
 use Rattle.bz_renew.proofs.TwoEntries.{both-stand}
+use Rattle.bz_renew.proofs.Proved.{root_links_turn_with}
 use Rattle.bz_shape.proofs.TreeForms.{fits}
 use Rattle.bz_shape.specs.Slots.{Halves, AreTwo}
-use Rattle.bz_slotted.specs.Laws.{LeafRulesAreFacts, InnerRulesAreFacts}
 use Rattle.bz_slotted.specs.ReadingLaws.{node_of}
 use Rattle.bz_slotted.specs.Readers.{level_of}
 use Rattle.bz_slotted.specs.Rules.{node_fault}
@@ -34,38 +34,27 @@ use Rattle.bz_word.specs.declared.entry.Entry.{Entry}
 use Rattle.bz_content.proofs.Reached.{level-at}
 use Rattle.bz_content.specs.Content.{image_of, view_in}
 use Rattle.bz_content.specs.Image.{Image, node, root}
-use Rattle.bz_content.specs.Laws.{WellFormedImagesHaveNoFault, PlainWordsStandForThemselves, RootSplitsKeepTheContent}
 use Rattle.bz_content.specs.Resolving.{resolve}
 use Rattle.bz_content.specs.Restructures.{children_of, SplitsRoot}
 use Rattle.bz_content.specs.Swaps.{TurnsLink}
+use Rattle.bz_content.proofs.Proved.{root_splits_keep_the_content}
 use Rattle.bz_task.specs.Good.{IsGood}
 use Rattle.bz_task.specs.Instant.{Instant, words, durable, form_at}
-use Rattle.bz_task.specs.Laws.{SamePlace, HasRoot, RootsAreReached}
+use Rattle.bz_task.specs.Laws.{SamePlace, HasRoot}
 use Rattle.bz_task.specs.Scene.{Scene, Waiting, IsScene, here}
 use Rattle.bz_task.specs.Swaps.{Stand, SwapsTo}
 use Rattle.bz_task.specs.declared.todo.Todo.TheVariants.{Swap as Swaps_for}
+use Rattle.bz_task.proofs.Proved.{roots_are_reached}
 use Rattle.bz_leaves.proofs.Consolidations.{only-one}
+use Rattle.bz_leaves.proofs.Proved.{root_leaf_splits_add_one}
 use Rattle.bz_tally.proofs.Backs.{AreFresh, leaves-stay, none-back, three-fresh}
 use Rattle.bz_tally.proofs.Changes.{same-entries}
-use Rattle.bz_tally.proofs.Links.{Links, node-freezable, node-leads, node-place, node-words, tree-now}
+use Rattle.bz_tally.proofs.Links.{node-freezable, node-leads, node-place, node-words, tree-now}
 use Rattle.bz_tally.proofs.Splitting.{Holds, raw-after, after}
 use Rattle.bz_tally.proofs.Stored.{node-held, node-fresh, are-three}
 use Rattle.bz_tally.specs.Laws.{InnerRootSplitsKeepTheLeaves}
 
--- the laws on which it rests
-pub record Laws : Type 0 where
-  pub links : Links
-  pub formed : WellFormedImagesHaveNoFault
-  pub leaves : LeafRulesAreFacts
-  pub inners : InnerRulesAreFacts
-  pub plain : PlainWordsStandForThemselves
-  pub turn : RootLinksTurnWith
-  pub roots : RootsAreReached
-  pub over : RootsStandAtLevels
-  pub grows : RootSplitsKeepTheContent
-  pub count : RootLeafSplitsAddOne
-
-module _ (b : Laws) (r : Crown) (s : Scene) (y : Instant) (good : IsScene s) (f : IsWritten (crown_plan r) s) (stand : Stand (below_swap s.past.config r.upper r.lower (r.slot 0)) (here s)) where
+module _ (r : Crown) (s : Scene) (y : Instant) (good : IsScene s) (f : IsWritten (crown_plan r) s) (stand : Stand (below_swap s.past.config r.upper r.lower (r.slot 0)) (here s)) where
   abbrev c : Config
   c = s.past.config
 
@@ -86,14 +75,14 @@ module _ (b : Laws) (r : Crown) (s : Scene) (y : Instant) (good : IsScene s) (f 
   node-status = all-inserted-first (λ (e : Entry). (here s).value e.target ≡ e.expected) (freezing_entry c (parent_freezing r.upper r.lower)) (renewal r.upper (r.slot 0)) stand
 
   leads : StillLeads r.lower s inside.guard.guarded a inside.under.child.child
-  leads = node-leads b.links s a r.lower good inside node-status
+  leads = node-leads s a r.lower good inside node-status
 
   -- the root, as it was read
   place : SamePlace c (s.past.at f.ready.planned.links.guarded) (here s) a
-  place = subst (λ m. SamePlace c (s.past.at m) (here s) a) f.ready.planned.links.is_guarded (node-place b.links s a r.lower good inside node-status)
+  place = subst (λ m. SamePlace c (s.past.at m) (here s) a) f.ready.planned.links.is_guarded (node-place s a r.lower good inside node-status)
 
   own-now : durable c (here s) a ≡ node_of r.read
-  own-now = node-words b.links s a r.lower good inside node-status ∙ (ap (λ m. words c (s.past.at m) a) f.ready.planned.links.is_guarded ∙ f.ready.planned.node.were)
+  own-now = node-words s a r.lower good inside node-status ∙ (ap (λ m. words c (s.past.at m) a) f.ready.planned.links.is_guarded ∙ f.ready.planned.node.were)
 
   led : (here s).value ROOT_AT ≡ a + 1
   led =
@@ -106,13 +95,13 @@ module _ (b : Laws) (r : Crown) (s : Scene) (y : Instant) (good : IsScene s) (f 
   holds-all : HasRoot c (here s) a
   holds-all =
       let at : (here s).value ROOT_AT - 1 ≡ a = omega (arith, led) in
-      subst (HasRoot c (here s)) at (b.roots c (here s) g)
+      subst (HasRoot c (here s)) at (roots_are_reached c (here s) g)
 
   level-now : (form_at c (here s)).level a ≡ f.ready.planned.node.level
   level-now = place.level ∙ f.ready.planned.node.level_is
 
   pub at-top : level_of (durable s.past.config (here s) (root (resolve (here s).image))) ≡ (form_at s.past.config (here s)).level r.upper.slot
-  at-top = ap (λ k. level_of (durable c (here s) k)) root-is ∙ level-at b.leaves b.inners c x a (fits (view_in c (here s).image) (tree-now b.formed s good)) leads.inside (λ e. absurd (omega (arith, e, node-below s a r.lower good inside)))
+  at-top = ap (λ k. level_of (durable c (here s) k)) root-is ∙ level-at c x a (fits (view_in c (here s).image) (tree-now s good)) leads.inside (λ e. absurd (omega (arith, e, node-below s a r.lower good inside)))
 
   level : level_of (durable c (here s) (root (resolve (here s).image))) ≡ f.ready.planned.node.level
   level = at-top ∙ level-now
@@ -130,26 +119,26 @@ module _ (b : Laws) (r : Crown) (s : Scene) (y : Instant) (good : IsScene s) (f 
   no-high = sym holds-all.high ∙ (place.high ∙ f.ready.planned.node.high_is)
 
   made : IsTallRoot c.nodes (r.slot 1) (r.slot 2) f.ready.sep (f.ready.planned.node.level + 1)
-  made = b.over c.nodes (r.slot 1) (r.slot 2) (f.ready.planned.node.level + 1) f.ready.sep good.config.nodes_in_range.at_most (f.writing.slots.within 1 (omega arith)) (f.writing.slots.within 2 (omega arith)) f.ready.parts.separator (omega arith) f.ready.planned.low_enough
+  made = roots_stand_at_levels c.nodes (r.slot 1) (r.slot 2) (f.ready.planned.node.level + 1) f.ready.sep good.config.nodes_in_range.at_most (f.writing.slots.within 1 (omega arith)) (f.writing.slots.within 2 (omega arith)) f.ready.parts.separator (omega arith) f.ready.planned.low_enough
 
   stored : (n : ℕ) → n < SPLIT_SLOTS → Holds s (r.slot n) (node_of (r.image n))
   stored n h = record { fresh = node-fresh r.slot r.image s f.plain f.writing n h; has = node-held r.slot r.image s f.plain f.writing n h }
 
   going : AreGoing (parent_freezing r.upper r.lower ∷ []) (a ∷ []) s
-  going = record { freezable = (node-freezable b.links s a r.lower good inside node-status, (refl, tt)); go = λ k e. e }
+  going = record { freezable = (node-freezable s a r.lower good inside node-status, (refl, tt)); go = λ k e. e }
 
   module _ (swaps : SwapsTo c (below_swap c r.upper r.lower (r.slot 0)) (here s) y) where
     abbrev z : Image
     z = image_of y.image
 
     t : TurnsWith r.upper (r.slot 0) (parent_freezing r.upper r.lower ∷ []) (a ∷ []) s y c.nodes 0 (a ∷ [])
-    t = b.turn s y r.upper (r.slot 0) (parent_freezing r.upper r.lower ∷ []) (a ∷ []) good f.ready.planned.links.under (f.writing.slots.within 0 (omega arith)) going stand swaps
+    t = root_links_turn_with s y r.upper (r.slot 0) (parent_freezing r.upper r.lower ∷ []) (a ∷ []) good f.ready.planned.links.under (f.writing.slots.within 0 (omega arith)) going stand swaps
 
     has : (n : ℕ) → n < SPLIT_SLOTS → durable c y (r.slot n) ≡ node_of (r.image n)
-    has n h = after b.plain s y good r.upper (parent_freezing r.upper r.lower ∷ []) (r.slot 0) (a ∷ []) c.nodes 0 (a ∷ []) t swaps (r.slot n) (node_of (r.image n)) (stored n h)
+    has n h = after s y good r.upper (parent_freezing r.upper r.lower ∷ []) (r.slot 0) (a ∷ []) c.nodes 0 (a ∷ []) t swaps (r.slot n) (node_of (r.image n)) (stored n h)
 
     has-raw : (n : ℕ) → n < SPLIT_SLOTS → node c y.image (r.slot n) ≡ node_of (r.image n)
-    has-raw n h = raw-after b.plain s y good r.upper (parent_freezing r.upper r.lower ∷ []) (r.slot 0) (a ∷ []) c.nodes 0 (a ∷ []) t swaps (r.slot n) (node_of (r.image n)) (stored n h)
+    has-raw n h = raw-after s y good r.upper (parent_freezing r.upper r.lower ∷ []) (r.slot 0) (a ∷ []) c.nodes 0 (a ∷ []) t swaps (r.slot n) (node_of (r.image n)) (stored n h)
 
     halves : Halves (children_of (durable c (here s) a)) (children_of (durable c y (r.slot 1))) (children_of (durable c y (r.slot 2))) f.ready.parts.cut f.ready.sep
     halves = subst (λ n. Halves (children_of n) (children_of (durable c y (r.slot 1))) (children_of (durable c y (r.slot 2))) f.ready.parts.cut f.ready.sep) (sym own-now)
@@ -180,18 +169,18 @@ swapping : (c : Config) (r : Crown) (phase : Phase) (s : Scene) (entries : List 
 swapping c r (Writing Swap) s entries f e = (f.1, same-entries (below_swap c r.upper r.lower (r.slot 0)) entries e)
 swapping c r phase s entries f e = absurd (cc)
 
-pub root-parts : Laws → InnerRootSplitsKeepTheLeaves
-root-parts b t entries s y l =
+pub root-parts : InnerRootSplitsKeepTheLeaves
+root-parts t entries s y l =
     let r : Crown = crown_of t in
     let f = swapping t.config r t.phase s entries l.knows l.asks in
     let is : below_swap s.past.config r.upper r.lower (r.slot 0) ≡ entries = ap (λ (z : Config). below_swap z r.upper r.lower (r.slot 0)) l.config ∙ f.1 in
     let stand : Stand (below_swap s.past.config r.upper r.lower (r.slot 0)) (here s) = subst (λ z. Stand z (here s)) (sym is) l.stand in
-    let d = parts-root b r s y l.good f.0 stand (subst (λ z. SwapsTo s.past.config z (here s) y) (sym is) l.leads) in
+    let d = parts-root r s y l.good f.0 stand (subst (λ z. SwapsTo s.past.config z (here s) y) (sym is) l.leads) in
     let fresh : AreFresh s (r.slot 0 ∷ r.slot 1 ∷ r.slot 2 ∷ []) = three-fresh s (r.slot 0) (r.slot 1) (r.slot 2) (node-fresh r.slot r.image s f.0.plain f.0.writing 0 (omega arith)) (node-fresh r.slot r.image s f.0.plain f.0.writing 1 (omega arith)) (node-fresh r.slot r.image s f.0.plain f.0.writing 2 (omega arith)) in
-    let grows = b.grows s.past.config (image_of (here s).image) (image_of y.image) (r.slot 0) (r.slot 1) (r.slot 2) f.0.ready.parts.cut f.0.ready.sep (tree-now b.formed s l.good) d in
+    let grows = root_splits_keep_the_content s.past.config (image_of (here s).image) (image_of y.image) (r.slot 0) (r.slot 1) (r.slot 2) f.0.ready.parts.cut f.0.ready.sep (tree-now s l.good) d in
     record {
-      same = (b.count s.past.config (image_of (here s).image) (image_of y.image) (r.slot 0) (r.slot 1) (r.slot 2) f.0.ready.parts.cut f.0.ready.sep (tree-now b.formed s l.good) d).inner (high b r s y l.good f.0 stand);
+      same = (root_leaf_splits_add_one s.past.config (image_of (here s).image) (image_of y.image) (r.slot 0) (r.slot 1) (r.slot 2) f.0.ready.parts.cut f.0.ready.sep (tree-now s l.good) d).inner (high r s y l.good f.0 stand);
       back = none-back s y (root (resolve (here s).image) ∷ []) (r.slot 0 ∷ r.slot 1 ∷ r.slot 2 ∷ []) l.good grows fresh;
       stay = leaves-stay s y (root (resolve (here s).image) ∷ []) (r.slot 0 ∷ r.slot 1 ∷ r.slot 2 ∷ []) l.good grows fresh
-          (λ k e. subst (λ (j : ℕ). 0 < (form_at s.past.config (here s)).level j) (sym (only-one (root (resolve (here s).image)) k e)) (root-high b r s y l.good f.0 stand));
+          (λ k e. subst (λ (j : ℕ). 0 < (form_at s.past.config (here s)).level j) (sym (only-one (root (resolve (here s).image)) k e)) (root-high r s y l.good f.0 stand));
     }

@@ -9,48 +9,39 @@ use Rattle.bz_layout.specs.declared.thresholds.TheConstants.{LEAF_RECORD_WORDS}
 use Rattle.bz_leaves.specs.Laws.{KeepsSlots}
 use Rattle.bz_running.specs.FromMerge.Merges.{WasLeafOnce}
 use Rattle.bz_node.specs.Reading.{extent_words}
-use Rattle.bz_record.specs.Laws.{SameLeaf, LeavesStay}
+use Rattle.bz_record.specs.Laws.{SameLeaf}
 use Rattle.bz_record.specs.Replacing.{WasRecord, removal}
-use Rattle.bz_record.specs.ReplacingLaws.{RemovalsAreGood}
 use Rattle.bz_record.specs.Swaps.{entries_of, meta_entry, status_entry}
 use Rattle.bz_record.specs.declared.record_swap.RecordSwap.{RecordSwap}
+use Rattle.bz_record.proofs.Proved.{leaves_stay, removals_are_good}
 use Rattle.bz_renew.proofs.Words.{and-left, and-right}
 use Rattle.bz_shape.specs.Form.{Form, Holds}
 use Rattle.bz_shape.specs.Order.{is_at_least, is_below}
-use Rattle.bz_shape.specs.TreeLaws.{LeavesTileTheKeys}
 use Rattle.bz_shape.specs.Walk.{IsTree}
-use Rattle.bz_slotted.specs.Laws.{LeafRulesAreFacts}
+use Rattle.bz_shape.proofs.Proved.{leaves_tile_the_keys}
 use Rattle.bz_slotted.specs.Page.{page, meta_of}
 use Rattle.bz_slotted.specs.Records.{live_block, live_to, live_words}
 use Rattle.bz_slotted.specs.Whole.{Whole}
-use Rattle.bz_word.specs.Statements.{IsCodec}
-use Rattle.bz_word.specs.Statuses.{IsStatus, IsStatusWord, status, status_word}
+use Rattle.bz_slotted.proofs.Proved.{leaf_rules_are_facts}
+use Rattle.bz_word.specs.Statuses.{IsStatus, status}
 use Rattle.bz_word.specs.declared.entry.Entry.{Entry}
 use Rattle.bz_word.specs.declared.meta.Extent.{Extent}
 use Rattle.bz_word.specs.declared.status.Status.{Status}
+use Rattle.bz_word.proofs.Lemmas.{statuses}
 use Rattle.bz_content.specs.Content.{image_of, leaf_in, view_in}
 use Rattle.bz_content.specs.Image.{node}
 use Rattle.bz_content.specs.Resolving.{resolve}
+use Rattle.bz_content.proofs.Proved.{well_formed_images_have_no_fault}
 use Rattle.bz_task.specs.Good.{IsGood}
 use Rattle.bz_task.specs.Instant.{Instant, words, durable, form_at}
-use Rattle.bz_task.specs.Laws.{LeavesAreInTrees, SlotWords, SwapsShowInSlots}
+use Rattle.bz_task.specs.Laws.{SlotWords}
 use Rattle.bz_task.specs.Scene.{Scene, IsScene, here}
 use Rattle.bz_task.specs.Steps.{next_stamp}
 use Rattle.bz_task.specs.Swaps.{Stand, SwapsTo, swapped}
-use Rattle.bz_tally.proofs.LeafWords.{Laws as Words, kept, names-record}
+use Rattle.bz_task.proofs.Proved.{leaves_are_in_trees, swaps_show_in_slots}
+use Rattle.bz_tally.proofs.LeafWords.{kept, names-record}
 use Rattle.bz_tally.proofs.Lives.{block-live, live-put, record-fits}
 use Rattle.bz_tally.specs.Deletes.{LosesOneRecord, live_of_key}
-
--- the laws on which it rests
-pub record Laws : Type 0 where
-  pub words : Words
-  pub leaves : LeavesStay
-  pub good : RemovalsAreGood
-  pub slots : SwapsShowInSlots
-  pub rules : LeafRulesAreFacts
-  pub tiles : LeavesTileTheKeys
-  pub trees : LeavesAreInTrees
-  pub statuses : IsCodec Status IsStatus IsStatusWord status_word status
 
 -- what the first of two entries sets, and what both leave
 set-first : (e f : Entry) (g : ℕ → ℕ) (a : ℕ) → e.target ≡ a → swapped (e ∷ f ∷ []) g a ≡ e.new
@@ -61,7 +52,7 @@ leave-both e f g a n m =
     let t : (e.target == a) ≡ false = grind (arith, nat_tests) in
     let u : (f.target == a) ≡ false = grind (arith, nat_tests) in rw (t, u) refl
 
-module _ (b : Laws) (s : Scene) (y : Instant) (key payload : List ℕ) (k st place : ℕ) (e : Extent) (good : IsScene s) (w : WasRecord key payload k st place e s.past) (thawed : (status st).frozen ≡ false)
+module _ (s : Scene) (y : Instant) (key payload : List ℕ) (k st place : ℕ) (e : Extent) (good : IsScene s) (w : WasRecord key payload k st place e s.past) (thawed : (status st).frozen ≡ false)
     (stand : Stand (entries_of s.past.config (removal k st place e)) (here s)) (swaps : SwapsTo s.past.config (entries_of s.past.config (removal k st place e)) (here s) y) where
   abbrev c : Config
   c = s.past.config
@@ -70,7 +61,7 @@ module _ (b : Laws) (s : Scene) (y : Instant) (key payload : List ℕ) (k st pla
   r = removal k st place e
 
   slot : SlotWords s.past.config (entries_of s.past.config (removal k st place e)) (here s) y k
-  slot = b.slots c (entries_of c r) (here s) y k swaps
+  slot = swaps_show_in_slots c (entries_of c r) (here s) y k swaps
 
   now : IsGood s.past.config (here s)
   now = good.history.good s.past.now good.begun (omega arith)
@@ -80,13 +71,13 @@ module _ (b : Laws) (s : Scene) (y : Instant) (key payload : List ℕ) (k st pla
   status-is = (slot.within STATUS_AT (omega arith)).before ∙ stand 0 (status_entry c r) (omega arith)
 
   same : SameLeaf s.past.config (s.past.at w.moment) (here s) k
-  same = b.leaves s k st w.moment good w.leaf.leaf thawed status-is
+  same = leaves_stay s k st w.moment good w.leaf.leaf thawed status-is
 
   durable-status : durable s.past.config (here s) k STATUS_AT ≡ st
   durable-status = now.shown k STATUS_AT same.leaf.reached (inl (omega arith)) ∙ status-is
 
   whole : Whole (node s.past.config (here s).image k) (page (durable s.past.config (here s) k)) ((form_at s.past.config (here s)).low k) ((form_at s.past.config (here s)).high k)
-  whole = (b.rules c.nodes (node c (here s).image k) (durable c (here s) k) _ _).0 same.leaf.whole
+  whole = (leaf_rules_are_facts c.nodes (node c (here s).image k) (durable c (here s) k) _ _).0 same.leaf.whole
 
   count-is : (page (durable s.past.config (here s) k)).count ≡ (status st).count
   count-is = ap (λ z. (status z).count) durable-status
@@ -99,10 +90,10 @@ module _ (b : Laws) (s : Scene) (y : Instant) (key payload : List ℕ) (k st pla
   status-after = (slot.within STATUS_AT (omega arith)).durable_value ∙ set-first (status_entry c r) (meta_entry c r) (resolve (here s).image) (node_address c k + STATUS_AT) refl
 
   lawful : IsStatus (record (status st) { dead = (status st).dead + extent_words e; stamp = next_stamp (status st).stamp })
-  lawful = let z : IsStatus (status st) = b.statuses.range st w.leaf.leaf.plain in record { count = z.count; block = z.block; dead = omega (arith, w.small, w.dead); stamp = omega arith }
+  lawful = let z : IsStatus (status st) = statuses.range st w.leaf.leaf.plain in record { count = z.count; block = z.block; dead = omega (arith, w.small, w.dead); stamp = omega arith }
 
   reads : status (durable s.past.config y k STATUS_AT) ≡ record (status st) { dead = (status st).dead + extent_words e; stamp = next_stamp (status st).stamp }
-  reads = ap status status-after ∙ b.statuses.value _ lawful
+  reads = ap status status-after ∙ statuses.value _ lawful
 
   count-after : (page (durable s.past.config y k)).count ≡ (page (durable s.past.config (here s) k)).count
   count-after = ap (λ (z : Status). z.count) reads ∙ sym count-is
@@ -130,7 +121,7 @@ module _ (b : Laws) (s : Scene) (y : Instant) (key payload : List ℕ) (k st pla
   once = let l = w.leaf.leaf in record { moment = w.moment; since = l.since; now = l.now; slot = l.slot; inside = l.inside; leaf = l.leaf }
 
   stays : KeepsSlots s.past.config (image_of (here s).image) (image_of y.image)
-  stays = kept b.words (entries_of c r) s y k good once (names-record c r within) swaps
+  stays = kept (entries_of c r) s y k good once (names-record c r within) swaps
 
   holds : Holds (form_at s.past.config (here s)) key k
   holds = record {
@@ -141,13 +132,13 @@ module _ (b : Laws) (s : Scene) (y : Instant) (key payload : List ℕ) (k st pla
   }
 
   leaf-of : (x : Instant) → IsGood s.past.config x → Holds (form_at s.past.config x) key k → leaf_in s.past.config x.image key ≡ k
-  leaf-of x g h = let t : IsTree (view_in c x.image) = ((b.words.formed c x.image).0 g.form).tree in (b.tiles (view_in c x.image) t key k).0 h
+  leaf-of x g h = let t : IsTree (view_in c x.image) = ((well_formed_images_have_no_fault c x.image).0 g.form).tree in (leaves_tile_the_keys (view_in c x.image) t key k).0 h
 
   pub leaf-is : leaf_in s.past.config (here s).image key ≡ k
   leaf-is = leaf-of (here s) now holds
 
   after : IsGood s.past.config y
-  after = (b.good s y key payload k st place e good w thawed stand swaps).good
+  after = (removals_are_good s y key payload k st place e good w thawed stand swaps).good
 
   holds-after : Holds (form_at s.past.config y) key k
   holds-after = subst (λ (f : Form). Holds f key k) (sym stays.form) holds
@@ -164,7 +155,7 @@ module _ (b : Laws) (s : Scene) (y : Instant) (key payload : List ℕ) (k st pla
 
   -- of the block all words but the dead ones are live, and those of the record are dead now
   whole-after : Whole (node s.past.config y.image k) (page (durable s.past.config y k)) ((form_at s.past.config y).low k) ((form_at s.past.config y).high k)
-  whole-after = (b.rules c.nodes (node c y.image k) (durable c y k) _ _).0 (b.trees c y k after w.leaf.leaf.slot holds-after.inside holds-after.leaf).whole
+  whole-after = (leaf_rules_are_facts c.nodes (node c y.image k) (durable c y k) _ _).0 (leaves_are_in_trees c y k after w.leaf.leaf.slot holds-after.inside holds-after.leaf).whole
 
   pub left : (status st).block - (status st).dead - extent_words e ≤ live_of_key s.past.config y key
   left =

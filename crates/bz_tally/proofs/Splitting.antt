@@ -13,9 +13,9 @@ use Rattle.bz_slotted.specs.Rules.{node_fault}
 use Rattle.bz_content.specs.Content.{image_of, view_in}
 use Rattle.bz_swap.specs.SwapMemory.{is_target}
 use Rattle.bz_content.specs.Image.{Image, node}
-use Rattle.bz_content.specs.Laws.{PlainWordsStandForThemselves}
 use Rattle.bz_content.specs.Restructures.{children_of, SaysInHalves, Splits, StandsWhole}
 use Rattle.bz_content.specs.Swaps.{TurnsLink}
+use Rattle.bz_content.proofs.Proved.{plain_words_stand_for_themselves}
 use Rattle.bz_task.specs.Instant.{Instant, words, durable, form_at}
 use Rattle.bz_task.specs.Scene.{Scene, IsScene, here}
 use Rattle.bz_task.specs.Swaps.{SwapsTo}
@@ -47,7 +47,7 @@ pub record IsReady (s : Scene) (p a i q l r m : ℕ) (sep : List ℕ) (v n o : �
   pub before : (form_at s.past.config (here s)).level a ≡ 0 → (key : List ℕ) → is_before key sep ≡ true → found_of n key ≡ found_of (durable s.past.config (here s) a) key
   pub from : (form_at s.past.config (here s)).level a ≡ 0 → (key : List ℕ) → is_before key sep ≡ false → found_of o key ≡ found_of (durable s.past.config (here s) a) key
 
-module _ (plain : PlainWordsStandForThemselves) (s : Scene) (y : Instant) (good : IsScene s) (upper : Link) (freezings : List Freezing) (q : ℕ) (gone : List ℕ) (top j : ℕ) (changed : List ℕ) (t : TurnsWith upper q freezings gone s y top j changed)
+module _ (s : Scene) (y : Instant) (good : IsScene s) (upper : Link) (freezings : List Freezing) (q : ℕ) (gone : List ℕ) (top j : ℕ) (changed : List ℕ) (t : TurnsWith upper q freezings gone s y top j changed)
     (swaps : SwapsTo s.past.config (renewal_with s.past.config upper q freezings) (here s) y) where
   abbrev c : Config
   c = s.past.config
@@ -64,10 +64,10 @@ module _ (plain : PlainWordsStandForThemselves) (s : Scene) (y : Instant) (good 
     unnamed i h = t.others k i (fresh-unchanged s y changed k good f.fresh t.changes) h
 
     pub raw-after : node c y.image k ≡ n
-    raw-after = raw-stays plain (renewal_with c upper q freezings) s y k good f.fresh unnamed swaps ∙ f.has
+    raw-after = raw-stays plain_words_stand_for_themselves (renewal_with c upper q freezings) s y k good f.fresh unnamed swaps ∙ f.has
 
     pub after : durable c y k ≡ n
-    after = durable-stays plain (renewal_with c upper q freezings) s y k good f.fresh unnamed swaps ∙ f.has
+    after = durable-stays plain_words_stand_for_themselves (renewal_with c upper q freezings) s y k good f.fresh unnamed swaps ∙ f.has
 
   module _ (a i l r m : ℕ) (sep : List ℕ) (v n o : ℕ → ℕ) (f : IsReady s upper.slot a i q l r m sep v n o) (go : gone ≡ a ∷ upper.slot ∷ []) where
     abbrev p : ℕ

@@ -24,17 +24,14 @@ use Rattle.bz_task.specs.Scene.{Scene}
 use Rattle.bz_task.specs.declared.path.Link.{Link}
 use Rattle.bz_task.specs.declared.todo.Todo.TheVariants.{Swap as Swaps_for}
 use Rattle.bz_tally.specs.Counts.{KeepsTheLeaves}
-use Rattle.bz_tally.specs.Laws.{ChangesKeepTheLeaves, CopiesKeepTheLeaves, RootLeafSplitsCount, LeafSplitsCount, InnerRootSplitsKeepTheLeaves, InnerSplitsKeepTheLeaves, MergeCounts, MergesCount, LeavesFollow, SwapsCount, Renews, Grows, Shrinks, LeavesComeAndGo}
-
--- the laws of each
-pub record Each : Type 0 where
-  pub changes : ChangesKeepTheLeaves
-  pub copies : CopiesKeepTheLeaves
-  pub root_leaves : RootLeafSplitsCount
-  pub leaves : LeafSplitsCount
-  pub inner_roots : InnerRootSplitsKeepTheLeaves
-  pub inners : InnerSplitsKeepTheLeaves
-  pub merges : MergesCount
+use Rattle.bz_tally.specs.Laws.{MergeCounts, LeavesFollow, SwapsCount, Renews, Grows, Shrinks, LeavesComeAndGo}
+use Rattle.bz_tally.proofs.Changes.{changes-keep}
+use Rattle.bz_tally.proofs.Copies.{copies}
+use Rattle.bz_tally.proofs.HalvingBelow.{halves-below}
+use Rattle.bz_tally.proofs.HalvingInner.{halves-inner}
+use Rattle.bz_tally.proofs.Merges.{merges-count}
+use Rattle.bz_tally.proofs.PartingRoot.{root-parts}
+use Rattle.bz_tally.proofs.RootHalving.{root-halves}
 
 -- a look-up asks for no swap
 seek-none : (c : Config) (p : Way) (entries : List Entry) → seek_asks c p ≡ Some (Swaps_for entries) → ⊥
@@ -72,21 +69,21 @@ leaf-none c link image (leaf.Viewed at) entries e = absurd (cc)
 leaf-none c link image leaf.Changed entries e = absurd (cc)
 
 -- a task on the way up knows what it knows without that way
-pub swaps-count : Each → SwapsCount
+pub swaps-count : SwapsCount
 unfolding view_of
-swaps-count b (Seeking t) entries s y w = absurd (seek-none t.config t.phase entries w.asks)
-swaps-count b (Finding t) entries s y w = absurd (find-none t t.phase entries w.asks)
-swaps-count b (Reading t) entries s y w = absurd (leaf-none t.config t.link t.image t.phase entries w.asks)
-swaps-count b (Inserting t) entries s y w = b.changes.insert t entries s y (record { config = w.config; good = w.good; knows = w.knows; asks = w.asks; stand = w.stand; leads = w.leads })
-swaps-count b (Updating t) entries s y w = b.changes.update t entries s y (record { config = w.config; good = w.good; knows = w.knows; asks = w.asks; stand = w.stand; leads = w.leads })
-swaps-count b (Deleting t) entries s y w = b.changes.delete t entries s y (record { config = w.config; good = w.good; knows = w.knows; asks = w.asks; stand = w.stand; leads = w.leads })
-swaps-count b (Freezing t) entries s y w = b.changes.freeze t entries s y (record { config = w.config; good = w.good; knows = w.knows; asks = w.asks; stand = w.stand; leads = w.leads })
-swaps-count b (Consolidating t) entries s y w = b.copies t entries s y (record { config = w.config; good = w.good; knows = w.knows; asks = w.asks; stand = w.stand; leads = w.leads })
-swaps-count b (Splitting t) entries s y w = b.root_leaves t entries s y (record { config = w.config; good = w.good; knows = w.knows; asks = w.asks; stand = w.stand; leads = w.leads })
-swaps-count b (SplittingBelow t a) entries s y w = b.leaves t entries s y (record { config = w.config; good = w.good; knows = w.knows.0; asks = w.asks; stand = w.stand; leads = w.leads })
-swaps-count b (SplittingInner t a) entries s y w = b.inners t entries s y (record { config = w.config; good = w.good; knows = w.knows.0; asks = w.asks; stand = w.stand; leads = w.leads })
-swaps-count b (SplittingInnerRoot t a) entries s y w = b.inner_roots t entries s y (record { config = w.config; good = w.good; knows = w.knows.0; asks = w.asks; stand = w.stand; leads = w.leads })
-swaps-count b (Merging t) entries s y w = b.merges t entries s y (record { config = w.config; good = w.good; knows = w.knows; asks = w.asks; stand = w.stand; leads = w.leads })
+swaps-count (Seeking t) entries s y w = absurd (seek-none t.config t.phase entries w.asks)
+swaps-count (Finding t) entries s y w = absurd (find-none t t.phase entries w.asks)
+swaps-count (Reading t) entries s y w = absurd (leaf-none t.config t.link t.image t.phase entries w.asks)
+swaps-count (Inserting t) entries s y w = changes-keep.insert t entries s y (record { config = w.config; good = w.good; knows = w.knows; asks = w.asks; stand = w.stand; leads = w.leads })
+swaps-count (Updating t) entries s y w = changes-keep.update t entries s y (record { config = w.config; good = w.good; knows = w.knows; asks = w.asks; stand = w.stand; leads = w.leads })
+swaps-count (Deleting t) entries s y w = changes-keep.delete t entries s y (record { config = w.config; good = w.good; knows = w.knows; asks = w.asks; stand = w.stand; leads = w.leads })
+swaps-count (Freezing t) entries s y w = changes-keep.freeze t entries s y (record { config = w.config; good = w.good; knows = w.knows; asks = w.asks; stand = w.stand; leads = w.leads })
+swaps-count (Consolidating t) entries s y w = copies t entries s y (record { config = w.config; good = w.good; knows = w.knows; asks = w.asks; stand = w.stand; leads = w.leads })
+swaps-count (Splitting t) entries s y w = root-halves t entries s y (record { config = w.config; good = w.good; knows = w.knows; asks = w.asks; stand = w.stand; leads = w.leads })
+swaps-count (SplittingBelow t a) entries s y w = halves-below t entries s y (record { config = w.config; good = w.good; knows = w.knows.0; asks = w.asks; stand = w.stand; leads = w.leads })
+swaps-count (SplittingInner t a) entries s y w = halves-inner t entries s y (record { config = w.config; good = w.good; knows = w.knows.0; asks = w.asks; stand = w.stand; leads = w.leads })
+swaps-count (SplittingInnerRoot t a) entries s y w = root-parts t entries s y (record { config = w.config; good = w.good; knows = w.knows.0; asks = w.asks; stand = w.stand; leads = w.leads })
+swaps-count (Merging t) entries s y w = merges-count t entries s y (record { config = w.config; good = w.good; knows = w.knows; asks = w.asks; stand = w.stand; leads = w.leads })
 
 -- of a merge: it keeps them, or takes one away
 merge-cases : (t : Merge) (phase : Phase) (s : Scene) (y : Instant) → MergeCounts t phase s y → KeepsTheLeaves s y ⊎ (Renews (Merging t) s y ⊎ (Grows (Merging t) s y ⊎ Shrinks (Merging t) s y))
@@ -108,5 +105,5 @@ come-and-go (Consolidating t) s y h = inr (inl (record { slot = t.link.slot; is 
 come-and-go (SplittingInner t a) s y h = inl h
 come-and-go (SplittingInnerRoot t a) s y h = inl h
 
-pub leaves-come-and-go : SwapsCount → LeavesComeAndGo
-leaves-come-and-go law t entries s y w = come-and-go t s y (law t entries s y w)
+pub leaves-come-and-go : LeavesComeAndGo
+leaves-come-and-go t entries s y w = come-and-go t s y (swaps-count t entries s y w)

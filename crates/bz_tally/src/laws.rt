@@ -2,12 +2,7 @@
 //! contract is the law.
 
 ghost use Rattle.bz_tally.specs.Deletes.{DeletesTakeOneRecord, DeletesTellFew};
-ghost use Rattle.bz_tally.specs.Laws.{SwapsCount, LeavesComeAndGo, MergesCountAtLast};
-
-/// So the swap of whichever task makes of the number what its kind makes of it.
-pub fn swaps_count()
-    ensures { SwapsCount }
-{}
+ghost use Rattle.bz_tally.specs.Laws.{LeavesComeAndGo, MergesCountAtLast};
 
 /// One leaf more comes only by the split of a leaf, and one less only by the merge of two.
 pub fn leaves_come_and_go()

@@ -4,14 +4,15 @@ use Rattle.std.specs.Prelude.{nat_lt, bytes_eq}
 use Rattle.std.proofs.lemmas.Bool.{cases_eq, cases_lt, true≢false}
 use Rattle.std.proofs.lemmas.Bool.Decides.{nat_tests}
 use Rattle.std.proofs.lemmas.Slice.Eq.{bytes_eq-Decides}
-use Rattle.bz_layout.specs.Addresses.{node_address, IsOutsideSwaps, SlotsApart}
+use Rattle.bz_layout.specs.Addresses.{node_address, IsOutsideSwaps}
 use Rattle.bz_layout.specs.declared.config.Config.{Config}
 use Rattle.bz_layout.specs.declared.sizes.TheConstants.{NODE_WORDS, SUPERBLOCK_WORDS, ROOT_AT, ROOT_STATUS_AT}
+use Rattle.bz_layout.proofs.Laws.{slots_apart}
 use Rattle.bz_shape.specs.Descent.{leaf_of, content}
 use Rattle.bz_shape.specs.Order.{is_at_least, is_below, is_within}
 use Rattle.bz_shape.specs.Outcomes.{SameTree}
-use Rattle.bz_shape.specs.TreeLaws.{LeavesTileTheKeys}
 use Rattle.bz_shape.specs.Walk.{form_of}
+use Rattle.bz_shape.proofs.Proved.{leaves_tile_the_keys}
 use Rattle.bz_content.specs.FromSlotted.Page.{page}
 use Rattle.bz_content.specs.FromSlotted.Readers.{found_of}
 use Rattle.bz_content.specs.FromSlotted.Tests.{every}
@@ -19,9 +20,9 @@ use Rattle.bz_swap.specs.SwapMemory.{is_target}
 use Rattle.bz_word.specs.declared.entry.Entry.{Entry}
 use Rattle.bz_content.specs.Content.{image_of, is_super, content_in, view_in, IsWellFormed}
 use Rattle.bz_content.specs.Image.{node}
-use Rattle.bz_content.specs.Laws.{WellFormedImagesHaveNoFault, LeafSwapsKeepTheTree, PlainWordsStandForThemselves}
 use Rattle.bz_content.specs.Resolving.{resolve}
 use Rattle.bz_content.specs.Swaps.{OnLeaf}
+use Rattle.bz_content.proofs.Proved.{leaf_swaps_keep_the_tree, plain_words_stand_for_themselves, well_formed_images_have_no_fault}
 use Rattle.bz_task.specs.Good.{IsGood}
 use Rattle.bz_task.specs.Instant.{Instant, words, durable, form_at, is_inside}
 use Rattle.bz_task.specs.Laws.{SwapsShowInSlots}
@@ -101,15 +102,7 @@ and-right : (a b : Bool) → (a && b) ≡ true → b ≡ true
 and-right true b e = e
 and-right false b e = absurd (cc)
 
--- the laws that these proofs stand on
-pub record Laws : Type 0 where
-  pub formed : WellFormedImagesHaveNoFault
-  pub leaves : LeafSwapsKeepTheTree
-  pub tile : LeavesTileTheKeys
-  pub plain : PlainWordsStandForThemselves
-  pub apart : SlotsApart
-
-module _ (b : Laws) (publishes : Bool) (change : Change) (entries : List Entry) (s : Scene) (k : ℕ) (y : Instant) (good : IsScene s) (w : IsLeafSwap publishes change entries s k y) where
+module _ (publishes : Bool) (change : Change) (entries : List Entry) (s : Scene) (k : ℕ) (y : Instant) (good : IsScene s) (w : IsLeafSwap publishes change entries s k y) where
   c : Config
   c = s.past.config
 
@@ -137,7 +130,7 @@ module _ (b : Laws) (publishes : Bool) (change : Change) (entries : List Entry) 
   slot-untouched j i ne l = go (is_target entries (node_address s.past.config j + i)) refl
     where
       go : (t : Bool) → is_target entries (node_address s.past.config j + i) ≡ t → is_target entries (node_address s.past.config j + i) ≡ false
-      go true e = let p = w.place (node_address s.past.config j + i) e in absurd (ne (b.apart s.past.config j k i p.place l p.within p.address).0)
+      go true e = let p = w.place (node_address s.past.config j + i) e in absurd (ne (slots_apart s.past.config j k i p.place l p.within p.address).0)
       go false e = e
 
   outside : (j i : ℕ) → IsOutsideSwaps s.past.config (node_address s.past.config j + i)
@@ -171,11 +164,11 @@ module _ (b : Laws) (publishes : Bool) (change : Change) (entries : List Entry) 
   }
 
   was : IsWellFormed s.past.config (here s).image
-  was = (b.formed s.past.config (here s).image).0 g.form
+  was = (well_formed_images_have_no_fault s.past.config (here s).image).0 g.form
 
   kept : SameTree (view_in s.past.config (here s).image) (view_in s.past.config y.image)
       × ((key : List ℕ) → content (view_in s.past.config y.image) key ≡ if leaf_of (view_in s.past.config (here s).image) key == k then found_of (durable s.past.config y k) key else content (view_in s.past.config (here s).image) key)
-  kept = b.leaves s.past.config (image_of (here s).image) (image_of y.image) k was.tree on-leaf w.whole
+  kept = leaf_swaps_keep_the_tree s.past.config (image_of (here s).image) (image_of y.image) k was.tree on-leaf w.whole
 
   inside-same : (j : ℕ) → is_inside s.past.config y j ≡ is_inside s.past.config (here s) j
   inside-same j = ap (λ us. (form_of us).inside j) kept.0.walk
@@ -201,7 +194,7 @@ module _ (b : Laws) (publishes : Bool) (change : Change) (entries : List Entry) 
     | inl same ↦ sym (node-at s.past.config (resolve (here s).image) k i l) ∙ (g.shown k i reached-k same ∙ node-at s.past.config (here s).value k i l)
     | inr own ↦ (
         let v : (here s).value (node_address s.past.config k + i) < 2 ^ 61 = (good.mine (node_address s.past.config k + i) own.mine).1.1 in
-        b.plain (here s).image (node_address s.past.config k + i) (subst (λ z. z < 2 ^ 61) (sym own.flushed.image) v) ∙ own.flushed.image)
+        plain_words_stand_for_themselves (here s).image (node_address s.past.config k + i) (subst (λ z. z < 2 ^ 61) (sym own.flushed.image) v) ∙ own.flushed.image)
   ]
 
   k-shown : (i : ℕ) → IsShown (words s.past.config y k) i → durable s.past.config y k i ≡ words s.past.config y k i
@@ -223,7 +216,7 @@ module _ (b : Laws) (publishes : Bool) (change : Change) (entries : List Entry) 
   good-after : IsGood s.past.config y
   good-after = record {
     few = w.swaps.few;
-    form = (b.formed s.past.config y.image).1 (record {
+    form = (well_formed_images_have_no_fault s.past.config y.image).1 (record {
       super = super-same s.past.config (here s).image y.image (λ a l. w.swaps.raw a (inl l)) ∙ was.super;
       lawful = w.swaps.lawful;
       tree = kept.0.tree;
@@ -269,7 +262,7 @@ module _ (b : Laws) (publishes : Bool) (change : Change) (entries : List Entry) 
   not-of-leaf key e = let q : (leaf_of (view_in s.past.config (here s).image) key == k) ≡ false = grind (arith, nat_tests) in kept.1 key ∙ rw q refl
 
   in-leaf : (key : List ℕ) → is_within key ((form_at s.past.config (here s)).low k) ((form_at s.past.config (here s)).high k) ≡ true → leaf_of (view_in s.past.config (here s).image) key ≡ k
-  in-leaf key r = (b.tile (view_in s.past.config (here s).image) was.tree key k).0 (record {
+  in-leaf key r = (leaves_tile_the_keys (view_in s.past.config (here s).image) was.tree key k).0 (record {
     inside = w.inside;
     leaf = w.leaf;
     low = and-left (is_at_least key ((form_at s.past.config (here s)).low k)) (is_below key ((form_at s.past.config (here s)).high k)) r;
@@ -295,19 +288,19 @@ module _ (b : Laws) (publishes : Bool) (change : Change) (entries : List Entry) 
     | inr ne ↦ not-of-leaf key ne
   ]
 
-pub leaf-swaps : Laws → LeafSwapsAreGood
-leaf-swaps b publishes change entries s k y good w = record {
+pub leaf-swaps : LeafSwapsAreGood
+leaf-swaps publishes change entries s k y good w = record {
   targets = w.targets;
-  good = good-after b publishes change entries s k y good w;
-  step = step-is b publishes change entries s k y good w;
-  content = follows b publishes change entries s k y good w publishes w.says;
-  linked = λ j i was is l. absurd (true≢false (sym (sym (reached-same b publishes change entries s k y good w j) ∙ is) ∙ was));
-  linked_durable = λ j i was is l h. absurd (true≢false (sym (sym (reached-same b publishes change entries s k y good w j) ∙ is) ∙ was));
+  good = good-after publishes change entries s k y good w;
+  step = step-is publishes change entries s k y good w;
+  content = follows publishes change entries s k y good w publishes w.says;
+  linked = λ j i was is l. absurd (true≢false (sym (sym (reached-same publishes change entries s k y good w j) ∙ is) ∙ was));
+  linked_durable = λ j i was is l h. absurd (true≢false (sym (sym (reached-same publishes change entries s k y good w j) ∙ is) ∙ was));
   shown = shown-of;
 }
   where
     shown-of : (j i : ℕ) → (here s).reached j ≡ true → i < NODE_WORDS → IsShown (words s.past.config y j) i → IsShown (words s.past.config (here s) j) i ⊎ IsMineAndDurable s (node_address s.past.config j + i)
     shown-of j i r l h = elim (cases_eq j k) [
       | inl e ↦ subst (λ z. IsShown (words s.past.config (here s) z) i ⊎ IsMineAndDurable s (node_address s.past.config z + i)) (sym e) (w.shown i l (subst (λ z. IsShown (words s.past.config y z) i) e h))
-      | inr ne ↦ inl (words-shown b publishes change entries s k y good w j i ne h)
+      | inr ne ↦ inl (words-shown publishes change entries s k y good w j i ne h)
     ]

@@ -1,8 +1,9 @@
 -- What one worker does leaves what another owns.
 use Rattle.std.proofs.Common.{◌≡◌, ◌≢◌, ℕ, ◌+◌, ◌<◌, ◌≤◌, ◌⊎◌, Bool, true, false, List, arith, refl, sym, ap, subst, ◌∙◌, inl, inr}
 use Rattle.std.proofs.lemmas.Bool.{cases_lt, true≢false}
-use Rattle.bz_layout.specs.Addresses.{node_address, SlotsApart}
+use Rattle.bz_layout.specs.Addresses.{node_address}
 use Rattle.bz_layout.specs.declared.sizes.TheConstants.{NODE_WORDS}
+use Rattle.bz_layout.proofs.Laws.{slots_apart}
 use Rattle.bz_swap.specs.SwapMemory.{is_target}
 use Rattle.bz_word.specs.declared.entry.Entry.{Entry}
 use Rattle.bz_task.specs.Instant.{Instant, IsDurableAt, words}
@@ -205,23 +206,23 @@ effects-lawful publishes change entries s v later y good apart to g watches =
     watched v later y (step-for s v y apart (inr g.step)) (effect-kept publishes change entries s v y good apart to g) watches
 
 -- a slot that no link has led to is none to which one has led
-module _ (apart : SlotsApart) (s v : Scene) (n : ShareNothing s v) (a : ℕ) where
+module _ (s v : Scene) (n : ShareNothing s v) (a : ℕ) where
   both-took : IsOfTaken s a → IsOfTaken v a → ⊥
   both-took o u =
       let at : node_address s.past.config o.slot + o.place ≡ node_address s.past.config u.slot + u.place = sym o.address ∙ (u.address ∙ ap (λ c. node_address c u.slot + u.place) n.config) in
-      let same : o.slot ≡ u.slot = (apart s.past.config o.slot u.slot o.place u.place o.within u.within at).0 in
+      let same : o.slot ≡ u.slot = (slots_apart s.past.config o.slot u.slot o.place u.place o.within u.within at).0 in
       n.took o.slot o.took (subst (λ k. v.took k ≡ true) (sym same) u.took)
 
   took-reached : IsOfTaken s a → IsOfReached v a → ⊥
   took-reached o u =
       let at : node_address s.past.config o.slot + o.place ≡ node_address s.past.config u.slot + u.place = sym o.address ∙ (u.address ∙ ap (λ c. node_address c u.slot + u.place) n.config) in
-      let same : o.slot ≡ u.slot = (apart s.past.config o.slot u.slot o.place u.place o.within u.within at).0 in
+      let same : o.slot ≡ u.slot = (slots_apart s.past.config o.slot u.slot o.place u.place o.within u.within at).0 in
       true≢false (sym (ap (λ z. z.reached u.slot) (sym n.here) ∙ u.reached) ∙ (ap (here s).reached (sym same) ∙ o.unreached))
 
   reached-took : IsOfReached s a → IsOfTaken v a → ⊥
   reached-took o u =
       let at : node_address s.past.config o.slot + o.place ≡ node_address s.past.config u.slot + u.place = sym o.address ∙ (u.address ∙ ap (λ c. node_address c u.slot + u.place) n.config) in
-      let same : o.slot ≡ u.slot = (apart s.past.config o.slot u.slot o.place u.place o.within u.within at).0 in
+      let same : o.slot ≡ u.slot = (slots_apart s.past.config o.slot u.slot o.place u.place o.within u.within at).0 in
       true≢false (sym o.reached ∙ (ap (here s).reached same ∙ (ap (λ z. z.reached u.slot) (sym n.here) ∙ u.unreached)))
 
   neither : IsOfTaken s a ⊎ (s.reserved a ≡ true) → IsOfTaken v a ⊎ (v.reserved a ≡ true) → ⊥
@@ -230,5 +231,5 @@ module _ (apart : SlotsApart) (s v : Scene) (n : ShareNothing s v) (a : ℕ) whe
   neither (inr r) (inl u) = reached-took (n.of_first a r) u
   neither (inr r) (inr t) = n.reserved a r t
 
-pub sharers-apart : SlotsApart → SharersOfNothingAreApart
-sharers-apart apart s v n = record { config = n.config; here = n.here; apart = λ a m o. neither apart s v n a m.own o.own }
+pub sharers-apart : SharersOfNothingAreApart
+sharers-apart s v n = record { config = n.config; here = n.here; apart = λ a m o. neither s v n a m.own o.own }

@@ -1,8 +1,4 @@
 -- What this crate proves, as lemmas that other crates cite by these names.
-use Rattle.bz_content.proofs.FromSlotted.Proved.{inner_keys_rise, inner_rules_are_facts, leaf_rules_are_facts, standing_is_quiet, stores_are_quiet}
-use Rattle.bz_content.proofs.Proved.{leaf_swaps_keep_the_tree, plain_words_stand_for_themselves, views_are_honest, well_formed_images_have_no_fault}
-use Rattle.bz_layout.proofs.Laws.{slots_apart}
-use Rattle.bz_shape.proofs.Proved.{leaves_tile_the_keys, quiet_slots_keep_the_tree, trees_have_forms}
 use Rattle.bz_task.proofs.Ages.{nodes-stay}
 use Rattle.bz_task.proofs.Frozen.{fronts-stay, frozen-nodes-stay}
 use Rattle.bz_task.proofs.Inside.{nodes-were-inside}
@@ -45,12 +41,7 @@ fronts_stay = fronts-stay
 
 -- the level and the range of a node are the same whenever it is in the tree
 pub ranges_stay : RangesStay
-ranges_stay = ranges-stay (record {
-  formed = well_formed_images_have_no_fault;
-  forms = trees_have_forms;
-  leaf = leaf_rules_are_facts;
-  inner = inner_rules_are_facts;
-}) fronts_stay
+ranges_stay = ranges-stay
 
 -- what a node of the tree is later, it was at some moment at which it was still in the tree
 pub nodes_were_inside : NodesWereInside
@@ -58,26 +49,15 @@ nodes_were_inside = nodes-were-inside
 
 -- a swap on one leaf that leaves it whole is lawful for everybody
 pub leaf_swaps_are_good : LeafSwapsAreGood
-leaf_swaps_are_good = leaf-swaps (record {
-  formed = well_formed_images_have_no_fault;
-  leaves = leaf_swaps_keep_the_tree;
-  tile = leaves_tile_the_keys;
-  plain = plain_words_stand_for_themselves;
-  apart = slots_apart;
-})
+leaf_swaps_are_good = leaf-swaps
 
 -- the root is in the tree, and holds every key
 pub roots_are_reached : RootsAreReached
-roots_are_reached = roots-reached well_formed_images_have_no_fault trees_have_forms
+roots_are_reached = roots-reached
 
 -- a node of the tree has a lawful header, with the level at which it stands
 pub headers_say_the_level : HeadersSayTheLevel
-headers_say_the_level = headers (record {
-  formed = well_formed_images_have_no_fault;
-  forms = trees_have_forms;
-  leaf = leaf_rules_are_facts;
-  inner = inner_rules_are_facts;
-})
+headers_say_the_level = headers
 
 -- where the records are the same, so are the places that readers read
 pub same_records_show_the_same : SameRecordsShowTheSame
@@ -89,19 +69,19 @@ swaps_show_in_slots = slot-words
 
 -- words that are those of a leaf to its readers are a leaf by themselves, and say what it says
 pub seen_leaves_are_whole : SeenLeavesAreWhole
-seen_leaves_are_whole = seen-whole leaf_rules_are_facts
+seen_leaves_are_whole = seen-whole
 
 -- what stands where, of a leaf of the tree
 pub leaves_are_in_trees : LeavesAreInTrees
-leaves_are_in_trees = in-tree well_formed_images_have_no_fault trees_have_forms headers_say_the_level
+leaves_are_in_trees = in-tree
 
 -- the child of a node of the tree is in the tree
 pub children_are_in_trees : ChildrenAreInTrees
-children_are_in_trees = child-inside well_formed_images_have_no_fault trees_have_forms headers_say_the_level
+children_are_in_trees = child-inside
 
 -- a leaf that was not frozen is in the tree and as it was, while its status has the value that was read
 pub thawed_leaves_stay : ThawedLeavesStay
-thawed_leaves_stay = thawed-stay nodes_stay fronts_stay ranges_stay well_formed_images_have_no_fault trees_have_forms headers_say_the_level
+thawed_leaves_stay = thawed-stay
 
 -- a path stays what it is
 pub paths_stay : PathsStay
@@ -121,7 +101,7 @@ nothing_is_gained = nothing-gained
 
 -- workers who share nothing own no word both
 pub sharers_of_nothing_are_apart : SharersOfNothingAreApart
-sharers_of_nothing_are_apart = sharers-apart slots_apart
+sharers_of_nothing_are_apart = sharers-apart
 
 -- a read, a flush, an eviction and an act of a swap without effect are lawful for everybody
 pub quiet_acts_are_lawful : QuietActsAreLawful
@@ -141,22 +121,11 @@ good_swaps_show_settled = good-shows-settled
 
 -- a memory in which nothing goes on is good
 pub settled_memories_are_good : SettledMemoriesAreGood
-settled_memories_are_good = settled-good well_formed_images_have_no_fault trees_have_forms inner_keys_rise
+settled_memories_are_good = settled-good
 
 -- a memory in which nothing changes for readers stays good, and holds the same
 pub resting_memories_are_good : RestingMemoriesAreGood
-resting_memories_are_good = resting (record {
-  formed = well_formed_images_have_no_fault;
-  forms = trees_have_forms;
-  honest = views_are_honest;
-  quiet = quiet_slots_keep_the_tree;
-  stores = stores_are_quiet;
-  stands = standing_is_quiet;
-  rules = leaf_rules_are_facts;
-  roots = roots_are_reached;
-  headers = headers_say_the_level;
-  leaves = leaves_are_in_trees;
-})
+resting_memories_are_good = resting
 
 -- what a swap may name is a matter of the memory alone
 pub targets_are_of_the_memory : TargetsAreOfTheMemory
@@ -164,7 +133,7 @@ targets_are_of_the_memory = of-memory
 
 -- an address that a swap may name stays one
 pub targets_stay : TargetsStay
-targets_stay = targets-stay (record { headers = headers_say_the_level; leaves = leaves_are_in_trees; rules = leaf_rules_are_facts })
+targets_stay = targets-stay
 
 -- a word of one's own is none that a swap may name
 pub own_words_are_no_targets : OwnWordsAreNoTargets

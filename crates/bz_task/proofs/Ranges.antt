@@ -6,29 +6,22 @@ use Rattle.bz_call.specs.FromKey.Packing.{packed_len, unpacked_key}
 use Rattle.bz_call.proofs.FromKey.UnpackingLaws.{unpacked_key-sound}
 use Rattle.bz_layout.specs.declared.config.Config.{Config}
 use Rattle.bz_layout.specs.declared.sizes.TheConstants.{STATUS_AT, HEADER_AT, LOW_FENCE_AT, HIGH_FENCE_AT, FENCE_WORDS, META_AT}
-use Rattle.bz_shape.specs.TreeLaws.{TreesHaveForms}
-use Rattle.bz_content.specs.FromSlotted.Laws.{LeafRulesAreFacts, InnerRulesAreFacts}
 use Rattle.bz_content.specs.FromSlotted.Page.{words_at, page}
 use Rattle.bz_content.specs.FromSlotted.Rules.{node_fault}
 use Rattle.bz_content.specs.FromSlotted.Whole.{IsFence, HasFences}
 use Rattle.bz_word.specs.Headers.{header}
 use Rattle.bz_content.specs.Image.{node}
-use Rattle.bz_content.specs.Laws.{WellFormedImagesHaveNoFault}
+use Rattle.bz_content.proofs.FromSlotted.Proved.{inner_rules_are_facts, leaf_rules_are_facts}
+use Rattle.bz_slotted.proofs.Proved.{}
 use Rattle.bz_task.specs.Good.{IsGood}
 use Rattle.bz_task.specs.Instant.{Instant, words, durable, form_at, is_inside}
-use Rattle.bz_task.specs.Laws.{FrontsStay, KeepsFront, RangesStay, HeadersSayTheLevel}
+use Rattle.bz_task.specs.Laws.{KeepsFront, RangesStay, HeadersSayTheLevel}
 use Rattle.bz_task.proofs.Roots.{fits}
 use Rattle.bz_task.proofs.Sames.{front-shown}
+use Rattle.bz_task.proofs.Frozen.{fronts-stay}
 
 no : (a b : ℕ) → a ≢ b → (a == b) ≡ false
 no a b ne = grind (arith, nat_tests)
-
--- the laws of images and nodes that these proofs stand on
-pub record Laws : Type 0 where
-  pub formed : WellFormedImagesHaveNoFault
-  pub forms : TreesHaveForms
-  pub leaf : LeafRulesAreFacts
-  pub inner : InnerRulesAreFacts
 
 -- what header and fences say
 pub record Says (n : ℕ → ℕ) (l : ℕ) (lo hi : Option (List ℕ)) : Type 0 where
@@ -36,15 +29,15 @@ pub record Says (n : ℕ → ℕ) (l : ℕ) (lo hi : Option (List ℕ)) : Type 0
   pub level : (page n).level ≡ l
   pub fences : HasFences (page n) lo hi
 
-says : Laws → (nodes l : ℕ) (r n : ℕ → ℕ) (lo hi : Option (List ℕ)) → node_fault nodes r n l lo hi ≡ None → Says n l lo hi
-says b nodes zero r n lo hi e = let w = (b.leaf nodes r n lo hi).0 e in record { header = w.level.header; level = w.level.level; fences = w.fences }
-says b nodes (suc l) r n lo hi e = let w = (b.inner nodes r n (suc l) lo hi (omega arith)).0 e in record { header = w.level.header; level = w.level.level; fences = w.fences }
+says : (nodes l : ℕ) (r n : ℕ → ℕ) (lo hi : Option (List ℕ)) → node_fault nodes r n l lo hi ≡ None → Says n l lo hi
+says nodes zero r n lo hi e = let w = (leaf_rules_are_facts nodes r n lo hi).0 e in record { header = w.level.header; level = w.level.level; fences = w.fences }
+says nodes (suc l) r n lo hi e = let w = (inner_rules_are_facts nodes r n (suc l) lo hi (omega arith)).0 e in record { header = w.level.header; level = w.level.level; fences = w.fences }
 
-pub said : Laws → (c : Config) (x : Instant) (k : ℕ) → IsGood c x → k ≢ c.nodes → is_inside c x k ≡ true → Says (durable c x k) ((form_at c x).level k) ((form_at c x).low k) ((form_at c x).high k)
-said b c x k g ne i =
+pub said : (c : Config) (x : Instant) (k : ℕ) → IsGood c x → k ≢ c.nodes → is_inside c x k ≡ true → Says (durable c x k) ((form_at c x).level k) ((form_at c x).low k) ((form_at c x).high k)
+said c x k g ne i =
     let e : node_fault c.nodes (node c x.image k) (durable c x k) ((form_at c x).level k) ((form_at c x).low k) ((form_at c x).high k) ≡ None =
-    rw (no k c.nodes ne) at ((fits b.formed b.forms c x g).whole k i ne) in
-    says b c.nodes ((form_at c x).level k) (node c x.image k) (durable c x k) ((form_at c x).low k) ((form_at c x).high k) e
+    rw (no k c.nodes ne) at ((fits c x g).whole k i ne) in
+    says c.nodes ((form_at c x).level k) (node c x.image k) (durable c x k) ((form_at c x).low k) ((form_at c x).high k) e
 
 pub words_at-same : (f g : ℕ → ℕ) (at count : ℕ) → ((k : ℕ) → at ≤ k → k < at + count → f k ≡ g k) → words_at f at count ≡ words_at g at count
 unfolding words_at
@@ -81,19 +74,19 @@ place n m l d lo hi low high same s t =
       ),
     )
 
-pub ranges-stay : Laws → FrontsStay → RangesStay
-ranges-stay b fronts c at first last m j k h o ne im ij =
+pub ranges-stay : RangesStay
+ranges-stay c at first last m j k h o ne im ij =
     let gm : IsGood c (at m) = h.good m o.since (omega (arith, o.order, o.until)) in
     let gj : IsGood c (at j) = h.good j (omega (arith, o.since, o.order)) o.until in
     let r : (at m).reached k ≡ true = gm.inside k im ne in
-    let f : KeepsFront c (at m) (at j) k = fronts c at first last m j k h o r in
+    let f : KeepsFront c (at m) (at j) k = fronts-stay c at first last m j k h o r in
     let p = place (durable c (at m) k) (durable c (at j) k) _ _ _ _ _ _
     (λ i no l. gj.shown k i f.reached (front-shown (words c (at j) k) i l) ∙ (f.front i no l ∙ sym (gm.shown k i r (front-shown (words c (at m) k) i l))))
-    (said b c (at m) k gm ne im) (said b c (at j) k gj ne ij) in
+    (said c (at m) k gm ne im) (said c (at j) k gj ne ij) in
     record { level = p.0; low = p.1.0; high = p.1.1 }
 
-pub headers : Laws → HeadersSayTheLevel
-headers b c x k g ne i =
-    let s : Says (durable c x k) ((form_at c x).level k) ((form_at c x).low k) ((form_at c x).high k) = said b c x k g ne i in
+pub headers : HeadersSayTheLevel
+headers c x k g ne i =
+    let s : Says (durable c x k) ((form_at c x).level k) ((form_at c x).low k) ((form_at c x).high k) = said c x k g ne i in
     let e : durable c x k HEADER_AT ≡ words c x k HEADER_AT = g.shown k HEADER_AT (g.inside k i ne) (front-shown (words c x k) HEADER_AT (omega arith)) in
     record { header = subst (λ w. w < 2 ^ 32) e s.header; level = ap (λ w. (header w).level) (sym e) ∙ s.level }

@@ -9,13 +9,11 @@ use Rattle.bz_shape.specs.Form.{Fits}
 use Rattle.bz_shape.specs.Outcomes.{SameTree, SameContent}
 use Rattle.bz_shape.specs.QuietSlots.{QuietSlots, SameLeaf}
 use Rattle.bz_shape.specs.Slots.{SameSlot, SameTop}
-use Rattle.bz_shape.specs.SwapLaws.{QuietSlotsKeepTheTree}
-use Rattle.bz_shape.specs.TreeLaws.{TreesHaveForms}
 use Rattle.bz_shape.specs.Walk.{form, form_of}
+use Rattle.bz_shape.proofs.Proved.{quiet_slots_keep_the_tree, trees_have_forms}
 use Rattle.bz_content.specs.FromSlotted.Changes.{StoresBeside}
-use Rattle.bz_content.specs.FromSlotted.InnerChanges.{StandsAlike, StandingIsQuiet}
-use Rattle.bz_content.specs.FromSlotted.Laws.{LeafRulesAreFacts}
-use Rattle.bz_content.specs.FromSlotted.LeafLaws.{AnswersAlike, StoresAreQuiet}
+use Rattle.bz_content.specs.FromSlotted.InnerChanges.{StandsAlike}
+use Rattle.bz_content.specs.FromSlotted.LeafLaws.{AnswersAlike}
 use Rattle.bz_content.specs.FromSlotted.Page.{page, extent_of}
 use Rattle.bz_content.specs.FromSlotted.Records.{pointer_at}
 use Rattle.bz_content.specs.FromSlotted.Readers.{level_of, count_of, child_of, key_of, found_of}
@@ -27,29 +25,21 @@ use Rattle.bz_word.specs.declared.meta.Meta.{Meta}
 use Rattle.bz_content.specs.FromSlotted.Reading.{payload_at}
 use Rattle.bz_content.specs.Content.{image_of, view_in, is_super, IsWellFormed}
 use Rattle.bz_content.specs.Image.{node, root}
-use Rattle.bz_content.specs.Laws.{WellFormedImagesHaveNoFault, ViewsAreHonest}
 use Rattle.bz_content.specs.Lawful.{is_fixed}
 use Rattle.bz_content.specs.Resolving.{resolve}
+use Rattle.bz_content.proofs.FromSlotted.Proved.{leaf_rules_are_facts, standing_is_quiet, stores_are_quiet}
+use Rattle.bz_content.proofs.Proved.{views_are_honest, well_formed_images_have_no_fault}
+use Rattle.bz_slotted.proofs.Proved.{}
 use Rattle.bz_task.specs.Good.{IsGood}
 use Rattle.bz_task.specs.Instant.{Instant, words, durable, page_at, form_at, is_inside}
-use Rattle.bz_task.specs.Laws.{RootsAreReached, HasRoot, HeadersSayTheLevel, LeavesAreInTrees, IsLeafInTree}
+use Rattle.bz_task.specs.Laws.{HasRoot, IsLeafInTree}
 use Rattle.bz_task.specs.Resting.{Rests, RestingMemoriesAreGood}
 use Rattle.bz_task.specs.Shown.{IsShown, IsOfRecord, SameWords}
 use Rattle.bz_task.proofs.LeafSwaps.{every-same}
 use Rattle.bz_task.proofs.Sames.{SamePlaces, words-places, words-records, places-shown, of-record, same-shown, front-shown}
-
--- the laws that these proofs stand on
-pub record Laws : Type 0 where
-  pub formed : WellFormedImagesHaveNoFault
-  pub forms : TreesHaveForms
-  pub honest : ViewsAreHonest
-  pub quiet : QuietSlotsKeepTheTree
-  pub stores : StoresAreQuiet
-  pub stands : StandingIsQuiet
-  pub rules : LeafRulesAreFacts
-  pub roots : RootsAreReached
-  pub headers : HeadersSayTheLevel
-  pub leaves : LeavesAreInTrees
+use Rattle.bz_task.proofs.Ranges.{headers}
+use Rattle.bz_task.proofs.Roots.{roots-reached}
+use Rattle.bz_task.proofs.Thawed.{in-tree}
 
 -- the words of the superblock that no swap names are all that its rule reads
 super-fixed : (c : Config) (f g : ℕ → ℕ) → ((a : ℕ) → is_fixed a ≡ true → g a ≡ f a) → is_super c g ≡ is_super c f
@@ -63,9 +53,9 @@ level-by : (n m : ℕ → ℕ) → m HEADER_AT ≡ n HEADER_AT → level_of m �
 unfolding level_of
 level-by n m e = ap (λ w. (header w).level) e
 
-module _ (b : Laws) (c : Config) (x y : Instant) (g : IsGood c x) (r : Rests c x y) where
+module _ (c : Config) (x y : Instant) (g : IsGood c x) (r : Rests c x y) where
   well : IsWellFormed c x.image
-  well = (b.formed c x.image).0 g.form
+  well = (well_formed_images_have_no_fault c x.image).0 g.form
 
   -- what readers read of a reached node is what the image has
   shown-alike : (k : ℕ) → x.reached k ≡ true → SameWords (words c x k) (durable c x k)
@@ -99,7 +89,7 @@ module _ (b : Laws) (c : Config) (x y : Instant) (g : IsGood c x) (r : Rests c x
       e = g.inside k i-k ne
 
       is : IsLeafInTree c x k
-      is = b.leaves c x k g (g.slots k e) i-k l
+      is = in-tree c x k g (g.slots k e) i-k l
 
       block : (page (durable c x k)).block ≡ (page (words c x k)).block
       block = (places k e).block
@@ -114,7 +104,7 @@ module _ (b : Laws) (c : Config) (x y : Instant) (g : IsGood c x) (r : Rests c x
       }
 
       alike : AnswersAlike c.nodes (node c y.image k) (durable c x k) (durable c y k) ((form_at c x).low k) ((form_at c x).high k)
-      alike = b.stores c.nodes (node c x.image k) (node c y.image k) (durable c x k) (durable c y k) ((form_at c x).low k) ((form_at c x).high k) is.whole stores
+      alike = stores_are_quiet c.nodes (node c x.image k) (node c y.image k) (durable c x k) (durable c y k) ((form_at c x).low k) ((form_at c x).high k) is.whole stores
 
   -- an inner node: all its words are read
   inner-words : (k : ℕ) → x.reached k ≡ true → 0 < (page_at c x k).level → (i : ℕ) → durable c y k i ≡ durable c x k i
@@ -136,12 +126,12 @@ module _ (b : Laws) (c : Config) (x y : Instant) (g : IsGood c x) (r : Rests c x
       → node_fault c.nodes (node c x.image k) (durable c x k) l low high ≡ None → node_fault c.nodes (node c y.image k) (durable c y k) l low high ≡ None
   inner-fault k ne ins e inner l low high none = elim (cases_eq l 0) [
     | inl z ↦ (
-        let w : Whole (node c x.image k) (page (durable c x k)) low high = (b.rules c.nodes (node c x.image k) (durable c x k) low high).0 (subst (λ n. node_fault c.nodes (node c x.image k) (durable c x k) n low high ≡ None) z none) in
+        let w : Whole (node c x.image k) (page (durable c x k)) low high = (leaf_rules_are_facts c.nodes (node c x.image k) (durable c x k) low high).0 (subst (λ n. node_fault c.nodes (node c x.image k) (durable c x k) n low high ≡ None) z none) in
         absurd (omega (arith, w.level.level, (places k e).level, inner)))
     | inr some ↦ (
         let ws : durable c y k ≡ durable c x k = λ t i. inner-words k e inner i t in
         subst (λ n. node_fault c.nodes (node c y.image k) n l low high ≡ None) (sym ws)
-        (b.stands c.nodes (node c x.image k) (node c y.image k) (durable c x k) l low high none (stands-alike k ne ins e inner l (omega (arith, some)))))
+        (standing_is_quiet c.nodes (node c x.image k) (node c y.image k) (durable c x k) l low high none (stands-alike k ne ins e inner l (omega (arith, some)))))
   ]
 
   inner : (k : ℕ) → k ≢ c.nodes → is_inside c x k ≡ true → 0 < (form_at c x).level k → SameSlot (view_in c x.image) (view_in c y.image) k
@@ -160,7 +150,7 @@ module _ (b : Laws) (c : Config) (x y : Instant) (g : IsGood c x) (r : Rests c x
       e = g.inside k i ne
 
       inner-level : 0 < (page_at c x k).level
-      inner-level = omega (arith, (b.headers c x k g ne i).level, l)
+      inner-level = omega (arith, (headers c x k g ne i).level, l)
 
       same : durable c y k ≡ durable c x k
       same = λ t j. inner-words k e inner-level j t
@@ -182,7 +172,7 @@ module _ (b : Laws) (c : Config) (x y : Instant) (g : IsGood c x) (r : Rests c x
       yes = grind (arith, nat_tests)
 
   root-is : HasRoot c x (x.value ROOT_AT - 1)
-  root-is = b.roots c x g
+  root-is = roots-reached c x g
 
   same-top : SameTop (view_in c x.image) (view_in c y.image)
   same-top = record {
@@ -208,10 +198,10 @@ module _ (b : Laws) (c : Config) (x y : Instant) (g : IsGood c x) (r : Rests c x
   }
     where
       fits : Fits (view_in c x.image) (form (view_in c x.image))
-      fits = b.forms (view_in c x.image) well.tree.one well.tree.tall well.tree.none
+      fits = trees_have_forms (view_in c x.image) well.tree.one well.tree.tall well.tree.none
 
   kept : SameTree (view_in c x.image) (view_in c y.image) × SameContent (view_in c x.image) (view_in c y.image)
-  kept = b.quiet (view_in c x.image) (view_in c y.image) well.tree (b.honest c (image_of y.image)) slots
+  kept = quiet_slots_keep_the_tree (view_in c x.image) (view_in c y.image) well.tree (views_are_honest c (image_of y.image)) slots
 
   inside-same : (k : ℕ) → is_inside c y k ≡ is_inside c x k
   inside-same k = ap (λ us. (form_of us).inside k) kept.0.walk
@@ -225,7 +215,7 @@ module _ (b : Laws) (c : Config) (x y : Instant) (g : IsGood c x) (r : Rests c x
   good-after : IsGood c y
   good-after = record {
     few = subst (λ n. n < 2 ^ 32) (sym r.quiet.effects) g.few;
-    form = (b.formed c y.image).1 (record {
+    form = (well_formed_images_have_no_fault c y.image).1 (record {
       super = super-fixed c x.image y.image r.fixed ∙ well.super;
       lawful = r.lawful;
       tree = kept.0.tree;
@@ -242,10 +232,10 @@ module _ (b : Laws) (c : Config) (x y : Instant) (g : IsGood c x) (r : Rests c x
     root_status = r.root_status ∙ (g.root_status ∙ sym r.quiet.root.status);
   }
 
-pub resting : Laws → RestingMemoriesAreGood
-resting b c x y g r = record {
-  good = good-after b c x y g r;
-  inside = inside-same b c x y g r;
-  content = (kept b c x y g r).1.content;
-  leaf = (kept b c x y g r).0.leaf;
+pub resting : RestingMemoriesAreGood
+resting c x y g r = record {
+  good = good-after c x y g r;
+  inside = inside-same c x y g r;
+  content = (kept c x y g r).1.content;
+  leaf = (kept c x y g r).0.leaf;
 }

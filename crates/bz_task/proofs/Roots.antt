@@ -5,13 +5,13 @@ use Rattle.std.proofs.lemmas.Bool.Decides.{nat_tests}
 use Rattle.bz_layout.specs.declared.config.Config.{Config}
 use Rattle.bz_layout.specs.declared.sizes.TheConstants.{ROOT_AT, ROOT_STATUS_AT}
 use Rattle.bz_shape.specs.Form.{Fits, Stands}
-use Rattle.bz_shape.specs.TreeLaws.{TreesHaveForms}
 use Rattle.bz_shape.specs.View.{high_at}
 use Rattle.bz_shape.specs.declared.rule.ShapeRule.TheVariants.{Root}
+use Rattle.bz_shape.proofs.Proved.{trees_have_forms}
 use Rattle.bz_content.specs.Content.{IsWellFormed, view_in}
-use Rattle.bz_content.specs.Laws.{WellFormedImagesHaveNoFault}
 use Rattle.bz_content.specs.Resolving.{resolve}
 use Rattle.bz_content.specs.View.{root_fault}
+use Rattle.bz_content.proofs.Proved.{well_formed_images_have_no_fault}
 use Rattle.bz_task.specs.Good.{IsGood}
 use Rattle.bz_word.specs.Statuses.{status}
 use Rattle.bz_task.specs.Instant.{Instant, form_at}
@@ -21,10 +21,10 @@ is : (a : ℕ) → (a == a) ≡ true
 is a = grind (arith, nat_tests)
 
 -- a tree has a form
-pub fits : WellFormedImagesHaveNoFault → TreesHaveForms → (c : Config) (x : Instant) → IsGood c x → Fits (view_in c x.image) (form_at c x)
-fits formed forms c x g =
-    let w : IsWellFormed c x.image = (formed c x.image).0 g.form in
-    forms (view_in c x.image) w.tree.one w.tree.tall w.tree.none
+pub fits : (c : Config) (x : Instant) → IsGood c x → Fits (view_in c x.image) (form_at c x)
+fits c x g =
+    let w : IsWellFormed c x.image = (well_formed_images_have_no_fault c x.image).0 g.form in
+    trees_have_forms (view_in c x.image) w.tree.one w.tree.tall w.tree.none
 
 pub pointer-tested : (nodes pointer status : ℕ) → root_fault nodes pointer status ≡ None → (0 < pointer) × (pointer ≤ nodes)
 unfolding root_fault
@@ -35,9 +35,9 @@ pointer-tested nodes pointer status e = go (nat_lt 0 pointer) refl (nat_le point
     go true p false q d e = absurd (cc)
     go false p b q d e = absurd (cc)
 
-pub roots-reached : WellFormedImagesHaveNoFault → TreesHaveForms → RootsAreReached
-roots-reached formed forms c x g =
-    let f : Fits (view_in c x.image) (form_at c x) = fits formed forms c x g in
+pub roots-reached : RootsAreReached
+roots-reached c x g =
+    let f : Fits (view_in c x.image) (form_at c x) = fits c x g in
     let e : root_fault c.nodes (resolve x.image ROOT_AT) (resolve x.image ROOT_STATUS_AT) ≡ None = rw (is c.nodes) at f.super in
     let p : (0 < resolve x.image ROOT_AT) × (resolve x.image ROOT_AT ≤ c.nodes) = pointer-tested c.nodes (resolve x.image ROOT_AT) (resolve x.image ROOT_STATUS_AT) e in
     let down : Stands (view_in c x.image) (form_at c x) c.nodes 0 ((view_in c x.image).child c.nodes 0) =

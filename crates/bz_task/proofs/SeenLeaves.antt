@@ -5,14 +5,15 @@ use Rattle.bz_call.specs.FromKey.Packing.{packed_len, unpacked, unpacked_key, un
 use Rattle.bz_call.proofs.FromKey.UnpackingLaws.{unpacked_key-sound}
 use Rattle.bz_layout.specs.declared.sizes.TheConstants.{STATUS_AT, HEADER_AT, LOW_FENCE_AT, HIGH_FENCE_AT, META_AT, FENCE_WORDS}
 use Rattle.bz_content.specs.FromSlotted.Reading.{payload_at, payload_len}
-use Rattle.bz_content.specs.FromSlotted.Laws.{LeafRulesAreFacts}
 use Rattle.bz_content.specs.FromSlotted.Page.{words_at, visible, held, used, extent_of, page}
 use Rattle.bz_content.specs.FromSlotted.Readers.{found_of}
 use Rattle.bz_content.specs.FromSlotted.Records.{key_words, payload_words, key_in, payload_in, key_at, weight, live_block, search_to}
 use Rattle.bz_content.specs.FromSlotted.Whole.{Whole, IsFence, IsInBlock, IsLeafRecord, IsPlainKey, IsPlainPayload}
+use Rattle.bz_content.proofs.FromSlotted.Proved.{leaf_rules_are_facts}
 use Rattle.bz_word.specs.Headers.{header}
 use Rattle.bz_word.specs.Statuses.{status}
 use Rattle.bz_word.specs.declared.meta.Meta.{Meta}
+use Rattle.bz_slotted.proofs.Proved.{}
 use Rattle.bz_task.specs.Laws.{SeenLeavesAreWhole}
 use Rattle.bz_task.specs.Shown.{SameWords}
 use Rattle.bz_task.proofs.Ranges.{words_at-same}
@@ -120,7 +121,7 @@ module _ (raw n m : ℕ → ℕ) (lo hi : Option (List ℕ)) (w : Whole raw (pag
   unfolding found_of
   says key = ap (search_to m (page m).meta key) places.count ∙ search-same n m (page n).meta (page m).meta key (page n).count metas (λ j l v. (key-same j l v, payload-same j l v))
 
-pub seen-whole : LeafRulesAreFacts → SeenLeavesAreWhole
-seen-whole leaf nodes raw n m lo hi e s =
-    let w : Whole raw (page n) lo hi = (leaf nodes raw n lo hi).0 e in
-    record { whole = (leaf nodes m m lo hi).1 (whole raw n m lo hi w s); found = says raw n m lo hi w s }
+pub seen-whole : SeenLeavesAreWhole
+seen-whole nodes raw n m lo hi e s =
+    let w : Whole raw (page n) lo hi = (leaf_rules_are_facts nodes raw n lo hi).0 e in
+    record { whole = (leaf_rules_are_facts nodes m m lo hi).1 (whole raw n m lo hi w s); found = says raw n m lo hi w s }

@@ -6,16 +6,18 @@ use Rattle.std.proofs.lemmas.Bool.Decides.{nat_tests}
 use Rattle.bz_layout.specs.declared.config.Config.{Config}
 use Rattle.bz_layout.specs.declared.sizes.TheConstants.{ROOT_AT, ROOT_STATUS_AT}
 use Rattle.bz_shape.specs.Form.{Fits, Hangs}
-use Rattle.bz_shape.specs.TreeLaws.{TreesHaveForms}
 use Rattle.bz_shape.specs.Walk.{form}
-use Rattle.bz_content.specs.FromSlotted.Laws.{RisesBetween, InnerKeysRise}
+use Rattle.bz_shape.proofs.Proved.{trees_have_forms}
+use Rattle.bz_content.specs.FromSlotted.Laws.{RisesBetween}
 use Rattle.bz_content.specs.FromSlotted.Readers.{count_of, child_of}
 use Rattle.bz_content.specs.FromSlotted.Rules.{node_fault}
 use Rattle.bz_content.specs.Content.{image_fault, view_in, IsWellFormed}
 use Rattle.bz_content.specs.Image.{node}
-use Rattle.bz_content.specs.Laws.{WellFormedImagesHaveNoFault}
 use Rattle.bz_content.specs.Resolving.{resolve}
 use Rattle.bz_content.specs.View.{root_fault}
+use Rattle.bz_content.proofs.FromSlotted.Proved.{inner_keys_rise}
+use Rattle.bz_content.proofs.Proved.{well_formed_images_have_no_fault}
+use Rattle.bz_slotted.proofs.Proved.{}
 use Rattle.bz_task.specs.Good.{IsGood}
 use Rattle.bz_task.proofs.Roots.{pointer-tested}
 use Rattle.bz_task.specs.Settled.{settled, SettledMemoriesAreGood}
@@ -38,12 +40,12 @@ first : (a b : Bool) → (a && b) ≡ true → a ≡ true
 first true b e = refl
 first false b e = absurd (cc)
 
-module _ (formed : WellFormedImagesHaveNoFault) (forms : TreesHaveForms) (rise : InnerKeysRise) (c : Config) (image : ℕ → ℕ) (none : image_fault c image ≡ None) where
+module _ (c : Config) (image : ℕ → ℕ) (none : image_fault c image ≡ None) where
   well : IsWellFormed c image
-  well = (formed c image).0 none
+  well = (well_formed_images_have_no_fault c image).0 none
 
   fits : Fits (view_in c image) (form (view_in c image))
-  fits = forms (view_in c image) well.tree.one well.tree.tall well.tree.none
+  fits = trees_have_forms (view_in c image) well.tree.one well.tree.tall well.tree.none
 
   -- the root is a slot
   root-slot : (k : ℕ) → resolve image ROOT_AT - 1 ≡ k → k < c.nodes
@@ -58,7 +60,7 @@ module _ (formed : WellFormedImagesHaveNoFault) (forms : TreesHaveForms) (rise :
       let u : ℕ = (form (view_in c image)).up k in
       let e : node_fault c.nodes (node c image u) (node c (resolve image) u) ((form (view_in c image)).level u) ((form (view_in c image)).low u) ((form (view_in c image)).high u) ≡ None =
       rw (no u c.nodes ne) at (fits.whole u h.inside ne) in
-      let r : RisesBetween c.nodes (node c (resolve image) u) ((form (view_in c image)).low u) ((form (view_in c image)).high u) = rise c.nodes (node c image u) (node c (resolve image) u) _ _ _ h.inner e in
+      let r : RisesBetween c.nodes (node c (resolve image) u) ((form (view_in c image)).low u) ((form (view_in c image)).high u) = inner_keys_rise c.nodes (node c image u) (node c (resolve image) u) _ _ _ h.inner e in
       let l : (form (view_in c image)).index k < count_of (node c (resolve image) u) = rw (no u c.nodes ne) at h.within in
       let s : child_of (node c (resolve image) u) ((form (view_in c image)).index k) ≡ k = rw (no u c.nodes ne) at h.child in
       subst (λ z. z < c.nodes) s (r.slots ((form (view_in c image)).index k) l)
@@ -89,5 +91,5 @@ module _ (formed : WellFormedImagesHaveNoFault) (forms : TreesHaveForms) (rise :
       lt : (k : ℕ) → k < c.nodes → nat_lt k c.nodes ≡ true
       lt k l = grind (arith, nat_tests)
 
-pub settled-good : WellFormedImagesHaveNoFault → TreesHaveForms → InnerKeysRise → SettledMemoriesAreGood
-settled-good formed forms rise c image none = good formed forms rise c image none
+pub settled-good : SettledMemoriesAreGood
+settled-good c image none = good c image none

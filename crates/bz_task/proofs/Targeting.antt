@@ -4,20 +4,23 @@ use Rattle.std.proofs.lemmas.Bool.{cases_eq}
 use Rattle.bz_layout.specs.declared.config.Config.{Config}
 use Rattle.bz_layout.specs.declared.sizes.TheConstants.{META_AT, SHARED_WORDS, HEADER_AT}
 use Rattle.bz_content.specs.FromSlotted.Reading.{payload_at}
-use Rattle.bz_content.specs.FromSlotted.Laws.{LeafRulesAreFacts}
 use Rattle.bz_content.specs.FromSlotted.Page.{page, extent_of, meta_of, Page}
 use Rattle.bz_content.specs.FromSlotted.Whole.{Whole}
 use Rattle.bz_word.specs.Headers.{header}
 use Rattle.bz_content.specs.Image.{node}
+use Rattle.bz_content.proofs.FromSlotted.Proved.{leaf_rules_are_facts}
+use Rattle.bz_slotted.proofs.Proved.{}
 use Rattle.bz_task.specs.Good.{IsGood}
 use Rattle.bz_task.specs.Instant.{Instant, words, durable, page_at, form_at}
-use Rattle.bz_task.specs.Laws.{HeadersSayTheLevel, LeavesAreInTrees, IsLeafInTree}
+use Rattle.bz_task.specs.Laws.{IsLeafInTree}
 use Rattle.bz_task.specs.Requests.{IsNodeTarget, IsMetaPlace, IsPointerPlace}
 use Rattle.bz_task.specs.Scene.{here}
 use Rattle.bz_task.specs.Shown.{IsShown, SameShownNode, SameRecords, SameSeparators}
 use Rattle.bz_task.specs.Steps.{Moves, NodeMoves}
 use Rattle.bz_task.specs.Targets.{alone, TargetsAreOfTheMemory, TargetsStay, OwnWordsAreNoTargets}
 use Rattle.bz_task.proofs.Sames.{SamePlaces, words-places}
+use Rattle.bz_task.proofs.Ranges.{headers}
+use Rattle.bz_task.proofs.Thawed.{in-tree}
 
 pub of-memory : TargetsAreOfTheMemory
 of-memory s a (inl e) = inl e
@@ -81,22 +84,16 @@ pointer-moved n m i v k =
     pointer-same n m i (ap (λ w. (header w).level) (v.front HEADER_AT (λ e. omega (arith, e)) (omega arith))) q.count
     (λ j l. ap meta_of (q.front (META_AT + j) (λ e. omega (arith, e)) (omega (arith, l)))) k
 
--- the laws that these proofs stand on
-pub record Laws : Type 0 where
-  pub headers : HeadersSayTheLevel
-  pub leaves : LeavesAreInTrees
-  pub rules : LeafRulesAreFacts
-
-module _ (b : Laws) (c : Config) (x y : Instant) (gx : IsGood c x) (gy : IsGood c y) where
+module _ (c : Config) (x y : Instant) (gx : IsGood c x) (gy : IsGood c y) where
   -- a leaf that was reached is frozen, or has room for all that it says
   room-after : (k : ℕ) → y.reached k ≡ true → (page_at c y k).level ≡ 0 → ((page_at c y k).frozen ≡ true) ⊎ ((page_at c y k).count + (page_at c y k).block ≤ SHARED_WORDS)
   room-after k e flat = elim (gy.placed k e) [
     | inr f ↦ inl f
     | inl i ↦ (
         let ne : k ≢ c.nodes = λ q. omega (arith, q, gy.slots k e) in
-        let l : (form_at c y).level k ≡ 0 = sym (b.headers c y k gy ne i).level ∙ flat in
-        let is : IsLeafInTree c y k = b.leaves c y k gy (gy.slots k e) i l in
-        let w : Whole (node c y.image k) (page (durable c y k)) ((form_at c y).low k) ((form_at c y).high k) = (b.rules c.nodes (node c y.image k) (durable c y k) _ _).0 is.whole in
+        let l : (form_at c y).level k ≡ 0 = sym (headers c y k gy ne i).level ∙ flat in
+        let is : IsLeafInTree c y k = in-tree c y k gy (gy.slots k e) i l in
+        let w : Whole (node c y.image k) (page (durable c y k)) ((form_at c y).low k) ((form_at c y).high k) = (leaf_rules_are_facts c.nodes (node c y.image k) (durable c y k) _ _).0 is.whole in
         let p : SamePlaces (words c y k) (durable c y k) = words-places (words c y k) (durable c y k) (λ i h. gy.shown k i e h) in
         inr (omega (arith, p.count, p.block, w.filled.room)))
   ]
@@ -126,8 +123,8 @@ module _ (b : Laws) (c : Config) (x y : Instant) (gx : IsGood c x) (gy : IsGood 
     ];
   }
 
-pub targets-stay : Laws → TargetsStay
-targets-stay b c x y a gx gy step (inl e) = inl e
-targets-stay b c x y a gx gy step (inr (inl e)) = inr (inl e)
-targets-stay b c x y a gx gy (inl q) (inr (inr t)) = inr (inr (stays b c x y gx gy a t (q.reached t.slot ∙ t.reached) (inl (q.nodes t.slot t.reached))))
-targets-stay b c x y a gx gy (inr q) (inr (inr t)) = inr (inr (stays b c x y gx gy a t (q.reached t.slot t.reached) (q.nodes t.slot t.reached)))
+pub targets-stay : TargetsStay
+targets-stay c x y a gx gy step (inl e) = inl e
+targets-stay c x y a gx gy step (inr (inl e)) = inr (inl e)
+targets-stay c x y a gx gy (inl q) (inr (inr t)) = inr (inr (stays c x y gx gy a t (q.reached t.slot ∙ t.reached) (inl (q.nodes t.slot t.reached))))
+targets-stay c x y a gx gy (inr q) (inr (inr t)) = inr (inr (stays c x y gx gy a t (q.reached t.slot t.reached) (q.nodes t.slot t.reached)))

@@ -4,7 +4,6 @@ use Rattle.std.specs.Prelude.{nat_lt, None}
 use Rattle.std.proofs.lemmas.Bool.{true≢false}
 use Rattle.std.proofs.lemmas.Bool.Decides.{nat_tests}
 use Rattle.bz_layout.specs.declared.config.Config.{Config}
-use Rattle.bz_shape.specs.TreeLaws.{TreesHaveForms}
 use Rattle.bz_content.specs.FromSlotted.Reading.{payload_at}
 use Rattle.bz_content.specs.FromSlotted.Page.{extent_of, page}
 use Rattle.bz_content.specs.FromSlotted.Readers.{count_of, child_of}
@@ -13,22 +12,24 @@ use Rattle.bz_content.specs.FromSlotted.Rules.{node_fault}
 use Rattle.bz_word.specs.Statuses.{status}
 use Rattle.bz_content.specs.Content.{view_in}
 use Rattle.bz_content.specs.Image.{node}
-use Rattle.bz_content.specs.Laws.{WellFormedImagesHaveNoFault}
 use Rattle.bz_task.specs.Good.{IsGood}
 use Rattle.bz_task.specs.Instant.{Instant, words, durable, page_at, form_at, is_inside}
-use Rattle.bz_task.specs.Laws.{NodesStay, FrontsStay, RangesStay, HeadersSayTheLevel, IsLeafInTree, ChildrenAreInTrees, ThawedLeavesStay}
+use Rattle.bz_task.specs.Laws.{IsLeafInTree, ChildrenAreInTrees, ThawedLeavesStay}
 use Rattle.bz_task.specs.Shown.{SameWords}
 use Rattle.bz_task.proofs.Roots.{fits}
 use Rattle.bz_task.proofs.Sames.{SamePlaces, words-places}
+use Rattle.bz_task.proofs.Ages.{nodes-stay}
+use Rattle.bz_task.proofs.Frozen.{fronts-stay}
+use Rattle.bz_task.proofs.Ranges.{headers, ranges-stay}
 
 no : (a b : ℕ) → a ≢ b → (a == b) ≡ false
 no a b ne = grind (arith, nat_tests)
 
 -- what a leaf of the tree is
-pub in-tree : WellFormedImagesHaveNoFault → TreesHaveForms → HeadersSayTheLevel → (c : Config) (x : Instant) (k : ℕ) → IsGood c x → k < c.nodes → is_inside c x k ≡ true → (form_at c x).level k ≡ 0 → IsLeafInTree c x k
-in-tree formed forms headers c x k g l i z =
+pub in-tree : (c : Config) (x : Instant) (k : ℕ) → IsGood c x → k < c.nodes → is_inside c x k ≡ true → (form_at c x).level k ≡ 0 → IsLeafInTree c x k
+in-tree c x k g l i z =
     let ne : k ≢ c.nodes = λ e. omega (arith, e, l) in
-    let e : node_fault c.nodes (node c x.image k) (durable c x k) ((form_at c x).level k) ((form_at c x).low k) ((form_at c x).high k) ≡ None = rw (no k c.nodes ne) at ((fits formed forms c x g).whole k i ne) in
+    let e : node_fault c.nodes (node c x.image k) (durable c x k) ((form_at c x).level k) ((form_at c x).low k) ((form_at c x).high k) ≡ None = rw (no k c.nodes ne) at ((fits c x g).whole k i ne) in
     record {
       slot = l;
       inside = i;
@@ -38,10 +39,10 @@ in-tree formed forms headers c x k g l i z =
       whole = subst (λ d. node_fault c.nodes (node c x.image k) (durable c x k) d ((form_at c x).low k) ((form_at c x).high k) ≡ None) z e;
     }
 
-pub thawed-stay : NodesStay → FrontsStay → RangesStay → WellFormedImagesHaveNoFault → TreesHaveForms → HeadersSayTheLevel → ThawedLeavesStay
-thawed-stay nodes fronts ranges formed forms headers c at first last m j k h o l i z f e = record {
-  leaf = in-tree formed forms headers c (at j) k gj l inside ((ranges c at first last m j k h o ne i inside).level ∙ z);
-  same = nodes c at first last m j j k h o o.order (omega arith) reached e;
+pub thawed-stay : ThawedLeavesStay
+thawed-stay c at first last m j k h o l i z f e = record {
+  leaf = in-tree c (at j) k gj l inside ((ranges-stay c at first last m j k h o ne i inside).level ∙ z);
+  same = nodes-stay c at first last m j j k h o o.order (omega arith) reached e;
 }
   where
     ne : k ≢ c.nodes
@@ -57,7 +58,7 @@ thawed-stay nodes fronts ranges formed forms headers c at first last m j k h o l
     reached = gm.inside k i ne
 
     still : (at j).reached k ≡ true
-    still = (fronts c at first last m j k h o reached).reached
+    still = (fronts-stay c at first last m j k h o reached).reached
 
     thawed : (page_at c (at j) k).frozen ≡ false
     thawed = ap (λ w. (status w).frozen) e ∙ f
@@ -74,9 +75,9 @@ unfolding child_of
 child-is n i to l e = let t : nat_lt i (page n).count ≡ true = grind (arith, nat_tests) in rw t (omega (arith, e))
 
 -- where a child stands
-pub child-inside : WellFormedImagesHaveNoFault → TreesHaveForms → HeadersSayTheLevel → ChildrenAreInTrees
-child-inside formed forms headers c x k i to g ne ik inner l e =
-    let f = fits formed forms c x g in
+pub child-inside : ChildrenAreInTrees
+child-inside c x k i to g ne ik inner l e =
+    let f = fits c x g in
     let r : x.reached k ≡ true = g.inside k ik ne in
     let level : (form_at c x).level k ≡ (page_at c x k).level = sym (headers c x k g ne ik).level in
     let same : SameWords (words c x k) (durable c x k) = λ j h. g.shown k j r h in

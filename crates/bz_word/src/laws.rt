@@ -2,21 +2,14 @@
 
 ghost use Rattle.bz_word.specs.Kinds.{word};
 ghost use Rattle.bz_word.specs.Statuses.{status_word, status, IsStatus, IsStatusWord};
-ghost use Rattle.bz_word.specs.Metas.{meta_word, meta, IsMeta, IsMetaWord};
 ghost use Rattle.bz_word.specs.Headers.{header_word, header, IsHeader, IsHeaderWord};
 ghost use Rattle.bz_word.specs.Statements.{IsCodec};
 ghost use Rattle.bz_word.specs.declared.status.Status.{Status};
-ghost use Rattle.bz_word.specs.declared.meta.Meta.{Meta};
 ghost use Rattle.bz_word.specs.declared.header.Header.{Header};
 
 /// A status and its word determine each other.
 pub fn statuses()
     ensures { IsCodec Status IsStatus IsStatusWord status_word status }
-{}
-
-/// What is said of a record and its metadata word determine each other.
-pub fn metas()
-    ensures { IsCodec Meta IsMeta IsMetaWord meta_word meta }
 {}
 
 /// A header and its word determine each other.

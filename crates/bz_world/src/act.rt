@@ -14,8 +14,7 @@ use crate::laws::step_laws;
 use crate::mark_effect::mark_effect;
 use crate::parts::Parts;
 use bz_mark::Mark;
-use bz_sight::laws as sight;
-use bz_swap::{Act, Done, Progress, laws as swap};
+use bz_swap::{Act, Done, Progress};
 use bz_task::Seen;
 
 // The mark of an act.
@@ -80,8 +79,6 @@ pub(crate) fn act(parts: &mut Parts, w: u8) -> Option<Seen>
     ensures taken { parts.new.access.taken ≡ parts.old.access.taken }
 {
     step_laws();
-    sight::effect_steps_take_place();
-    swap::effects_stay_inside();
     let progress = make_act(parts, w);
     if let Some(swap) = progress.effect {
         mark_effect(parts, swap);

@@ -39,8 +39,6 @@ fn image_parts(alloc: Global, config: &Config, image: &[u64]) -> Result<Parts, M
     ensures kept { IfOk result IsKept }
     ensures lab { IfOk result (λ parts. world_view parts ≡ image_view config.now image.now) }
 {
-    bz_sound::power_laws::fresh_journals_are_sound();
-    bz_story::recovery_laws::images_open_journals();
     let count = count_held(alloc, config, image)?;
     let slots = Slots::open(alloc, config.nodes)?;
     let parts = parts_over(alloc, config, image, Power::Off, slots, count)?;

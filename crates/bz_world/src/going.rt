@@ -55,7 +55,6 @@ pub(crate) fn end_effective(parts: &mut Parts, w: u8, at: u32) -> Applied
     ensures went { WentOn parts.old w result parts.new }
     ensures slots { parts.new.slots ≡ parts.old.slots }
 {
-    bz_sound::power_laws::effects_answer();
     let call = called(&parts.workers[w as usize]);
     let had = had_in(&parts.workers[w as usize]);
     end(parts, w, effect_reply(&call, had), at)
@@ -69,7 +68,6 @@ pub(crate) fn end_full(parts: &mut Parts, w: u8, spent: Spent) -> Applied
     ensures went { WentOn parts.old w result parts.new }
     ensures slots { parts.new.slots ≡ parts.old.slots }
 {
-    bz_sound::power_laws::spent_answers_full();
     let now = parts.journal.length();
     end(parts, w, Reply::Full(spent), now)
 }
@@ -82,7 +80,6 @@ fn end_swapless(parts: &mut Parts, w: u8) -> Applied
     ensures went { WentOn parts.old w result parts.new }
     ensures slots { parts.new.slots ≡ parts.old.slots }
 {
-    bz_sound::power_laws::held_swaps_are_spent();
     match effect_in(&parts.workers[w as usize]) {
         Some(at) => end_effective(parts, w, at),
         None => end_full(parts, w, Spent::Swaps),

@@ -120,12 +120,7 @@ fn fresh_parts(alloc: Global, config: &Config) -> Result<Parts, Memory>
     ensures slots { IfOk result (λ parts. parts.slots ≡ fresh_slots config.now) }
     ensures lab { IfOk result (λ parts. world_view parts ≡ new_view config.now) }
 {
-    bz_layout::fresh_words_say();
-    bz_content::laws::fresh_memory_is_empty();
-    bz_content::laws::fresh_memory_reaches_slot_zero();
     begun_laws();
-    bz_sound::power_laws::fresh_journals_are_sound();
-    bz_story::laws::fresh_stories_live();
     let start = bz_layout::fresh(alloc, config)?;
     let mut slots = Slots::open(alloc, config.nodes)?;
     slots.hold(ROOT_SLOT);

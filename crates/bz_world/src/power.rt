@@ -15,8 +15,6 @@ use crate::serving::OpenCall;
 use arrayvec::ArrayVec;
 use bz_mark::{Mark, Power};
 use bz_recover::Recover;
-use bz_sound::power_laws as sound;
-use bz_story::recovery_laws as story;
 use bz_swap::Access;
 use bz_task::Seen;
 
@@ -75,9 +73,6 @@ pub(crate) fn cut(parts: &mut Parts) -> Applied
     ensures kept { IsKept parts.new }
     ensures applied { IsApplied (world_view parts.old) event.Cut result (world_view parts.new) }
 {
-    sound::cuts_follow();
-    sound::power_tells_what_follows();
-    story::cuts_are_marked();
     if parts.journal.room() < 3 {
         return Applied::Limit;
     }
@@ -97,11 +92,6 @@ fn turn_on(parts: &mut Parts)
     ensures power { parts.new.power ≡ power.Recovering }
     ensures after { world_view parts.new ≡ after_on (world_view parts.old) }
 {
-    sound::ons_follow();
-    sound::power_tells_what_follows();
-    story::power_on_is_marked();
-    story::turns_make_no_mark();
-    story::recoveries_go_on();
     parts.recovery = Recover::new(&parts.config);
     parts.journal.push(Mark::On);
     parts.power = Power::Recovering;

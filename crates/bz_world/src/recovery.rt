@@ -19,8 +19,6 @@ use crate::laws::begun_laws;
 use crate::parts::Parts;
 use crate::step::make_eviction;
 use bz_mark::{Mark, Power};
-use bz_sound::power_laws as sound;
-use bz_story::recovery_laws as story;
 use bz_swap::{Done, Progress};
 use bz_task::{Seen, Todo};
 
@@ -34,8 +32,6 @@ pub(crate) fn start_act(parts: &mut Parts, todo: Todo)
     ensures first { todo ≡ Load 0 → parts.new.access ≡ started parts.old.access 0 (Loading 0) }
     ensures others { (v : ℕ) → v ≢ 0 → worker_of parts.new.access v ≡ worker_of parts.old.access v }
 {
-    story::acts_may_start();
-    story::turns_make_no_mark();
     bz_recover::laws::recoveries_know();
     match todo {
         Todo::Load(a) => parts.access.start_load(0, a),
@@ -74,10 +70,6 @@ fn wake(parts: &mut Parts)
     requires room { length parts.old.journal.past < parts.old.config.marks }
     ensures { Wakes parts.old parts.new }
 {
-    sound::readys_follow();
-    sound::power_tells_what_follows();
-    story::recoveries_give_life();
-    story::walks_end();
     begun_laws();
     // (free slots rise, and are slots of the memory)
     let _ = parts.slots.left();
@@ -93,12 +85,6 @@ fn ask_next(parts: &mut Parts) -> Todo
     requires room { length parts.old.journal.past + 3 ≤ parts.old.config.marks }
     ensures { HasAsked parts.old result parts.new }
 {
-    sound::quiet_acts_follow();
-    sound::flushes_follow();
-    sound::same_content_decodes();
-    story::acts_are_marked();
-    story::turns_make_no_mark();
-    story::recoveries_go_on();
     let progress = make_raw_act(parts);
     parts
         .recovery
@@ -148,9 +134,5 @@ pub(crate) fn evict_recovering(parts: &mut Parts, a: u32)
     ensures kept { IsKept parts.new }
     ensures evicts { Evicts (world_view parts.old) a Applied.Evicted (world_view parts.new) }
 {
-    sound::quiet_acts_follow();
-    sound::flushes_follow();
-    sound::same_content_decodes();
-    story::evictions_are_marked();
     let _ = make_eviction(parts, a);
 }

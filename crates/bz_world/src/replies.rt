@@ -15,7 +15,6 @@ pub(crate) fn number_of(parts: &Parts, w: u8) -> Option<u32>
     requires { IsKept parts.now }
     ensures { result ≡ open_number (world_view parts.now) w }
 {
-    bz_sound::power_laws::open_calls_are_last();
     if u32::from(w) > parts.config.workers {
         return None;
     }

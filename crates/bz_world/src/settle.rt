@@ -161,7 +161,6 @@ fn settle_full(parts: &mut Parts, w: u8, spent: Spent) -> Applied
     requires room { length parts.old.journal.past < parts.old.config.marks }
     ensures { WentOn parts.old w result parts.new }
 {
-    bz_sound::power_laws::held_slots_are_spent();
     bz_lone::laws::merges_lack_slots_rightly();
     start_laws();
     match spent {

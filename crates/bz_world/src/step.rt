@@ -22,7 +22,6 @@ use crate::recovery::{evict_recovering, step_recovering};
 use crate::settle::settle;
 use crate::tell::tell;
 use bz_mark::{Mark, Power};
-use bz_sight::laws as sight;
 use bz_task::Todo;
 
 // A task asks for something, or has ended.
@@ -112,7 +111,6 @@ fn evict_word(parts: &mut Parts, a: u32)
     ensures evicts { Evicts (world_view parts.old) a Applied.Evicted (world_view parts.new) }
 {
     step_laws();
-    sight::evictions_are_seen();
     if let Some(swap) = make_eviction(parts, a) {
         mark_effect(parts, swap);
     }

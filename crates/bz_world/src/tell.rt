@@ -9,7 +9,6 @@ use crate::laws::{alone_laws, lonely_laws};
 use crate::parts::Parts;
 use crate::serving::OpenCall;
 use bz_layout::Slots;
-use bz_story::laws as story;
 use bz_task::{Seen, Todo};
 
 // Tells the task of a call, if one is served.
@@ -43,8 +42,6 @@ pub(crate) fn tell(parts: &mut Parts, w: u8, seen: Seen) -> Todo
     ensures knows { MustTellOf parts.old w seen → MustStartOf parts.new w result }
     ensures rest { parts.new ≡ record parts.old { slots = parts.new.slots; workers = parts.new.workers } }
 {
-    story::scenes_are_seen();
-    story::slots_are_taken();
     lonely_laws();
     alone_laws();
     let moment = parts.journal.length();

@@ -18,7 +18,6 @@ use crate::power::{cut, power_on};
 use crate::step::{evict, step};
 use bz_call::Call;
 use bz_layout::Config;
-use bz_sound::power_laws as sound;
 use std::alloc::Global;
 
 /// The journal shows what is taken and left, while no call is open.
@@ -84,7 +83,6 @@ pub(crate) fn apply_event(parts: &mut Parts, event: Event) -> Applied
     ensures kept { IsWorld parts.new }
     ensures applied { IsApplied (world_view parts.old) event result (world_view parts.new) }
 {
-    sound::lonely_calls_are_alone();
     let applied = happen(parts, event);
     supply_is_shown(parts);
     applied

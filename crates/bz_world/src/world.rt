@@ -63,7 +63,6 @@ impl World {
         ensures root { OnOk result (count_in config.now (slice_index (fresh_words config.now)) ≡ 1) }
         ensures err { IfErr result (IsOpenFault config.now) }
     {
-        bz_content::laws::fresh_memory_reaches_slot_zero();
         let parts = open_world(alloc, config)?;
         Ok(World { parts })
     }
@@ -125,7 +124,6 @@ impl World {
         ensures finishing { AreFinishing self.now }
         ensures workers { (w : ℕ) → (IsWorker self.now.config w → ⊥) → open_call w self.now.log.past ≡ None }
     {
-        bz_sound::power_laws::sound_as_before();
         supply_is_shown(&self.parts);
         &self.parts.journal
     }

@@ -1,7 +1,6 @@
 -- Which marks keep a journal sound where the power fails and comes on again.
 use Rattle.std.proofs.Common.{◌≡◌, ℕ, [], ◌∷◌, ◌++◌, refl, sym, ◌∙◌, arith}
 use Rattle.bz_layout.specs.declared.config.Config.{Config}
-use Rattle.bz_content.specs.Laws.{WellFormedImagesHaveNoFault, MapIsTheContent}
 use Rattle.bz_call.specs.Pages.{names_page}
 use Rattle.bz_mark.specs.Log.{Log, with_mark, count_page_ends}
 use Rattle.bz_mark.specs.WordsAfter.{words_after_marks, Found}
@@ -50,14 +49,14 @@ ons-follow c at_start log sound cut = grown c at_start log On sound tt (cut-off 
 pub readys-follow : ReadysFollow
 readys-follow c at_start log sound acted = grown c at_start log Ready sound tt acted tt refl (decodes-now c at_start log sound)
 
-pub fresh-sound : WellFormedImagesHaveNoFault → MapIsTheContent → FreshJournalsAreSound
-fresh-sound whole law c at_start start limits size none = record {
+pub fresh-sound : FreshJournalsAreSound
+fresh-sound c at_start start limits size none = record {
   size = size;
   truthful = tt;
   once = tt;
   replies = tt;
   pages = refl;
-  durable = λ moment h outer. holds-last (Decodes c start) [] moment (omega arith) (decodes-start whole law c start none);
+  durable = λ moment h outer. holds-last (Decodes c start) [] moment (omega arith) (decodes-start c start none);
 }
 
 pub quiet-acts : QuietActsFollow

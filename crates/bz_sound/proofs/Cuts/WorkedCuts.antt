@@ -5,8 +5,8 @@ use Rattle.std.specs.FinMap.{get}
 use Rattle.std.proofs.lemmas.List.{set-get_or}
 use Rattle.std.proofs.lemmas.Slice.Eq.{bytes_eq-Decides}
 use Rattle.bz_content.specs.Content.{content_in, image_fault}
-use Rattle.bz_content.specs.Laws.{WellFormedImagesHaveNoFault, MapIsTheContent}
-use Rattle.bz_content.specs.WorkedInsert.{small, undecided, succeeded, WorkedInsert}
+use Rattle.bz_content.specs.WorkedInsert.{small, undecided, succeeded}
+use Rattle.bz_content.proofs.Proved.{worked_insert_reads}
 use Rattle.bz_call.specs.declared.calls.Call.TheVariants.{Insert, Get}
 use Rattle.bz_call.specs.declared.replies.Reply.TheVariants.{Value}
 use Rattle.bz_mark.specs.declared.marks.Mark.TheVariants.{Begin, End, Load, Store, Flush, Evict, Cut, On, Ready}
@@ -22,12 +22,6 @@ use Rattle.bz_sound.proofs.Cuts.Left.{pending-now, happened-cut}
 use Rattle.bz_sound.proofs.Cuts.WorkedWords.{same-image, start-length, start-word, flushed_words, flushed-length, flushed-word, undecided-content, succeeded-content, status-undecided, status-succeeded, root-succeeded}
 use Rattle.bz_sound.proofs.Memory.Changed.{change-decodes}
 
--- the laws on which the example stands
-pub record Given : Type 0 where
-  pub whole : WellFormedImagesHaveNoFault
-  pub map : MapIsTheContent
-  pub images : WorkedInsert
-
 -- the image before and after the flush
 before : slice_index start ≡ undecided
 before = same-image (slice_index start) undecided start-word
@@ -35,11 +29,11 @@ before = same-image (slice_index start) undecided start-word
 after : slice_index flushed_words ≡ succeeded
 after = same-image (slice_index flushed_words) succeeded flushed-word
 
-whole-before : Given → image_fault small (slice_index start) ≡ None
-whole-before given = ap (image_fault small) before ∙ given.images.undecided.whole
+whole-before : image_fault small (slice_index start) ≡ None
+whole-before = ap (image_fault small) before ∙ worked_insert_reads.undecided.whole
 
-whole-after : Given → image_fault small (slice_index flushed_words) ≡ None
-whole-after given = ap (image_fault small) after ∙ given.images.succeeded.whole
+whole-after : image_fault small (slice_index flushed_words) ≡ None
+whole-after = ap (image_fault small) after ∙ worked_insert_reads.succeeded.whole
 
 same-tests : (a b : Bool) → (a ≡ true → b ≡ true) → (b ≡ true → a ≡ true) → a ≡ b
 same-tests true b there back = sym (there refl)
@@ -63,8 +57,8 @@ changes = record {
 abbrev the_call : Open
 the_call = record { number = 1; call = Insert a_key one; begun = 0; effect = None }
 
-at-first : Given → IsRight power.On []
-at-first given = fresh-sound given.whole given.map small power.On start _ start-length (whole-before given)
+at-first : IsRight power.On []
+at-first = fresh-sound small power.On start _ start-length (whole-before)
 
 begun : IsRight power.On [] → IsRight power.On (Begin 1 1 (Insert a_key one) ∷ [])
 begun sound = begins small power.On (journal []) 1 1 (Insert a_key one) sound (record { worker = omega arith; powered = refl; begins = record { numbered = refl; none_open = refl } })
@@ -72,12 +66,12 @@ begun sound = begins small power.On (journal []) 1 1 (Insert a_key one) sound (r
 stored : IsRight power.On (Begin 1 1 (Insert a_key one) ∷ []) → IsRight power.On decided
 stored sound = quiet-acts small power.On (journal (Begin 1 1 (Insert a_key one) ∷ [])) (Store 1 32 2) sound tt (record { opened = the_call; is_open = refl }) tt
 
-follows : Given → IsRight power.On decided → EffectFollows small (journal decided) (Flush 1 4) 1 the_call None
-follows given sound = change-decodes small (journal decided) (Flush 1 4) 1 the_call None (Some one) (decodes-now small power.On (journal decided) sound) tt refl refl refl (whole-after given) changes
+follows : IsRight power.On decided → EffectFollows small (journal decided) (Flush 1 4) 1 the_call None
+follows sound = change-decodes small (journal decided) (Flush 1 4) 1 the_call None (Some one) (decodes-now small power.On (journal decided) sound) tt refl refl refl (whole-after) changes
 
-flushed : Given → IsRight power.On decided → IsRight power.On took_effect
-flushed given sound =
-    let f : EffectFollows small (journal decided) (Flush 1 4) 1 the_call None = follows given sound in
+flushed : IsRight power.On decided → IsRight power.On took_effect
+flushed sound =
+    let f : EffectFollows small (journal decided) (Flush 1 4) 1 the_call None = follows sound in
     effects small power.On (journal decided) (Flush 1 4) 1 1 sound (record { opened = the_call; is_open = refl }) f.may_follow f.decodes
 
 cut-kept : IsRight power.On took_effect → IsRight power.On kept
@@ -132,8 +126,8 @@ evicted sound = flushes small power.On (journal recovering) (Evict 32) sound tt 
     (subst (λ (words : List ℕ). HoldsMap small (slice_index words) (map_after (map_at_start small start) recovering)) (sym (set-get_or flushed_words 32 0))
     (decodes-now small power.On (journal recovering) sound))
 
-off-first : Given → IsRight power.Off []
-off-first given = fresh-sound given.whole given.map small power.Off start _ start-length (whole-before given)
+off-first : IsRight power.Off []
+off-first = fresh-sound small power.Off start _ start-length (whole-before)
 
 booted : IsRight power.Off [] → IsRight power.Off (Ready ∷ Load 0 32 1 ∷ On ∷ [])
 booted sound = readys-follow small power.Off (journal (Load 0 32 1 ∷ On ∷ [])) read refl
@@ -144,8 +138,8 @@ booted sound = readys-follow small power.Off (journal (Load 0 32 1 ∷ On ∷ []
     read : IsRight power.Off (Load 0 32 1 ∷ On ∷ [])
     read = quiet-acts small power.Off (journal (On ∷ [])) (Load 0 32 1) on tt refl (found-read start 32 1 (omega (arith, start-length)) (sym (start-word 32 ∙ status-undecided)))
 
-pub cuts-are-right : Given → CutsAreRight
-cuts-are-right given = record {
+pub cuts-are-right : CutsAreRight
+cuts-are-right = record {
   insert_kept = failed;
   kept_pair = pair;
   kept_call = happened-cut took_effect the_insert (inr (record { pending = pending-now took_effect 1 the_insert.opened refl; took = refl }));
@@ -156,14 +150,14 @@ cuts-are-right given = record {
   twice = twice (on-kept failed);
   cut_again = cut-again (loaded (on-kept failed));
   evicted = evicted (loaded (on-kept failed));
-  booted = booted (off-first given);
+  booted = booted (off-first);
 }
   where
     stands : IsRight power.On decided
-    stands = stored (begun (at-first given))
+    stands = stored (begun (at-first))
 
     durable : IsRight power.On took_effect
-    durable = flushed given stands
+    durable = flushed stands
 
     failed : IsRight power.On kept
     failed = cut-kept durable
@@ -206,9 +200,9 @@ cuts-are-refused = record {
   off_cut = λ s. s.once.0 refl;
 }
 
-pub worked-cuts : Given → WorkedCuts
-worked-cuts given = record {
-  right = cuts-are-right given;
+pub worked-cuts : WorkedCuts
+worked-cuts = record {
+  right = cuts-are-right;
   refused = cuts-are-refused;
   counts = record { taken = refl; stored = refl; taken_off = refl; free_again = refl; unused_again = refl; at_start = refl; at_on = refl };
   power = record { first = refl; failed = refl; back = refl; ready = refl; image = refl };

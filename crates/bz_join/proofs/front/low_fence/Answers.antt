@@ -5,8 +5,8 @@ use Rattle.bz_join.proofs.Fronts.{low-read, header-there}
 use Rattle.bz_join.proofs.front.low_fence.Goals as goal
 
 pub returns-in-Some : goal.returns-in-Some
-returns-in-Some c = low-read c.leaf_rules_are_facts.ensures c.inner_rules_are_facts.ensures c.headers.ensures c.args.image.now.0 c.in-Some.header c.in-Some.ensures.word.0 c.in-Some.ensures.word.1 c.key_at.result c.is_whole.ensures c.key_at.ensures
+returns-in-Some c = low-read c.args.image.now.0 c.in-Some.header c.in-Some.ensures.word.0 c.in-Some.ensures.word.1 c.key_at.result c.is_whole.ensures c.key_at.ensures
 
 pub returns-in-None : goal.returns-in-None
 returns-in-None c nodes raw level low high none =
-    let some : IsSome {T = Header} None = c.in-None.ensures.lawful.1 (header-there c.leaf_rules_are_facts.ensures c.inner_rules_are_facts.ensures nodes raw (node_of c.args.image.now.0) level low high none).header in absurd (cc)
+    let some : IsSome {T = Header} None = c.in-None.ensures.lawful.1 (header-there nodes raw (node_of c.args.image.now.0) level low high none).header in absurd (cc)

@@ -19,5 +19,5 @@ loop-visit-smaller c =
 
 pub returns : goal.returns
 returns c =
-    all-gathered c.well_formed_images_have_no_fault.ensures c.leaf_rules_are_facts.ensures c.args.config.now c.args.image.now (stack_of c.loop-visit.gathering.stack.items) c.loop-visit.gathering.pairs.items
+    all-gathered c.args.config.now c.args.image.now (stack_of c.loop-visit.gathering.stack.items) c.loop-visit.gathering.pairs.items
     c.requires c.loop-visit.invariant (stack-none c.loop-visit.gathering.stack.items (omega (arith, c.in_default.ensures.cases)))

@@ -13,7 +13,7 @@ pub walk_tree-requires : goal.walk_tree-requires
 walk_tree-requires c = scanned c.args.config.now c.args.image.now c.requires.config c.requires.whole (sym c.in_default.ensures)
 
 pub returns-clause-shape : goal.returns-clause-shape
-returns-clause-shape c = shape-answer c.well_formed_images_have_no_fault.ensures c.leaf_rules_are_facts.ensures c.args.config.now c.args.image.now c.walk_tree.result (sym c.is_super.ensures ∙ c.if-not-is_super.false) (sym c.in_default.ensures) c.walk_tree.ensures.shape
+returns-clause-shape c = shape-answer c.args.config.now c.args.image.now c.walk_tree.result (sym c.is_super.ensures ∙ c.if-not-is_super.false) (sym c.in_default.ensures) c.walk_tree.ensures.shape
 
 pub returns-clause-fault : goal.returns-clause-fault
 returns-clause-fault c = told-answer c.args.config.now c.args.image.now c.walk_tree.result (sym c.is_super.ensures ∙ c.if-not-is_super.false) (sym c.in_default.ensures) c.walk_tree.ensures.told

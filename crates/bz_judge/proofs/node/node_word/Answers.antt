@@ -9,7 +9,7 @@ use Rattle.bz_judge.proofs.node.node_word.Goals as goal
 pub resolve-requires : goal.resolve-requires
 resolve-requires c =
     subst (λ a. CanBeResolved (slice_index c.args.image.now) (a + c.args.i)) (sym c.node_at.ensures)
-    (node-readable c.addresses_fit.ensures c.args.config.now c.args.image.now c.args.slot c.args.i c.requires.scanned c.requires.slot c.requires.place)
+    (node-readable c.args.config.now c.args.image.now c.args.slot c.args.i c.requires.scanned c.requires.slot c.requires.place)
 
 pub returns : goal.returns
 returns c =

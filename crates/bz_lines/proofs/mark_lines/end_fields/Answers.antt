@@ -13,5 +13,5 @@ returns c = rw (
   c.in_ok-kind.ensures,
   c.from.ensures,
   c.from-2.ensures,
-  c.from-3.ensures
+  c.from-3.ensures,
 )

@@ -20,7 +20,7 @@ pub returns-in-Err-write_mark-clause-front : goal.returns-in-Err-write_mark-clau
 returns-in-Err-write_mark-clause-front g c =
     let within : c.loop-i.i < length c.args.journal.now.past = omega (arith, c.loop-i-test.true, c.length-i-end.ensures) in
     λ wrote. grew_line _ _ _ (lines_of c.args.config.now c.args.journal.now) (c.loop-i.i + 1) (line_of c.args.journal.now.pages c.mark-mark.result) (omega (arith, count_lines c.args.config.now c.args.journal.now))
-        (line_at c.args.config.now c.args.journal.now c.loop-i.i c.mark-mark.result within c.mark-mark.ensures) c.loop-i.invariant.written (c.in-Err-write_mark.ensures.front wrote)
+    (line_at c.args.config.now c.args.journal.now c.loop-i.i c.mark-mark.result within c.mark-mark.ensures) c.loop-i.invariant.written (c.in-Err-write_mark.ensures.front wrote)
 
 pub returns-in-Err-write_mark-clause-whole : goal.returns-in-Err-write_mark-clause-whole
 returns-in-Err-write_mark-clause-whole g c =

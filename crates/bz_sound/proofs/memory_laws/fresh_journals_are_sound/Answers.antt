@@ -2,4 +2,4 @@ use Rattle.bz_sound.proofs.Memory.Fresh.{fresh-sound}
 use Rattle.bz_sound.proofs.memory_laws.fresh_journals_are_sound.Goals as goal
 
 pub returns : goal.returns
-returns c = fresh-sound c.well_formed_images_have_no_fault.ensures c.map_is_the_content.ensures
+returns c = fresh-sound

@@ -1,5 +1,7 @@
 use Rattle.std.proofs.Common.{refl, sym, ap, subst, ◌∙◌, arith, None}
 use Rattle.bz_task.specs.declared.todo.Seen.TheVariants.{NoSwap, Start}
+use Rattle.bz_sight.proofs.Proved.{effect_steps_take_place}
+use Rattle.bz_swap.proofs.Proved.{effects_stay_inside}
 use Rattle.bz_world.specs.Inside.Acted.{IsActed}
 use Rattle.bz_world.specs.declared.parts.Parts.{Parts}
 use Rattle.bz_world.proofs.Acting.{is-served, is-busy, acted-on, acted-told, none-told, tells-no-want, tells-no-start, struck-acted, quiet-acted}
@@ -12,7 +14,7 @@ make_act-progress-requires-clause-busy c = is-busy c.args.parts.now c.requires.k
 pub mark_effect-requires-clause-striking : goal.mark_effect-requires-clause-striking
 mark_effect-requires-clause-striking c =
     let served = is-served c.args.parts.now c.requires.kept c.args.w c.requires.open in
-    act-strikes c.effect_steps_take_place.ensures c.effects_stay_inside.ensures c.step_laws.ensures.taken c.step_laws.ensures.begun c.step_laws.ensures.lone.wins c.step_laws.ensures.lone.paid.rivals c.args.parts.now c.make_act-progress.new.parts c.args.w c.in-Some.swap served.serving
+    act-strikes effect_steps_take_place effects_stay_inside c.step_laws.ensures.taken c.step_laws.ensures.begun c.step_laws.ensures.lone.wins c.step_laws.ensures.lone.paid.rivals c.args.parts.now c.make_act-progress.new.parts c.args.w c.in-Some.swap served.serving
     c.make_act-progress.result.act c.make_act-progress.result.done c.requires.kept served.is
     (subst (λ o. IsActed c.args.parts.now c.args.w c.make_act-progress.result.act c.make_act-progress.result.done o c.make_act-progress.new.parts) c.in-Some.is c.make_act-progress.ensures) (omega (arith, c.requires.room))
 

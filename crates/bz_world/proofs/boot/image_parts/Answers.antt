@@ -1,12 +1,14 @@
 use Rattle.std.proofs.Common.{◌∙◌}
 use Rattle.bz_mark.specs.declared.power.Power.TheVariants as power
+use Rattle.bz_sound.proofs.Proved.{fresh_journals_are_sound}
+use Rattle.bz_story.proofs.Proved.{images_open_journals}
 use Rattle.bz_world.proofs.Booting.{kept-image}
 use Rattle.bz_world.proofs.Openings.{lab-made}
 use Rattle.bz_world.proofs.boot.image_parts.Goals as goal
 
 pub returns-clause-kept : goal.returns-clause-kept
 returns-clause-kept c =
-    kept-image c.fresh_journals_are_sound.ensures c.images_open_journals.ensures c.args.config.now c.args.image.now _ c.requires.config c.requires.whole c.requires.form c.in_ok-parts.ensures.config
+    kept-image fresh_journals_are_sound images_open_journals c.args.config.now c.args.image.now _ c.requires.config c.requires.whole c.requires.form c.in_ok-parts.ensures.config
     (c.in_ok-parts.ensures.slots ∙ c.in_ok-slots.ensures) c.in_ok-parts.ensures.made
 
 pub returns-clause-lab : goal.returns-clause-lab

@@ -1,4 +1,5 @@
 use Rattle.std.proofs.Common.{◌≡◌, ◌+◌, sym, ap, subst, ◌∙◌, Some, None}
+use Rattle.bz_sound.proofs.Proved.{effects_answer}
 use Rattle.bz_world.specs.Inside.Beginning.{supply_of}
 use Rattle.bz_world.specs.Inside.Going.{MustEnd, had_in, known}
 use Rattle.bz_world.specs.Inside.Paid.{begun_with, stock_of}
@@ -13,7 +14,7 @@ use Rattle.bz_world.proofs.going.end_effective.Goals as goal
 pub end-requires-clause-right : goal.end-requires-clause-right
 end-requires-clause-right c = subst (λ r. MustEnd c.args.parts.now c.args.w r c.args.at) (sym reply) (record {
   on = c.requires.had.had.on;
-  right = c.effects_answer.ensures c.args.parts.now.config c.args.parts.now.journal c.args.w c.args.at c.requires.had.had.on.between.opened (effect_reply c.requires.had.had.on.between.opened.call c.requires.had.had.on.serving.had)
+  right = effects_answer c.args.parts.now.config c.args.parts.now.journal c.args.w c.args.at c.requires.had.had.on.between.opened (effect_reply c.requires.had.had.on.between.opened.call c.requires.had.had.on.serving.had)
       c.requires.had.had.on.between.call_open.is_open effect (c.requires.had.had.on.between.call_open.told c.args.at effect);
   room = c.requires.had.had.room;
   told = λ lonely room. let on = c.requires.had.had.on in

@@ -1,4 +1,5 @@
 use Rattle.std.proofs.Common.{sym, ap, ◌∙◌, slice_index}
+use Rattle.bz_sound.proofs.Proved.{held_swaps_are_spent}
 use Rattle.bz_world.specs.Inside.Going.{effect_in}
 use Rattle.bz_world.proofs.Spending.{are-held}
 use Rattle.bz_world.proofs.TakingOn.{slot-is}
@@ -13,7 +14,7 @@ pub end_full-requires-clause-short : goal.end_full-requires-clause-short
 end_full-requires-clause-short c = record {
   on = c.requires.lacks.on;
   quiet = ap effect_in (sym (slot-is c.args.parts.now c.args.w c.requires.lacks.on c.index.result.now c.index.ensures)) ∙ sym c.in-None.ensures;
-  cause = c.held_swaps_are_spent.ensures c.args.parts.now.config c.args.parts.now.journal.start c.args.parts.now.journal.past c.args.w c.requires.lacks.on.between.opened (slice_index c.args.parts.now.owners.items) (are-held c.args.parts.now c.args.w c.requires.lacks);
+  cause = held_swaps_are_spent c.args.parts.now.config c.args.parts.now.journal.start c.args.parts.now.journal.past c.args.w c.requires.lacks.on.between.opened (slice_index c.args.parts.now.owners.items) (are-held c.args.parts.now c.args.w c.requires.lacks);
   out = record { out = c.requires.lacks.spent; little = c.requires.lacks.little };
   told = c.requires.lacks.told (ap effect_in (sym (slot-is c.args.parts.now c.args.w c.requires.lacks.on c.index.result.now c.index.ensures)) ∙ sym c.in-None.ensures);
   room = c.requires.lacks.room;

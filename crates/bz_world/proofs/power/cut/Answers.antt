@@ -2,6 +2,8 @@ use Rattle.std.proofs.Common.{◌≢◌, ◌+◌, ◌-◌, ◌≤◌, length, ar
 use Rattle.std.proofs.lemmas.Bool.{true≢false}
 use Rattle.bz_mark.specs.Log.{Limits}
 use Rattle.bz_mark.specs.declared.power.Power.TheVariants as power
+use Rattle.bz_sound.proofs.Proved.{cuts_follow, power_tells_what_follows}
+use Rattle.bz_story.proofs.Proved.{cuts_are_marked}
 use Rattle.bz_world.specs.Inside.Beginning.{world_view}
 use Rattle.bz_world.specs.declared.answers.Applied.TheVariants as applied
 use Rattle.bz_world.proofs.Cutting.{cut-kept, cut-seen}
@@ -19,7 +21,7 @@ returns-clause-kept c =
     let p = c.args.parts.now in
     let left : 3 ≤ p.journal.limits.marks - length p.journal.past = omega arith in
     let room : length p.journal.past + 3 ≤ p.config.marks = omega (arith, left, ap (λ (l : Limits). l.marks) c.requires.tabled.limits) in
-    cut-kept (record { follow = c.cuts_follow.ensures; tells = c.power_tells_what_follows.ensures; leave = c.cuts_are_marked.ensures }) p c.make_cut.new.parts c.requires room
+    cut-kept (record { follow = cuts_follow; tells = power_tells_what_follows; leave = cuts_are_marked }) p c.make_cut.new.parts c.requires room
     (λ off. absurd (true≢false (sym (c.is_off.ensures.1 off) ∙ c.if-is_off.false))) c.make_cut.ensures
 
 pub returns-clause-applied : goal.returns-clause-applied
@@ -29,4 +31,4 @@ returns-clause-applied c =
     let room : length p.journal.past + 3 ≤ p.config.marks = omega (arith, left, ap (λ (l : Limits). l.marks) c.requires.tabled.limits) in
     let on : p.power ≢ power.Off = λ off. absurd (true≢false (sym (c.is_off.ensures.1 off) ∙ c.if-is_off.false)) in
     cut-applied (world_view p) (world_view c.make_cut.new.parts) applied.Cut left p.power c.requires.tabled.power
-    (off-by p.power _ _ on (refl, cut-seen (record { follow = c.cuts_follow.ensures; tells = c.power_tells_what_follows.ensures; leave = c.cuts_are_marked.ensures }) p c.make_cut.new.parts c.requires room on c.make_cut.ensures))
+    (off-by p.power _ _ on (refl, cut-seen (record { follow = cuts_follow; tells = power_tells_what_follows; leave = cuts_are_marked }) p c.make_cut.new.parts c.requires room on c.make_cut.ensures))

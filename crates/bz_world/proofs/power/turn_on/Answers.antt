@@ -1,5 +1,7 @@
 use Rattle.std.proofs.Common.{◌∙◌, sym, ap}
 use Rattle.bz_layout.specs.declared.config.Config.{Config}
+use Rattle.bz_sound.proofs.Proved.{ons_follow, power_tells_what_follows}
+use Rattle.bz_story.proofs.Proved.{power_on_is_marked, recoveries_go_on, turns_make_no_mark}
 use Rattle.bz_world.proofs.Waking.{begun-on, seen-on}
 use Rattle.bz_world.proofs.power.turn_on.Goals as goal
 
@@ -8,7 +10,7 @@ next-todo-requires-clause-slots c = c.requires.off.dark.slots ∙ ap (λ (d : Co
 
 pub start_act-requires-clause-asked : goal.start_act-requires-clause-asked
 start_act-requires-clause-asked c =
-    begun-on (record { follow = c.ons_follow.ensures; tells = c.power_tells_what_follows.ensures; begin = c.power_on_is_marked.ensures; turns = c.turns_make_no_mark.ensures; go_on = c.recoveries_go_on.ensures })
+    begun-on (record { follow = ons_follow; tells = power_tells_what_follows; begin = power_on_is_marked; turns = turns_make_no_mark; go_on = recoveries_go_on })
     c.args.parts.now c.requires.off c.requires.power c.requires.room c.new-parts.result c.next-todo.new.self c.next-todo.new.slots
     (record { config = c.new-parts.ensures.config; ready = c.new-parts.ensures.ready; asks = c.new-parts.ensures.asks; knows = c.new-parts.ensures.knows; left = c.new-parts.ensures.left })
     (record { config = c.next-todo.ensures.config; ready = c.next-todo.ensures.ready; learns = c.next-todo.ensures.learns; sooner = c.next-todo.ensures.sooner })

@@ -1,17 +1,19 @@
 use Rattle.std.proofs.Common.{refl, sym, ap, ◌∙◌}
 use Rattle.bz_layout.specs.declared.config.Config.{Config}
+use Rattle.bz_sound.proofs.Proved.{flushes_follow, quiet_acts_follow, same_content_decodes}
+use Rattle.bz_story.proofs.Proved.{acts_are_marked, recoveries_go_on, turns_make_no_mark}
 use Rattle.bz_world.proofs.Recovered.{asked-on}
 use Rattle.bz_world.proofs.Recovering.{Laws, hears-on, made-on, told-on, after-on}
 use Rattle.bz_world.proofs.recovery.ask_next.Goals as goal
 
 pub next-requires : goal.next-requires
 next-requires c =
-    let b : Laws = record { quiet = c.quiet_acts_follow.ensures; flush = c.flushes_follow.ensures; same = c.same_content_decodes.ensures } in
-    let on = made-on b c.acts_are_marked.ensures c.args.parts.now c.make_raw_act-progress.new.parts c.make_raw_act-progress.result.act c.make_raw_act-progress.result.done c.make_raw_act-progress.result.effect c.requires.started c.requires.power c.requires.room c.make_raw_act-progress.ensures in
+    let b : Laws = record { quiet = quiet_acts_follow; flush = flushes_follow; same = same_content_decodes } in
+    let on = made-on b acts_are_marked c.args.parts.now c.make_raw_act-progress.new.parts c.make_raw_act-progress.result.act c.make_raw_act-progress.result.done c.make_raw_act-progress.result.effect c.requires.started c.requires.power c.requires.room c.make_raw_act-progress.ensures in
     record {
       ready = on.memory.recovering.ready;
       slots = on.dark.slots ∙ ap (λ (d : Config). d.nodes) (sym on.memory.recovering.config);
-      hears = hears-on b c.acts_are_marked.ensures c.args.parts.now c.make_raw_act-progress.new.parts c.make_raw_act-progress.result.act c.make_raw_act-progress.result.done c.make_raw_act-progress.result.effect c.requires.started c.requires.power c.requires.room c.make_raw_act-progress.ensures c.seen_of.result c.seen_of.ensures;
+      hears = hears-on b acts_are_marked c.args.parts.now c.make_raw_act-progress.new.parts c.make_raw_act-progress.result.act c.make_raw_act-progress.result.done c.make_raw_act-progress.result.effect c.requires.started c.requires.power c.requires.room c.make_raw_act-progress.ensures c.seen_of.result c.seen_of.ensures;
     }
 
 pub returns : goal.returns
@@ -22,11 +24,11 @@ returns c = record {
   mid = c.make_raw_act-progress.new.parts;
   act = c.make_raw_act-progress.ensures;
   rest = refl;
-  recovering = asked-on c.recoveries_go_on.ensures c.turns_make_no_mark.ensures c.make_raw_act-progress.new.parts c.seen_of.result c.next.new.self c.next.new.slots
-      (made-on (record { quiet = c.quiet_acts_follow.ensures; flush = c.flushes_follow.ensures; same = c.same_content_decodes.ensures }) c.acts_are_marked.ensures c.args.parts.now c.make_raw_act-progress.new.parts c.make_raw_act-progress.result.act c.make_raw_act-progress.result.done c.make_raw_act-progress.result.effect c.requires.started c.requires.power c.requires.room c.make_raw_act-progress.ensures)
+  recovering = asked-on recoveries_go_on turns_make_no_mark c.make_raw_act-progress.new.parts c.seen_of.result c.next.new.self c.next.new.slots
+      (made-on (record { quiet = quiet_acts_follow; flush = flushes_follow; same = same_content_decodes }) acts_are_marked c.args.parts.now c.make_raw_act-progress.new.parts c.make_raw_act-progress.result.act c.make_raw_act-progress.result.done c.make_raw_act-progress.result.effect c.requires.started c.requires.power c.requires.room c.make_raw_act-progress.ensures)
       (record { config = c.next.ensures.config; ready = c.next.ensures.ready; learns = c.next.ensures.learns; sooner = c.next.ensures.sooner })
-      (told-on (record { quiet = c.quiet_acts_follow.ensures; flush = c.flushes_follow.ensures; same = c.same_content_decodes.ensures }) c.acts_are_marked.ensures c.args.parts.now c.make_raw_act-progress.new.parts c.make_raw_act-progress.result.act c.make_raw_act-progress.result.done c.make_raw_act-progress.result.effect c.requires.started c.requires.power c.requires.room c.make_raw_act-progress.ensures c.seen_of.result c.seen_of.ensures)
+      (told-on (record { quiet = quiet_acts_follow; flush = flushes_follow; same = same_content_decodes }) acts_are_marked c.args.parts.now c.make_raw_act-progress.new.parts c.make_raw_act-progress.result.act c.make_raw_act-progress.result.done c.make_raw_act-progress.result.effect c.requires.started c.requires.power c.requires.room c.make_raw_act-progress.ensures c.seen_of.result c.seen_of.ensures)
       c.next.ensures.slots c.next.ensures.walked;
   asks = c.next.ensures.asked;
-  after = after-on (record { quiet = c.quiet_acts_follow.ensures; flush = c.flushes_follow.ensures; same = c.same_content_decodes.ensures }) c.acts_are_marked.ensures c.args.parts.now c.make_raw_act-progress.new.parts c.make_raw_act-progress.result.act c.make_raw_act-progress.result.done c.make_raw_act-progress.result.effect c.requires.started c.requires.power c.requires.room c.make_raw_act-progress.ensures;
+  after = after-on (record { quiet = quiet_acts_follow; flush = flushes_follow; same = same_content_decodes }) acts_are_marked c.args.parts.now c.make_raw_act-progress.new.parts c.make_raw_act-progress.result.act c.make_raw_act-progress.result.done c.make_raw_act-progress.result.effect c.requires.started c.requires.power c.requires.room c.make_raw_act-progress.ensures;
 }

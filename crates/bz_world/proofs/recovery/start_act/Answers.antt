@@ -2,6 +2,7 @@ use Rattle.std.proofs.Common.{◌≡◌, ◌≢◌, ℕ, sym, ap, subst, ◌∙�
 use Rattle.bz_swap.specs.Starts.{started}
 use Rattle.bz_task.specs.declared.todo.Todo.TheVariants.{Load, Store, Flush}
 use Rattle.bz_swap.specs.SwapMemory.{SwapMemory, Loading, Storing, Flushing}
+use Rattle.bz_story.proofs.Proved.{acts_may_start, turns_make_no_mark}
 use Rattle.bz_world.specs.Inside.Kept.{IsStarted}
 use Rattle.bz_world.proofs.Recovering.{started-recovering}
 use Rattle.bz_world.proofs.recovery.start_act.Goals as goal
@@ -18,25 +19,25 @@ loads-first a e = cc e
 pub start_load-requires : goal.start_load-requires
 start_load-requires c =
     let p = c.args.parts.now in
-    (c.acts_may_start.ensures.load p.config c.requires.asked.dark.values p.access p.recovery c.in-Load.a c.requires.asked.memory.recovering (c.requires.asks ∙ ap Some c.in-Load.is)).0
+    (acts_may_start.load p.config c.requires.asked.dark.values p.access p.recovery c.in-Load.a c.requires.asked.memory.recovering (c.requires.asks ∙ ap Some c.in-Load.is)).0
 
 pub returns-in-Load-clause-started : goal.returns-in-Load-clause-started
 returns-in-Load-clause-started c =
     let p = c.args.parts.now in
-    let starts = c.acts_may_start.ensures.load p.config c.requires.asked.dark.values p.access p.recovery c.in-Load.a c.requires.asked.memory.recovering (c.requires.asks ∙ ap Some c.in-Load.is) in
-    subst (λ (m : SwapMemory). IsStarted (record p { access = m })) (sym c.start_load.ensures.started) (started-recovering c.turns_make_no_mark.ensures p c.requires.asked (Loading c.in-Load.a) starts.1)
+    let starts = acts_may_start.load p.config c.requires.asked.dark.values p.access p.recovery c.in-Load.a c.requires.asked.memory.recovering (c.requires.asks ∙ ap Some c.in-Load.is) in
+    subst (λ (m : SwapMemory). IsStarted (record p { access = m })) (sym c.start_load.ensures.started) (started-recovering turns_make_no_mark p c.requires.asked (Loading c.in-Load.a) starts.1)
 
 pub returns-in-Store-clause-started : goal.returns-in-Store-clause-started
 returns-in-Store-clause-started c =
     let p = c.args.parts.now in
-    let starts = c.acts_may_start.ensures.store p.config c.requires.asked.dark.values p.access p.recovery c.in-Store.a c.in-Store.v c.requires.asked.memory.recovering (c.requires.asks ∙ ap Some c.in-Store.is) in
-    subst (λ (m : SwapMemory). IsStarted (record p { access = m })) (sym c.start_store.ensures.started) (started-recovering c.turns_make_no_mark.ensures p c.requires.asked (Storing c.in-Store.a c.in-Store.v) starts.1)
+    let starts = acts_may_start.store p.config c.requires.asked.dark.values p.access p.recovery c.in-Store.a c.in-Store.v c.requires.asked.memory.recovering (c.requires.asks ∙ ap Some c.in-Store.is) in
+    subst (λ (m : SwapMemory). IsStarted (record p { access = m })) (sym c.start_store.ensures.started) (started-recovering turns_make_no_mark p c.requires.asked (Storing c.in-Store.a c.in-Store.v) starts.1)
 
 pub returns-in-Flush-clause-started : goal.returns-in-Flush-clause-started
 returns-in-Flush-clause-started c =
     let p = c.args.parts.now in
-    let starts = c.acts_may_start.ensures.flush p.config c.requires.asked.dark.values p.access p.recovery c.in-Flush.line c.requires.asked.memory.recovering (c.requires.asks ∙ ap Some c.in-Flush.is) in
-    subst (λ (m : SwapMemory). IsStarted (record p { access = m })) (sym c.start_flush.ensures.started) (started-recovering c.turns_make_no_mark.ensures p c.requires.asked (Flushing c.in-Flush.line) starts.1)
+    let starts = acts_may_start.flush p.config c.requires.asked.dark.values p.access p.recovery c.in-Flush.line c.requires.asked.memory.recovering (c.requires.asks ∙ ap Some c.in-Flush.is) in
+    subst (λ (m : SwapMemory). IsStarted (record p { access = m })) (sym c.start_flush.ensures.started) (started-recovering turns_make_no_mark p c.requires.asked (Flushing c.in-Flush.line) starts.1)
 
 pub returns-in-Load-clause-first : goal.returns-in-Load-clause-first
 returns-in-Load-clause-first c e =

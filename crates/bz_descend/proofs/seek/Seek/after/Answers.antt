@@ -26,7 +26,7 @@ returns-in-Guard-Read c =
       restart = g.restart;
       learns = λ stage s same good.
           by-way t.key t.path t.height t.words t.config _ stage s t.phase Guard c.args.seen (Was i.status) i.is-0 i.is-1
-          (seen-guard c.on_trees.ensures t.key t.path t.height t.words t.config s same good stage i.status);
+          (seen-guard t.key t.path t.height t.words t.config s same good stage i.status);
     }
 
 pub returns-in-Root-Read : goal.returns-in-Root-Read
@@ -48,7 +48,7 @@ returns-in-Root-Read c =
       restart = g.restart;
       learns = λ stage s same good.
           by-way t.key t.path t.height t.words t.config _ stage s t.phase (Root i.status) c.args.seen (Was i.pointer) i.is-0 i.is-1
-          (seen-root c.on_trees.ensures t.key t.path t.height t.words t.config s same good c.roots_are_reached.ensures stage i.status i.pointer n e.depth e.link);
+          (seen-root t.key t.path t.height t.words t.config s same good stage i.status i.pointer n e.depth e.link);
     }
 
 pub returns-in-Header-Read : goal.returns-in-Header-Read
@@ -72,7 +72,7 @@ returns-in-Header-Read c =
       restart = g.restart;
       learns = λ stage s same good.
           rw c.arrived.ensures (by-way t.key t.path t.height t.words t.config _ stage s t.phase (Header i.slot) c.args.seen (Was i.word) i.is-0 i.is-1
-          (seen-header c.on_trees.ensures t.key t.path t.height t.words t.config s same good stage i.slot i.word high b.1 (c.level_of-self.ensures h.0)));
+          (seen-header t.key t.path t.height t.words t.config s same good stage i.slot i.word high b.1 (c.level_of-self.ensures h.0)));
     }
 
 pub returns-in-Status-Read : goal.returns-in-Status-Read
@@ -95,7 +95,7 @@ returns-in-Status-Read c =
       restart = g.restart;
       learns = λ stage s same good.
           by-way t.key t.path t.height t.words t.config _ stage s t.phase (Status i.slot) c.args.seen (Was i.status) i.is-0 i.is-1
-          (seen-status c.on_trees.ensures t.key t.path t.height t.words t.config s same good stage i.slot i.status n e.frozen e.thawed);
+          (seen-status t.key t.path t.height t.words t.config s same good stage i.slot i.status n e.frozen e.thawed);
     }
 
 pub returns-in-Meta-Read : goal.returns-in-Meta-Read
@@ -118,7 +118,7 @@ returns-in-Meta-Read c =
       restart = g.restart;
       learns = λ stage s same good.
           rw e (by-way t.key t.path t.height t.words t.config _ stage s t.phase (Meta i.sight) c.args.seen (Was i.word) i.is-0 i.is-1
-          (seen-meta c.on_trees.ensures t.key t.path t.height t.words t.config s same good c.separators_stay.ensures stage i.sight i.word));
+          (seen-meta t.key t.path t.height t.words t.config s same good stage i.sight i.word));
     }
 
 pub returns-in-Word-Read : goal.returns-in-Word-Read
@@ -140,7 +140,7 @@ returns-in-Word-Read c =
       restart = g.restart;
       learns = λ stage s same good.
           by-way t.key t.path t.height t.words t.config _ stage s t.phase (Word i.sight i.extent i.i) c.args.seen (Was i.word) i.is-0 i.is-1
-          (seen-word c.on_trees.ensures t.key t.path t.height t.words t.config s same good c.separators_stay.ensures stage i.sight i.extent i.i i.word n c.is_whole.ensures e.more e.done);
+          (seen-word t.key t.path t.height t.words t.config s same good stage i.sight i.extent i.i i.word n c.is_whole.ensures e.more e.done);
     }
 
 pub returns-in-First-Read : goal.returns-in-First-Read
@@ -163,7 +163,7 @@ returns-in-First-Read c =
       restart = g.restart;
       learns = λ stage s same good.
           by-way t.key t.path t.height t.words t.config _ stage s t.phase (First i.probe) c.args.seen (Was i.word) i.is-0 i.is-1
-          (seen-first c.on_trees.ensures t.key t.path t.height t.words t.config s same good c.separators_stay.ensures stage i.probe i.word (n.offset + c.words_for.result)
+          (seen-first t.key t.path t.height t.words t.config s same good stage i.probe i.word (n.offset + c.words_for.result)
           (omega (arith, c.words_for.ensures.words, ap (λ (z : Extent). z.offset) e, ap (λ (z : Extent). packed_len z.key) e)));
     }
 
@@ -187,7 +187,7 @@ returns-in-Pointer-Read c =
       restart = g.restart;
       learns = λ stage s same good.
           rw c.arrived-in-Pointer-Read.ensures (by-way t.key t.path t.height t.words t.config _ stage s t.phase (Pointer i.probe) c.args.seen (Was i.pointer) i.is-0 i.is-1
-          (seen-pointer c.on_trees.ensures t.key t.path t.height t.words t.config s same good c.separators_stay.ensures stage i.probe i.pointer n e.depth (subst (λ z. slice_get n.links t.path.depth ≡ Some z) c.link.ensures e.link) e.others));
+          (seen-pointer t.key t.path t.height t.words t.config s same good stage i.probe i.pointer n e.depth (subst (λ z. slice_get n.links t.path.depth ≡ Some z) c.link.ensures e.link) e.others));
     }
 
 pub returns-in_default-9 : goal.returns-in_default-9

@@ -5,7 +5,7 @@ pub returns-clause-heard : goal.returns-clause-heard
 returns-clause-heard c =
     let t = c.args.self.now in
     let k = c.requires.known in
-    seek-heard c.on_trees.ensures c.roots_are_reached.ensures c.separators_stay.ensures t.key t.path t.height t.words k.scene k.good t.config k.stage t.phase c.args.seen k.config k.holds.0 k.tells
+    seek-heard t.key t.path t.height t.words k.scene k.good t.config k.stage t.phase c.args.seen k.config k.holds.0 k.tells
 
 pub returns-clause-counted : goal.returns-clause-counted
 returns-clause-counted c = c.requires.known.holds.1

@@ -25,7 +25,7 @@ pub returns-clause-learns : goal.returns-clause-learns
 returns-clause-learns c stage s now same good free facts tells =
     let t = c.args.self.now in let a = c.after-self.ensures in let u = c.after-self.new.self in
     let learnt : seek_facts u.key u.path u.height u.words c.after-self.result Waiting (gained s c.args.slots.now c.args.slots.now) =
-    rw a.key (seek-no-slot c.nothing_is_gained.ensures t.key u.path u.height u.words s c.args.slots.now c.after-self.result a.begun (a.learns stage s same good facts.0 tells)) in
+    rw a.key (seek-no-slot t.key u.path u.height u.words s c.args.slots.now c.after-self.result a.begun (a.learns stage s same good facts.0 tells)) in
     subst (λ z. facts_of z Waiting (gained s c.args.slots.now c.args.slots.now)) (sym c.asks_for.ensures.new)
     (learnt, counted-on t.config u.config t.path u.path t.height u.height t.phase c.after-self.result t.asked u.asked facts.1 a.config a.bounds a.low a.nearer a.reads a.asked)
 

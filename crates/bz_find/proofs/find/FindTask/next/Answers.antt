@@ -32,10 +32,10 @@ returns-clause-learns c stage s now same good free facts told-so =
     let new : c.answered.new.self ≡ counted u = c.answered.ensures.new in
     let path : IsPath u.key u.path s.past = rw (k.key, k.path) facts.1 in
     let last : IsLastLink u.path u.link = rw (k.path, k.link) facts.3 in
-    let learnt = tells c.on_leaves.ensures t s same good stage c.args.seen c.args.moment now facts.2 facts.0 told-so in
-    let counts = counts-told c.on_leaves.ensures t s same good stage c.args.seen c.args.moment facts.2 facts.0 facts.4 told-so in
+    let learnt = tells t s same good stage c.args.seen c.args.moment now facts.2 facts.0 told-so in
+    let counts = counts-told t s same good stage c.args.seen c.args.moment facts.2 facts.0 facts.4 told-so in
     let all : facts_of (counted u) Waiting (gained s c.args.slots.now c.args.slots.now) =
-    (no-slot c.nothing_is_gained.ensures (counted u) u.phase s c.args.slots.now learnt, path, (steps t c.args.seen c.args.moment c.heard.ensures.bounded c.requires.hears c.heard.ensures.plain).0, last, counts) in
+    (no-slot (counted u) u.phase s c.args.slots.now learnt, path, (steps t c.args.seen c.args.moment c.heard.ensures.bounded c.requires.hears c.heard.ensures.plain).0, last, counts) in
     subst (λ z. facts_of z Waiting (gained s c.args.slots.now c.args.slots.now)) (sym new) all
 
 pub returns-clause-goes : goal.returns-clause-goes

@@ -2,4 +2,4 @@ use Rattle.bz_freeze.proofs.Asking.{was-leaf}
 use Rattle.bz_freeze.proofs.freeze.Freeze.new.Goals as goal
 
 pub returns-clause-facts : goal.returns-clause-facts
-returns-clause-facts c key s same good v = was-leaf c.leaves_tile_the_keys.ensures c.well_formed_images_have_no_fault.ensures key c.args.view s good v c.requires.thawed
+returns-clause-facts c key s same good v = was-leaf key c.args.view s good v c.requires.thawed

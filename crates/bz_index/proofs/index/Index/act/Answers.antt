@@ -47,5 +47,5 @@ returns-clause-goes g c = λ call first run.
     let w = worker_of c.args.pass.now in
     let placed = c.requires.placed.0 in
     let (found, may, does) = c.turn.ensures.turned in
-    goes_on origin w call first c.power_tells_what_follows.ensures found (seen_by now) turn.page.now turn.answer c.requires.placed.1 placed.worker (omega (arith, placed.worker, placed.below))
+    goes_on origin w call first found (seen_by now) turn.page.now turn.answer c.requires.placed.1 placed.worker (omega (arith, placed.worker, placed.below))
     (subst (λ (v : ℕ). HasStepped origin found v (seen_by now) turn.page.now turn.answer) c.requires.worker does.1) (run_more w call first (seen_by c.args.pass.now) found (omega (arith, placed.worker, placed.below)) may.extends may.own run)

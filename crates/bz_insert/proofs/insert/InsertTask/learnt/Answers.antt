@@ -5,8 +5,8 @@ use Rattle.bz_insert.proofs.insert.InsertTask.learnt.Goals as goal
 
 pub returns : goal.returns
 returns c = record {
-  stable = λ stage s after same facts good step. let t = c.args.self.now in stable c.leaves_were.ensures c.records_are_written.ensures t.added s after step t.phase stage facts;
-  askable = λ s todo same facts good asks. let t = c.args.self.now in askable c.new_record_swaps_may_be_asked.ensures c.records_are_written.ensures t.config t.added t.phase s todo same facts good asks;
+  stable = λ stage s after same facts good step. let t = c.args.self.now in stable t.added s after step t.phase stage facts;
+  askable = λ s todo same facts good asks. let t = c.args.self.now in askable t.config t.added t.phase s todo same facts good asks;
   cause = search rules;
   few = search rules;
   once = search rules;

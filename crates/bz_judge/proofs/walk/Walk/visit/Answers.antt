@@ -26,12 +26,12 @@ returns-then-visit-eq0-clause-way c =
 
 pub push_children-requires-clause-children : goal.push_children-requires-clause-children
 push_children-requires-clause-children c =
-    reads-children c.whole_inners_are_readable.ensures c.args.config.now c.args.image.now (visit_of c.args.visit.now) c.node_of_slot-node.result.0 c.requires.scanned c.requires.way.below.0 c.node_of_slot-node.ensures.node c.node_of_slot-node.ensures.whole
+    reads-children c.args.config.now c.args.image.now (visit_of c.args.visit.now) c.node_of_slot-node.result.0 c.requires.scanned c.requires.way.below.0 c.node_of_slot-node.ensures.node c.node_of_slot-node.ensures.whole
     (sym c.fault_of_node.ensures ∙ none-found c.fault_of_node.result c.in_default.not-Some) (omega (arith, c.if-visit-eq0.false))
 
 pub returns-clause-way : goal.returns-clause-way
 returns-clause-way c =
-    inner-step c.inner_keys_rise.ensures c.args.config.now c.args.image.now (visit_of c.args.visit.now) (stack_of c.args.self.now.stack.items) (stack_of c.push_children.new.stack.items) c.args.self.now.seen.items c.args.self.now.pairs c.args.self.now.reached
+    inner-step c.args.config.now c.args.image.now (visit_of c.args.visit.now) (stack_of c.args.self.now.stack.items) (stack_of c.push_children.new.stack.items) c.args.self.now.seen.items c.args.self.now.pairs c.args.self.now.reached
     c.requires.way (at-place c.args.self.now.seen.items c.args.visit.now.slot c.index.result.now false (omega (arith, c.requires.way.size, c.requires.way.below.0)) c.index.ensures ∙ c.if-index.false)
     (sym c.fault_of_node.ensures ∙ none-found c.fault_of_node.result c.in_default.not-Some) (omega (arith, c.if-visit-eq0.false))
     (c.in_ok-push_children.ensures (view_in c.args.config.now (slice_index c.args.image.now)) (shows-node c.args.config.now c.args.image.now c.args.visit.now.slot c.node_of_slot-node.result.0 c.requires.way.below.0 c.node_of_slot-node.ensures.node))

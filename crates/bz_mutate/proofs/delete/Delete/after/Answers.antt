@@ -8,9 +8,9 @@ begun-requires-clause-visible c = let t = c.args.self.now in let k = c.requires.
 pub returns-in-Fresh-default-clause-ready : goal.returns-in-Fresh-default-clause-ready
 returns-in-Fresh-default-clause-ready c =
     let t = c.args.self.now in let k = c.requires.known in
-    ready-first (record { leaves = c.key_views_show_leaves.ensures; records = c.key_views_show_records.ensures }) t.config t.key t.view k.stage k.scene c.begun.result k.config k.good (in-phase t.key t.view k.stage k.scene t.phase Fresh c.in-Fresh-default.is-0 k.holds) c.begun.ensures.found
+    ready-first t.config t.key t.view k.stage k.scene c.begun.result k.config k.good (in-phase t.key t.view k.stage k.scene t.phase Fresh c.in-Fresh-default.is-0 k.holds) c.begun.ensures.found
 
 pub returns-in-Fresh-default-clause-learns : goal.returns-in-Fresh-default-clause-learns
 returns-in-Fresh-default-clause-learns c stage s same good facts tells =
     let t = c.args.self.now in
-    told-first (record { leaves = c.key_views_show_leaves.ensures; records = c.key_views_show_records.ensures }) t.key t.view stage c.args.seen s c.begun.result good (in-phase t.key t.view stage s t.phase Fresh c.in-Fresh-default.is-0 facts) (tells-in t.config t.view stage c.args.seen s t.phase Fresh c.in-Fresh-default.is-0 tells) c.begun.ensures.either c.begun.ensures.found c.begun.ensures.thawed c.begun.ensures.none
+    told-first t.key t.view stage c.args.seen s c.begun.result good (in-phase t.key t.view stage s t.phase Fresh c.in-Fresh-default.is-0 facts) (tells-in t.config t.view stage c.args.seen s t.phase Fresh c.in-Fresh-default.is-0 tells) c.begun.ensures.either c.begun.ensures.found c.begun.ensures.thawed c.begun.ensures.none

@@ -13,13 +13,13 @@ begun-requires-clause-visible c = let t = c.args.self.now in let k = c.requires.
 pub returns-in-Fresh-default-clause-ready : goal.returns-in-Fresh-default-clause-ready
 returns-in-Fresh-default-clause-ready c =
     let t = c.args.self.now in let k = c.requires.known in
-    ready-first (record { leaves = c.key_views_show_leaves.ensures; records = c.key_views_show_records.ensures }) t.config t.view t.added k.stage k.scene c.begun.result k.config k.good (in-phase t.view t.added k.stage k.scene t.phase Fresh c.in-Fresh-default.is-0 k.holds) c.begun.ensures.either c.begun.ensures.found c.begun.ensures.room
+    ready-first t.config t.view t.added k.stage k.scene c.begun.result k.config k.good (in-phase t.view t.added k.stage k.scene t.phase Fresh c.in-Fresh-default.is-0 k.holds) c.begun.ensures.either c.begun.ensures.found c.begun.ensures.room
 
 pub returns-in-Fresh-default-clause-learns : goal.returns-in-Fresh-default-clause-learns
 returns-in-Fresh-default-clause-learns c stage s same good facts tells =
     let t = c.args.self.now in
     let told = tells-in t.config t.added stage s t.phase Fresh c.args.seen c.args.seen c.in-Fresh-default.is-0 refl tells in
-    told-first (record { leaves = c.key_views_show_leaves.ensures; records = c.key_views_show_records.ensures }) t.view t.added stage c.args.seen s c.begun.result good (in-phase t.view t.added stage s t.phase Fresh c.in-Fresh-default.is-0 facts) told c.begun.ensures.either c.begun.ensures.found c.begun.ensures.room c.begun.ensures.none
+    told-first t.view t.added stage c.args.seen s c.begun.result good (in-phase t.view t.added stage s t.phase Fresh c.in-Fresh-default.is-0 facts) told c.begun.ensures.either c.begun.ensures.found c.begun.ensures.room c.begun.ensures.none
 
 pub returns-in-Grow-Swapped-true-clause-ready : goal.returns-in-Grow-Swapped-true-clause-ready
 returns-in-Grow-Swapped-true-clause-ready c =

@@ -5,8 +5,8 @@ use Rattle.bz_mutate.proofs.update.UpdateTask.learnt.Goals as goal
 
 pub returns : goal.returns
 returns c = record {
-  stable = λ stage s after same facts good step. let t = c.args.self.now in stable c.key_views_stay.ensures c.records_were.ensures c.records_are_written.ensures t.view t.added s after step t.phase stage facts;
-  askable = λ s todo same facts good asks. let t = c.args.self.now in askable c.changes_may_be_asked.ensures c.records_are_written.ensures t.config t.view t.added t.phase s todo same facts good asks;
+  stable = λ stage s after same facts good step. let t = c.args.self.now in stable t.view t.added s after step t.phase stage facts;
+  askable = λ s todo same facts good asks. let t = c.args.self.now in askable t.config t.view t.added t.phase s todo same facts good asks;
   cause = search rules;
   few = search rules;
   once = search rules;

@@ -12,7 +12,7 @@ pub returns-in-Fresh-default-clause-learns : goal.returns-in-Fresh-default-claus
 returns-in-Fresh-default-clause-learns c values walks told image t =
     let known = known-at c.args.self.now c.args.slots.now Fresh values image c.in-Fresh-default.is-0 walks t in
     let free : c.free_all.new.self.free ≡ (all_free c.args.self.now.config.nodes).free = ap (λ (s : FreeSlots). s.free) c.free_all.ensures ∙ ap (λ n. (all_free n).free) c.requires.slots in
-    (subst (IsBefore (view_in c.args.self.now.config image)) (sym free) (before-root c.well_formed_images_have_no_fault.ensures c.args.self.now.config values image t), known.1 ∙ (sym (length-range_with_len 0 c.args.self.now.config.nodes) ∙ ap length (sym free)))
+    (subst (IsBefore (view_in c.args.self.now.config image)) (sym free) (before-root c.args.self.now.config values image t), known.1 ∙ (sym (length-range_with_len 0 c.args.self.now.config.nodes) ∙ ap length (sym free)))
 
 pub returns-in-Root-Read-clause-learns : goal.returns-in-Root-Read-clause-learns
 returns-in-Root-Read-clause-learns c values walks told =

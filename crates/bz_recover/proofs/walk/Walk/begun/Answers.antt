@@ -10,7 +10,7 @@ use Rattle.bz_recover.proofs.walk.Walk.begun.Goals as goal
 
 pub returns-then-not-holds-clause-leads : goal.returns-then-not-holds-clause-leads
 returns-then-not-holds-clause-leads c values image t left b told =
-    let r : RootTaken (view_in c.args.self.now.config image) c.args.self.now.ways c.args.slots.now.free c.args.root (c.args.header % 256) = root-taken c.well_formed_images_have_no_fault.ensures c.slots_come_once.ensures c.inner_rules_are_facts.ensures c.args.self.now.config values image c.args.self.now.ways c.args.slots.now.free c.args.root c.args.header t c.requires.root b.0 b.1 told in
+    let r : RootTaken (view_in c.args.self.now.config image) c.args.self.now.ways c.args.slots.now.free c.args.root (c.args.header % 256) = root-taken c.args.self.now.config values image c.args.self.now.ways c.args.slots.now.free c.args.root c.args.header t c.requires.root b.0 b.1 told in
     let free : c.holds.new.slots.free ≡ without c.args.root c.args.slots.now.free = ap (λ (s : FreeSlots). s.free) c.holds.ensures.slots in
     elim c.then-not-holds.branch [
       | then-not-holds-via-then-not-holds w ↦ absurd (omega (arith, w.if-not-holds.ensures.no, left, ap length free, fewer c.args.slots.now.free c.args.root r.was_free))
@@ -20,7 +20,7 @@ returns-then-not-holds-clause-leads c values image t left b told =
 
 pub returns-clause-leads : goal.returns-clause-leads
 returns-clause-leads c values image t left b told =
-    let r : RootTaken (view_in c.args.self.now.config image) c.holds.new.self.ways c.args.slots.now.free c.args.root (c.args.header % 256) = root-taken c.well_formed_images_have_no_fault.ensures c.slots_come_once.ensures c.inner_rules_are_facts.ensures c.args.self.now.config values image c.holds.new.self.ways c.args.slots.now.free c.args.root c.args.header t c.requires.root b.0 b.1 told in
+    let r : RootTaken (view_in c.args.self.now.config image) c.holds.new.self.ways c.args.slots.now.free c.args.root (c.args.header % 256) = root-taken c.args.self.now.config values image c.holds.new.self.ways c.args.slots.now.free c.args.root c.args.header t c.requires.root b.0 b.1 told in
     let free : c.holds.new.slots.free ≡ without c.args.root c.args.slots.now.free = ap (λ (s : FreeSlots). s.free) c.holds.ensures.slots in
     let high : 0 < c.args.header % 256 = omega (arith, c.if-level-eq0.false) in
     (subst (λ f. HasCome (view_in c.args.self.now.config image) (c.args.header % 256) c.holds.new.self.ways f (c.args.header % 256) c.args.root) (sym free) (r.inner high), ap (λ (s : Walk). s.left) c.if-not-holds.ensures.left)

@@ -11,19 +11,19 @@ use Rattle.bz_recover.proofs.walk.Walk.reached.Goals as goal
 
 pub returns-in-None-clause-leads : goal.returns-in-None-clause-leads
 returns-in-None-clause-leads c place values image t left g told =
-    let d : ChildTaken c.args.self.now.config (view_in c.args.self.now.config image) c.args.self.now.top c.args.self.now.ways c.args.slots.now.free c.args.level c.args.way 0 c.args.pointer = child-taken c.well_formed_images_have_no_fault.ensures c.slots_come_once.ensures c.inner_rules_are_facts.ensures c.args.self.now.config values image c.args.self.now.top c.args.self.now.ways c.args.slots.now.free c.args.level c.args.way 0 c.args.pointer place t g.0 c.requires.more g.1 told in
+    let d : ChildTaken c.args.self.now.config (view_in c.args.self.now.config image) c.args.self.now.top c.args.self.now.ways c.args.slots.now.free c.args.level c.args.way 0 c.args.pointer = child-taken c.args.self.now.config values image c.args.self.now.top c.args.self.now.ways c.args.slots.now.free c.args.level c.args.way 0 c.args.pointer place t g.0 c.requires.more g.1 told in
     let some = c.in-None.ensures.is d.some d.slot in
     absurd (cc)
 
 pub returns-then-not-holds-clause-leads : goal.returns-then-not-holds-clause-leads
 returns-then-not-holds-clause-leads c place values image t left g told =
-    let d : ChildTaken c.args.self.now.config (view_in c.args.self.now.config image) c.args.self.now.top c.args.self.now.ways c.args.slots.now.free c.args.level c.args.way c.in-Some.child c.args.pointer = child-taken c.well_formed_images_have_no_fault.ensures c.slots_come_once.ensures c.inner_rules_are_facts.ensures c.args.self.now.config values image c.args.self.now.top c.args.self.now.ways c.args.slots.now.free c.args.level c.args.way c.in-Some.child c.args.pointer place t g.0 c.requires.more g.1 told in
+    let d : ChildTaken c.args.self.now.config (view_in c.args.self.now.config image) c.args.self.now.top c.args.self.now.ways c.args.slots.now.free c.args.level c.args.way c.in-Some.child c.args.pointer = child-taken c.args.self.now.config values image c.args.self.now.top c.args.self.now.ways c.args.slots.now.free c.args.level c.args.way c.in-Some.child c.args.pointer place t g.0 c.requires.more g.1 told in
     let free : c.holds.new.slots.free ≡ without c.in-Some.child c.args.slots.now.free = ap (λ (s : FreeSlots). s.free) c.holds.ensures.slots in
     absurd (omega (arith, c.if-not-holds.ensures.no, left, ap length free, fewer c.args.slots.now.free c.in-Some.child (d.was_free c.in-Some.ensures.some.0)))
 
 pub returns-then-level-eq1-clause-leads : goal.returns-then-level-eq1-clause-leads
 returns-then-level-eq1-clause-leads c place values image t left g told =
-    let d : ChildTaken c.args.self.now.config (view_in c.args.self.now.config image) c.args.self.now.top c.args.self.now.ways c.args.slots.now.free c.args.level c.args.way c.in-Some.child c.args.pointer = child-taken c.well_formed_images_have_no_fault.ensures c.slots_come_once.ensures c.inner_rules_are_facts.ensures c.args.self.now.config values image c.args.self.now.top c.args.self.now.ways c.args.slots.now.free c.args.level c.args.way c.in-Some.child c.args.pointer place t g.0 c.requires.more g.1 told in
+    let d : ChildTaken c.args.self.now.config (view_in c.args.self.now.config image) c.args.self.now.top c.args.self.now.ways c.args.slots.now.free c.args.level c.args.way c.in-Some.child c.args.pointer = child-taken c.args.self.now.config values image c.args.self.now.top c.args.self.now.ways c.args.slots.now.free c.args.level c.args.way c.in-Some.child c.args.pointer place t g.0 c.requires.more g.1 told in
     let free : c.holds.new.slots.free ≡ without c.in-Some.child c.args.slots.now.free = ap (λ (s : FreeSlots). s.free) c.holds.ensures.slots in
     let same : c.holds.new.self ≡ record c.args.self.now { left = length c.holds.new.slots.free } = c.if-not-holds.ensures.left in
     let on : GoesOn (view_in c.args.self.now.config image) c.args.self.now.top c.args.self.now.ways c.holds.new.slots.free c.args.level (after c.args.way) = subst (λ f. GoesOn (view_in c.args.self.now.config image) c.args.self.now.top c.args.self.now.ways f c.args.level (after c.args.way)) (sym free) (d.leaf c.in-Some.ensures.some.0 c.if-level-eq1.true) in
@@ -32,7 +32,7 @@ returns-then-level-eq1-clause-leads c place values image t left g told =
 
 pub returns-clause-leads : goal.returns-clause-leads
 returns-clause-leads c place values image t left g told =
-    let d : ChildTaken c.args.self.now.config (view_in c.args.self.now.config image) c.args.self.now.top c.args.self.now.ways c.args.slots.now.free c.args.level c.args.way c.in-Some.child c.args.pointer = child-taken c.well_formed_images_have_no_fault.ensures c.slots_come_once.ensures c.inner_rules_are_facts.ensures c.args.self.now.config values image c.args.self.now.top c.args.self.now.ways c.args.slots.now.free c.args.level c.args.way c.in-Some.child c.args.pointer place t g.0 c.requires.more g.1 told in
+    let d : ChildTaken c.args.self.now.config (view_in c.args.self.now.config image) c.args.self.now.top c.args.self.now.ways c.args.slots.now.free c.args.level c.args.way c.in-Some.child c.args.pointer = child-taken c.args.self.now.config values image c.args.self.now.top c.args.self.now.ways c.args.slots.now.free c.args.level c.args.way c.in-Some.child c.args.pointer place t g.0 c.requires.more g.1 told in
     let free : c.holds.new.slots.free ≡ without c.in-Some.child c.args.slots.now.free = ap (λ (s : FreeSlots). s.free) c.holds.ensures.slots in
     let same : c.holds.new.self ≡ record c.args.self.now { left = length c.holds.new.slots.free } = c.if-not-holds.ensures.left in
     let high : 1 < c.args.level = omega (arith, c.requires.level.inner, c.if-level-eq1.false) in

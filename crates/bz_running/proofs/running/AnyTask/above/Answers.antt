@@ -1,7 +1,6 @@
 use Rattle.std.proofs.Common.{◌≡◌, arith, sym, ap, subst, ◌∙◌, Option, Some, None}
 use Rattle.std.specs.Prelude.{IfSome}
 use Rattle.bz_ascent.specs.Ascents.{IsOneUp}
-use Rattle.bz_ascent.specs.Laws.{AscentsRise}
 use Rattle.bz_ascent.specs.declared.ascent.Ascent.{Ascent}
 use Rattle.bz_task.specs.declared.path.Path.{Path}
 use Rattle.bz_running.specs.Duties.{config_of, ascent_of}
@@ -13,9 +12,9 @@ use Rattle.bz_running.proofs.Statements.{Ends}
 use Rattle.bz_running.proofs.running.AnyTask.above.Goals as goal
 
 -- where the split of the node above may begin, it goes on from this one
-up : AscentsRise → (t : AnyTask) (a next : Ascent) → Ends t → ascent_of t ≡ Some a → IsOneUp a next → (found : Option AnyTask) → IfSome found (IsSplitAt (config_of t) next) → IfSome found (GoesUp t)
-up law t a next ends is one None it = tt
-up law t a next ends is one (Some other) it = goes-up law t other a next ends is one it
+up : (t : AnyTask) (a next : Ascent) → Ends t → ascent_of t ≡ Some a → IsOneUp a next → (found : Option AnyTask) → IfSome found (IsSplitAt (config_of t) next) → IfSome found (GoesUp t)
+up t a next ends is one None it = tt
+up t a next ends is one (Some other) it = goes-up t other a next ends is one it
 
 pub one_up-requires-clause-few : goal.one_up-requires-clause-few
 one_up-requires-clause-few c =
@@ -33,7 +32,7 @@ split_at-requires-clause-within c =
     omega (arith, k.0.within, k.0.path.few, c.one_up.ensures.before)
 
 pub returns-clause-up : goal.returns-clause-up
-returns-clause-up c = up c.ascents_rise.ensures c.args.self.now c.in_ok-ascent.ascent c.one_up.result c.learnt.ensures.ends (sym c.ascent.ensures ∙ c.in_ok-ascent.was) c.one_up.ensures c.split_at.result (subst (λ z. IfSome c.split_at.result (IsSplitAt z c.one_up.result)) (sym c.requires.config) c.split_at.ensures.split)
+returns-clause-up c = up c.args.self.now c.in_ok-ascent.ascent c.one_up.result c.learnt.ensures.ends (sym c.ascent.ensures ∙ c.in_ok-ascent.was) c.one_up.ensures c.split_at.result (subst (λ z. IfSome c.split_at.result (IsSplitAt z c.one_up.result)) (sym c.requires.config) c.split_at.ensures.split)
 
 pub returns-clause-due : goal.returns-clause-due
 returns-clause-due c a next is one may =

@@ -1,5 +1,7 @@
 use Rattle.std.proofs.Common.{sym, subst}
 use Rattle.std.specs.Prelude.{IsSome}
+use Rattle.bz_consol.proofs.Proved.{consolidations_take_one_slot}
+use Rattle.bz_merge.proofs.Proved.{merges_take_two_slots}
 use Rattle.bz_running.proofs.Ends.{looks-take-nothing, renewals-take-one-swap, ends-so}
 use Rattle.bz_running.proofs.Going.{last-swap-publishes, goes-on-in-room}
 use Rattle.bz_running.proofs.Heights.{filled-up}
@@ -12,10 +14,10 @@ pub returns : goal.returns
 returns c = let e = c.ended-ended.ensures in let l = c.learnt.ensures in record {
   sound = l;
   acts = c.acted.ensures;
-  made_for = made-stays c.views_stay.ensures c.args.self.now;
+  made_for = made-stays c.args.self.now;
   merge_for = merge-stays c.args.self.now;
-  small_for = small-stays c.views_stay.ensures c.args.self.now;
-  few = takes-few c.consolidations_take_one_slot.ensures c.merges_take_two_slots.ensures c.args.self.now l.few;
+  small_for = small-stays c.args.self.now;
+  few = takes-few consolidations_take_one_slot merges_take_two_slots c.args.self.now l.few;
   most = wants-few c.args.self.now;
   last = publishes-last c.args.self.now;
   publishes_last = last-swap-publishes c.args.self.now;
@@ -25,6 +27,6 @@ returns c = let e = c.ended-ended.ensures in let l = c.learnt.ensures in record 
   going = goes-on-in-room c.args.self.now;
   finish = λ f. subst IsSome e.end (e.finish f);
   only = λ k. e.only (subst IsSome (sym e.end) k);
-  rises = rises-on c.ascents_rise.ensures c.args.self.now l.ends;
-  height = filled-up c.ascents_end.ensures c.args.self.now l.ends;
+  rises = rises-on c.args.self.now l.ends;
+  height = filled-up c.args.self.now l.ends;
 }

@@ -2,6 +2,7 @@ use Rattle.std.proofs.Common.{◌≡◌, ◌-◌, arith, refl, sym, ap, subst, �
 use Rattle.std.specs.Prelude.{slice_get}
 use Rattle.bz_ascent.specs.declared.ascent.Ascent.{Ascent}
 use Rattle.bz_task.specs.declared.path.Path.{Path}
+use Rattle.bz_ascent.proofs.Proved.{ascents_begin}
 use Rattle.bz_running.specs.Duties.{ascent_of, view_of}
 use Rattle.bz_running.specs.Kinds.{kind_of}
 use Rattle.bz_running.specs.MadeFor.{IsMadeFor}
@@ -24,7 +25,7 @@ unfolding view_of
 returns-clause-facts c s same good path view = (
   c.new-task.ensures.facts c.args.key s same good path view,
   (
-    c.ascents_begin.ensures c.from_leaf.result c.args.key c.args.path c.args.view s c.from_leaf.ensures good path view c.requires.frozen c.requires.leads,
+    ascents_begin c.from_leaf.result c.args.key c.args.path c.args.view s c.from_leaf.ensures good path view c.requires.frozen c.requires.leads,
     record {
       lacks = λ next s one means. (
           let p = c.new-task.ensures.no_room next.node c.from_leaf.result.node s (upper-link c.from_leaf.result next c.args.key c.args.path c.from_leaf.ensures one) (lower-link c.from_leaf.result next c.args.key c.args.path c.from_leaf.ensures one) means in

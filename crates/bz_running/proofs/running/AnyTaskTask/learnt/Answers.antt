@@ -45,15 +45,15 @@ returns-in-Splitting c = subst (λ t. IsSound (view_of t)) (sym c.in-Splitting.i
 
 pub returns-in-SplittingBelow : goal.returns-in-SplittingBelow
 unfolding view_of
-returns-in-SplittingBelow c = subst (λ t. IsSound (view_of t)) (sym c.in-SplittingBelow.is) (sound-on-ascent c.ascents_stay.ensures c.in-SplittingBelow.field-1 (below_view c.in-SplittingBelow.task) c.learnt-in-SplittingBelow.ensures)
+returns-in-SplittingBelow c = subst (λ t. IsSound (view_of t)) (sym c.in-SplittingBelow.is) (sound-on-ascent c.in-SplittingBelow.field-1 (below_view c.in-SplittingBelow.task) c.learnt-in-SplittingBelow.ensures)
 
 pub returns-in-SplittingInner : goal.returns-in-SplittingInner
 unfolding view_of
-returns-in-SplittingInner c = subst (λ t. IsSound (view_of t)) (sym c.in-SplittingInner.is) (sound-on-ascent c.ascents_stay.ensures c.in-SplittingInner.field-1 (fork_view c.in-SplittingInner.task) c.learnt-in-SplittingInner.ensures)
+returns-in-SplittingInner c = subst (λ t. IsSound (view_of t)) (sym c.in-SplittingInner.is) (sound-on-ascent c.in-SplittingInner.field-1 (fork_view c.in-SplittingInner.task) c.learnt-in-SplittingInner.ensures)
 
 pub returns-in-SplittingInnerRoot : goal.returns-in-SplittingInnerRoot
 unfolding view_of
-returns-in-SplittingInnerRoot c = subst (λ t. IsSound (view_of t)) (sym c.in-SplittingInnerRoot.is) (sound-on-ascent c.ascents_stay.ensures c.in-SplittingInnerRoot.field-1 (crown_view c.in-SplittingInnerRoot.task) c.learnt-in-SplittingInnerRoot.ensures)
+returns-in-SplittingInnerRoot c = subst (λ t. IsSound (view_of t)) (sym c.in-SplittingInnerRoot.is) (sound-on-ascent c.in-SplittingInnerRoot.field-1 (crown_view c.in-SplittingInnerRoot.task) c.learnt-in-SplittingInnerRoot.ensures)
 
 pub returns-in-Merging : goal.returns-in-Merging
 unfolding view_of

@@ -4,6 +4,7 @@ use Rattle.bz_mark.specs.declared.power.Power.TheVariants.{Recovering, On}
 use Rattle.bz_sound.specs.Memory.Sound as before
 use Rattle.bz_sound.specs.Power.Laws.{IsUnbroken}
 use Rattle.bz_sound.specs.Power.Sound.{IsSound}
+use Rattle.bz_sound.proofs.Proved.{sound_as_before}
 use Rattle.bz_world.specs.Numbers.{AreNumbersKept}
 use Rattle.bz_world.specs.Taken.{TellsAsShown}
 use Rattle.bz_world.specs.WorldView.{WorldView, power_in, recovery_acts, recovery_most, AreFinishing}
@@ -24,7 +25,7 @@ pub returns-clause-unbroken : goal.returns-clause-unbroken
 returns-clause-unbroken c =
     let k = c.self.invariant.kept in
     subst (λ (l : WorldView). l.at_start ≡ On → IsUnbroken l.log.past → before.IsSound l.config l.log) c.self.view_is
-    (λ on never. (c.sound_as_before.ensures c.self.inside.parts.config c.self.inside.parts.journal).1 (never, subst (λ (s : Power). IsSound c.self.inside.parts.config s c.self.inside.parts.journal) on k.sound))
+    (λ on never. (sound_as_before c.self.inside.parts.config c.self.inside.parts.journal).1 (never, subst (λ (s : Power). IsSound c.self.inside.parts.config s c.self.inside.parts.journal) on k.sound))
 
 pub returns-clause-finishing : goal.returns-clause-finishing
 returns-clause-finishing c = subst AreFinishing c.self.view_is (are-finishing c.self.inside.parts c.self.invariant.kept)

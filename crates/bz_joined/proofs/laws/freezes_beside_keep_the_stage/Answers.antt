@@ -1,5 +1,0 @@
-use Rattle.bz_joined.proofs.Proved as proved
-use Rattle.bz_joined.proofs.laws.freezes_beside_keep_the_stage.Goals as goal
-
-pub returns : goal.returns
-returns c = proved.freezes_beside_keep_the_stage

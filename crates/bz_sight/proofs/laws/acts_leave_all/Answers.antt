@@ -1,5 +1,0 @@
-use Rattle.bz_sight.proofs.Proved as proved
-use Rattle.bz_sight.proofs.laws.acts_leave_all.Goals as goal
-
-pub returns : goal.returns
-returns c = proved.acts_leave_all

@@ -1,5 +1,0 @@
-use Rattle.bz_sight.proofs.Proved as proved
-use Rattle.bz_sight.proofs.laws.evictions_are_seen.Goals as goal
-
-pub returns : goal.returns
-returns c = proved.evictions_are_seen

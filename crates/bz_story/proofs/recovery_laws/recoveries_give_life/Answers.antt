@@ -1,5 +1,0 @@
-use Rattle.bz_story.proofs.Proved as proved
-use Rattle.bz_story.proofs.recovery_laws.recoveries_give_life.Goals as goal
-
-pub returns : goal.returns
-returns c = proved.recoveries_give_life

@@ -1,5 +1,0 @@
-use Rattle.bz_task.proofs.Proved as proved
-use Rattle.bz_task.proofs.laws.targets_stay.Goals as goal
-
-pub returns : goal.returns
-returns c = proved.targets_stay
