@@ -6,4 +6,5 @@ mod images;
 mod power;
 mod runs;
 mod threads;
+mod traces;
 mod workloads;

@@ -1,11 +1,9 @@
 -- What was written of a call, a reply or a mark is read as it was.
-use Rattle.std.proofs.Common.{◌≡◌, ◌<◌, ◌≤◌, ◌+◌, ◌-◌, ◌*◌, ◌/◌, ◌^◌, ◌&&◌, nat_le, nat_lt, true, false, cond, Bool, ℕ, List, [], ◌∷◌, ◌++◌, map, length, Option, Some, None, option_map, option_and_then, refl, sym, ap, ◌∙◌, arith, append_assoc, append-nil, length-append}
+use Rattle.std.proofs.Common.{◌≡◌, ◌<◌, ◌≤◌, ◌+◌, ◌-◌, ◌*◌, ◌/◌, ◌^◌, nat_lt, true, ℕ, List, [], ◌∷◌, ◌++◌, map, length, Option, Some, None, option_map, option_and_then, refl, sym, ap, ◌∙◌, arith, append_assoc, append-nil, length-append}
 use Rattle.std.proofs.lemmas.Bool.Decides.{nat_tests}
 use Rattle.std.specs.Prelude.{IfSome}
 use Rattle.std.specs.List.{AllByRecursion}
-use Rattle.serde_json.specs.Data.{Data}
 use Rattle.serde_json.specs.Find.{at}
-use Rattle.serde_json.specs.View.{items_of}
 use Rattle.bz_key.specs.Bytes.{IsKey, IsPayload}
 use Rattle.bz_key.specs.Spelling.{spelled, key_of_word, payload_of_word}
 use Rattle.bz_key.specs.declared.limits.TheConstants.{PAGE_PAIRS}
@@ -17,7 +15,7 @@ use Rattle.bz_call.specs.declared.replies.Reply.TheVariants as reply
 use Rattle.bz_call.specs.declared.replies.Spent.TheVariants as spent
 use Rattle.bz_mark.specs.declared.marks.Mark.{Mark}
 use Rattle.bz_mark.specs.declared.marks.Mark.TheVariants.{Begin, End, Load, Store, Cas, Flush, Ask, Fence, Evict, Cut, On, Ready, Effect}
-use Rattle.bz_lines.specs.Objects.{number_data, call_data, pair_data, next_data, reply_data, data_of, list_of}
+use Rattle.bz_lines.specs.Objects.{number_data, call_data, pair_data, next_data, reply_data, data_of}
 use Rattle.bz_lines.specs.Ranges.{IsName, IsCallInRange, IsReplyInRange, IsInRange, IsPair, ArePairs, HasNumber, IsNumbered}
 use Rattle.bz_lines.specs.Reading.{within, both, number_in, call_in, next_in, reply_in, pair_in, pairs_in, mark_in}
 

@@ -1,8 +1,7 @@
 -- No line has a number with a fraction.
-use Rattle.std.proofs.Common.{◌≡◌, ℕ, List, [], ◌∷◌, ◌++◌, map, false, true, Bool, refl, Option, Some, None, get_or}
+use Rattle.std.proofs.Common.{◌≡◌, ℕ, List, [], ◌∷◌, map, false, refl, Option, Some, None, get_or}
 use Rattle.std.proofs.lemmas.Bool.{cases_Bool}
 use Rattle.std.proofs.Common.{inl, inr, ◌==◌, ◌+◌}
-use Rattle.serde_json.specs.Data.{Data}
 use Rattle.serde_json.specs.View.{items_of}
 use Rattle.serde_json.specs.Written.{has_float, items_have_float}
 use Rattle.bz_call.specs.declared.calls.Call.{Call}
@@ -14,7 +13,7 @@ use Rattle.bz_call.specs.declared.replies.Spent.TheVariants as spent
 use Rattle.bz_layout.specs.declared.config.Config.{Config}
 use Rattle.bz_mark.specs.declared.marks.Mark.{Mark}
 use Rattle.bz_mark.specs.declared.marks.Mark.TheVariants.{Begin, End, Load, Store, Cas, Flush, Ask, Fence, Evict, Cut, On, Ready, Effect}
-use Rattle.bz_lines.specs.Objects.{call_data, spent_data, pair_data, next_data, reply_data, data_of, pair_at, word_pairs, head_data}
+use Rattle.bz_lines.specs.Objects.{call_data, spent_data, pair_data, next_data, reply_data, data_of, word_pairs, head_data}
 
 call_whole : (call : Call) → has_float (call_data call) ≡ false
 call_whole (call.Insert key payload) = refl

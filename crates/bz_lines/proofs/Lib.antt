@@ -1,6 +1,9 @@
-mod Again
-mod Plain
-mod HeadLemmas
+pub mod Again
+pub mod Good
+pub mod GoodLines
+pub mod HeadAgain
+pub mod ListLemmas
+pub mod PageRange
 mod FloatLemmas
-mod LineLemmas
-mod WriteLemmas
+mod HeadLemmas
+mod Plain

@@ -1,10 +1,12 @@
--- What the object of the first line says, for reading.
-use Rattle.std.specs.Prelude.{ℕ, ◌-◌, ◌^◌, nat_le, if◌then◌else◌, List, [], ◌∷◌, length, slice_set, codes, Option, Some, None, option_map, option_and_then}
-use Rattle.serde_json.specs.Data.{Data, null, boolean, number, string, array, object, Items, no_items, item}
+-- What the object of the first line says, for reading, and which start images have one.
+use Rattle.std.specs.Prelude.{◌≡◌, ◌<◌, ℕ, ◌-◌, ◌^◌, List, [], ◌∷◌, length, slice_index, slice_set, replicate, codes, Option, Some, option_and_then}
+use Rattle.serde_json.specs.Data.{Data, Items}
 use Rattle.serde_json.specs.Find.{get, at, as_array}
+use Rattle.bz_layout.specs.Addresses.{words_of}
+use Rattle.bz_layout.specs.Config.{IsConfig}
 use Rattle.bz_layout.specs.declared.config.Config.{Config}
 use Rattle.bz_layout.specs.declared.limits.TheConstants.{MAX_NODES, MAX_SWAPS, MAX_WORKERS, MAX_MARKS, MAX_CALLS, MAX_PAGES}
-use Rattle.bz_lines.specs.Reading.{both, within, number_in, number_at}
+use Rattle.bz_lines.specs.Reading.{both, within, number_in, number_at, listed}
 
 -- the configuration of a journal that was read: its sizes, and the greatest limits
 abbrev pub told_config : ℕ → ℕ → Config
@@ -25,3 +27,17 @@ placed d words = both (λ (a word : ℕ). slice_set words a word) (item_number 0
 abbrev pub filled : List Data → List ℕ → Option (List ℕ)
 filled [] words = Some words
 filled (d ∷ ds) words = option_and_then (filled ds) (placed d words)
+
+-- the words of the start image, of which there are so many
+abbrev pub start_items : Data → Option Items
+start_items d = option_and_then as_array (get (codes "start") d)
+
+abbrev pub start_in : ℕ → Data → Option (List ℕ)
+start_in words d = option_and_then (λ ds. filled (listed ds) (replicate words 0)) (start_items d)
+
+-- the start image of a first line
+pub record IsStart (c : Config) (start : List ℕ) : Type 0 where
+  pub config : IsConfig c
+  pub told : c ≡ told_config c.nodes c.swaps
+  pub size : length start ≡ words_of c
+  pub words : (a : ℕ) → slice_index start a < 2 ^ 64

@@ -1,6 +1,5 @@
 pub mod Objects
 pub mod Lines
-pub mod Writes
 pub mod Ranges
 pub mod Reading
 pub mod Heads

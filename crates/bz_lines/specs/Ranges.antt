@@ -1,5 +1,5 @@
 -- The ranges of what stands in the lines.
-use Rattle.std.specs.Prelude.{◌<◌, ◌≤◌, ◌*◌, ◌^◌, ◌≡◌, ℕ, Bool, false, List, length, Option, IfSome}
+use Rattle.std.specs.Prelude.{◌<◌, ◌≤◌, ◌*◌, ◌^◌, ◌≡◌, ℕ, Bool, false, List, length, IfSome}
 use Rattle.std.specs.List.{AllByRecursion}
 use Rattle.bz_key.specs.Bytes.{IsKey, IsPayload}
 use Rattle.bz_key.specs.declared.limits.TheConstants.{PAGE_PAIRS}
@@ -10,7 +10,7 @@ use Rattle.bz_call.specs.declared.replies.Reply.{Reply}
 use Rattle.bz_call.specs.declared.replies.Reply.TheVariants as reply
 use Rattle.bz_layout.specs.declared.limits.TheConstants.{MAX_WORKERS}
 use Rattle.bz_mark.specs.declared.marks.Mark.{Mark}
-use Rattle.bz_mark.specs.declared.marks.Mark.TheVariants.{Begin, End, Load, Store, Cas, Flush, Ask, Fence, Evict, Cut, On, Ready, Effect}
+use Rattle.bz_mark.specs.declared.marks.Mark.TheVariants.{Begin, End, Load, Store, Cas, Flush, Ask, Fence, Evict, Effect}
 
 -- a call's name: its worker and its number
 pub record IsName (w n : ℕ) : Type 0 where

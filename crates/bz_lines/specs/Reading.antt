@@ -1,8 +1,8 @@
 -- What the object of a line says, for reading. Members that are not asked for are passed over: whether a line has just its
 -- own members is seen when the mark is written again.
-use Rattle.std.specs.Prelude.{ℕ, ◌-◌, ◌/◌, ◌^◌, ◌&&◌, nat_le, nat_lt, bytes_eq, Bool, true, false, if◌then◌else◌, List, [], ◌∷◌, ◌++◌, length, codes, Option, Some, None, option_map, option_and_then}
-use Rattle.serde_json.specs.Data.{Data, null, boolean, number, string, array, object}
-use Rattle.serde_json.specs.Find.{get, at, as_number, as_str, as_u64}
+use Rattle.std.specs.Prelude.{ℕ, ◌-◌, ◌/◌, ◌^◌, ◌&&◌, nat_le, nat_lt, bytes_eq, Bool, false, if◌then◌else◌, List, [], ◌∷◌, ◌++◌, length, codes, Option, Some, None, option_map, option_and_then}
+use Rattle.serde_json.specs.Data.{Data, null, boolean, number, string, array, object, Items, no_items, item}
+use Rattle.serde_json.specs.Find.{get, at, as_array, as_number, as_str, as_u64}
 use Rattle.bz_key.specs.Spelling.{key_of_word, payload_of_word}
 use Rattle.bz_key.specs.declared.limits.TheConstants.{PAGE_PAIRS}
 use Rattle.bz_call.specs.declared.calls.Call.{Call}
@@ -96,10 +96,14 @@ reply_in page d =
 abbrev pub pair_in : Data → Option (List ℕ × List ℕ)
 pair_in d = both (λ key payload. (key, payload)) (key_at 0 d) (payload_at 1 d)
 
--- the pairs of a list behind those that were read, as many as a page may have
+-- the pairs that were read with that of an item, if there is room on a page
+abbrev pub added : Data → List (List ℕ × List ℕ) → Option (List (List ℕ × List ℕ))
+added d read = if nat_lt (length read) PAGE_PAIRS then option_map (λ pair. read ++ pair ∷ []) (pair_in d) else None
+
+-- and with those of all items
 abbrev pub pairs_in : List Data → List (List ℕ × List ℕ) → Option (List (List ℕ × List ℕ))
 pairs_in [] read = Some read
-pairs_in (d ∷ ds) read = if nat_lt (length read) PAGE_PAIRS then option_and_then (λ pair. pairs_in ds (read ++ pair ∷ [])) (pair_in d) else None
+pairs_in (d ∷ ds) read = option_and_then (pairs_in ds) (added d read)
 
 abbrev pub worker_in : Data → Option ℕ
 worker_in d = number_at (codes "w") 0 MAX_WORKERS d
@@ -172,3 +176,15 @@ kind_in kind last before page d =
 
 abbrev pub mark_in : ℕ → ℕ → ℕ → Data → Option Mark
 mark_in last before page d = kind_in (kind_text d) last before page d
+
+-- the items of an array as a list
+abbrev pub listed : Items → List Data
+listed no_items = []
+listed (item d ds) = d ∷ listed ds
+
+-- the pairs of the page that the object of an End tells, as they stand there, and read
+abbrev pub page_items : Data → Option Items
+page_items d = option_and_then as_array (option_and_then (at 1) (get (codes "reply") d))
+
+abbrev pub page_in : Data → Option (List (List ℕ × List ℕ))
+page_in d = option_and_then (λ ds. pairs_in (listed ds) []) (page_items d)

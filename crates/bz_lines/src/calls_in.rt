@@ -5,7 +5,7 @@ ghost use Rattle.std.specs.Prelude.{◌≡◌, IfSome, option_map};
 ghost use Rattle.serde_json.specs.Find.{at};
 ghost use Rattle.serde_json.specs.View.{view};
 ghost use Rattle.bz_key.specs.Bytes.{IsKey};
-ghost use Rattle.bz_lines.specs.Ranges.{IsCallInRange, IsReplyInRange};
+ghost use Rattle.bz_lines.specs.Ranges.{IsCallInRange, IsReplyInRange, HasNumber};
 ghost use Rattle.bz_lines.specs.Reading.{call_in as call_of, spent_in as spent_of, next_in as next_of, reply_in as reply_of};
 
 use crate::numbers_in::{is_text, key_at, payload_at, text_at};
@@ -87,6 +87,7 @@ fn next_in(next: Option<&Value>) -> Option<Option<Key>>
 pub(crate) fn reply_in(words: &Value, page: u32) -> Option<Reply>
     ensures reply { result ≡ reply_of page (view words.now) }
     ensures range { IfSome result IsReplyInRange }
+    ensures numbered { IfSome result (HasNumber page) }
 {
     let kind = text_at(words, 0);
     if is_text(kind, "inserted") {

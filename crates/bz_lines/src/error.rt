@@ -1,11 +1,11 @@
 //! What can go wrong.
 
-/// Why the lines are not all written.
-#[derive(Clone, Copy, Debug, PartialEq, Eq)]
-pub enum JsonError {
-    /// The sink has failed; it has taken a part of the lines.
-    Write,
+/// Why a line was not read.
+#[derive(Clone, Copy)]
+pub enum LineFault {
+    /// It is no line that may stand there.
+    Broken,
 
-    /// There was no memory for a line; the sink has taken the lines before it.
+    /// Want of memory.
     Memory,
 }

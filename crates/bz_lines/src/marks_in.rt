@@ -2,7 +2,7 @@
 ghost use Rattle.std.specs.Borrow.{Bor};
 ghost use Rattle.std.specs.Prelude.{◌≡◌, ◌+◌, ◌*◌, ◌<◌, ◌≤◌, ℕ, List, IfSome, option_map};
 ghost use Rattle.serde_json.specs.View.{view};
-ghost use Rattle.bz_lines.specs.Ranges.{IsInRange};
+ghost use Rattle.bz_lines.specs.Ranges.{IsInRange, IsNumbered};
 ghost use Rattle.bz_lines.specs.Reading.{begin_in as begin_of, end_in as end_of, load_in as load_of, store_in as store_of, cas_in as cas_of, line_in as place_of, kind_text, act_in as act_of, event_in as event_of, mark_in as mark_of};
 
 use crate::calls_in::{call_in, reply_in};
@@ -14,6 +14,7 @@ use serde_json::Value;
 fn begin_in(value: &Value) -> Option<Mark>
     ensures mark { result ≡ begin_of (view value.now) }
     ensures range { (words before : ℕ) → IfSome result (IsInRange words before) }
+    ensures numbered { (number : ℕ) → IfSome result (IsNumbered number) }
 {
     let (w, n) = name_in(value)?;
     let words = value.get("call")?;
@@ -24,6 +25,7 @@ fn begin_in(value: &Value) -> Option<Mark>
 fn end_in(value: &Value, before: u32, page: u32) -> Option<Mark>
     ensures mark { result ≡ end_of before page (view value.now) }
     ensures range { (words : ℕ) → IfSome result (IsInRange words before) }
+    ensures numbered { IfSome result (IsNumbered page) }
 {
     let (w, n) = name_in(value)?;
     let words = value.get("reply")?;
@@ -40,6 +42,7 @@ fn end_in(value: &Value, before: u32, page: u32) -> Option<Mark>
 fn load_in(value: &Value, last: u32) -> Option<Mark>
     ensures mark { result ≡ load_of last (view value.now) }
     ensures range { (before : ℕ) → IfSome result (IsInRange (last + 1) before) }
+    ensures numbered { (number : ℕ) → IfSome result (IsNumbered number) }
 {
     let w = worker_in(value)?;
     let a = number_in(value, "a", 0, u64::from(last))?;
@@ -50,6 +53,7 @@ fn load_in(value: &Value, last: u32) -> Option<Mark>
 fn store_in(value: &Value, last: u32) -> Option<Mark>
     ensures mark { result ≡ store_of last (view value.now) }
     ensures range { (before : ℕ) → IfSome result (IsInRange (last + 1) before) }
+    ensures numbered { (number : ℕ) → IfSome result (IsNumbered number) }
 {
     let w = worker_in(value)?;
     let a = number_in(value, "a", 0, u64::from(last))?;
@@ -60,6 +64,7 @@ fn store_in(value: &Value, last: u32) -> Option<Mark>
 fn cas_in(value: &Value, last: u32) -> Option<Mark>
     ensures mark { result ≡ cas_of last (view value.now) }
     ensures range { (before : ℕ) → IfSome result (IsInRange (last + 1) before) }
+    ensures numbered { (number : ℕ) → IfSome result (IsNumbered number) }
 {
     let old = word_in(value, "old")?;
     let new = word_in(value, "new")?;
@@ -96,6 +101,7 @@ fn text_of_kind(value: &Value) -> Option<&str>
 fn act_in(kind: Option<&str>, value: &Value, last: u32) -> Option<Mark>
     ensures mark { result ≡ act_of (option_map (λ (s : Bor (List ℕ)). s.now) kind.entry) last (view value.now) }
     ensures range { (before : ℕ) → IfSome result (IsInRange (last + 1) before) }
+    ensures numbered { (number : ℕ) → IfSome result (IsNumbered number) }
 {
     if is_text(kind, "load") {
         return load_in(value, last);
@@ -126,6 +132,7 @@ fn act_in(kind: Option<&str>, value: &Value, last: u32) -> Option<Mark>
 fn event_in(kind: Option<&str>, value: &Value, last: u32) -> Option<Mark>
     ensures mark { result ≡ event_of (option_map (λ (s : Bor (List ℕ)). s.now) kind.entry) last (view value.now) }
     ensures range { (before : ℕ) → IfSome result (IsInRange (last + 1) before) }
+    ensures numbered { (number : ℕ) → IfSome result (IsNumbered number) }
 {
     if is_text(kind, "evict") {
         let a = number_in(value, "a", 0, u64::from(last))?;
@@ -148,9 +155,10 @@ fn event_in(kind: Option<&str>, value: &Value, last: u32) -> Option<Mark>
 }
 
 /// The mark that an object tells, of a memory with this last address, behind so many marks; a page gets this number.
-pub(crate) fn mark_in(value: &Value, last: u32, before: u32, page: u32) -> Option<Mark>
+pub fn mark_in(value: &Value, last: u32, before: u32, page: u32) -> Option<Mark>
     ensures mark { result ≡ mark_of last before page (view value.now) }
     ensures range { IfSome result (IsInRange (last + 1) before) }
+    ensures numbered { IfSome result (IsNumbered page) }
 {
     let kind = text_of_kind(value);
     if is_text(kind, "begin") {

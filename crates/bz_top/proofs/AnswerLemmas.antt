@@ -10,7 +10,7 @@ use Rattle.bz_script.specs.Script.{Job, job_of, script_of}
 use Rattle.bz_script.specs.declared.read.TheConstants.{SCRIPT_BYTES}
 use Rattle.bz_words.specs.CommandLine.{IsCommandLine}
 use Rattle.bz_words.specs.declared.command.Command.{Command}
-use Rattle.bz_words.specs.declared.command.Command.TheVariants.{Run, Dump, Load, Work}
+use Rattle.bz_words.specs.declared.command.Command.TheVariants.{Run, Dump, Load, Trace, Work}
 use Rattle.bz_words.specs.declared.command.CommandLine.{CommandLine}
 use Rattle.bz_sched.specs.FromWorld.WorldView.{WorldView}
 use Rattle.bz_top.specs.Answers.{NeedsRun, IsAnswered, AnswersScript, AnswersBytes, AnswersSource}
@@ -69,6 +69,7 @@ asked_by : (o : Outside) (line : CommandLine) (command : Command) (base : Base) 
 asked_by o line Run base script is_base (none, reads) threads = script_is line base script o is_base (subst (λ (b : Base). ReadsScript o b script) (sym none) reads)
 asked_by o line Dump base script is_base (none, reads) threads = script_is line base script o is_base (subst (λ (b : Base). ReadsScript o b script) (sym none) reads)
 asked_by o line Load base script is_base (image, is, reads) threads = script_is line base script o is_base (subst (λ (b : Base). ReadsScript o b script) (sym is) reads)
+asked_by o line Trace base script is_base (none, reads) threads = script_is line base script o is_base (subst (λ (b : Base). ReadsScript o b script) (sym none) reads)
 asked_by o line (Work seed calls workers) base script is_base (none, left, is) threads = absurd (threads_drawn seed calls workers (ap (λ (job : Job). has_threads job.items) (sym is) ∙ threads))
 
 pub asked_job : (o : Outside) (waiting : Waiting) → NeedsRun o waiting → IsJob (job_of waiting.script)
@@ -89,12 +90,14 @@ module _ (o : Outside) (mid : Option (List ℕ)) (faults : ℕ) where
   has_still Run base script (none, reads) = (none, reads_still None script reads)
   has_still Dump base script (none, reads) = (none, reads_still None script reads)
   has_still Load base script (image, is, reads) = (image, is, reads_still (Some image) script reads)
+  has_still Trace base script (none, reads) = (none, reads_still None script reads)
   has_still (Work seed calls workers) base script has = has
 
   asked_source : (line : CommandLine) (command : Command) (base : Base) (script : Job) → IsCommandLine o.words line → line.command ≡ command → HasScript o command base script → IsReading o.words ⊎ (o.left_after ≡ o.left)
   asked_source line Run base script is e has = inl (line, is, subst Reads (sym e) tt)
   asked_source line Dump base script is e has = inl (line, is, subst Reads (sym e) tt)
   asked_source line Load base script is e has = inl (line, is, subst Reads (sym e) tt)
+  asked_source line Trace base script is e has = inl (line, is, subst Reads (sym e) tt)
   asked_source line (Work seed calls workers) base script is e (none, left, same) = inr left
 
   -- a script that was handed back, and then run

@@ -7,7 +7,7 @@ use Rattle.bz_io.proofs.Consumed.{consumes_twice}
 use Rattle.bz_script.specs.Script.{Job}
 use Rattle.bz_words.specs.CommandLine.{IsCommandLine}
 use Rattle.bz_words.specs.declared.command.Command.{Command}
-use Rattle.bz_words.specs.declared.command.Command.TheVariants.{Run, Dump, Load, Work}
+use Rattle.bz_words.specs.declared.command.Command.TheVariants.{Run, Dump, Load, Trace, Work}
 use Rattle.bz_words.specs.declared.command.CommandLine.{CommandLine}
 use Rattle.bz_sched.specs.FromWorld.WorldView.{WorldView}
 use Rattle.bz_gen.specs.Workload.{workload_of}
@@ -26,7 +26,7 @@ ended_read o status lab words rose none said = is_read o status lab _ (record { 
 
 -- memory was wanting before there was a world
 pub ended_early : (o : Outside) (status : ℕ) (lab : Option WorldView) → IsReading o.words ⊎ (o.left_after ≡ o.left) → lab ≡ None → Said o 7 (fault_line (codes "memory")) status → IsEnded o status lab
-ended_early o status lab asked none said = is_want o status lab _ (record { cause = inl (record { no_lab = none; asked = asked }); writes = refl }) said
+ended_early o status lab asked none said = is_want o status lab _ (inl (record { no_lab = none; asked = asked; writes = refl })) said
 
 -- the script of a command
 module _ (o : Outside) (status : ℕ) (lab : Option WorldView) (line : CommandLine) (base : Base) (script : Job) (asks : Asks o line base script) where
@@ -40,8 +40,8 @@ module _ (o : Outside) (status : ℕ) (lab : Option WorldView) (line : CommandLi
       (record { line = line; base = base; script = script; asks = asks; world = stopped.world; is_lab = stopped.is_lab; which = stopped.which; cut_short = stopped.cut_short; writes = refl })
       stopped.said
   ended-world (inr (inr gives_up)) =
-      is_want o status lab (fault_line (codes "memory"))
-      (record { cause = inr (record { line = line; base = base; script = script; asks = asks; world = gives_up.world; is_lab = gives_up.is_lab; led = gives_up.led }); writes = refl })
+      is_want o status lab (gives_up.before ++ fault_line (codes "memory"))
+      (inr (record { line = line; base = base; script = script; asks = asks; world = gives_up.world; is_lab = gives_up.is_lab; led = gives_up.led; before = gives_up.before; left = gives_up.left; writes = refl }))
       gives_up.said
 
   pub ended-script : IsReading o.words ⊎ (o.left_after ≡ o.left) → RanScript line.command line.marks base script (sunk o.held o.held_after o.write_faults o.write_faults_after) status lab → IsEnded o status lab
@@ -53,12 +53,14 @@ pub has_script : (o : Outside) (command : Command) (base : Base) (script : Job) 
 has_script o Run base script is reads = (is, subst (λ (b : Base). ReadsScript o b script) is reads)
 has_script o Dump base script is reads = (is, subst (λ (b : Base). ReadsScript o b script) is reads)
 has_script o Load base script (image, is) reads = (image, is, subst (λ (b : Base). ReadsScript o b script) is reads)
+has_script o Trace base script is reads = (is, subst (λ (b : Base). ReadsScript o b script) is reads)
 has_script o (Work seed calls workers) base script is reads = absurd is
 
 reads_source : (command : Command) (base : Base) → ReadsOver command base → Reads command
 reads_source Run base is = tt
 reads_source Dump base is = tt
 reads_source Load base is = tt
+reads_source Trace base is = tt
 reads_source (Work seed calls workers) base is = absurd is
 
 -- the source has given what stands before the script, and this becomes of the rest
@@ -107,7 +109,7 @@ module _ (o : Outside) (status : ℕ) (lab : Option WorldView) (line : CommandLi
       out.ran
   ended-source (inr (inr (inr w))) = wants w
 
--- nothing stands before the script of `run` and `dump`
+-- nothing stands before the script of `run`, `dump` and `trace`
 pub none_before : (left : Option (List ℕ)) → Consumes left left (front_over None)
 none_before None = tt
 none_before (Some bytes) = refl

@@ -11,4 +11,5 @@ mod RunLemmas
 pub mod FreshLemmas
 pub mod ReportLemmas
 pub mod ThreadLemmas
+mod TraceLemmas
 pub mod AnswerLemmas

@@ -8,7 +8,7 @@ use Rattle.bz_layout.specs.declared.config.Config.{Config}
 use Rattle.bz_mark.specs.declared.power.Power.{Power as State}
 use Rattle.bz_mark.specs.declared.power.Power.TheVariants as power
 use Rattle.bz_words.specs.declared.command.Command.{Command}
-use Rattle.bz_words.specs.declared.command.Command.TheVariants.{Run, Dump, Load, Work}
+use Rattle.bz_words.specs.declared.command.Command.TheVariants.{Run, Dump, Load, Trace, Work}
 use Rattle.bz_top.specs.Commands.{config_of}
 
 -- the image that a script runs over; where there is none, its memory is fresh
@@ -50,6 +50,7 @@ abbrev pub Reads : Command → Type 0
 Reads Run = Unit {0}
 Reads Dump = Unit {0}
 Reads Load = Unit {0}
+Reads Trace = Unit {0}
 Reads (Work seed calls workers) = ⊥
 
 -- it reads a script, and before it what this base has there
@@ -57,4 +58,5 @@ abbrev pub ReadsOver : Command → Base → Type 0
 ReadsOver Run base = base ≡ None
 ReadsOver Dump base = base ≡ None
 ReadsOver Load base = (image : Image) × (base ≡ Some image)
+ReadsOver Trace base = base ≡ None
 ReadsOver (Work seed calls workers) base = ⊥

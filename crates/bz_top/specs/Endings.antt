@@ -1,5 +1,5 @@
 -- How a run of the program ends: the cause of each status, and what is then written.
-use Rattle.std.specs.Prelude.{◌≡◌, ◌≤◌, ◌+◌, ◌⊎◌, ℕ, List, [], ◌∷◌, ◌++◌, length, slice_index, Option, Some, None, Ok, Err, codes}
+use Rattle.std.specs.Prelude.{◌≡◌, ◌≤◌, ◌+◌, ◌⊎◌, ℕ, List, [], ◌∷◌, ◌++◌, length, take, slice_index, Option, Some, None, Ok, Err, codes}
 use Rattle.std.specs.Io.KnownBytes.{Consumes, Appends}
 use Rattle.bz_content.specs.Content.{image_fault}
 use Rattle.bz_image.specs.Fetches.{GaveFault}
@@ -10,6 +10,7 @@ use Rattle.bz_image.specs.declared.image.Image.{Image}
 use Rattle.bz_io.specs.Faults.{Rose}
 use Rattle.bz_io.specs.Transfers.{IsReadWhole, GrewByFront}
 use Rattle.bz_layout.specs.Addresses.{words_of}
+use Rattle.bz_lines.specs.Lines.{lines_of, text_of}
 use Rattle.bz_sound.specs.Power.Sound.{IsSound}
 use Rattle.bz_mark.specs.declared.power.Power.{Power as State}
 use Rattle.bz_mark.specs.declared.power.Power.TheVariants as power
@@ -31,7 +32,7 @@ use Rattle.bz_text.specs.Report.{report_of}
 use Rattle.bz_text.specs.Summary.{summary_of}
 use Rattle.bz_words.specs.CommandLine.{IsCommandLine}
 use Rattle.bz_words.specs.declared.command.Command.{Command}
-use Rattle.bz_words.specs.declared.command.Command.TheVariants.{Run, Dump, Load, Work}
+use Rattle.bz_words.specs.declared.command.Command.TheVariants.{Run, Dump, Load, Trace, Work}
 use Rattle.bz_words.specs.declared.command.CommandLine.{CommandLine}
 use Rattle.bz_top.specs.Commands.{config_of}
 use Rattle.bz_top.specs.Bases.{Base, power_over, words_over, front_over, numbers_over, IsBase, Reads, ReadsOver}
@@ -86,12 +87,13 @@ pub record ReadsScript (o : Outside) (base : Base) (script : Job) : Type 0 where
   pub input : IsInput o base bytes
   pub is_script : script_of (numbers_over base) bytes ≡ Ok script
 
--- the script that a command runs, and over what: `run` and `dump` read it; `load` reads an image and then the script; and `work`
+-- the script that a command runs, and over what: `run`, `dump` and `trace` read it; `load` reads an image and then the script; and `work`
 -- makes that of its seed, and reads nothing
 abbrev pub HasScript : Outside → Command → Base → Job → Type 0
 HasScript o Run base script = (base ≡ None) × ReadsScript o None script
 HasScript o Dump base script = (base ≡ None) × ReadsScript o None script
 HasScript o Load base script = (image : Image) × (base ≡ Some image) × ReadsScript o (Some image) script
+HasScript o Trace base script = (base ≡ None) × ReadsScript o None script
 HasScript o (Work seed calls workers) base script = (base ≡ None) × (o.left_after ≡ o.left) × (script ≡ workload_of seed calls workers)
 
 -- the words are this command, and this is its script
@@ -150,11 +152,12 @@ abbrev pub IsLedTo : ℕ → Base → Job → WorldView → Type 0
 IsLedTo marks base script world = IsFinished marks base script world ⊎ (((which : LimitKind) × IsCutShort marks base script world which) ⊎ IsHeldUp marks base script world)
 
 -- what a command writes of a world in which its script was run to its end: its report, the file of the durable words that it has
--- left, or its summary
+-- left, the lines of its journal, or its summary
 abbrev pub printed : Command → WorldView → List ℕ
 printed Run world = report_of world.config world.log
 printed Dump world = file_of_world world
 printed Load world = report_of world.config world.log
+printed Trace world = text_of (lines_of world.config world.log)
 printed (Work seed calls workers) world = summary_of world.config calls workers world.log
 
 -- what it writes of one that met a limit, before the fault line
@@ -162,7 +165,14 @@ abbrev pub printed_before : Command → WorldView → List ℕ
 printed_before Run world = report_of world.config world.log
 printed_before Dump world = []
 printed_before Load world = report_of world.config world.log
+printed_before Trace world = []
 printed_before (Work seed calls workers) world = []
+
+-- what stands before the fault line where memory was wanting for what a command writes: of a journal's lines the first ones, whole;
+-- else nothing
+abbrev pub IsLeft : Command → WorldView → List ℕ → Type 0
+IsLeft Trace world text = (count : ℕ) × (text ≡ text_of (take count (lines_of world.config world.log)))
+IsLeft command world text = text ≡ []
 
 -- done: what the command writes of the world is written
 pub record IsDone (o : Outside) (lab : Option WorldView) (text : List ℕ) : Type 0 where
@@ -243,12 +253,13 @@ pub record IsTooLong (o : Outside) (lab : Option WorldView) (text : List ℕ) : 
   pub writes : text ≡ fault_line (codes "script too long")
 
 -- memory was wanting before there was a world; only a command that reads has then asked the source
-pub record WantsEarly (o : Outside) (lab : Option WorldView) : Type 0 where
+pub record WantsEarly (o : Outside) (lab : Option WorldView) (text : List ℕ) : Type 0 where
   pub no_lab : lab ≡ None
   pub asked : IsReading o.words ⊎ (o.left_after ≡ o.left)
+  pub writes : text ≡ fault_line (codes "memory")
 
 -- memory was wanting for threads, or for what is written of a world, and the world is told
-pub record WantsLater (o : Outside) (lab : Option WorldView) : Type 0 where
+pub record WantsLater (o : Outside) (lab : Option WorldView) (text : List ℕ) : Type 0 where
   pub line : CommandLine
   pub base : Base
   pub script : Job
@@ -256,11 +267,13 @@ pub record WantsLater (o : Outside) (lab : Option WorldView) : Type 0 where
   pub world : WorldView
   pub is_lab : lab ≡ Some world
   pub led : IsLedTo line.marks base script world
+  pub before : List ℕ
+  pub left : IsLeft line.command world before
+  pub writes : text ≡ before ++ fault_line (codes "memory")
 
 -- want of memory comes anywhere where memory is taken
-pub record IsWant (o : Outside) (lab : Option WorldView) (text : List ℕ) : Type 0 where
-  pub cause : WantsEarly o lab ⊎ WantsLater o lab
-  pub writes : text ≡ fault_line (codes "memory")
+abbrev pub IsWant : Outside → Option WorldView → List ℕ → Type 0
+IsWant o lab text = WantsEarly o lab text ⊎ WantsLater o lab text
 
 -- a text of this kind was written whole
 abbrev pub WritesWhole : (List ℕ → Type 0) → Outside → Type 0

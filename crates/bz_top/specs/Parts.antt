@@ -8,7 +8,7 @@ use Rattle.bz_sched.specs.FromWorld.LimitKind.{LimitKind}
 use Rattle.bz_words.specs.declared.command.Command.{Command}
 use Rattle.bz_top.specs.Bases.{Base, numbers_over}
 use Rattle.bz_top.specs.Faults.{fault_line, broken_text, limit_text}
-use Rattle.bz_top.specs.Endings.{IsFinished, IsCutShort, IsLedTo, printed, printed_before}
+use Rattle.bz_top.specs.Endings.{IsFinished, IsCutShort, IsLedTo, IsLeft, printed, printed_before}
 use Rattle.std.specs.Io.KnownBytes.{Appends}
 use Rattle.bz_io.specs.Faults.{Rose}
 use Rattle.bz_io.specs.Transfers.{IsReadWhole, GaveCount, GrewByFront}
@@ -43,6 +43,10 @@ Says k status text answer =
 abbrev pub SaysOrWants : Sunk → ℕ → List ℕ → ℕ → Type 0
 SaysOrWants k status text answer = Says k status text answer ⊎ Says k 7 (fault_line (codes "memory")) answer
 
+-- a command's text was written; or memory was wanting for it, and that was written behind what is left of the text then
+abbrev pub Prints : Command → WorldView → Sunk → ℕ → List ℕ → ℕ → Type 0
+Prints command world k status text answer = Says k status text answer ⊎ ((before : List ℕ) × IsLeft command world before × Says k 7 (before ++ fault_line (codes "memory")) answer)
+
 -- a script was run to its end
 pub record Finishes (command : Command) (marks : ℕ) (base : Base) (script : Job) (k : Sunk) (status : ℕ) (lab : Option WorldView) : Type 0 where
   pub world : WorldView
@@ -59,11 +63,13 @@ pub record StopsShort (command : Command) (marks : ℕ) (base : Base) (script : 
   pub said : Says k 5 (printed_before command world ++ fault_line (limit_text which)) status
 
 -- memory was wanting for threads, or for what is printed
-pub record GivesUp (marks : ℕ) (base : Base) (script : Job) (k : Sunk) (status : ℕ) (lab : Option WorldView) : Type 0 where
+pub record GivesUp (command : Command) (marks : ℕ) (base : Base) (script : Job) (k : Sunk) (status : ℕ) (lab : Option WorldView) : Type 0 where
   pub world : WorldView
   pub is_lab : lab ≡ Some world
   pub led : IsLedTo marks base script world
-  pub said : Says k 7 (fault_line (codes "memory")) status
+  pub before : List ℕ
+  pub left : IsLeft command world before
+  pub said : Says k 7 (before ++ fault_line (codes "memory")) status
 
 -- memory was wanting before there was a world
 pub record Wants (k : Sunk) (status : ℕ) (lab : Option WorldView) : Type 0 where
@@ -73,7 +79,7 @@ pub record Wants (k : Sunk) (status : ℕ) (lab : Option WorldView) : Type 0 whe
 -- what becomes of a script in a world that was opened for it
 abbrev pub RanWorld : Command → ℕ → Base → Job → Sunk → ℕ → Option WorldView → Type 0
 RanWorld command marks base script k status lab =
-    Finishes command marks base script k status lab ⊎ (StopsShort command marks base script k status lab ⊎ GivesUp marks base script k status lab)
+    Finishes command marks base script k status lab ⊎ (StopsShort command marks base script k status lab ⊎ GivesUp command marks base script k status lab)
 
 -- what becomes of a script
 abbrev pub RanScript : Command → ℕ → Base → Job → Sunk → ℕ → Option WorldView → Type 0

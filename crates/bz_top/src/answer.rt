@@ -187,6 +187,7 @@ pub fn top_without_threads<S: Source, K: Sink>(
     match line.command {
         Command::Run => run_source(alloc, line, None, source, sink),
         Command::Dump => run_source(alloc, line, None, source, sink),
+        Command::Trace => run_source(alloc, line, None, source, sink),
         Command::Load => load(alloc, line, source, sink),
         Command::Work {
             seed,

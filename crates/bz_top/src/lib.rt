@@ -9,6 +9,7 @@ mod load;
 mod open;
 mod program;
 mod threads;
+mod trace;
 mod turns;
 
 pub use answer::{Answer, Waiting, top_without_threads};

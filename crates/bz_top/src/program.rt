@@ -14,7 +14,7 @@ ghost use Rattle.bz_text.specs.Summary.{summary_of};
 ghost use Rattle.bz_top.specs.Faults.{fault_line, limit_text, broken_text};
 ghost use Rattle.bz_top.specs.Bases.{Base, IsBaseOf};
 ghost use Rattle.bz_top.specs.Endings.{IsEnded, IsMadeFor, printed, printed_before};
-ghost use Rattle.bz_top.specs.Parts.{sunk, Says, SaysOrWants, RanWorld, RanScript};
+ghost use Rattle.bz_top.specs.Parts.{sunk, Says, SaysOrWants, Prints, RanWorld, RanScript};
 ghost use Rattle.bz_top.specs.Threads.{AreRunBy};
 
 use crate::answer::{Answer, Waiting, top_without_threads};
@@ -23,6 +23,7 @@ use crate::faults::{broken_line, limit_line};
 use crate::items::{ItemsEnd, run_items};
 use crate::open::open_world;
 use crate::threads::run_on_threads;
+use crate::trace::trace;
 use bz_image::Image;
 use bz_io::{Failed, Sink, Source, write_all};
 use bz_layout::{Config, MAX_CALLS, MAX_PAGES, MAX_WORKERS};
@@ -142,7 +143,7 @@ pub(crate) fn no_memory<K: Sink>(sink: &mut K) -> Outcome
 }
 
 /// Answers want of memory for a report.
-fn give_up<K: Sink>(world: World, sink: &mut K) -> Outcome
+pub(crate) fn give_up<K: Sink>(world: World, sink: &mut K) -> Outcome
     ensures lab { result.lab ≡ Some world }
     ensures wrote { Says
         (sunk (K.held sink.old) (K.held sink.new) (K.faults sink.old) (K.faults sink.new))
@@ -245,13 +246,15 @@ pub(crate) fn print<K: Sink>(alloc: Global, command: Command, world: World, sink
     requires image { IsImageOf world.config world.log.start }
     ensures lab { result.lab ≡ Some world }
     ensures sound { IsSound world.config world.at_start world.log }
-    ensures wrote { SaysOrWants
+    ensures wrote { Prints command world
         (sunk (K.held sink.old) (K.held sink.new) (K.faults sink.old) (K.faults sink.new))
         0 (printed command world) result.status }
 {
     match command {
-        Command::Run | Command::Load => report(alloc, world, sink),
+        Command::Run => report(alloc, world, sink),
+        Command::Load => report(alloc, world, sink),
         Command::Dump => dump(world, sink),
+        Command::Trace => trace(alloc, world, sink),
         Command::Work {
             seed: _,
             calls,
@@ -287,13 +290,15 @@ pub(crate) fn print_limit<K: Sink>(
     requires image { IsImageOf world.config world.log.start }
     ensures lab { result.lab ≡ Some world }
     ensures sound { IsSound world.config world.at_start world.log }
-    ensures wrote { SaysOrWants
+    ensures wrote { Prints command world
         (sunk (K.held sink.old) (K.held sink.new) (K.faults sink.old) (K.faults sink.new))
         5 (printed_before command world ++ fault_line (limit_text which)) result.status }
 {
     match command {
-        Command::Run | Command::Load => report_limit(alloc, world, which, sink),
+        Command::Run => report_limit(alloc, world, which, sink),
+        Command::Load => report_limit(alloc, world, which, sink),
         Command::Dump => tell_limit(world, which, sink),
+        Command::Trace => tell_limit(world, which, sink),
         Command::Work {
             seed: _,
             calls: _,

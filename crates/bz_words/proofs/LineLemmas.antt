@@ -5,7 +5,7 @@ use Rattle.std.proofs.lemmas.Grind.{common_steps}
 use Rattle.std.proofs.lemmas.List.{append-nil}
 use Rattle.bz_script.specs.Number.{number_of, within, is_number}
 use Rattle.bz_words.specs.declared.command.Command.{Command}
-use Rattle.bz_words.specs.declared.command.Command.TheVariants.{Run, Dump, Load, Work}
+use Rattle.bz_words.specs.declared.command.Command.TheVariants.{Run, Dump, Load, Trace, Work}
 use Rattle.bz_words.specs.declared.command.CommandLine.{CommandLine}
 use Rattle.bz_words.specs.CommandLine.{Text, Value, Writes, WriteAll, SaysMarks, LeavesMarks, IsCommandLine, name_of, values_of}
 use Rattle.bz_words.specs.Inside.Arrangement.{command_by, limit_of, values_found, Say, SayOnly, IsArranged}
@@ -80,6 +80,16 @@ load_bare = record {
   unsaid = read_unsaid.load;
   joined = λ number. (read_joined number).load;
   apart = λ number is. (read_apart number is).load;
+}
+
+trace_bare : IsBare Trace
+trace_bare = record {
+  none = refl;
+  found = λ text. refl;
+  values = λ seen. refl;
+  unsaid = read_unsaid.trace;
+  joined = λ number. (read_joined number).trace;
+  apart = λ number is. (read_apart number is).trace;
 }
 
 module _ (command : Command) (bare : IsBare command) (words option : List Text) (marks : ℕ) (are : words ≡ name_of command ∷ option) where
@@ -229,6 +239,7 @@ known : (words : List Text) (command : Command) (marks : ℕ) → IsCommandLine 
 known words Run marks is = of_bare words Run run_bare marks is
 known words Dump marks is = of_bare words Dump dump_bare marks is
 known words Load marks is = of_bare words Load load_bare marks is
+known words Trace marks is = of_bare words Trace trace_bare marks is
 known words (Work seed calls workers) marks is =
     known_work seed calls workers marks words is.before is.option is.after is.are (three (is.before ++ is.after) _ _ _ is.values) is.limit
 

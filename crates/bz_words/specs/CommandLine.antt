@@ -4,7 +4,7 @@ use Rattle.bz_gen.specs.declared.workload.TheConstants.{MOST_CALLS}
 use Rattle.bz_layout.specs.declared.limits.TheConstants.{MIN_MARKS, MAX_MARKS, MIN_WORKERS, MAX_WORKERS}
 use Rattle.bz_script.specs.Number.{number_of, within}
 use Rattle.bz_words.specs.declared.command.Command.{Command}
-use Rattle.bz_words.specs.declared.command.Command.TheVariants.{Run, Dump, Load, Work}
+use Rattle.bz_words.specs.declared.command.Command.TheVariants.{Run, Dump, Load, Trace, Work}
 use Rattle.bz_words.specs.declared.command.CommandLine.{CommandLine}
 use Rattle.bz_words.specs.declared.command.TheConstants.{RUN_MARKS, WORK_MARKS}
 
@@ -23,12 +23,14 @@ abbrev pub name_of : Command → Text
 name_of Run = codes "run"
 name_of Dump = codes "dump"
 name_of Load = codes "load"
+name_of Trace = codes "trace"
 name_of (Work seed calls workers) = codes "work"
 
 abbrev pub values_of : Command → List Value
 values_of Run = []
 values_of Dump = []
 values_of Load = []
+values_of Trace = []
 values_of (Work seed calls workers) =
     record { number = seed; low = 0; high = 2 ^ 64 - 1 }
     ∷ record { number = calls; low = 1; high = MOST_CALLS }
@@ -39,6 +41,7 @@ abbrev pub usual_marks : Command → ℕ
 usual_marks Run = RUN_MARKS
 usual_marks Dump = RUN_MARKS
 usual_marks Load = RUN_MARKS
+usual_marks Trace = RUN_MARKS
 usual_marks (Work seed calls workers) = WORK_MARKS
 
 -- the word is this number as scripts write numbers, and the number lies in its range
@@ -82,4 +85,5 @@ abbrev pub InRange : Command → Type 0
 InRange Run = ⊤
 InRange Dump = ⊤
 InRange Load = ⊤
+InRange Trace = ⊤
 InRange (Work seed calls workers) = ((1 ≤ calls) × (calls ≤ MOST_CALLS)) × ((MIN_WORKERS ≤ workers) × (workers ≤ MAX_WORKERS))

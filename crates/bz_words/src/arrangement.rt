@@ -127,7 +127,9 @@ pub(crate) fn is_arranged(words: &[&str], command: Command, found: &Found) -> bo
         Some((first, words)) => {
             is_text(first, found.name)
                 && match command {
-                    Command::Run | Command::Dump | Command::Load => { say(words, &[], found.marks) }
+                    Command::Run | Command::Dump | Command::Load | Command::Trace => {
+                        say(words, &[], found.marks)
+                    }
                     Command::Work {
                         seed: _,
                         calls: _,

@@ -1,7 +1,7 @@
 //! What a command line asks for.
 use bz_layout::MAX_MARKS;
 
-/// The limit on marks of `run`, `dump` and `load` where the words do not say one.
+/// The limit on marks of `run`, `dump`, `load` and `trace` where the words do not say one.
 pub const RUN_MARKS: u32 = 4_194_304;
 
 /// The limit on marks of `work` where the words do not say one: the greatest.
@@ -16,6 +16,8 @@ pub enum Command {
     Dump,
     /// Goes on from the image that the source gives before its script.
     Load,
+    /// Runs the script that the source gives, and writes its journal as JSON Lines.
+    Trace,
     /// Runs the workload of a seed, of so many calls of so many workers.
     Work { seed: u64, calls: u32, workers: u32 },
 }

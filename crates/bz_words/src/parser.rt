@@ -86,7 +86,8 @@ fn parser<'a>(alloc: Global) -> Result<Command<'a>, AllocError>
     let with_run = with_bare(alloc, program(alloc), "run")?;
     let with_dump = with_bare(alloc, with_run, "dump")?;
     let with_load = with_bare(alloc, with_dump, "load")?;
-    with_load.subcommand(work(alloc)?)
+    let with_trace = with_bare(alloc, with_load, "trace")?;
+    with_trace.subcommand(work(alloc)?)
 }
 
 /// Reads the words by `clap`.

@@ -5,6 +5,6 @@ use Rattle.bz_lines.proofs.head_in.put_words.Given as goal
 
 abbrev pub invariant-loop-pair : goal.invariant-loop-pair
 invariant-loop-pair l = record {
-  left : filled (map view (drop l.pair-index l.pairs)) l.words ≡ filled (map view l.pairs) l.initial.words;
-  some : 0 < length l.words;
+  left : filled (map view (drop l.pair-index l.pairs)) l.words.items ≡ filled (map view l.pairs) l.initial.words.items;
+  some : 0 < length l.words.items;
 }

@@ -12,3 +12,6 @@ returns-in-Some-clause-range c = c.in-Some.ensures.range c.args.before
 
 pub returns-in-None-clause-range : goal.returns-in-None-clause-range
 returns-in-None-clause-range c = c.event_in.ensures.range c.args.before
+
+pub returns-in-Some-clause-numbered : goal.returns-in-Some-clause-numbered
+returns-in-Some-clause-numbered c = c.in-Some.ensures.numbered c.args.page

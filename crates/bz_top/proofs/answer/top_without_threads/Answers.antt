@@ -16,6 +16,9 @@ returns-in-Run g c = record { answered = answered_source _ c.in-Ok.line c.in-Ok.
 pub returns-in-Dump : goal.returns-in-Dump
 returns-in-Dump g c = record { answered = answered_source _ c.in-Ok.line c.in-Ok.ensures.command None (rw c.in-Dump.is refl) tt c.in-Ok.ensures.in_range _ _ (none_before _) (omega arith) _ c.run_source-in-Dump.ensures }
 
+pub returns-in-Trace : goal.returns-in-Trace
+returns-in-Trace g c = record { answered = answered_source _ c.in-Ok.line c.in-Ok.ensures.command None (rw c.in-Trace.is refl) tt c.in-Ok.ensures.in_range _ _ (none_before _) (omega arith) _ c.run_source-in-Trace.ensures }
+
 pub returns-in-Load : goal.returns-in-Load
 returns-in-Load g c = record { answered = c.load.ensures _ c.in-Ok.ensures.command }
 

@@ -1,0 +1,107 @@
+-- No line breaks the lines of a journal.
+use Rattle.std.proofs.Common.{◌≡◌, ◌<◌, ◌≤◌, ◌+◌, ◌-◌, nat_le, ℕ, zero, suc, List, [], ◌∷◌, ◌++◌, length, sym, ap, ◌∙◌, subst, inl, inr, arith, append_assoc, append-nil, length-append}
+use Rattle.std.proofs.lemmas.Bool.{cases_Bool}
+use Rattle.std.proofs.lemmas.Bool.Decides.{nat_tests}
+use Rattle.bz_layout.specs.Addresses.{words_of}
+use Rattle.bz_layout.specs.declared.config.Config.{Config}
+use Rattle.bz_mark.specs.declared.marks.Mark.{Mark}
+use Rattle.bz_mark.specs.Log.{Log}
+use Rattle.bz_lines.specs.Lines.{head_line, line_of, lines_of, text_of, with_end}
+use Rattle.bz_lines.proofs.HeadAgain.{words_small}
+use Rattle.bz_traces.specs.Journals.{pages_with, AreTold, none, more, HasLines, GoesOn, BreaksAt}
+use Rattle.bz_traces.proofs.Fronts.{told_once}
+use Rattle.bz_traces.proofs.Unique.{Pages, text_back, one_line_more}
+use Rattle.bz_traces.proofs.Whole.{whole_text, head_once}
+
+-- the first marks of some, and the text of those behind them
+record Front (words k : ℕ) (past : List Mark) (pages : Pages) : Type 0 where
+  pub marks : List Mark
+  pub lists : Pages
+  pub behind : List ℕ
+  pub told : AreTold words marks lists
+  pub long : length marks ≡ k
+  pub text : text_back pages past ≡ text_back lists marks ++ behind
+
+front : (words k : ℕ) (past : List Mark) (pages : Pages) → AreTold words past pages → k ≤ length past → Front words k past pages
+front words k _ _ none few = record { marks = []; lists = []; behind = []; told = none; long = omega (arith, few); text = sym (append-nil (text_back [] [])) }
+front words k _ _ (more {past} {pages} {mark} {pairs} told next) few = elim (cases_Bool (nat_le k (length past))) [
+  | inl within ↦
+      let small : k ≤ length past = grind (arith, nat_tests) in
+      let line : List ℕ = with_end (line_of (pages_with pages mark pairs) mark) in
+      let f = front words k past pages told small in
+      record {
+        marks = f.marks;
+        lists = f.lists;
+        behind = f.behind ++ line;
+        told = f.told;
+        long = f.long;
+        text = one_line_more words past pages mark pairs told ∙ ap (λ (t : List ℕ). t ++ line) f.text ∙ append_assoc (text_back f.lists f.marks) f.behind line;
+      }
+  | inr beyond ↦
+      let great : length past < k = grind (arith, nat_tests) in
+      record {
+        marks = mark ∷ past;
+        lists = pages_with pages mark pairs;
+        behind = [];
+        told = more told next;
+        long = omega (arith, great, few);
+        text = sym (append-nil (text_back (pages_with pages mark pairs) (mark ∷ past)));
+      }
+]
+
+-- bytes that begin with the lines of a journal of so many marks
+record Begun (c : Config) (k : ℕ) (bytes rest : List ℕ) : Type 0 where
+  pub log : Log
+  pub lines : HasLines c log
+  pub long : length log.past ≡ k
+  pub behind : List ℕ
+  pub text : bytes ≡ text_of (lines_of c log) ++ (behind ++ rest)
+
+begun : (c : Config) (log : Log) (k : ℕ) (bytes rest : List ℕ) → HasLines c log → bytes ≡ text_of (lines_of c log) ++ rest → k ≤ length log.past → Begun c k bytes rest
+begun c log k bytes rest h is few =
+    let f = front (words_of c) k log.past log.pages h.marks few in
+    let head : List ℕ = with_end (head_line c log.start) in
+    let it : Log = record { start = log.start; past = f.marks; pages = f.lists; limits = log.limits } in
+    let whole : text_of (lines_of c log) ≡ text_of (lines_of c it) ++ f.behind =
+    whole_text c log ∙ ap (λ (t : List ℕ). head ++ t) f.text ∙ sym (append_assoc head (text_back f.lists f.marks) f.behind) ∙ ap (λ (t : List ℕ). t ++ f.behind) (sym (whole_text c it)) in
+    record {
+      log = it;
+      lines = record { start = h.start; marks = f.told };
+      long = f.long;
+      behind = f.behind;
+      text = is ∙ ap (λ (t : List ℕ). t ++ rest) whole ∙ append_assoc (text_of (lines_of c it)) f.behind rest;
+    }
+
+-- nothing is left behind the lines of a journal with as many marks
+none_left : (c c' : Config) (log log' : Log) (bytes t : List ℕ) → HasLines c log → HasLines c' log' → bytes ≡ text_of (lines_of c log) → bytes ≡ text_of (lines_of c' log') ++ t → length log.past ≡ length log'.past → [] ≡ t
+none_left c c' log log' bytes t h h' is is' long =
+    let head : List ℕ = with_end (head_line c log.start) in
+    let head' : List ℕ = with_end (head_line c' log'.start) in
+    let e : head ++ (text_back log.pages log.past ++ []) ≡ head' ++ (text_back log'.pages log'.past ++ t) =
+    ap (λ (x : List ℕ). head ++ x) (append-nil (text_back log.pages log.past)) ∙ sym (whole_text c log) ∙ sym is ∙ is' ∙ ap (λ (x : List ℕ). x ++ t) (whole_text c' log') ∙ append_assoc head' (text_back log'.pages log'.past) t in
+    let heads = head_once c c' log.start log'.start (text_back log.pages log.past ++ []) (text_back log'.pages log'.past ++ t) h.start h'.start e in
+    let small = words_small c h.start.config in
+    let counted : words_of c ≡ (words_of c - 1) + 1 = omega arith in
+    let told : AreTold ((words_of c - 1) + 1) log.past log.pages = subst (λ (k : ℕ). AreTold k log.past log.pages) counted h.marks in
+    let told' : AreTold ((words_of c - 1) + 1) log'.past log'.pages = subst (λ (k : ℕ). AreTold k log'.past log'.pages) counted (subst (λ (d : Config). AreTold (words_of d) log'.past log'.pages) (sym heads.config) h'.marks) in
+    (told_once (words_of c - 1) (omega arith) log.past log'.past log.pages log'.pages [] t told told' long heads.rest).rest
+
+-- more lines than those of the journal do not stand there
+too_far : (c : Config) (log : Log) (bytes : List ℕ) (k : ℕ) → HasLines c log → bytes ≡ text_of (lines_of c log) → length log.past < k → GoesOn k bytes → ⊥
+too_far c log bytes zero h is far goes = absurd (omega (arith, far))
+too_far c log bytes (suc j) h is far (c', log', rest', h', long, is', further) =
+    let f = begun c' log' (length log.past) bytes rest' h' is' (omega (arith, far, long)) in
+    let empty : [] ≡ f.behind ++ rest' = none_left c c' log f.log bytes (f.behind ++ rest') h f.lines is f.text (sym f.long) in
+    absurd (omega (arith, further, length-append f.behind rest', ap length empty))
+
+pub apart : (c : Config) (log : Log) (bytes : List ℕ) (line : ℕ) → HasLines c log → bytes ≡ text_of (lines_of c log) → BreaksAt bytes line → ⊥
+apart c log bytes zero h is b = absurd (omega (arith, b.some))
+apart c log bytes (suc k) h is b = elim (cases_Bool (nat_le k (length log.past))) [
+  | inl within ↦
+      let small : k ≤ length log.past = grind (arith, nat_tests) in
+      let f = begun c log k bytes [] h (is ∙ sym (append-nil (text_of (lines_of c log)))) small in b.this (c, f.log, f.behind ++ [], f.lines, f.long, f.text)
+  | inr beyond ↦
+      let far : length log.past < k = grind (arith, nat_tests) in
+      let before : suc k - 1 ≡ k = omega arith in
+      too_far c log bytes k h is far (subst (λ (n : ℕ). GoesOn n bytes) before b.before)
+]

@@ -1,0 +1,8 @@
+mod Feeds
+mod Fronts
+mod LineLemmas
+mod Unique
+mod Whole
+mod WriteLemmas
+mod Apart
+pub mod Proved

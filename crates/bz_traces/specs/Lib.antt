@@ -1,0 +1,5 @@
+pub mod Journals
+pub mod Writes
+pub mod Steps
+pub mod Opened
+pub mod Laws
