@@ -1,0 +1,60 @@
+-- Each descriptor that is taken is shown by the journal, or is a worker's that has not stored into it.
+use Rattle.std.proofs.Common.{◌≡◌, ◌≢◌, ◌<◌, inl, inr, ◌+◌, ◌||◌, ℕ, zero, suc, Bool, true, false, List, ◌∷◌, slice_index, refl, sym, ap, subst, arith, Option}
+use Rattle.std.proofs.lemmas.Bool.{cases_eq, eq-eqb, ne_eqb}
+use Rattle.bz_acts.specs.declared.acted.Act.{Act}
+use Rattle.bz_acts.specs.declared.acted.Act.TheVariants.{Load, Store, Cas, Flush}
+use Rattle.bz_cells.specs.Store.{status_word}
+use Rattle.bz_layout.specs.Addresses.{swap_address}
+use Rattle.bz_machine.specs.declared.done.Done.{Done}
+use Rattle.bz_machine.specs.declared.status.SwapStatus.TheVariants.{Free, Undecided}
+use Rattle.bz_mark.specs.Counts.{is_taken}
+use Rattle.bz_mark.specs.Times.{since_on}
+use Rattle.bz_mark.specs.declared.marks.Mark.{Mark}
+use Rattle.bz_swap.specs.Evictions.{IsEviction}
+use Rattle.bz_swap.specs.Held.{IsHeld}
+use Rattle.bz_swap.specs.Steps.{IsStep}
+use Rattle.bz_swap.specs.SwapMemory.{SwapMemory}
+use Rattle.bz_swap.proofs.Proved.{begun_stay_taken, taken_statuses_stay}
+use Rattle.bz_mark.specs.declared.marks.Mark.TheVariants.{Evict}
+use Rattle.bz_ring.specs.declared.marks.QMark.{QMark}
+use Rattle.bz_ring.specs.declared.marks.QMark.TheVariants.{Memory}
+use Rattle.bz_ring.specs.Journal.{memory_of}
+use Rattle.bz_queue.specs.Acts.{mark_of}
+use Rattle.bz_queue.specs.Inside.Kept.{AreShown}
+
+or-right : (x y : Bool) → y ≡ true → (x || y) ≡ true
+or-right true y is = refl
+or-right false y is = is
+
+-- what was taken is
+taken-still : (s w : ℕ) (made : Act) (marks : List Mark) → is_taken s (since_on marks) ≡ true → is_taken s (since_on (mark_of w made ∷ marks)) ≡ true
+taken-still s w (Load a v) marks is = is
+taken-still s w (Store a v) marks is = or-right _ _ is
+taken-still s w (Cas a old new found) marks is = is
+taken-still s w (Flush line) marks is = is
+
+-- the store of undecided takes
+taken-now : (s w : ℕ) (marks : List Mark) → 0 < w → is_taken s (since_on (mark_of w (Store (swap_address s) (status_word Undecided)) ∷ marks)) ≡ true
+taken-now s zero marks some = absurd (omega arith)
+taken-now s (suc w) marks some = rw (ne_eqb (suc w) 0 (λ zero. absurd (omega arith)), eq-eqb (swap_address s) (swap_address s + 0) (omega arith)) refl
+
+pub shown-step : (old new : SwapMemory) (w : ℕ) (made : Act) (done : Done) (told : Option ℕ) (past : List QMark) → 0 < w → IsHeld old → IsStep old w made done told new → AreShown old past → AreShown new (Memory (mark_of w made) ∷ past)
+shown-step old new w made done told past some held step h = record {
+  begun = begun_stay_taken.step old new w made done told held step h.begun;
+  shown = λ s within taken.
+      let inside : s < old.swaps = subst (λ (k : ℕ). s < k) step.one.others.swaps within in
+      elim (cases_eq (slice_index old.cached (swap_address s)) (status_word Free)) [
+        | inl free ↦
+            let t = taken_statuses_stay.begins old new w made done told s step inside free taken in
+            subst (λ (it : Act). is_taken s (since_on (mark_of w it ∷ memory_of past)) ≡ true) (sym t.act) (taken-now s w (memory_of past) some)
+        | inr other ↦ taken-still s w made (memory_of past) (h.shown s inside other)
+      ];
+}
+
+pub shown-eviction : (old new : SwapMemory) (a : ℕ) (told : Option ℕ) (past : List QMark) → IsEviction old a told new → AreShown old past → AreShown new (Memory (Evict a) ∷ past)
+shown-eviction old new a told past e h = record {
+  begun = begun_stay_taken.eviction old new a told e h.begun;
+  shown = λ s within taken.
+      h.shown s (subst (λ (k : ℕ). s < k) (ap (λ (m : SwapMemory). m.swaps) e.is) within)
+      (subst (λ (cached : List ℕ). slice_index cached (swap_address s) ≢ status_word Free) (ap (λ (m : SwapMemory). m.cached) e.is) taken);
+}

@@ -1,0 +1,54 @@
+-- What callers see of a step, and of workers that there are not.
+use Rattle.std.proofs.Common.{◌≡◌, ◌≢◌, ◌≤◌, ℕ, zero, suc, Bool, false, List, [], ◌∷◌, length, map, get_or, refl, sym, ap, ◌∙◌, Option, Some, None}
+use Rattle.std.proofs.Math.ListN.{get_or-eq_default}
+use Rattle.bz_swap.specs.SwapMemory.{Working, idle, worker_of}
+use Rattle.bz_ring.specs.Calls.{open_call}
+use Rattle.bz_ring.specs.Journal.{QLog}
+use Rattle.bz_queue.specs.Inside.Acted.{HasActed}
+use Rattle.bz_queue.specs.Inside.Going.{WentOn}
+use Rattle.bz_queue.specs.Inside.Kept.{IsKept, view_of}
+use Rattle.bz_queue.specs.Inside.Serving.{IsSlot}
+use Rattle.bz_queue.specs.QueueView.{QueueView, GoesOn, Steps}
+use Rattle.bz_queue.specs.declared.answers.QApplied.{QApplied}
+use Rattle.bz_queue.specs.declared.answers.QApplied.TheVariants.{Stepped}
+use Rattle.bz_queue.specs.declared.open.Numbers.{Numbers}
+use Rattle.bz_queue.specs.declared.parts.Parts.{Parts}
+use Rattle.bz_queue.specs.declared.serving.OpenCall.{OpenCall}
+
+flush-told : (workers : List Working) (v : ℕ) → get_or (map (λ (it : Working). it.flush_next) workers) v false ≡ (get_or workers v idle).flush_next
+flush-told [] v = refl
+flush-told (x ∷ workers) zero = refl
+flush-told (x ∷ workers) (suc v) = flush-told workers v
+
+same-view : (n n' : Numbers) (log log' : QLog) (flushes : List Bool) → n ≡ n' → log.start ≡ log'.start → log.most ≡ log'.most
+    → (let there : QueueView = record { numbers = n; log = log; flushes = flushes } in there) ≡ record { numbers = n'; log = record log' { past = log.past }; flushes = flushes }
+same-view n n' log log' flushes numbers start most =
+    ap (λ (z : Numbers). let it : QueueView = record { numbers = z; log = log; flushes = flushes } in it) numbers
+    ∙ ap (λ (z : List ℕ). let it : QueueView = record { numbers = n'; log = record { start = z; past = log.past; most = log.most }; flushes = flushes } in it) start
+    ∙ ap (λ (z : ℕ). let it : QueueView = record { numbers = n'; log = record { start = log'.start; past = log.past; most = z }; flushes = flushes } in it) most
+
+steps-of : (old mid new : Parts) (w : ℕ) (answer : QApplied) → HasActed old w mid → GoesOn mid.journal.past w answer new.journal.past → new.numbers ≡ mid.numbers → new.journal.start ≡ mid.journal.start → new.journal.most ≡ mid.journal.most
+    → ((v : ℕ) → v ≢ w → worker_of new.access v ≡ worker_of mid.access v) → Steps (view_of old) w answer (view_of new)
+steps-of old mid new w answer a ends numbers start most others = record {
+  made = a.made;
+  flush = a.flush ∙ sym (flush-told old.access.workers w);
+  struck = mid.journal.past;
+  effect = a.struck;
+  ends = ends;
+  rest = same-view new.numbers old.numbers new.journal old.journal (view_of new).flushes (numbers ∙ ap (λ (q : Parts). q.numbers) a.rest) (start ∙ ap (λ (q : Parts). q.journal.start) a.rest) (most ∙ ap (λ (q : Parts). q.journal.most) a.rest);
+  others = λ v other. flush-told new.access.workers v ∙ ap (λ (it : Working). it.flush_next) (others v other ∙ a.others v other) ∙ sym (flush-told old.access.workers v);
+}
+
+pub steps-on : (old new : Parts) (w : ℕ) → HasActed old w new → Steps (view_of old) w Stepped (view_of new)
+steps-on old new w a = steps-of old new new w Stepped a refl refl refl refl (λ v other. refl)
+
+pub steps-went : (old mid new : Parts) (w : ℕ) (answer : QApplied) → HasActed old w mid → WentOn mid w answer new → Steps (view_of old) w answer (view_of new)
+steps-went old mid new w answer a h = steps-of old mid new w answer a h.ends h.numbers h.start h.most h.others
+
+free-none : (p : Parts) (w : ℕ) (slot : Option OpenCall) → slot ≡ None → IsSlot p.numbers.ring p.access p.journal.past p.owners.items p.numbers.workers w slot → open_call w p.journal.past ≡ None
+free-none p w None is h = h.none
+free-none p w (Some x) is h = absurd (cc is)
+
+-- a worker past the last place has no call
+pub none-past : (p : Parts) (w : ℕ) → IsKept p → length p.workers.items ≤ w → open_call w p.journal.past ≡ None
+none-past p w k past = free-none p w (get_or p.workers.items w None) (get_or-eq_default p.workers.items None past) (k.slots w)

@@ -1,0 +1,6 @@
+-- What a queue keeps true of its parts. No caller needs it.
+pub mod Kept
+pub mod Serving
+pub mod Going
+pub mod Acted
+pub mod Begun
