@@ -7,6 +7,7 @@ use Rattle.std.proofs.lemmas.Option.{option_and_then_some}
 use Rattle.serde_json.specs.Data.{Data, Items}
 use Rattle.bz_key.specs.Bytes.{IsKey, IsPayload}
 use Rattle.bz_key.specs.Spelling.{key_of_word, payload_of_word}
+use Rattle.bz_key.specs.declared.limits.TheConstants.{PAGE_PAIRS}
 use Rattle.bz_key.proofs.Proved.{keys_are_read, payloads_are_read}
 use Rattle.bz_lines.specs.Ranges.{IsPair, ArePairs}
 use Rattle.bz_lines.specs.Reading.{both, text_at, key_at, payload_at, pair_in, added, pairs_in, listed, page_items, page_in}
@@ -35,7 +36,7 @@ all_more : (xs : List (List ℕ × List ℕ)) (x : List ℕ × List ℕ) → All
 all_more [] x h k = (k, tt)
 all_more (y ∷ xs) x h k = (h.0, all_more xs x h.1 k)
 
-one_more : (read : List (List ℕ × List ℕ)) (o : Option (List ℕ × List ℕ)) (rs : List (List ℕ × List ℕ)) → ((pair : List ℕ × List ℕ) → o ≡ Some pair → IsPair pair) → length read < 59
+one_more : (read : List (List ℕ × List ℕ)) (o : Option (List ℕ × List ℕ)) (rs : List (List ℕ × List ℕ)) → ((pair : List ℕ × List ℕ) → o ≡ Some pair → IsPair pair) → length read < PAGE_PAIRS
     → option_map (λ (pair : List ℕ × List ℕ). read ++ pair ∷ []) o ≡ Some rs → ArePairs read → ArePairs rs
 one_more read None rs h room is before = absurd (cc)
 one_more read (Some pair) rs h room is before =
@@ -43,9 +44,9 @@ one_more read (Some pair) rs h room is before =
     subst ArePairs same (record { few = omega (arith, length-append read (pair ∷ [])); each = all_more read pair before.each (h pair refl) })
 
 added_right : (d : Data) (read rs : List (List ℕ × List ℕ)) → added d read ≡ Some rs → ArePairs read → ArePairs rs
-added_right d read rs is before = elim (cases_Bool (nat_lt (length read) 59)) [
+added_right d read rs is before = elim (cases_Bool (nat_lt (length read) PAGE_PAIRS)) [
   | inl room ↦
-      let small : length read < 59 = grind (arith, nat_tests) in
+      let small : length read < PAGE_PAIRS = grind (arith, nat_tests) in
       one_more read (pair_in d) rs (pair_right d) small (sym (ap (λ (b : Bool). cond b (option_map (λ (pair : List ℕ × List ℕ). read ++ pair ∷ []) (pair_in d)) None) room) ∙ is) before
   | inr full ↦
       let gone : None ≡ Some rs = sym (ap (λ (b : Bool). cond b (option_map (λ (pair : List ℕ × List ℕ). read ++ pair ∷ []) (pair_in d)) None) full) ∙ is in absurd (cc)

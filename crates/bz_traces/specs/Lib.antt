@@ -3,3 +3,4 @@ pub mod Writes
 pub mod Steps
 pub mod Opened
 pub mod Laws
+pub mod Example
