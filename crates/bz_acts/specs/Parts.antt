@@ -10,7 +10,7 @@ use Rattle.bz_machine.specs.HelpActs.{help_act}
 use Rattle.bz_machine.specs.Steps.{Stepped, act}
 use Rattle.bz_machine.specs.Workers.{local_of}
 use Rattle.bz_machine.specs.Flushes.{helps_by_flush, is_flush}
-use Rattle.bz_cells.specs.Store.{Store, Beside, IsStore, SameShape, typed, store_words}
+use Rattle.bz_cells.specs.Store.{Store, Beside, IsStore, SameShape, typed, store_state}
 use Rattle.bz_acts.specs.declared.acted.Act.{Act}
 use Rattle.bz_acts.specs.declared.acted.Acted.{Acted}
 use Rattle.bz_acts.specs.declared.entry.Aim.{Aim}
@@ -20,9 +20,17 @@ use Rattle.bz_acts.specs.Ready.{LiesOutside}
 use Rattle.bz_acts.specs.Rule.{IsActOf, IsToldAt, IsWithin, is_flush_act}
 use Rattle.bz_acts.specs.Writes.{HelpsBy, WritesAt}
 
--- this act, on a word or line of the memory, leads from the one store to the other, whose words can be read too
+-- this act, on a word or line of the memory, leads from the one store to the other, whose words can be read too; whoever
+-- makes it
 pub record IsMade (old : Store) (act : Act) (new : Store) : Type 0 where
-  pub rule : IsActOf (store_words old) act (store_words new)
+  pub rule : (w : ℕ) → IsActOf (store_state old) w act (store_state new)
+  pub within : IsWithin (length old.cached) act
+  pub typed : IsStore new
+  pub shape : SameShape old new
+
+-- the same of an act of worker w
+pub record IsMadeBy (old : Store) (w : ℕ) (act : Act) (new : Store) : Type 0 where
+  pub rule : IsActOf (store_state old) w act (store_state new)
   pub within : IsWithin (length old.cached) act
   pub typed : IsStore new
   pub shape : SameShape old new
@@ -52,7 +60,7 @@ pub record IsHelp (x : Entries) (old : Store) (w s : ℕ) (step : HelpStep) (hel
   pub next : (b : Beside) → helped.next ≡ (help_act x (typed old b) w s step).next
   pub flush : is_flush_act helped.act ≡ helps_by_flush step
   pub writes : HelpsBy old.swaps s step helped.act
-  pub made : IsMade old helped.act new
+  pub made : IsMadeBy old w helped.act new
 
 -- what the machine makes at a worker's place
 abbrev pub made_at : Store → Beside → Worker → ℕ → Place → Stepped
@@ -66,4 +74,4 @@ pub record IsStep (old : Store) (from : Worker) (w : ℕ) (place : Place) (acted
   pub flush : is_flush_act acted.act ≡ is_flush place
   pub told : IsToldAt place acted.act
   pub writes : WritesAt old.swaps from place acted.act
-  pub made : IsMade old acted.act new
+  pub made : IsMadeBy old w acted.act new

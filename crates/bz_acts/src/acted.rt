@@ -25,6 +25,11 @@ pub enum Act {
     Flush {
         line: u32,
     },
+    /// The line is to be durable after the worker's next fence, as it is in the caches now.
+    Ask {
+        line: u32,
+    },
+    Fence,
 }
 
 /// An act, and what it ends.

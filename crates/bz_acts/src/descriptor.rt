@@ -1,13 +1,13 @@
 //! Acts on descriptors, and what each act was.
 
-ghost use Rattle.std.specs.Prelude.{◌≡◌, ◌≢◌, ◌<◌, ◌≤◌, true, false};
+ghost use Rattle.std.specs.Prelude.{◌≡◌, ◌≢◌, ◌<◌, ◌≤◌, ◌+◌, ◌/◌, false};
 ghost use Rattle.bz_layout.specs.Addresses.{swap_address};
-ghost use Rattle.bz_machine.specs.Changes.{with_status, with_field, with_durable_head, with_durable_fields, in_tail};
-ghost use Rattle.bz_cells.specs.Store.{Beside, IsStore, descriptor_word_at, field_address, status_at, status_word, typed};
-ghost use Rattle.bz_acts.specs.Parts.{IsMade};
+ghost use Rattle.bz_machine.specs.Changes.{with_status, with_field, head_of, tail_of, with_ask};
+ghost use Rattle.bz_cells.specs.Store.{Beside, IsStore, MayAsk, descriptor_word_at, field_address, status_at, status_word, typed};
+ghost use Rattle.bz_acts.specs.Parts.{IsMade, IsMadeBy};
 ghost use Rattle.bz_acts.specs.Rule.{is_flush_act};
 ghost use Rattle.bz_acts.specs.Writes.{StaysOutside};
-ghost use Rattle.bz_acts.specs.declared.acted.Act.TheVariants.{Store, Cas};
+ghost use Rattle.bz_acts.specs.declared.acted.Act.TheVariants.{Store, Cas, Ask};
 
 use crate::acted::Act;
 use bz_cells::{Cells, field_at, swap_at, word_of_status};
@@ -84,32 +84,34 @@ pub(crate) fn store_status(cells: &mut Cells, swap: u16, new: SwapStatus) -> Act
     }
 }
 
-/// Flushes a descriptor's first line, which holds the status.
-pub(crate) fn flush_head(cells: &mut Cells, swap: u16) -> Act
+/// Asks for a descriptor's first line, which holds the status.
+pub(crate) fn ask_head(cells: &mut Cells, w: u8, swap: u16) -> Act
     requires typed { IsStore cells.old }
+    requires asker { MayAsk cells.old w }
     requires descriptor { swap < cells.old.swaps }
-    ensures changed { (b : Beside) → typed cells.new b ≡ with_durable_head (typed cells.old b) swap }
-    ensures made { IsMade cells.old result cells.new }
-    ensures flush { is_flush_act result ≡ true }
-    ensures writes { StaysOutside cells.old.swaps result }
+    ensures changed { (b : Beside) → typed cells.new b ≡ with_ask (typed cells.old b) w (head_of swap) }
+    ensures made { IsMadeBy cells.old w result cells.new }
+    ensures flush { is_flush_act result ≡ false }
+    ensures told { result ≡ Ask (swap_address swap / 8) }
 {
-    cells.flush_head(swap);
-    Act::Flush {
+    cells.ask_head(w, swap);
+    Act::Ask {
         line: swap_at(swap) / LINE_WORDS,
     }
 }
 
-/// Flushes a descriptor's second line.
-pub(crate) fn flush_tail(cells: &mut Cells, swap: u16) -> Act
+/// Asks for a descriptor's second line.
+pub(crate) fn ask_tail(cells: &mut Cells, w: u8, swap: u16) -> Act
     requires typed { IsStore cells.old }
+    requires asker { MayAsk cells.old w }
     requires descriptor { swap < cells.old.swaps }
-    ensures changed { (b : Beside) → typed cells.new b ≡ with_durable_fields (typed cells.old b) swap in_tail }
-    ensures made { IsMade cells.old result cells.new }
-    ensures flush { is_flush_act result ≡ true }
-    ensures writes { StaysOutside cells.old.swaps result }
+    ensures changed { (b : Beside) → typed cells.new b ≡ with_ask (typed cells.old b) w (tail_of swap) }
+    ensures made { IsMadeBy cells.old w result cells.new }
+    ensures flush { is_flush_act result ≡ false }
+    ensures told { result ≡ Ask (swap_address swap / 8 + 1) }
 {
-    cells.flush_tail(swap);
-    Act::Flush {
+    cells.ask_tail(w, swap);
+    Act::Ask {
         line: swap_at(swap) / LINE_WORDS + 1,
     }
 }

@@ -9,10 +9,12 @@ ghost use Rattle.bz_acts.specs.Ready.{IsStepReady};
 
 use crate::acted::{Act, Acted};
 use crate::tags::{OldTag, install_pointer, install_tag, look_under_tag, remove_tag, sweep_tag};
-use crate::values::{clear_dirty, clear_final, flush_dirty, flush_final, flush_target, put_final};
-use crate::verdicts::{clear_status, decide, flush_status, look};
+use crate::values::{
+    ask_dirty, ask_final, ask_target, clear_dirty, clear_final, fence_then, put_final,
+};
+use crate::verdicts::{ask_status, clear_status, decide, look};
 use bz_cells::Cells;
-use bz_machine::{DescriptorWords, HelpStep, Next, Worker};
+use bz_machine::{DescriptorWords, HelpStep, Next, Verdict, Worker};
 
 /// An act on the current swap, and what follows.
 #[derive(Clone, Copy)]
@@ -40,14 +42,22 @@ fn help_at(cells: &mut Cells, list: &DescriptorWords, swap: u16, w: u8, step: He
         HelpStep::RemoveTag { entry, worker, seq } => {
             remove_tag(cells, list, OldTag::new(swap, entry, worker, seq))
         }
-        HelpStep::FlushDirty { entry, value } => flush_dirty(cells, list, entry, value),
+        HelpStep::AskDirty { entry, value } => ask_dirty(cells, list, w, entry, value),
+        HelpStep::FenceDirty { entry, value } => {
+            fence_then(cells, w, HelpStep::ClearDirty { entry, value })
+        }
         HelpStep::ClearDirty { entry, value } => clear_dirty(cells, list, entry, value),
-        HelpStep::FlushTarget(entry) => flush_target(cells, list, entry),
+        HelpStep::AskTarget(entry) => ask_target(cells, list, w, entry),
+        HelpStep::FenceTargets => fence_then(cells, w, HelpStep::Decide(Verdict::Succeeded)),
         HelpStep::Decide(verdict) => decide(cells, swap, verdict),
-        HelpStep::FlushStatus(verdict) => flush_status(cells, swap, verdict),
+        HelpStep::AskStatus(verdict) => ask_status(cells, swap, w, verdict),
+        HelpStep::FenceStatus(verdict) => fence_then(cells, w, HelpStep::ClearStatus(verdict)),
         HelpStep::ClearStatus(verdict) => clear_status(cells, swap, verdict),
         HelpStep::PutFinal { entry, verdict } => put_final(cells, list, swap, entry, verdict),
-        HelpStep::FlushFinal { entry, verdict } => flush_final(cells, list, entry, verdict),
+        HelpStep::AskFinal { entry, verdict } => ask_final(cells, list, w, entry, verdict),
+        HelpStep::FenceFinal { entry, verdict } => {
+            fence_then(cells, w, HelpStep::ClearFinal { entry, verdict })
+        }
         HelpStep::ClearFinal { entry, verdict } => clear_final(cells, list, entry, verdict),
         HelpStep::SweepTag {
             entry,

@@ -3,7 +3,7 @@
 ghost use Rattle.std.specs.Prelude.{◌≡◌, length};
 ghost use Rattle.bz_machine.specs.Flushes.{is_flush};
 ghost use Rattle.bz_machine.specs.Workers.{local_of};
-ghost use Rattle.bz_cells.specs.Store.{Beside, IsStore, SameShape, typed, store_words};
+ghost use Rattle.bz_cells.specs.Store.{Beside, IsStore, SameShape, typed, store_state};
 ghost use Rattle.bz_acts.specs.Made.{made, beside_in};
 ghost use Rattle.bz_acts.specs.Parts.{IsStep};
 ghost use Rattle.bz_acts.specs.Ready.{IsReady, IsReadyAt};
@@ -13,7 +13,7 @@ ghost use Rattle.bz_acts.specs.Writes.{WritesAt};
 use crate::acted::Acted;
 use crate::help::help;
 use crate::prepare::{learn, prepare};
-use crate::reading::{clear_read, flush_line, flush_read, read_word, store_word};
+use crate::reading::{ask_read, clear_read, fence_read, flush_line, read_word, store_word};
 use bz_cells::Cells;
 use bz_machine::{Place, Worker};
 
@@ -24,11 +24,12 @@ fn act_at(cells: &mut Cells, worker: &mut Worker, w: u8, place: Place) -> Acted
     ensures { IsStep cells.old worker.old w place result cells.new worker.new }
 {
     match place {
-        Place::Prepare(step) => prepare(cells, worker, step),
+        Place::Prepare(step) => prepare(cells, worker, w, step),
         Place::Learn(k) => learn(cells, worker, k),
         Place::Help(step) => help(cells, worker, w, step),
         Place::ReadWord(a) => read_word(cells, worker, a),
-        Place::FlushRead { address, value } => flush_read(cells, worker, address, value),
+        Place::AskRead { address, value } => ask_read(cells, worker, w, address, value),
+        Place::FenceRead { address, value } => fence_read(cells, worker, w, address, value),
         Place::ClearRead { address, value } => clear_read(cells, worker, address, value),
         Place::StoreWord { address, value } => store_word(cells, worker, address, value),
         Place::FlushLine(line) => flush_line(cells, worker, line),
@@ -43,7 +44,7 @@ pub fn act(cells: &mut Cells, worker: &mut Worker, w: u8) -> Acted
     ensures local { (b : Beside) → local_of worker.new ≡ (made cells.old b worker.old w).local }
     ensures done { (b : Beside) → result.done ≡ (made cells.old b worker.old w).done }
     ensures memory { (b : Beside) → typed cells.new (beside_in (made cells.old b worker.old w).memory) ≡ (made cells.old b worker.old w).memory }
-    ensures words { IsActOf (store_words cells.old) result.act (store_words cells.new) }
+    ensures words { IsActOf (store_state cells.old) w result.act (store_state cells.new) }
     ensures within { IsWithin (length cells.old.cached) result.act }
     ensures flush { is_flush_act result.act ≡ is_flush worker.old.place }
     ensures told { IsToldAt worker.old.place result.act }

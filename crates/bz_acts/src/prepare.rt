@@ -1,14 +1,15 @@
 //! Acts on the descriptor of the own swap, and the loads of another's.
 
-ghost use Rattle.std.specs.Prelude.{◌≡◌, if◌then◌else◌, ◌==◌, ◌+◌, ◌*◌, ◌<◌, ◌≤◌, ℕ};
+ghost use Rattle.std.specs.Prelude.{◌≡◌, if◌then◌else◌, ◌==◌, ◌+◌, ◌*◌, ◌<◌, ◌≤◌, ℕ, length};
 ghost use Rattle.bz_machine.specs.declared.place.Place.TheVariants.{Learn, Prepare as prepares};
-ghost use Rattle.bz_machine.specs.declared.place.PrepareStep.TheVariants.{WriteWord, WriteStatus, FlushHead, FlushTail};
-ghost use Rattle.bz_cells.specs.Store.{IsStore};
+ghost use Rattle.bz_machine.specs.declared.place.PrepareStep.TheVariants.{WriteWord, WriteStatus, AskHead, AskTail, FenceDescriptor};
+ghost use Rattle.bz_cells.specs.Store.{IsStore, MayAsk};
 ghost use Rattle.bz_acts.specs.Parts.{IsStep};
 ghost use Rattle.bz_acts.specs.Ready.{IsPrepareReady, MayLearn};
 
 use crate::acted::Acted;
-use crate::descriptor::{flush_head, flush_tail, load_field, store_field, store_status};
+use crate::descriptor::{ask_head, ask_tail, load_field, store_field, store_status};
+use crate::words::fence;
 use bz_cells::Cells;
 use bz_machine::{Done, HelpStep, Place, PrepareStep, SwapStatus, Worker};
 
@@ -46,34 +47,50 @@ fn write_status(cells: &mut Cells, worker: &mut Worker) -> Acted
     ensures { (w : ℕ) → IsStep cells.old worker.old w (prepares WriteStatus) result cells.new worker.new }
 {
     let act = store_status(cells, worker.current, SwapStatus::Undecided);
-    worker.place = Place::Prepare(PrepareStep::FlushHead);
+    worker.place = Place::Prepare(PrepareStep::AskHead);
     Acted {
         act,
         done: Done::Busy,
     }
 }
 
-// Flushes the descriptor's first line.
-fn flush_first(cells: &mut Cells, worker: &mut Worker) -> Acted
+// Asks for the descriptor's first line.
+fn ask_first(cells: &mut Cells, worker: &mut Worker, w: u8) -> Acted
     requires typed { IsStore cells.old }
+    requires asker { MayAsk cells.old w }
     requires descriptor { worker.old.current < cells.old.swaps }
-    ensures { (w : ℕ) → IsStep cells.old worker.old w (prepares FlushHead) result cells.new worker.new }
+    ensures { IsStep cells.old worker.old w (prepares AskHead) result cells.new worker.new }
 {
-    let act = flush_head(cells, worker.current);
-    worker.place = Place::Prepare(PrepareStep::FlushTail);
+    let act = ask_head(cells, w, worker.current);
+    worker.place = Place::Prepare(PrepareStep::AskTail);
     Acted {
         act,
         done: Done::Busy,
     }
 }
 
-// Flushes its second line; then the swap is published.
-fn flush_second(cells: &mut Cells, worker: &mut Worker) -> Acted
+// Asks for its second line.
+fn ask_second(cells: &mut Cells, worker: &mut Worker, w: u8) -> Acted
     requires typed { IsStore cells.old }
+    requires asker { MayAsk cells.old w }
     requires descriptor { worker.old.current < cells.old.swaps }
-    ensures { (w : ℕ) → IsStep cells.old worker.old w (prepares FlushTail) result cells.new worker.new }
+    ensures { IsStep cells.old worker.old w (prepares AskTail) result cells.new worker.new }
 {
-    let act = flush_tail(cells, worker.current);
+    let act = ask_tail(cells, w, worker.current);
+    worker.place = Place::Prepare(PrepareStep::FenceDescriptor);
+    Acted {
+        act,
+        done: Done::Busy,
+    }
+}
+
+// Makes the fence after both; then the swap is published.
+fn fence_both(cells: &mut Cells, worker: &mut Worker, w: u8) -> Acted
+    requires typed { IsStore cells.old }
+    requires number { w < length cells.old.next_tags }
+    ensures { IsStep cells.old worker.old w (prepares FenceDescriptor) result cells.new worker.new }
+{
+    let act = fence(cells, w);
     worker.place = Place::Help(HelpStep::InstallTag(0));
     Acted {
         act,
@@ -82,17 +99,18 @@ fn flush_second(cells: &mut Cells, worker: &mut Worker) -> Acted
 }
 
 /// An act on the descriptor of the own swap.
-pub(crate) fn prepare(cells: &mut Cells, worker: &mut Worker, step: PrepareStep) -> Acted
+pub(crate) fn prepare(cells: &mut Cells, worker: &mut Worker, w: u8, step: PrepareStep) -> Acted
     requires typed { IsStore cells.old }
     requires descriptor { worker.old.current < cells.old.swaps }
-    requires ready { IsPrepareReady step }
-    ensures { (w : ℕ) → IsStep cells.old worker.old w (prepares step) result cells.new worker.new }
+    requires ready { IsPrepareReady cells.old w step }
+    ensures { IsStep cells.old worker.old w (prepares step) result cells.new worker.new }
 {
     match step {
         PrepareStep::WriteWord(k) => write_word(cells, worker, k),
         PrepareStep::WriteStatus => write_status(cells, worker),
-        PrepareStep::FlushHead => flush_first(cells, worker),
-        PrepareStep::FlushTail => flush_second(cells, worker),
+        PrepareStep::AskHead => ask_first(cells, worker, w),
+        PrepareStep::AskTail => ask_second(cells, worker, w),
+        PrepareStep::FenceDescriptor => fence_both(cells, worker, w),
     }
 }
 

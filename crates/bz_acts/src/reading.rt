@@ -1,17 +1,17 @@
 //! Acts of a read, and of private words.
 
-ghost use Rattle.std.specs.Prelude.{◌≡◌, ◌*◌, ◌<◌, ◌^◌, ℕ};
+ghost use Rattle.std.specs.Prelude.{◌≡◌, ◌*◌, ◌<◌, ◌^◌, ℕ, length};
 ghost use Rattle.bz_machine.specs.Machine.{Memory};
 ghost use Rattle.bz_machine.specs.Steps.{answers, read_act};
 ghost use Rattle.bz_machine.specs.Workers.{local_of};
-ghost use Rattle.bz_machine.specs.declared.place.Place.TheVariants.{ReadWord, FlushRead, ClearRead, StoreWord, FlushLine};
-ghost use Rattle.bz_cells.specs.Store.{IsStore};
+ghost use Rattle.bz_machine.specs.declared.place.Place.TheVariants.{ReadWord, AskRead, FenceRead, ClearRead, StoreWord, FlushLine};
+ghost use Rattle.bz_cells.specs.Store.{IsStore, MayAsk};
 ghost use Rattle.bz_acts.specs.Parts.{IsStep};
 ghost use Rattle.bz_acts.specs.Ready.{LiesOutside};
 
 use crate::acted::Acted;
 use crate::values::clear_value;
-use crate::words::{flush_word, load_word, store_value};
+use crate::words::{ask_word, fence, flush_word, load_word, store_value};
 use bz_cells::Cells;
 use bz_layout::LINE_WORDS;
 use bz_machine::{Done, Operation, Place, Worker};
@@ -35,7 +35,7 @@ fn after_read(worker: &mut Worker, address: u32, found: WordKind) -> Done
     match found {
         WordKind::Value(value) => answer(worker, Done::Read(value)),
         WordKind::Dirty(value) => {
-            worker.place = Place::FlushRead { address, value };
+            worker.place = Place::AskRead { address, value };
             Done::Busy
         }
         WordKind::Swap(swap) | WordKind::Tag { swap, .. } => {
@@ -58,15 +58,41 @@ pub(crate) fn read_word(cells: &Cells, worker: &mut Worker, a: u32) -> Acted
     }
 }
 
-/// Flushes the line of the word that is read.
-pub(crate) fn flush_read(cells: &mut Cells, worker: &mut Worker, address: u32, value: u64) -> Acted
+/// Asks for the line of the word that is read.
+pub(crate) fn ask_read(
+    cells: &mut Cells,
+    worker: &mut Worker,
+    w: u8,
+    address: u32,
+    value: u64,
+) -> Acted
     requires typed { IsStore cells.old }
+    requires asker { MayAsk cells.old w }
     requires lies { LiesOutside cells.old address }
-    ensures { (w : ℕ) → IsStep cells.old worker.old w (FlushRead address value) result cells.new worker.new }
+    ensures { IsStep cells.old worker.old w (AskRead address value) result cells.new worker.new }
+{
+    worker.place = Place::FenceRead { address, value };
+    Acted {
+        act: ask_word(cells, w, address),
+        done: Done::Busy,
+    }
+}
+
+/// Makes the fence after it.
+pub(crate) fn fence_read(
+    cells: &mut Cells,
+    worker: &mut Worker,
+    w: u8,
+    address: u32,
+    value: u64,
+) -> Acted
+    requires typed { IsStore cells.old }
+    requires number { w < length cells.old.next_tags }
+    ensures { IsStep cells.old worker.old w (FenceRead address value) result cells.new worker.new }
 {
     worker.place = Place::ClearRead { address, value };
     Acted {
-        act: flush_word(cells, address),
+        act: fence(cells, w),
         done: Done::Busy,
     }
 }

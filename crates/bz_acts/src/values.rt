@@ -1,20 +1,22 @@
-//! Acts on the values of a swap's targets: what is flushed, what is put at the end, and the dirty bits.
+//! Acts on the values of a swap's targets: what is asked for, what is put at the end, and the dirty bits; and fences.
 
-ghost use Rattle.std.specs.Prelude.{◌≡◌, if◌then◌else◌, ◌==◌, ◌+◌, ◌<◌, ◌^◌, false, ℕ, slice_index};
+ghost use Rattle.std.specs.Prelude.{◌≡◌, if◌then◌else◌, ◌==◌, ◌+◌, ◌<◌, ◌^◌, true, false, ℕ, length, slice_index};
 ghost use Rattle.bz_machine.specs.Machine.{Entries, entries_in};
+ghost use Rattle.bz_machine.specs.Changes.{fenced};
 ghost use Rattle.bz_machine.specs.HelpActs.{cleared_word, final_value as final_value_in};
-ghost use Rattle.bz_machine.specs.declared.place.HelpStep.TheVariants.{FlushDirty, ClearDirty, FlushTarget, Decide as decide, PutFinal, FlushFinal, ClearFinal};
-ghost use Rattle.bz_machine.specs.declared.status.Verdict.TheVariants.{Succeeded};
-ghost use Rattle.bz_cells.specs.Store.{Beside, IsStore, kind_at, typed};
-ghost use Rattle.bz_acts.specs.Parts.{IsHelp, IsMade};
+ghost use Rattle.bz_machine.specs.declared.place.HelpStep.TheVariants.{AskDirty, ClearDirty, AskTarget, FenceTargets, PutFinal, AskFinal, ClearFinal};
+ghost use Rattle.bz_machine.specs.declared.place.Next.TheVariants.{Step};
+ghost use Rattle.bz_cells.specs.Store.{Beside, IsStore, MayAsk, kind_at, typed};
+ghost use Rattle.bz_acts.specs.Parts.{IsHelp, IsMade, IsMadeBy};
 ghost use Rattle.bz_acts.specs.Ready.{IsUsable, LiesOutside};
 ghost use Rattle.bz_acts.specs.Rule.{is_flush_act};
 ghost use Rattle.bz_acts.specs.Writes.{StaysOutside};
+ghost use Rattle.bz_acts.specs.declared.acted.Act.TheVariants.{Fence};
 
 use crate::acted::Act;
 use crate::entry::{Aim, aim_of};
 use crate::help::Helped;
-use crate::words::{cas_word, flush_word};
+use crate::words::{ask_word, cas_word, fence};
 use bz_cells::Cells;
 use bz_machine::{DescriptorWords, HelpStep, Next, Verdict, after_put_final, finished};
 use bz_word::WordKind;
@@ -45,21 +47,39 @@ fn final_value(aim: Aim, verdict: Verdict) -> u64
     }
 }
 
-/// Flushes the line of a target, where a dirty value stands.
-pub(crate) fn flush_dirty(
+/// Makes a fence, after which this step follows.
+pub(crate) fn fence_then(cells: &mut Cells, w: u8, step: HelpStep) -> Helped
+    requires typed { IsStore cells.old }
+    requires worker { w < length cells.old.next_tags }
+    ensures memory { (b : Beside) → typed cells.new b ≡ fenced (typed cells.old b) w }
+    ensures next { result.next ≡ Step step }
+    ensures made { IsMadeBy cells.old w result.act cells.new }
+    ensures flush { is_flush_act result.act ≡ true }
+    ensures told { result.act ≡ Fence }
+{
+    Helped {
+        act: fence(cells, w),
+        next: Next::Step(step),
+    }
+}
+
+/// Asks for the line of a target, where a dirty value stands.
+pub(crate) fn ask_dirty(
     cells: &mut Cells,
     list: &DescriptorWords,
+    w: u8,
     entry: u8,
     value: u64,
 ) -> Helped
     requires typed { IsStore cells.old }
     requires usable { IsUsable cells.old (entries_in (slice_index list.now.words)) entry }
-    ensures { (w s : ℕ) → IsHelp (entries_in (slice_index list.now.words)) cells.old w s (FlushDirty entry value) result cells.new }
+    requires asker { MayAsk cells.old w }
+    ensures { (s : ℕ) → IsHelp (entries_in (slice_index list.now.words)) cells.old w s (AskDirty entry value) result cells.new }
 {
     let aim = aim_of(cells, list, entry);
     Helped {
-        act: flush_word(cells, aim.target),
-        next: Next::Step(HelpStep::ClearDirty { entry, value }),
+        act: ask_word(cells, w, aim.target),
+        next: Next::Step(HelpStep::FenceDirty { entry, value }),
     }
 }
 
@@ -82,28 +102,29 @@ pub(crate) fn clear_dirty(
     }
 }
 
-// What follows the flush of a target.
-fn after_flush_target(count: u8, entry: u8) -> HelpStep
+// What follows the ask for a target.
+fn after_ask_target(count: u8, entry: u8) -> HelpStep
     requires { entry < count }
-    ensures { result ≡ (if entry + 1 == count then decide Succeeded else FlushTarget (entry + 1)) }
+    ensures { result ≡ (if entry + 1 == count then FenceTargets else AskTarget (entry + 1)) }
 {
     if entry + 1 == count {
-        HelpStep::Decide(Verdict::Succeeded)
+        HelpStep::FenceTargets
     } else {
-        HelpStep::FlushTarget(entry + 1)
+        HelpStep::AskTarget(entry + 1)
     }
 }
 
-/// Flushes the line of a target, where the pointer stands.
-pub(crate) fn flush_target(cells: &mut Cells, list: &DescriptorWords, entry: u8) -> Helped
+/// Asks for the line of a target, where the pointer stands.
+pub(crate) fn ask_target(cells: &mut Cells, list: &DescriptorWords, w: u8, entry: u8) -> Helped
     requires typed { IsStore cells.old }
     requires usable { IsUsable cells.old (entries_in (slice_index list.now.words)) entry }
-    ensures { (w s : ℕ) → IsHelp (entries_in (slice_index list.now.words)) cells.old w s (FlushTarget entry) result cells.new }
+    requires asker { MayAsk cells.old w }
+    ensures { (s : ℕ) → IsHelp (entries_in (slice_index list.now.words)) cells.old w s (AskTarget entry) result cells.new }
 {
     let aim = aim_of(cells, list, entry);
     Helped {
-        act: flush_word(cells, aim.target),
-        next: Next::Step(after_flush_target(aim.count, entry)),
+        act: ask_word(cells, w, aim.target),
+        next: Next::Step(after_ask_target(aim.count, entry)),
     }
 }
 
@@ -128,21 +149,23 @@ pub(crate) fn put_final(
     }
 }
 
-/// Flushes the line of the final value.
-pub(crate) fn flush_final(
+/// Asks for the line of the final value.
+pub(crate) fn ask_final(
     cells: &mut Cells,
     list: &DescriptorWords,
+    w: u8,
     entry: u8,
     verdict: Verdict,
 ) -> Helped
     requires typed { IsStore cells.old }
     requires usable { IsUsable cells.old (entries_in (slice_index list.now.words)) entry }
-    ensures { (w s : ℕ) → IsHelp (entries_in (slice_index list.now.words)) cells.old w s (FlushFinal entry verdict) result cells.new }
+    requires asker { MayAsk cells.old w }
+    ensures { (s : ℕ) → IsHelp (entries_in (slice_index list.now.words)) cells.old w s (AskFinal entry verdict) result cells.new }
 {
     let aim = aim_of(cells, list, entry);
     Helped {
-        act: flush_word(cells, aim.target),
-        next: Next::Step(HelpStep::ClearFinal { entry, verdict }),
+        act: ask_word(cells, w, aim.target),
+        next: Next::Step(HelpStep::FenceFinal { entry, verdict }),
     }
 }
 

@@ -3,11 +3,11 @@
 ghost use Rattle.std.specs.Prelude.{◌≡◌, ◌<◌, ℕ};
 ghost use Rattle.bz_machine.specs.Machine.{Entries, Memory};
 ghost use Rattle.bz_machine.specs.HelpActs.{after_decide as after_decide_by};
-ghost use Rattle.bz_machine.specs.declared.place.HelpStep.TheVariants.{Look, Decide as decides, FlushStatus, ClearStatus};
-ghost use Rattle.bz_cells.specs.Store.{IsStore};
+ghost use Rattle.bz_machine.specs.declared.place.HelpStep.TheVariants.{Look, Decide as decides, AskStatus, ClearStatus};
+ghost use Rattle.bz_cells.specs.Store.{IsStore, MayAsk};
 ghost use Rattle.bz_acts.specs.Parts.{IsHelp};
 
-use crate::descriptor::{cas_status, flush_head, load_status};
+use crate::descriptor::{ask_head, cas_status, load_status};
 use crate::help::Helped;
 use bz_cells::Cells;
 use bz_machine::{HelpStep, Next, SwapStatus, Verdict, by_status};
@@ -30,7 +30,7 @@ fn after_decide(verdict: Verdict, found: SwapStatus) -> Next
     ensures { (m : Memory) (s : ℕ) → result ≡ (after_decide_by m s verdict found).next }
 {
     match found {
-        SwapStatus::Undecided => Next::Step(HelpStep::FlushStatus(verdict)),
+        SwapStatus::Undecided => Next::Step(HelpStep::AskStatus(verdict)),
         other => Next::Step(by_status(other)),
     }
 }
@@ -53,15 +53,16 @@ pub(crate) fn decide(cells: &mut Cells, swap: u16, verdict: Verdict) -> Helped
     }
 }
 
-/// Flushes the verdict.
-pub(crate) fn flush_status(cells: &mut Cells, swap: u16, verdict: Verdict) -> Helped
+/// Asks for the verdict.
+pub(crate) fn ask_status(cells: &mut Cells, swap: u16, w: u8, verdict: Verdict) -> Helped
     requires typed { IsStore cells.old }
+    requires asker { MayAsk cells.old w }
     requires descriptor { swap < cells.old.swaps }
-    ensures { (x : Entries) (w : ℕ) → IsHelp x cells.old w swap (FlushStatus verdict) result cells.new }
+    ensures { (x : Entries) → IsHelp x cells.old w swap (AskStatus verdict) result cells.new }
 {
     Helped {
-        act: flush_head(cells, swap),
-        next: Next::Step(HelpStep::ClearStatus(verdict)),
+        act: ask_head(cells, w, swap),
+        next: Next::Step(HelpStep::FenceStatus(verdict)),
     }
 }
 

@@ -1,15 +1,15 @@
 //! Acts on words outside the descriptors, and what each act was.
 
-ghost use Rattle.std.specs.Prelude.{◌≡◌, ◌≢◌, ◌<◌, ◌^◌, ◌/◌, true, false, slice_index};
+ghost use Rattle.std.specs.Prelude.{◌≡◌, ◌≢◌, ◌<◌, ◌^◌, ◌/◌, true, false, length, slice_index};
 ghost use Rattle.bz_word.specs.Kinds.{IsKind, word};
 ghost use Rattle.bz_word.specs.declared.kind.WordKind.TheVariants.{Value};
-ghost use Rattle.bz_machine.specs.Changes.{with_word, with_tag, with_copies, in_line};
-ghost use Rattle.bz_cells.specs.Store.{Beside, IsStore, MayTag, kind_at, typed};
-ghost use Rattle.bz_acts.specs.Parts.{IsMade};
+ghost use Rattle.bz_machine.specs.Changes.{with_word, with_tag, with_copies, in_line, line_of, with_ask, fenced};
+ghost use Rattle.bz_cells.specs.Store.{Beside, IsStore, MayTag, MayAsk, kind_at, typed};
+ghost use Rattle.bz_acts.specs.Parts.{IsMade, IsMadeBy};
 ghost use Rattle.bz_acts.specs.Ready.{LiesOutside};
 ghost use Rattle.bz_acts.specs.Rule.{is_flush_act};
 ghost use Rattle.bz_acts.specs.Writes.{StaysOutside};
-ghost use Rattle.bz_acts.specs.declared.acted.Act.TheVariants.{Load, Store, Flush};
+ghost use Rattle.bz_acts.specs.declared.acted.Act.TheVariants.{Load, Store, Flush, Ask, Fence};
 
 use crate::acted::Act;
 use bz_cells::Cells;
@@ -136,4 +136,33 @@ pub(crate) fn flush_word(cells: &mut Cells, a: u32) -> Act
     Act::Flush {
         line: a / LINE_WORDS,
     }
+}
+
+/// Asks for the line of an address.
+pub(crate) fn ask_word(cells: &mut Cells, w: u8, a: u32) -> Act
+    requires typed { IsStore cells.old }
+    requires asker { MayAsk cells.old w }
+    requires lies { LiesOutside cells.old a }
+    ensures changed { (b : Beside) → typed cells.new b ≡ with_ask (typed cells.old b) w (line_of a) }
+    ensures made { IsMadeBy cells.old w result cells.new }
+    ensures flush { is_flush_act result ≡ false }
+    ensures told { result ≡ Ask (a / 8) }
+{
+    cells.ask_word(w, a);
+    Act::Ask {
+        line: a / LINE_WORDS,
+    }
+}
+
+/// Makes a fence.
+pub(crate) fn fence(cells: &mut Cells, w: u8) -> Act
+    requires typed { IsStore cells.old }
+    requires worker { w < length cells.old.next_tags }
+    ensures changed { (b : Beside) → typed cells.new b ≡ fenced (typed cells.old b) w }
+    ensures made { IsMadeBy cells.old w result cells.new }
+    ensures flush { is_flush_act result ≡ true }
+    ensures told { result ≡ Fence }
+{
+    cells.fence(w);
+    Act::Fence
 }

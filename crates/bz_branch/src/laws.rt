@@ -1,9 +1,6 @@
-//! What splits of inner nodes lead to, and what is known of a node that was read word by word. Each function does nothing: its
-//! contract is the law.
+//! What is known of an inner node that was read word by word. Each function does nothing: its contract is the law.
 
-ghost use Rattle.bz_branch.specs.InnerSplits.{InnerSplitsAreGood};
 ghost use Rattle.bz_branch.specs.Nodes.{ReadNodesWere, ParentsOfNodesWere};
-ghost use Rattle.bz_branch.specs.RootSplits.{InnerRootSplitsAreGood};
 
 use bz_content::laws as content;
 use bz_halves::laws as halves;
@@ -31,15 +28,3 @@ pub fn parents_of_nodes_were()
     renew::guarded_links_stand();
     halves::read_children_may_be_parted();
 }
-
-/// The swap by which a new parent takes its place, with the halves of an inner node in the node's, and the old parent and the node
-/// are frozen, is lawful for everybody and changes no content.
-pub fn inner_splits_are_good()
-    ensures { InnerSplitsAreGood }
-{}
-
-/// The swap by which a new root over the halves of an inner root takes its place, and that is frozen, is lawful for everybody and
-/// changes no content.
-pub fn inner_root_splits_are_good()
-    ensures { InnerRootSplitsAreGood }
-{}

@@ -6,12 +6,15 @@ use Rattle.bz_word.specs.Kinds.{word, IsKind}
 use Rattle.bz_word.proofs.Lemmas.KindWords.{kind-word, IsWord-word}
 use Rattle.bz_word.specs.declared.kind.WordKind.{WordKind}
 use Rattle.bz_layout.specs.Addresses.{swap_address}
-use Rattle.bz_pm.specs.Words.{Words}
-use Rattle.bz_pm.specs.Acts.{with_line, stored, compared}
+use Rattle.bz_pm.specs.State.{State}
+use Rattle.bz_pm.specs.Acts.{with_line, stored}
 use Rattle.bz_pm.specs.Changes.{StoresOnly}
+use Rattle.bz_pm.specs.After.{after_cas, after_flush}
+use Rattle.bz_pm.proofs.Dates.{state_flushed}
 use Rattle.bz_pm.proofs.Lemmas.{store, flush}
 use Rattle.bz_machine.specs.Changes.{with_word, with_copies, in_line}
-use Rattle.bz_cells.specs.Store.{Store, Beside, IsStore, IsOutside, IsStatusWord, typed, kind_at, store_words}
+use Rattle.bz_cells.specs.Store.{Store, Beside, IsStore, IsOutside, IsStatusWord, typed, kind_at, store_words, store_state, with_state}
+use Rattle.bz_cells.proofs.Pasts.{dated-flush}
 use Rattle.bz_cells.proofs.Places.{outside-told, status-not_outside}
 use Rattle.bz_cells.proofs.Stores.{words-chosen, words-set, store-cached, store-durable}
 use Rattle.bz_cells.proofs.Typed.{typed-stored, typed-flushed}
@@ -45,30 +48,30 @@ store-if st a k i out within is_kind true = store-stored st a k i out within is_
 store-if st a k i out within is_kind false = i
 
 pub store-compared : (st : Store) (a : ℕ) (old new : WordKind) → IsStore st → IsOutside st.swaps a → a < length st.cached → IsKind new
-    → (m : Words) → m ≡ compared (store_words st) a (word old) (word new) → IsStore (record st { cached = m.cached; durable = m.durable })
+    → (m : State) → m ≡ after_cas (store_state st) a (word old) (word new) → IsStore (with_state st m)
 store-compared st a old new i out within is_kind m e = rw e (store-if st a new i out within is_kind (slice_index st.cached a == word old))
 
 compared-hit : (ws : List ℕ) (a x y : ℕ) → slice_index ws a ≡ x → (if slice_index ws a == x then slice_set ws a y else ws) ≡ slice_set ws a y
 compared-hit ws a x y e = grind (arith, common_steps)
 
-pub typed-compared : (st : Store) (b : Beside) (a : ℕ) (old new : WordKind) (m : Words) → m ≡ compared (store_words st) a (word old) (word new)
+pub typed-compared : (st : Store) (b : Beside) (a : ℕ) (old new : WordKind) (m : State) → m ≡ after_cas (store_state st) a (word old) (word new)
     → IsStore st → IsOutside st.swaps a → a < length st.cached → IsKind new → slice_index st.cached a ≡ word old
-    → typed (record st { cached = m.cached; durable = m.durable }) b ≡ with_word (typed st b) a new
+    → typed (with_state st m) b ≡ with_word (typed st b) a new
 typed-compared st b a old new m e i out within is_kind hit =
     rw e (ap (λ ws. typed (record st { cached = ws; durable = st.durable }) b) (compared-hit st.cached a (word old) (word new) hit) ∙ typed-store st b a new i out within is_kind)
 
 -- the flush of any line leaves a store
-pub store-flush : (st : Store) (line : ℕ) → IsStore st → line * 8 < length st.cached
-    → IsStore (record st { cached = st.cached; durable = with_line line st.cached st.durable })
+pub store-flush : (st : Store) (line : ℕ) → IsStore st → line * 8 < length st.cached → IsStore (with_state st (after_flush (store_state st) line))
 store-flush st line i within =
     let change = flush (store_words st) line i.has_room.memory within in
-    store-durable st (with_line line st.cached st.durable) i change.stays
+    store-durable st (with_line line st.cached st.durable) _ i change.stays (state_flushed (store_state st) line i.has_room.state within)
     (words-chosen st.swaps (λ c. c / 8 == line) st.cached st.durable (with_line line st.cached st.durable) change.durable i.cached i.durable)
 
 pub typed-flush : (st : Store) (b : Beside) (a : ℕ) → IsStore st → IsOutside st.swaps a → a < length st.cached
-    → typed (record st { cached = st.cached; durable = with_line (a / 8) st.cached st.durable }) b ≡ with_copies (typed st b) (in_line a)
+    → typed (with_state st (after_flush (store_state st) (a / 8))) b ≡ with_copies (typed st b) (in_line a)
 typed-flush st b a i out within =
-    typed-flushed st b a (with_line (a / 8) st.cached st.durable) out (flush (store_words st) (a / 8) i.has_room.memory (omega arith)).durable
+    typed-flushed st b a (with_line (a / 8) st.cached st.durable) _ out (flush (store_words st) (a / 8) i.has_room.memory (omega arith)).durable
+    (dated-flush (store_state st) (a / 8) i.has_room.state (omega arith))
 
 -- what stands at an address outside the descriptors
 pub kind_at-word : (swaps : ℕ) (ws : List ℕ) (a : ℕ) (k : WordKind) → IsOutside swaps a → IsKind k → word k ≡ slice_index ws a → k ≡ kind_at swaps ws a

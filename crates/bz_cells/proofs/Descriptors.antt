@@ -7,19 +7,21 @@ use Rattle.bz_layout.specs.Addresses.{swap_address}
 use Rattle.bz_machine.specs.declared.status.SwapStatus.{SwapStatus}
 use Rattle.bz_machine.specs.declared.status.SwapStatus.TheVariants.{Free, Undecided, Deciding, Decided}
 use Rattle.bz_machine.specs.declared.status.Verdict.TheVariants.{Succeeded, Failed}
-use Rattle.bz_machine.specs.Changes.{put, with_status, with_field, with_durable_status, with_durable_fields, with_durable_head, in_head, in_tail}
-use Rattle.bz_cells.specs.Store.{Store, Beside, typed, status_word, status_of, IsOutside, field_address, field_count}
+use Rattle.bz_machine.specs.Changes.{put, with_status, with_field, with_durable_status, with_durable_fields}
+use Rattle.bz_machine.specs.Pending.{Pending}
+use Rattle.bz_cells.specs.Store.{Store, Beside, typed, status_word, status_of, field_address, field_count, word_pending}
 use Rattle.bz_cells.proofs.Readers.{AreChosen, status_in, field_in, kind-stays, status-chosen, status-stays, field-chosen, field-stays}
-use Rattle.bz_cells.proofs.Places.{differ, told-outside, status-not_outside, field-not_outside, status-not_in_line}
-use Rattle.bz_cells.proofs.Typed.{same_memory, none-copied, none-fields}
+use Rattle.bz_cells.proofs.Places.{differ, told-outside, status-not_outside, field-not_outside}
+use Rattle.bz_cells.proofs.Pendings.{AreDated, kind-undated, status-undated, field-undated, status-dated, field-dated}
+use Rattle.bz_cells.proofs.Typed.{same_memory}
 
-same : (a : ℕ) → (a == a) ≡ true
+pub same : (a : ℕ) → (a == a) ≡ true
 same a = grind (arith, common_steps)
 
-agree : (a b : ℕ) → a ≡ b → (a == b) ≡ true
+pub agree : (a b : ℕ) → a ≡ b → (a == b) ≡ true
 agree a b e = grind (arith, common_steps)
 
-turned : {a b : ℕ} → a ≢ b → b ≢ a
+pub turned : {a b : ℕ} → a ≢ b → b ≢ a
 turned ne e = ne (sym e)
 
 -- a function that is another one but for one value
@@ -70,6 +72,22 @@ field-field t j s k less fewer ne = omega arith
 
 number-number : (s j k : ℕ) → j ≢ k → field_address s j ≢ field_address s k
 number-number s j k ne = omega arith
+
+-- tests on addresses, by the numbers of descriptors and words
+pub status-told : (t s : ℕ) → (swap_address t == swap_address s) ≡ (t == s)
+status-told t s = elim (cases_eq t s) [
+  | inl e ↦ rw (e, same (swap_address s), same s) refl
+  | inr ne ↦ rw (differ t s ne) (differ _ _ (status-status t s ne))
+]
+
+field-told : (t j s k : ℕ) → j < field_count → k < field_count → (field_address t j == field_address s k) ≡ (if t == s then j == k else false)
+field-told t j s k less fewer = elim (cases_eq t s) [
+  | inl e ↦ rw (e, same s) (elim (cases_eq j k) [
+    | inl same_number ↦ rw (same_number, same (field_address s k), same k) refl
+    | inr ne ↦ rw (differ j k ne) (differ _ _ (number-number s j k ne))
+  ])
+  | inr ne ↦ rw (differ t s ne) (differ _ _ (field-field t j s k less fewer ne))
+]
 
 -- a status is stored
 pub typed-status : (st : Store) (b : Beside) (s : ℕ) (v : SwapStatus) (into : List ℕ) → s < st.swaps
@@ -131,97 +149,12 @@ typed-field st b s k x into lt less h =
     here : field_in st.swaps new s k ≡ x
     here = rw word (grind (arith, common_steps, lt, less))
 
--- the first line of a descriptor becomes durable
-pub typed-head : (st : Store) (b : Beside) (s : ℕ) (into : List ℕ) → s < st.swaps
-    → AreChosen (λ c. c / 8 == swap_address s / 8) (slice_index st.cached) (slice_index st.durable) (slice_index into)
-    → typed (record st { cached = st.cached; durable = into }) b ≡ with_durable_head (typed st b) s
-typed-head st b s into lt h =
-    same_memory _ _ (λ a. refl)
-    (λ a. kind-stays st.swaps p from old new h a (λ told. differ _ _ (turned (status-not_in_line st.swaps a s (told-outside st.swaps a told) lt))))
-    (λ t. refl)
-    (put-one (status_in st.swaps old) s (status_in st.swaps from s) (status_in st.swaps new) here
-    (λ t ne. status-stays st.swaps p from old new h t (λ below. differ _ _ (lines t ne))))
-    (λ t k. refl)
-    (put-row (field_in st.swaps old) s (λ k. if in_head k then field_in st.swaps from s k else field_in st.swaps old s k) (field_in st.swaps new)
-    (λ k. row-told st.swaps s k p in_head from old new h (λ less. inside k))
-    (λ t k ne. field-stays st.swaps p from old new h t k (λ below fewer. differ _ _ (far t k ne fewer))))
-    refl (λ a. refl) (λ t. none-copied (t == s)) (λ t k. none-fields (t == s) (in_head k)) refl refl refl refl refl refl refl
-  where
-    p : ℕ → Bool
-    p c = c / 8 == swap_address s / 8
-
-    from : ℕ → ℕ
-    from = slice_index st.cached
-
-    old : ℕ → ℕ
-    old = slice_index st.durable
-
-    new : ℕ → ℕ
-    new = slice_index into
-
-    here : status_in st.swaps new s ≡ status_in st.swaps from s
-    here = status-chosen st.swaps p from old new h s ∙ rw (same (swap_address s / 8)) refl
-
-    lines : (t : ℕ) → t ≢ s → swap_address t / 8 ≢ swap_address s / 8
-    lines t ne = omega arith
-
-    far : (t k : ℕ) → t ≢ s → k < field_count → field_address t k / 8 ≢ swap_address s / 8
-    far t k ne fewer = omega arith
-
-    inside : (k : ℕ) → p (field_address s k) ≡ in_head k
-    inside k = elim (cases_lt k 7) [
-      | inl low ↦ agree _ _ (omega arith) ∙ grind (arith, common_steps)
-      | inr high ↦ differ _ _ (omega arith) ∙ grind (arith, common_steps)
-    ]
-
--- the second line of a descriptor becomes durable
-pub typed-tail : (st : Store) (b : Beside) (s : ℕ) (into : List ℕ) → s < st.swaps
-    → AreChosen (λ c. c / 8 == swap_address s / 8 + 1) (slice_index st.cached) (slice_index st.durable) (slice_index into)
-    → typed (record st { cached = st.cached; durable = into }) b ≡ with_durable_fields (typed st b) s in_tail
-typed-tail st b s into lt h =
-    same_memory _ _ (λ a. refl)
-    (λ a. kind-stays st.swaps p from old new h a (λ told. differ _ _ (away a (told-outside st.swaps a told))))
-    (λ t. refl)
-    (λ t. status-stays st.swaps p from old new h t (λ below. differ _ _ (lines t)))
-    (λ t k. refl)
-    (put-row (field_in st.swaps old) s (λ k. if in_tail k then field_in st.swaps from s k else field_in st.swaps old s k) (field_in st.swaps new)
-    (λ k. row-told st.swaps s k p in_tail from old new h (λ less. inside k less))
-    (λ t k ne. field-stays st.swaps p from old new h t k (λ below fewer. differ _ _ (far t k ne fewer))))
-    refl (λ a. refl) (λ t. refl) (λ t k. none-fields (t == s) (in_tail k)) refl refl refl refl refl refl refl
-  where
-    p : ℕ → Bool
-    p c = c / 8 == swap_address s / 8 + 1
-
-    from : ℕ → ℕ
-    from = slice_index st.cached
-
-    old : ℕ → ℕ
-    old = slice_index st.durable
-
-    new : ℕ → ℕ
-    new = slice_index into
-
-    away : (a : ℕ) → IsOutside st.swaps a → a / 8 ≢ swap_address s / 8 + 1
-    away a (inl below) = omega arith
-    away a (inr above) = omega arith
-
-    lines : (t : ℕ) → swap_address t / 8 ≢ swap_address s / 8 + 1
-    lines t = omega arith
-
-    far : (t k : ℕ) → t ≢ s → k < field_count → field_address t k / 8 ≢ swap_address s / 8 + 1
-    far t k ne fewer = omega arith
-
-    inside : (k : ℕ) → k < field_count → p (field_address s k) ≡ in_tail k
-    inside k less = elim (cases_lt k 7) [
-      | inl low ↦ differ _ _ (omega arith) ∙ grind (arith, common_steps)
-      | inr high ↦ agree _ _ (omega arith) ∙ grind (arith, common_steps)
-    ]
-
 -- the status alone becomes durable
-pub typed-status_alone : (st : Store) (b : Beside) (s : ℕ) (into : List ℕ) → s < st.swaps
+pub typed-status_alone : (st : Store) (b : Beside) (s : ℕ) (into dates : List ℕ) → s < st.swaps
     → AreChosen (λ c. c == swap_address s) (slice_index st.cached) (slice_index st.durable) (slice_index into)
-    → typed (record st { cached = st.cached; durable = into }) b ≡ with_durable_status (typed st b) s
-typed-status_alone st b s into lt h =
+    → AreDated (λ c. c == swap_address s) st.past.count (word_pending st.past) (word_pending (record st.past { since = dates }))
+    → typed (record st { cached = st.cached; durable = into; past = record st.past { since = dates } }) b ≡ with_durable_status (typed st b) s
+typed-status_alone st b s into dates lt h dated =
     same_memory _ _ (λ a. refl)
     (λ a. kind-stays st.swaps p from old new h a (λ told. differ _ _ (turned (status-not_outside st.swaps a s (told-outside st.swaps a told) lt))))
     (λ t. refl)
@@ -229,7 +162,11 @@ typed-status_alone st b s into lt h =
     (λ t ne. status-stays st.swaps p from old new h t (λ below. differ _ _ (status-status t s ne))))
     (λ t k. refl)
     (λ t k. field-stays st.swaps p from old new h t k (λ below fewer. differ _ _ (field-status t k s fewer)))
-    refl (λ a. refl) (λ t. none-copied (t == s)) (λ t k. refl) refl refl refl refl refl refl refl
+    refl
+    (λ a. kind-undated st.swaps p st.past.count was is dated a (λ told. differ _ _ (turned (status-not_outside st.swaps a s (told-outside st.swaps a told) lt))))
+    (λ t. status-dated st.swaps p st.past.count was is dated s t lt (λ below. status-told t s))
+    (λ t k. field-undated st.swaps p st.past.count was is dated t k (λ below fewer. differ _ _ (field-status t k s fewer)))
+    refl refl refl refl refl refl refl
   where
     p : ℕ → Bool
     p c = c == swap_address s
@@ -243,14 +180,21 @@ typed-status_alone st b s into lt h =
     new : ℕ → ℕ
     new = slice_index into
 
+    was : ℕ → Pending ℕ
+    was = word_pending st.past
+
+    is : ℕ → Pending ℕ
+    is = word_pending (record st.past { since = dates })
+
     here : status_in st.swaps new s ≡ status_in st.swaps from s
     here = status-chosen st.swaps p from old new h s ∙ rw (same (swap_address s)) refl
 
 -- one word after the status becomes durable
-pub typed-field_alone : (st : Store) (b : Beside) (s k : ℕ) (into : List ℕ) → s < st.swaps → k < field_count
+pub typed-field_alone : (st : Store) (b : Beside) (s k : ℕ) (into dates : List ℕ) → s < st.swaps → k < field_count
     → AreChosen (λ c. c == field_address s k) (slice_index st.cached) (slice_index st.durable) (slice_index into)
-    → typed (record st { cached = st.cached; durable = into }) b ≡ with_durable_fields (typed st b) s (λ j. j == k)
-typed-field_alone st b s k into lt less h =
+    → AreDated (λ c. c == field_address s k) st.past.count (word_pending st.past) (word_pending (record st.past { since = dates }))
+    → typed (record st { cached = st.cached; durable = into; past = record st.past { since = dates } }) b ≡ with_durable_fields (typed st b) s (λ j. j == k)
+typed-field_alone st b s k into dates lt less h dated =
     same_memory _ _ (λ a. refl)
     (λ a. kind-stays st.swaps p from old new h a (λ told. differ _ _ (turned (field-not_outside st.swaps a s k (told-outside st.swaps a told) lt less))))
     (λ t. refl)
@@ -259,7 +203,11 @@ typed-field_alone st b s k into lt less h =
     (put-row (field_in st.swaps old) s (λ j. if j == k then field_in st.swaps from s j else field_in st.swaps old s j) (field_in st.swaps new)
     (λ j. row-told st.swaps s j p (λ i. i == k) from old new h (λ fewer. inside j))
     (λ t j ne. field-stays st.swaps p from old new h t j (λ below fewer. differ _ _ (field-field t j s k fewer less ne))))
-    refl (λ a. refl) (λ t. refl) (λ t j. none-fields (t == s) (j == k)) refl refl refl refl refl refl refl
+    refl
+    (λ a. kind-undated st.swaps p st.past.count was is dated a (λ told. differ _ _ (turned (field-not_outside st.swaps a s k (told-outside st.swaps a told) lt less))))
+    (λ t. status-undated st.swaps p st.past.count was is dated t (λ below. differ _ _ (turned (field-status s k t less))))
+    (λ t j. field-dated st.swaps p st.past.count was is dated s k t j lt less (λ below fewer. field-told t j s k fewer less))
+    refl refl refl refl refl refl refl
   where
     p : ℕ → Bool
     p c = c == field_address s k
@@ -272,6 +220,12 @@ typed-field_alone st b s k into lt less h =
 
     new : ℕ → ℕ
     new = slice_index into
+
+    was : ℕ → Pending ℕ
+    was = word_pending st.past
+
+    is : ℕ → Pending ℕ
+    is = word_pending (record st.past { since = dates })
 
     inside : (j : ℕ) → p (field_address s j) ≡ (j == k)
     inside j = elim (cases_eq j k) [

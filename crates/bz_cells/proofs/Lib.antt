@@ -1,10 +1,14 @@
 pub mod Acts
+pub mod AskActs
 pub mod DescriptorActs
 pub mod Descriptors
 pub mod Notes
+pub mod Pasts
+pub mod Pendings
 pub mod Places
 pub mod Readers
 pub mod Rooms
+pub mod SettledWords
 pub mod Stores
 pub mod Typed
 pub mod FromPm

@@ -1,6 +1,6 @@
 -- Which words lie in a line, or at an address.
-use Rattle.std.specs.Prelude.{◌≡◌, ◌≢◌, ◌==◌, ℕ, ◌+◌, ◌*◌, ◌/◌, ◌<◌, true, false}
-use Rattle.std.proofs.Common.{arith, inl, inr}
+use Rattle.std.specs.Prelude.{◌≡◌, ◌≢◌, ◌==◌, ℕ, ◌+◌, ◌*◌, ◌/◌, ◌<◌, ◌≤◌, true, false}
+use Rattle.std.proofs.Common.{arith, ap, inl, inr}
 use Rattle.std.proofs.lemmas.Grind.{common_steps}
 use Rattle.std.proofs.lemmas.Bool.{cases_lt}
 use Rattle.bz_layout.specs.Addresses.{swap_address}
@@ -48,3 +48,20 @@ outside-not_in_head swaps a s (inr above) lt = omega arith
 pub outside-not_in_tail : (swaps a s : ℕ) → IsOutside swaps a → s < swaps → a / 8 ≢ 3 + 2 * s
 outside-not_in_tail swaps a s (inl below) lt = omega arith
 outside-not_in_tail swaps a s (inr above) lt = omega arith
+
+-- and a word of a descriptor is not in the line of one outside
+pub inside-told : (swaps c : ℕ) → is_outside swaps c ≡ false → (SUPERBLOCK_WORDS ≤ c) × (c < swap_address swaps)
+inside-told swaps c told = elim (cases_lt c SUPERBLOCK_WORDS) [
+  | inl below ↦ absurd (grind (arith, common_steps, below, told))
+  | inr above ↦ elim (cases_lt c (swap_address swaps)) [
+    | inl inside ↦ (above, inside)
+    | inr past ↦ absurd (grind (arith, common_steps, above, past, told))
+  ]
+]
+
+pub inside-not_in_line : (swaps a c : ℕ) → IsOutside swaps a → is_outside swaps c ≡ false → c / 8 ≢ a / 8
+inside-not_in_line swaps a c (inl below) told = let inside = inside-told swaps c told in omega (arith, inside.0, inside.1, below)
+inside-not_in_line swaps a c (inr above) told = let inside = inside-told swaps c told in omega (arith, inside.0, inside.1, above)
+
+pub inside-other : (swaps a c : ℕ) → IsOutside swaps a → is_outside swaps c ≡ false → c ≢ a
+inside-other swaps a c out told e = let other = inside-not_in_line swaps a c out told in other (ap (λ (b : ℕ). b / 8) e)

@@ -1,12 +1,14 @@
 -- The words stay words with a meaning.
-use Rattle.std.specs.Prelude.{◌≡◌, ◌≢◌, if◌then◌else◌, ◌==◌, ℕ, ◌<◌, Bool, true, false, List, slice_index}
-use Rattle.std.proofs.Common.{arith, inl, inr}
+use Rattle.std.specs.Prelude.{◌≡◌, ◌≢◌, if◌then◌else◌, ◌==◌, ℕ, ◌<◌, Bool, true, false, List, length, slice_index}
+use Rattle.std.proofs.Common.{arith, refl, ◌∙◌, inl, inr}
 use Rattle.std.proofs.lemmas.Grind.{common_steps}
 use Rattle.std.proofs.lemmas.Bool.{cases_eq}
 use Rattle.bz_word.specs.Kinds.{IsWord}
 use Rattle.bz_layout.specs.Addresses.{swap_address}
 use Rattle.bz_pm.specs.Changes.{StaysMemory}
-use Rattle.bz_cells.specs.Store.{Store, AreWords, HasRoom, IsStore, store_words, IsOutside, IsStatusWord}
+use Rattle.bz_pm.specs.State.{State, IsState}
+use Rattle.bz_pm.proofs.Dates.{state_cached}
+use Rattle.bz_cells.specs.Store.{Store, AreWords, HasRoom, IsStore, store_words, store_state, with_state, IsOutside, IsStatusWord}
 use Rattle.bz_cells.proofs.Readers.{AreChosen}
 
 either : (P : ℕ → Type 0) (t : Bool) (x y : ℕ) → P x → P y → P (if t then x else y)
@@ -40,22 +42,36 @@ words-set swaps a x to into h is_word is_status g = record {
     other : (c : ℕ) → c ≢ a → (c == a) ≡ false
     other c ne = grind (arith, common_steps)
 
-room_of : (st : Store) (cached durable : List ℕ) → StaysMemory (store_words st) (record { cached = cached; durable = durable }) → IsStore st → HasRoom (record st { cached = cached; durable = durable })
-room_of st cached durable stays i = record {
+pub room_of : (st : Store) (n : State) → StaysMemory (store_words st) n.words → IsState n → length n.asks ≡ length st.past.asks → HasRoom st → HasRoom (with_state st n)
+room_of st n stays state asks i = record {
   memory = stays.memory;
-  room = rw stays.durable i.has_room.room;
-  numbered = i.has_room.numbered;
-  noted = i.has_room.noted;
-  taken = i.has_room.taken;
+  state = state;
+  fit = stays.fit i.fit;
+  workers = asks ∙ i.workers;
+  room = rw stays.durable i.room;
+  numbered = i.numbered;
+  noted = i.noted;
+  taken = i.taken;
 }
 
 -- a store after a change of its cached words, and of its durable ones
 pub store-cached : (st : Store) (into : List ℕ) → IsStore st
     → StaysMemory (record { cached = st.cached; durable = st.durable }) (record { cached = into; durable = st.durable }) → AreWords st.swaps into
     → IsStore (record st { cached = into; durable = st.durable })
-store-cached st into i stays words = record { has_room = room_of st into st.durable stays i; cached = words; durable = i.durable }
+store-cached st into i stays words = record {
+  has_room = room_of st (record (store_state st) { words = record { cached = into; durable = st.durable } }) stays (state_cached (store_state st) into i.has_room.state stays.cached) refl i.has_room;
+  cached = words;
+  durable = i.durable;
+  asked = i.asked;
+}
 
-pub store-durable : (st : Store) (into : List ℕ) → IsStore st
-    → StaysMemory (record { cached = st.cached; durable = st.durable }) (record { cached = st.cached; durable = into }) → AreWords st.swaps into
-    → IsStore (record st { cached = st.cached; durable = into })
-store-durable st into i stays words = record { has_room = room_of st st.cached into stays i; cached = i.cached; durable = words }
+pub store-durable : (st : Store) (into dates : List ℕ) → IsStore st
+    → StaysMemory (record { cached = st.cached; durable = st.durable }) (record { cached = st.cached; durable = into })
+    → IsState (record (store_state st) { words = record { cached = st.cached; durable = into }; since = dates }) → AreWords st.swaps into
+    → IsStore (record st { cached = st.cached; durable = into; past = record st.past { since = dates } })
+store-durable st into dates i stays state words = record {
+  has_room = room_of st (record (store_state st) { words = record { cached = st.cached; durable = into }; since = dates }) stays state refl i.has_room;
+  cached = i.cached;
+  durable = words;
+  asked = i.asked;
+}

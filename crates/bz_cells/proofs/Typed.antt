@@ -1,5 +1,5 @@
 -- What the words mean after a change of some of them.
-use Rattle.std.specs.Prelude.{◌≡◌, ◌==◌, if◌then◌else◌, ℕ, ◌<◌, Bool, true, false, List, slice_index, None}
+use Rattle.std.specs.Prelude.{◌≡◌, ◌==◌, if◌then◌else◌, ℕ, ◌<◌, Bool, true, false, List, slice_index}
 use Rattle.std.proofs.Common.{arith, refl, inl, inr}
 use Rattle.std.proofs.lemmas.Grind.{common_steps}
 use Rattle.std.proofs.lemmas.Bool.{cases_eq}
@@ -8,11 +8,11 @@ use Rattle.bz_word.proofs.Lemmas.KindWords.{kind-word}
 use Rattle.bz_word.specs.declared.kind.WordKind.{WordKind}
 use Rattle.bz_layout.specs.Addresses.{swap_address}
 use Rattle.bz_machine.specs.Machine.{Memory}
-use Rattle.bz_machine.specs.Pending.{no_asks}
 use Rattle.bz_machine.specs.Changes.{put, with_word, with_copies, in_line}
-use Rattle.bz_cells.specs.Store.{Store, Beside, typed, kind_at, IsOutside, field_address, field_count}
+use Rattle.bz_cells.specs.Store.{Store, Beside, typed, kind_at, IsOutside, is_outside, field_address, field_count, word_pending}
 use Rattle.bz_cells.proofs.Readers.{AreChosen, kind-chosen, kind-stays, status-stays, field-stays}
-use Rattle.bz_cells.proofs.Places.{differ, outside-told, status-not_outside, field-not_outside, status-not_in_line, field-not_in_line}
+use Rattle.bz_cells.proofs.Places.{differ, outside-told, status-not_outside, field-not_outside, status-not_in_line, field-not_in_line, inside-not_in_line}
+use Rattle.bz_cells.proofs.Pendings.{AreDated, kind-dated, status-undated, field-undated}
 
 -- two memories that agree everywhere, with the same beside the words, are one
 pub same_memory : (m n : Memory) → ((a : ℕ) → m.cached a ≡ n.cached a) → ((a : ℕ) → m.durable a ≡ n.durable a) → ((s : ℕ) → m.status s ≡ n.status s) → ((s : ℕ) → m.durable_status s ≡ n.durable_status s) → ((s k : ℕ) → m.words s k ≡ n.words s k) → ((s k : ℕ) → m.durable_words s k ≡ n.durable_words s k)
@@ -37,16 +37,6 @@ same_memory m n c d s r w v now asks status_asks word_asks tag missed taken owne
   answer = answer i;
 }
 
--- what becomes durable where nobody asks dates from the same moment as all else
-pub none-copied : {A : Type 0} (b : Bool) → no_asks {A = A} ≡ record { since = if b then 0 else 0; asked = λ w. None }
-none-copied true = refl
-none-copied false = refl
-
--- the same of some words of one descriptor
-pub none-fields : (b c : Bool) → no_asks {A = ℕ} ≡ record { since = if b then if c then 0 else 0 else 0; asked = λ w. None }
-none-fields true c = none-copied c
-none-fields false c = refl
-
 -- a word outside the descriptors is another
 pub typed-stored : (st : Store) (b : Beside) (a : ℕ) (k : WordKind) (into : List ℕ) → IsOutside st.swaps a → IsKind k
     → AreChosen (λ c. c == a) (λ c. word k) (slice_index st.cached) (slice_index into)
@@ -68,23 +58,30 @@ typed-stored st b a k into out is_kind h =
     ]
 
 -- some words outside the descriptors become durable, and no word of a descriptor
-pub typed-copied : (st : Store) (b : Beside) (p : ℕ → Bool) (into : List ℕ)
+pub typed-copied : (st : Store) (b : Beside) (p : ℕ → Bool) (into dates : List ℕ)
     → AreChosen p (slice_index st.cached) (slice_index st.durable) (slice_index into)
-    → ((s : ℕ) → s < st.swaps → p (swap_address s) ≡ false) → ((s k : ℕ) → s < st.swaps → k < field_count → p (field_address s k) ≡ false)
-    → typed (record st { cached = st.cached; durable = into }) b ≡ with_copies (typed st b) p
-typed-copied st b p into h no_status no_field =
+    → AreDated p st.past.count (word_pending st.past) (word_pending (record st.past { since = dates }))
+    → ((s : ℕ) → s < st.swaps → p (swap_address s) ≡ false) → ((s k : ℕ) → s < st.swaps → k < field_count → p (field_address s k) ≡ false) → ((c : ℕ) → is_outside st.swaps c ≡ false → p c ≡ false)
+    → typed (record st { cached = st.cached; durable = into; past = record st.past { since = dates } }) b ≡ with_copies (typed st b) p
+typed-copied st b p into dates h dated no_status no_field inside =
     same_memory _ _ (λ c. refl)
     (λ c. kind-chosen st.swaps p (slice_index st.cached) (slice_index st.durable) (slice_index into) h c)
     (λ s. refl)
     (λ s. status-stays st.swaps p (slice_index st.cached) (slice_index st.durable) (slice_index into) h s (no_status s))
     (λ s j. refl)
     (λ s j. field-stays st.swaps p (slice_index st.cached) (slice_index st.durable) (slice_index into) h s j (no_field s j))
-    refl (λ c. none-copied (p c)) (λ s. refl) (λ s j. refl) refl refl refl refl refl refl refl
+    refl
+    (λ c. kind-dated st.swaps p st.past.count (word_pending st.past) (word_pending (record st.past { since = dates })) dated c (inside c))
+    (λ s. status-undated st.swaps p st.past.count (word_pending st.past) (word_pending (record st.past { since = dates })) dated s (no_status s))
+    (λ s j. field-undated st.swaps p st.past.count (word_pending st.past) (word_pending (record st.past { since = dates })) dated s j (no_field s j))
+    refl refl refl refl refl refl refl
 
 -- the line of a word outside the descriptors becomes durable
-pub typed-flushed : (st : Store) (b : Beside) (a : ℕ) (into : List ℕ) → IsOutside st.swaps a
+pub typed-flushed : (st : Store) (b : Beside) (a : ℕ) (into dates : List ℕ) → IsOutside st.swaps a
     → AreChosen (in_line a) (slice_index st.cached) (slice_index st.durable) (slice_index into)
-    → typed (record st { cached = st.cached; durable = into }) b ≡ with_copies (typed st b) (in_line a)
-typed-flushed st b a into out h = typed-copied st b (in_line a) into h
+    → AreDated (in_line a) st.past.count (word_pending st.past) (word_pending (record st.past { since = dates }))
+    → typed (record st { cached = st.cached; durable = into; past = record st.past { since = dates } }) b ≡ with_copies (typed st b) (in_line a)
+typed-flushed st b a into dates out h dated = typed-copied st b (in_line a) into dates h dated
     (λ s lt. differ _ _ (status-not_in_line st.swaps a s out lt))
     (λ s k lt less. differ _ _ (field-not_in_line st.swaps a s k out lt less))
+    (λ c told. differ _ _ (inside-not_in_line st.swaps a c out told))

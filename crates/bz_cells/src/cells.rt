@@ -1,11 +1,12 @@
 //! The typed memory and its acts.
 
-ghost use Rattle.std.specs.Prelude.{◌≡◌, ◌≢◌, ◌==◌, ◌/◌, ◌+◌, ◌*◌, ◌<◌, ◌≤◌, ◌%◌, ◌^◌, false, length, replicate, slice_index, IfOk};
+ghost use Rattle.std.specs.Prelude.{◌≡◌, ◌≢◌, ◌==◌, ◌/◌, ◌+◌, ◌*◌, ◌<◌, ◌≤◌, ◌%◌, ◌^◌, false, [], length, replicate, slice_index, IfOk};
 ghost use Rattle.bz_word.specs.Kinds.{IsKind, word};
 ghost use Rattle.bz_layout.specs.Addresses.{swap_address};
-ghost use Rattle.bz_pm.specs.Acts.{stored, compared, flushed, evicted};
-ghost use Rattle.bz_machine.specs.Changes.{with_word, with_copies, in_line, with_status, with_durable_status, with_field, with_durable_fields, with_durable_head, in_tail};
-ghost use Rattle.bz_cells.specs.Store.{Beside, HasRoom, IsStore, IsOutside, SameShape, typed, store_words, with_words, status_word, kind_at, status_at, descriptor_word_at, field_address, field_count};
+ghost use Rattle.bz_pm.specs.Acts.{stored, compared};
+ghost use Rattle.bz_pm.specs.After.{after_flush, after_eviction, after_ask, after_fence};
+ghost use Rattle.bz_machine.specs.Changes.{with_word, with_copies, in_line, with_status, with_durable_status, with_field, with_durable_fields, line_of, head_of, tail_of, with_ask, fenced};
+ghost use Rattle.bz_cells.specs.Store.{Beside, HasRoom, IsStore, IsOutside, MayAsk, SameShape, typed, store_words, with_words, store_state, with_state, status_word, kind_at, status_at, descriptor_word_at, field_address, field_count};
 
 use crate::address::{field_at, swap_at};
 use crate::meaning::{kind_in, status_in, word_of_status};
@@ -33,9 +34,9 @@ impl Model for Cells {
 
     ghost Value = { Store };
 
-    ghost view = { λ c. record { cached = c.pm.words.cached; durable = c.pm.words.durable; swaps = c.swaps; next_tags = c.next_tags.items; missed = c.missed.items; taken = c.taken } };
+    ghost view = { λ c. record { cached = c.pm.words.cached; durable = c.pm.words.durable; past = record { count = c.pm.count; since = c.pm.since; asks = c.pm.asks }; swaps = c.swaps; next_tags = c.next_tags.items; missed = c.missed.items; taken = c.taken } };
 
-    ghost invariant = { λ c. HasRoom (record { cached = c.pm.words.cached; durable = c.pm.words.durable; swaps = c.swaps; next_tags = c.next_tags.items; missed = c.missed.items; taken = c.taken }) };
+    ghost invariant = { λ c. HasRoom (record { cached = c.pm.words.cached; durable = c.pm.words.durable; past = record { count = c.pm.count; since = c.pm.since; asks = c.pm.asks }; swaps = c.swaps; next_tags = c.next_tags.items; missed = c.missed.items; taken = c.taken }) };
 }
 
 impl Cells {
@@ -46,7 +47,7 @@ impl Cells {
         requires size { length start.now < 2 ^ 32 }
         requires numbered { swaps ≤ 2 ^ 16 }
         requires room { swap_address swaps ≤ length start.now }
-        ensures words { IfOk result (λ cells. cells ≡ record { cached = start.now; durable = start.now; swaps = swaps; next_tags = replicate (workers + 1) 0; missed = replicate swaps false; taken = 0 }) }
+        ensures words { IfOk result (λ cells. cells ≡ record { cached = start.now; durable = start.now; past = record { count = 0; since = replicate (length start.now) 0; asks = replicate (workers + 1) [] }; swaps = swaps; next_tags = replicate (workers + 1) 0; missed = replicate swaps false; taken = 0 }) }
         ensures room { IfOk result HasRoom }
     {
         let pm = Pm::open(alloc, start, u32::from(workers))?;
@@ -110,7 +111,7 @@ impl Cells {
         requires typed { IsStore self.old }
         requires outside { IsOutside self.old.swaps a }
         requires within { a < length self.old.cached }
-        ensures words { self.new ≡ with_words self.old (flushed (store_words self.old) (a / 8)) }
+        ensures words { self.new ≡ with_state self.old (after_flush (store_state self.old) (a / 8)) }
         ensures changed { (b : Beside) → typed self.new b ≡ with_copies (typed self.old b) (in_line a) }
         ensures typed { IsStore self.new }
         ensures shape { SameShape self.old self.new }
@@ -186,28 +187,56 @@ impl Cells {
         self.pm.store(field_at(swap, number), value);
     }
 
-    /// Flushes the first line of a descriptor, which holds its status.
-    pub fn flush_head(&mut self, swap: u16)
+    /// Asks, for a worker, for the line of a word outside the descriptors.
+    pub fn ask_word(&mut self, w: u8, a: u32)
         requires typed { IsStore self.old }
-        requires descriptor { swap < self.old.swaps }
-        ensures words { self.new ≡ with_words self.old (flushed (store_words self.old) (swap_address swap / 8)) }
-        ensures changed { (b : Beside) → typed self.new b ≡ with_durable_head (typed self.old b) swap }
+        requires asker { MayAsk self.old w }
+        requires outside { IsOutside self.old.swaps a }
+        requires within { a < length self.old.cached }
+        ensures words { self.new ≡ with_state self.old (after_ask (store_state self.old) w (a / 8)) }
+        ensures changed { (b : Beside) → typed self.new b ≡ with_ask (typed self.old b) w (line_of a) }
         ensures typed { IsStore self.new }
         ensures shape { SameShape self.old self.new }
     {
-        self.pm.flush(swap_at(swap) / LINE_WORDS);
+        self.pm.ask(w, a / LINE_WORDS);
     }
 
-    /// Flushes the second line of a descriptor.
-    pub fn flush_tail(&mut self, swap: u16)
+    /// Asks, for a worker, for the first line of a descriptor, which holds its status.
+    pub fn ask_head(&mut self, w: u8, swap: u16)
         requires typed { IsStore self.old }
+        requires asker { MayAsk self.old w }
         requires descriptor { swap < self.old.swaps }
-        ensures words { self.new ≡ with_words self.old (flushed (store_words self.old) (swap_address swap / 8 + 1)) }
-        ensures changed { (b : Beside) → typed self.new b ≡ with_durable_fields (typed self.old b) swap in_tail }
+        ensures words { self.new ≡ with_state self.old (after_ask (store_state self.old) w (swap_address swap / 8)) }
+        ensures changed { (b : Beside) → typed self.new b ≡ with_ask (typed self.old b) w (head_of swap) }
         ensures typed { IsStore self.new }
         ensures shape { SameShape self.old self.new }
     {
-        self.pm.flush(swap_at(swap) / LINE_WORDS + 1);
+        self.pm.ask(w, swap_at(swap) / LINE_WORDS);
+    }
+
+    /// Asks, for a worker, for the second line of a descriptor.
+    pub fn ask_tail(&mut self, w: u8, swap: u16)
+        requires typed { IsStore self.old }
+        requires asker { MayAsk self.old w }
+        requires descriptor { swap < self.old.swaps }
+        ensures words { self.new ≡ with_state self.old (after_ask (store_state self.old) w (swap_address swap / 8 + 1)) }
+        ensures changed { (b : Beside) → typed self.new b ≡ with_ask (typed self.old b) w (tail_of swap) }
+        ensures typed { IsStore self.new }
+        ensures shape { SameShape self.old self.new }
+    {
+        self.pm.ask(w, swap_at(swap) / LINE_WORDS + 1);
+    }
+
+    /// Makes what a worker asked for durable, each word unless a later value of it is.
+    pub fn fence(&mut self, w: u8)
+        requires typed { IsStore self.old }
+        requires worker { w < length self.old.next_tags }
+        ensures words { self.new ≡ with_state self.old (after_fence (store_state self.old) w) }
+        ensures changed { (b : Beside) → typed self.new b ≡ fenced (typed self.old b) w }
+        ensures typed { IsStore self.new }
+        ensures shape { SameShape self.old self.new }
+    {
+        self.pm.fence(w);
     }
 
     /// Makes a word outside the descriptors durable.
@@ -215,7 +244,7 @@ impl Cells {
         requires typed { IsStore self.old }
         requires outside { IsOutside self.old.swaps a }
         requires within { a < length self.old.cached }
-        ensures words { self.new ≡ with_words self.old (evicted (store_words self.old) a) }
+        ensures words { self.new ≡ with_state self.old (after_eviction (store_state self.old) a) }
         ensures changed { (b : Beside) → typed self.new b ≡ with_copies (typed self.old b) (λ c. c == a) }
         ensures typed { IsStore self.new }
         ensures shape { SameShape self.old self.new }
@@ -227,7 +256,7 @@ impl Cells {
     pub fn evict_status(&mut self, swap: u16)
         requires typed { IsStore self.old }
         requires descriptor { swap < self.old.swaps }
-        ensures words { self.new ≡ with_words self.old (evicted (store_words self.old) (swap_address swap)) }
+        ensures words { self.new ≡ with_state self.old (after_eviction (store_state self.old) (swap_address swap)) }
         ensures changed { (b : Beside) → typed self.new b ≡ with_durable_status (typed self.old b) swap }
         ensures typed { IsStore self.new }
         ensures shape { SameShape self.old self.new }
@@ -240,7 +269,7 @@ impl Cells {
         requires typed { IsStore self.old }
         requires descriptor { swap < self.old.swaps }
         requires number { number < field_count }
-        ensures words { self.new ≡ with_words self.old (evicted (store_words self.old) (field_address swap number)) }
+        ensures words { self.new ≡ with_state self.old (after_eviction (store_state self.old) (field_address swap number)) }
         ensures changed { (b : Beside) → typed self.new b ≡ with_durable_fields (typed self.old b) swap (λ k. k == number) }
         ensures typed { IsStore self.new }
         ensures shape { SameShape self.old self.new }

@@ -4,8 +4,9 @@ use crate::cells::Cells;
 
 impl Cells {
     ghost use Rattle.std.specs.Prelude.{◌≡◌, ◌*◌, ◌<◌, length, slice_index};
-    ghost use Rattle.bz_pm.specs.Acts.{stored, flushed, evicted, after_cut as words_after_cut};
-    ghost use Rattle.bz_cells.specs.Store.{HasRoom, store_words, with_words};
+    ghost use Rattle.bz_pm.specs.Acts.{stored};
+    ghost use Rattle.bz_pm.specs.After.{after_flush, after_eviction, after_power_cut};
+    ghost use Rattle.bz_cells.specs.Store.{HasRoom, store_words, with_words, store_state, with_state};
 
     /// The cached word at an address.
     pub fn load(&self, a: u32) -> u64
@@ -35,7 +36,7 @@ impl Cells {
     /// Flushes a line.
     pub fn flush(&mut self, line: u32)
         requires { line * 8 < length self.old.cached }
-        ensures words { self.new ≡ with_words self.old (flushed (store_words self.old) line) }
+        ensures words { self.new ≡ with_state self.old (after_flush (store_state self.old) line) }
         ensures room { HasRoom self.new }
     {
         self.pm.flush(line);
@@ -44,7 +45,7 @@ impl Cells {
     /// Makes a word durable.
     pub fn evict(&mut self, a: u32)
         requires { a < length self.old.cached }
-        ensures words { self.new ≡ with_words self.old (evicted (store_words self.old) a) }
+        ensures words { self.new ≡ with_state self.old (after_eviction (store_state self.old) a) }
         ensures room { HasRoom self.new }
     {
         self.pm.evict(a);
@@ -52,7 +53,7 @@ impl Cells {
 
     /// Cuts the power: the durable words are all that is left.
     pub fn cut(&mut self)
-        ensures words { self.new ≡ with_words self.old (words_after_cut (store_words self.old)) }
+        ensures words { self.new ≡ with_state self.old (after_power_cut (store_state self.old)) }
         ensures room { HasRoom self.new }
     {
         self.pm.cut();

@@ -18,13 +18,13 @@ fn has_succeeded(status: SwapStatus) -> bool
 }
 
 impl Cells {
-    ghost use Rattle.std.specs.Prelude.{if◌then◌else◌, true, ◌≡◌, ◌≢◌, ◌<◌, ◌+◌, ◌^◌, false, length, get_or, slice_index, replicate, MatchOption};
+    ghost use Rattle.std.specs.Prelude.{if◌then◌else◌, true, ◌≡◌, ◌≢◌, ◌<◌, ◌+◌, ◌^◌, false, length, get_or, slice_index, MatchOption};
     ghost use Rattle.bz_word.specs.Kinds.{word};
     ghost use Rattle.bz_word.specs.declared.kind.WordKind.TheVariants.{Value, Tag as tag};
-    ghost use Rattle.bz_pm.specs.Acts.{compared};
+    ghost use Rattle.bz_pm.specs.After.{after_cas};
     ghost use Rattle.bz_machine.specs.Machine.{is_succeeded};
     ghost use Rattle.bz_machine.specs.Changes.{with_tag, with_miss};
-    ghost use Rattle.bz_cells.specs.Store.{Beside, IsStore, IsOutside, MayTag, SameShape, typed, store_words, kind_at, status_at};
+    ghost use Rattle.bz_cells.specs.Store.{Beside, IsStore, IsOutside, MayTag, MayAsk, SameShape, typed, store_state, renewed_store, kind_at, status_at};
 
     /// The number of a worker's next tag.
     pub fn next_tag(&self, worker: u8) -> u64
@@ -42,7 +42,7 @@ impl Cells {
         requires expected { expected < 2 ^ 61 }
         requires entry { entry < 4 }
         requires worker { MayTag self.old worker }
-        ensures words { store_words self.new ≡ compared (store_words self.old) a expected (word (tag swap entry worker (slice_index self.old.next_tags worker))) }
+        ensures words { store_state self.new ≡ after_cas (store_state self.old) a expected (word (tag swap entry worker (slice_index self.old.next_tags worker))) }
         ensures found { result ≡ kind_at self.old.swaps self.old.cached a }
         ensures changed { result ≡ Value expected → (b : Beside) → typed self.new b ≡ with_tag (typed self.old b) a swap entry worker }
         ensures unchanged { result ≢ Value expected → self.new ≡ self.old }
@@ -94,7 +94,7 @@ impl Cells {
     pub fn note_miss(&mut self, swap: u16)
         requires typed { IsStore self.old }
         requires descriptor { swap < self.old.swaps }
-        ensures words { store_words self.new ≡ store_words self.old }
+        ensures words { store_state self.new ≡ store_state self.old }
         ensures changed { (b : Beside) → typed self.new b ≡ with_miss (typed self.old b) swap }
         ensures typed { IsStore self.new }
         ensures shape { SameShape self.old self.new }
@@ -123,10 +123,18 @@ impl Cells {
         Some(swap)
     }
 
-    /// Gives all descriptors back, and clears the notes and the tag numbers.
-    pub fn renew(&mut self)
-        ensures { self.new ≡ record self.old { next_tags = replicate (length self.old.next_tags) 0; missed = replicate (length self.old.missed) false; taken = 0 } }
+    /// Whether a worker may ask for one more line before its next fence.
+    pub fn may_ask(&self, w: u8) -> bool
+        ensures { result ≡ true → MayAsk self.now w }
     {
+        self.pm.may_ask(w) && self.pm.asked() < u64::MAX
+    }
+
+    /// Gives all descriptors back, and clears the notes, the tag numbers and what is kept of asks. The words stay.
+    pub fn renew(&mut self)
+        ensures { self.new ≡ renewed_store self.old }
+    {
+        self.pm.renew();
         self.next_tags.fill(0);
         self.missed.fill(false);
         self.taken = 0;

@@ -1,8 +1,7 @@
 -- The values of a queue's swap memory, and what changes them.
-use Rattle.std.specs.Prelude.{◌≡◌, ◌≢◌, ℕ}
+use Rattle.std.specs.Prelude.{◌≡◌, ◌≢◌, ℕ, true, false}
 use Rattle.bz_cells.specs.Store.{IsOutside}
-use Rattle.bz_swap.specs.Atomic.{value_of}
-use Rattle.bz_swap.specs.SwapMemory.{SwapMemory, Storing, value_at, entries_of, doing_of}
+use Rattle.bz_swap.specs.SwapMemory.{SwapMemory, Storing, value_at, entries_of, doing_of, is_named, is_settled_at}
 use Rattle.bz_ring.specs.declared.calls.QCall.{QCall}
 use Rattle.bz_ring.specs.declared.calls.QCall.TheVariants as call
 use Rattle.bz_ring.specs.declared.ring.Ring.{Ring}
@@ -10,9 +9,9 @@ use Rattle.bz_ring.specs.Content.{cell_of}
 use Rattle.bz_ring.specs.ContentLaws.{Puts, Takes}
 use Rattle.bz_change.specs.Changes as change
 
--- what readers see of an address is what the durable words stand for: no private store stands in the caches alone
+-- no private store stands unflushed, so that what readers see of an address is what the durable words stand for
 abbrev pub IsSettled : SwapMemory → Type 0
-IsSettled m = (a : ℕ) → IsOutside m.swaps a → value_of m a ≡ value_at m a
+IsSettled m = (a : ℕ) → IsOutside m.swaps a → is_named m a ≡ false → is_settled_at m a ≡ true
 
 -- every value is what it was
 abbrev pub SameValues : SwapMemory → SwapMemory → Type 0

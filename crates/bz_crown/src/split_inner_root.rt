@@ -1,6 +1,6 @@
 //! The task that splits a root that is an inner node.
 
-ghost use Rattle.std.specs.Prelude.{◌≡◌, ◌≢◌, ◌↔◌, ◌+◌, ◌<◌, ◌≤◌, ◌⊎◌, ℕ, List, Some, None, true, false, slice_get, slice_index, length};
+ghost use Rattle.std.specs.Prelude.{◌≡◌, ◌≢◌, ◌+◌, ◌<◌, ◌≤◌, ◌⊎◌, ℕ, List, Some, None, true, false, slice_get, slice_index, length};
 ghost use Rattle.bz_call.specs.declared.replies.Spent.TheVariants.{Height};
 ghost use Rattle.bz_layout.specs.Config.{IsConfig};
 ghost use Rattle.bz_layout.specs.declared.thresholds.TheConstants.{SPLIT_SLOTS, MAX_LEVELS};
@@ -8,9 +8,9 @@ ghost use Rattle.bz_renew.specs.Nodes.{word_value};
 ghost use Rattle.bz_task.specs.Contract.{IsBegun, MayHear, GoesOn, Learns};
 ghost use Rattle.bz_writer.specs.Facts.{write_asks, write_ready, write_view};
 ghost use Rattle.bz_task.specs.Outcomes.{IsPath};
-ghost use Rattle.bz_task.specs.OwnActs.{AreTakenFrom, AreUnreached, gained};
-ghost use Rattle.bz_task.specs.Requests.{Hears, Tells, IsKnown, swaps_in, effects_in};
-ghost use Rattle.bz_task.specs.Scene.{Scene, Stage, Waiting, IsScene};
+ghost use Rattle.bz_task.specs.OwnActs.{AreTakenFrom};
+ghost use Rattle.bz_task.specs.Requests.{Hears, IsKnown, swaps_in, effects_in};
+ghost use Rattle.bz_task.specs.Scene.{Scene, Waiting, IsScene};
 ghost use Rattle.bz_layout.specs.declared.swaps.TheConstants.{RENEWAL_SWAPS};
 ghost use Rattle.bz_task.specs.declared.todo.Seen.TheVariants.{Start, Swapped, NoSwap as NoneLeft};
 ghost use Rattle.bz_branch.specs.FromSplit.Facts.{split_change};

@@ -11,7 +11,6 @@ use Rattle.bz_writer.specs.declared.phase.WritePhase.{WritePhase}
 use Rattle.bz_writer.specs.declared.phase.WritePhase.TheVariants.{Fresh as Unbegun, Flush, Swap}
 use Rattle.bz_writer.specs.Phases.{write_needs}
 use Rattle.bz_writer.proofs.Sizes.{begins-fresh as writer-begins}
-use Rattle.std.specs.Prelude.{Option, Some, None}
 use Rattle.bz_layout.specs.declared.thresholds.TheConstants.{SPLIT_SLOTS}
 use Rattle.bz_task.specs.declared.todo.Outcome.{Outcome}
 

@@ -1,15 +1,15 @@
 //! The task that splits an inner node below a parent.
 
-ghost use Rattle.std.specs.Prelude.{◌≡◌, ◌≢◌, ◌↔◌, ◌+◌, ◌<◌, ◌≤◌, ◌^◌, ◌⊎◌, ℕ, List, Some, None, true, false, slice_get, slice_index, length};
+ghost use Rattle.std.specs.Prelude.{◌≡◌, ◌≢◌, ◌+◌, ◌<◌, ◌≤◌, ◌^◌, ◌⊎◌, ℕ, List, Some, None, true, false, slice_get, slice_index, length};
 ghost use Rattle.bz_layout.specs.Config.{IsConfig};
 ghost use Rattle.bz_layout.specs.declared.thresholds.TheConstants.{SPLIT_SLOTS, MAX_LEVELS};
 ghost use Rattle.bz_renew.specs.Nodes.{word_value};
 ghost use Rattle.bz_task.specs.Contract.{IsBegun, MayHear, GoesOn, Learns};
 ghost use Rattle.bz_writer.specs.Facts.{write_asks, write_ready, write_view};
 ghost use Rattle.bz_task.specs.Outcomes.{IsPath};
-ghost use Rattle.bz_task.specs.OwnActs.{AreTakenFrom, AreUnreached, gained};
-ghost use Rattle.bz_task.specs.Requests.{Hears, Tells, IsKnown, swaps_in, effects_in};
-ghost use Rattle.bz_task.specs.Scene.{Scene, Stage, Waiting, IsScene};
+ghost use Rattle.bz_task.specs.OwnActs.{AreTakenFrom};
+ghost use Rattle.bz_task.specs.Requests.{Hears, IsKnown, swaps_in, effects_in};
+ghost use Rattle.bz_task.specs.Scene.{Scene, Waiting, IsScene};
 ghost use Rattle.bz_layout.specs.declared.swaps.TheConstants.{RENEWAL_SWAPS};
 ghost use Rattle.bz_task.specs.declared.todo.Seen.TheVariants.{Start, Read as Was, Swapped, NoSwap as NoneLeft};
 ghost use Rattle.bz_branch.specs.FromSplit.Facts.{split_change};
@@ -248,7 +248,6 @@ impl SplitInner {
         ensures full_nodes { end_fork self.new ≡ Some (Outcome.Full Spent.Nodes) → length slots.old.free < needs_fork self.old }
         ensures learns { Learns (fork_view self.old) (fork_view self.new) seen moment slots.old slots.new }
     {
-        laws::nothing_is_gained();
         laws::ranges_stay();
         bz_renew::laws::links_turn();
         bz_renew::laws::guarded_links_stand();

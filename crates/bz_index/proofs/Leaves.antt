@@ -59,12 +59,16 @@ act-quiet w (act.Load a v) = refl
 act-quiet w (act.Store a v) = refl
 act-quiet w (act.Cas a old new found) = refl
 act-quiet w (act.Flush line) = refl
+act-quiet w (act.Ask line) = refl
+act-quiet w act.Fence = refl
 
 act-nobodys : (w : ℕ) (made : Act) → maker_of (mark_of w made) ≡ PASSES
 act-nobodys w (act.Load a v) = refl
 act-nobodys w (act.Store a v) = refl
 act-nobodys w (act.Cas a old new found) = refl
 act-nobodys w (act.Flush line) = refl
+act-nobodys w (act.Ask line) = refl
+act-nobodys w act.Fence = refl
 
 pub leaves-act : (w : ℕ) (made : Act) (log : Log) → Leaves PASSES log (with_mark log (mark_of w made))
 leaves-act w made log = leaves-mark PASSES (mark_of w made) log (act-quiet w made) (inr (act-nobodys w made))

@@ -34,7 +34,7 @@ use Rattle.bz_rounds.specs.FromAlone.Duties.{view_of}
 use Rattle.bz_rounds.specs.FromAlone.MadeFor.{WasLeafOf, IsMergeFor}
 use Rattle.bz_joined.specs.Neighbours.{WasMergeable, MergesLackSlotsRightly}
 use Rattle.bz_joined.proofs.Alike.{live-alike, live-is}
-use Rattle.bz_joined.proofs.SeenLeaves.{alike, below, good-then, leaf, live-then}
+use Rattle.bz_joined.proofs.SeenLeaves.{alike, below, good-then, live-then}
 
 module _ (key : List ℕ) (lower : Link) (st : ℕ) (image : List ℕ) (s : Scene) (good : IsScene s) (was : WasLeafOf key lower.slot s.past) (frozen : (status st).frozen ≡ true) (f : SomeFitted lower st image s.past) where
   abbrev c : Config

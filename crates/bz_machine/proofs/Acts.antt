@@ -1,16 +1,16 @@
 -- Every step of a worker keeps the invariant, and its effect and its answer are right.
-use Rattle.std.proofs.Common.{◌≡◌, ℕ, ◌/◌, ◌==◌, ◌<◌, true, arith, refl, None}
+use Rattle.std.proofs.Common.{◌≡◌, ◌≢◌, ℕ, ◌/◌, ◌==◌, ◌<◌, ◌≤◌, true, arith, refl, None}
 use Rattle.std.proofs.lemmas.Grind.{common_steps}
 use Rattle.bz_word.specs.declared.kind.WordKind.{WordKind}
 use Rattle.bz_word.specs.declared.kind.WordKind.TheVariants.{Value, Dirty, Swap, Tag}
 use Rattle.bz_machine.specs.Machine.{Entries, Memory}
-use Rattle.bz_machine.specs.Changes.{with_word, with_copies, in_line}
+use Rattle.bz_machine.specs.Changes.{with_word, with_copies, line_of, with_ask, fenced}
 use Rattle.bz_machine.specs.Sound.{AreApart, Sound}
 use Rattle.bz_machine.specs.Facts.{Fact}
 use Rattle.bz_machine.specs.declared.place.HelpStep.{HelpStep}
 use Rattle.bz_machine.specs.HelpActs.{cleared_word, help_act}
 use Rattle.bz_machine.specs.declared.place.Place.{Place}
-use Rattle.bz_machine.specs.declared.place.Place.TheVariants.{Idle, Prepare, Learn, Help, ReadWord, FlushRead, ClearRead, LoadWord, StoreWord, FlushLine}
+use Rattle.bz_machine.specs.declared.place.Place.TheVariants.{Idle, Prepare, Learn, Help, ReadWord, AskRead, FenceRead, ClearRead, LoadWord, StoreWord, FlushLine}
 use Rattle.bz_machine.specs.declared.place.PrepareStep.{PrepareStep}
 use Rattle.bz_machine.specs.declared.worker.Operation.{Operation}
 use Rattle.bz_machine.specs.declared.worker.Operation.TheVariants.{Reading, Swapping}
@@ -33,6 +33,7 @@ use Rattle.bz_machine.proofs.Prepares.{OnOwn}
 use Rattle.bz_machine.proofs.PrepareActs.{good-prepare}
 use Rattle.bz_machine.proofs.Words.{change-store}
 use Rattle.bz_machine.proofs.Copies.{change-copies}
+use Rattle.bz_machine.proofs.Fences.{change-ask, change-fence}
 use Rattle.bz_machine.proofs.Values.{change-cleared}
 use Rattle.bz_machine.proofs.KeptKnowledge.{back-keeps, owns-keeps}
 use Rattle.bz_machine.proofs.Lasting.{lasts-durable}
@@ -41,10 +42,10 @@ begun-published : (e : ℕ → Entries) (m : Memory) (s : ℕ) → m.published s
 begun-published e m s p g = grind (arith, g.begun s, g.not_begun s)
 
 -- an act on a published swap
-good-help : (e : ℕ → Entries) (m : Memory) (w : ℕ) (l : Local) (step : HelpStep) → AreApart e → OnSwap e m w l → Fact e m w l.current step → Sound e m → Good e m w l (act m w l (Help step))
-good-help e m w l step a o f g =
+good-help : (e : ℕ → Entries) (m : Memory) (w : ℕ) (l : Local) (step : HelpStep) → ((t : ℕ) → t ≢ l.current → (m.status_pending t).asked w ≡ None) → AreApart e → OnSwap e m w l → Fact e m w l.current step → Sound e m → Good e m w l (act m w l (Help step))
+good-help e m w l step only a o f g =
     let s : ℕ = l.current in
-    let fine : Fine e m w s (help_act (e s) m w s step) = fine-help_act e m w s step a o.published (begun-published e m s o.published g) f g in
+    let fine : Fine e m w s (help_act (e s) m w s step) = fine-help_act e m w s step only a o.published (begun-published e m s o.published g) f g in
     rw (help_act-agrees e (entries_in l.list) m w s step (agree-spell (e s) l.list o.spell) f)
     (good-after_help e m (help_act (e s) m w s step).memory w l (help_act (e s) m w s step).next fine.change o fine.fact (λ d h. help_act-ends e m w s step d f h))
 
@@ -55,7 +56,7 @@ own-read m o a h = rw h tt
 good-read : (e : ℕ → Entries) (m : Memory) (w : ℕ) (l : Local) (a : ℕ) (found : WordKind) → m.cached a ≡ found → l.operation ≡ Reading a → Owns m w l.operation → BackPublished m l.back → Sound e m → Good e m w l (read_act m l a found)
 good-read e m w l a (Value v) h o owns back g =
     good-answers e m m w l (Read v) (change-same e m l.current g) back (rw o (h, λ nm. grind (arith, common_steps, g.same a (m.durable a) (lasts-durable _ _) nm))) refl
-good-read e m w l a (Dirty v) h o owns back g = good-same e m w l (record l { place = FlushRead a v }) g (record { place = o; owns = owns; back = back })
+good-read e m w l a (Dirty v) h o owns back g = good-same e m w l (record l { place = AskRead a v }) g (record { place = o; owns = owns; back = back })
 good-read e m w l a (Swap t) h o owns back g = good-same e m w l (helping l t None) g (knows-helping e m w l t None (g.pointer a t h).standing (own-read m l.operation a o) owns tt)
 good-read e m w l a (Tag t i v q) h o owns back g = good-same e m w l (helping l t None) g (knows-helping e m w l t None (g.tag a t i v q h).standing (own-read m l.operation a o) owns tt)
 
@@ -79,14 +80,16 @@ own-swap e m w l step f owns back =
 on-swap : (e : ℕ → Entries) (m : Memory) (w : ℕ) (l : Local) (step : HelpStep) → AtPlace e m w l (Help step) → Owns m w l.operation → BackPublished m l.back → OnSwap e m w l
 on-swap e m w l step f owns back = record { published = f.0; own = f.1; spell = f.2; owns = owns; back = back }
 
-pub good-act : (e : ℕ → Entries) (m : Memory) (w : ℕ) (l : Local) (place : Place) → AreApart e → Sound e m → AtPlace e m w l place → Owns m w l.operation → BackPublished m l.back → Good e m w l (act m w l place)
-good-act e m w l Idle a g f owns back = good-same e m w l (record l { place = Idle }) g (record { place = tt; owns = owns; back = back })
-good-act e m w l (Prepare step) a g f owns back = good-prepare e m w l step a (own-swap e m w l step f owns back) f.3 g
-good-act e m w l (Learn k) a g f owns back = good-learnt e m w l k g f owns back
-good-act e m w l (Help step) a g f owns back = good-help e m w l step a (on-swap e m w l step f owns back) f.3 g
-good-act e m w l (ReadWord b) a g f owns back = good-read e m w l b (m.cached b) refl f owns back g
-good-act e m w l (FlushRead b v) a g f owns back = good-reading e m (with_copies m (in_line b)) w l (ClearRead b v) (change-copies e m (in_line b) l.current g) owns back f
-good-act e m w l (ClearRead b v) a g f owns back = good-reading e m (cleared_word m b v (m.cached b)) w l (ReadWord b) (change-cleared e m l.current b v (m.cached b) refl g) owns back f
-good-act e m w l (LoadWord b) a g f owns back = absurd f
-good-act e m w l (StoreWord b v) a g f owns back = good-single e m (with_word m b (Value v)) w l Stored (change-store e m b v l.current f g) back tt refl
-good-act e m w l (FlushLine line) a g f owns back = good-single e m (with_copies m (λ b. b / 8 == line)) w l Flushed (change-copies e m (λ b. b / 8 == line) l.current g) back tt refl
+pub good-act : (e : ℕ → Entries) (m : Memory) (w : ℕ) (l : Local) (place : Place) → ((t : ℕ) → t ≢ l.current → (m.status_pending t).asked w ≡ None) → AreApart e → (e l.current).count ≤ 4 → Sound e m → AtPlace e m w l place → Owns m w l.operation → BackPublished m l.back
+    → Good e m w l (act m w l place)
+good-act e m w l Idle only a few g f owns back = good-same e m w l (record l { place = Idle }) g (record { place = tt; owns = owns; back = back })
+good-act e m w l (Prepare step) only a few g f owns back = good-prepare e m w l step only a few (own-swap e m w l step f owns back) f.3 g
+good-act e m w l (Learn k) only a few g f owns back = good-learnt e m w l k g f owns back
+good-act e m w l (Help step) only a few g f owns back = good-help e m w l step only a (on-swap e m w l step f owns back) f.3 g
+good-act e m w l (ReadWord b) only a few g f owns back = good-read e m w l b (m.cached b) refl f owns back g
+good-act e m w l (AskRead b v) only a few g f owns back = good-reading e m (with_ask m w (line_of b)) w l (FenceRead b v) (change-ask e m w (line_of b) l.current g) owns back f
+good-act e m w l (FenceRead b v) only a few g f owns back = good-reading e m (fenced m w) w l (ClearRead b v) (change-fence e m w l.current only a g) owns back f
+good-act e m w l (ClearRead b v) only a few g f owns back = good-reading e m (cleared_word m b v (m.cached b)) w l (ReadWord b) (change-cleared e m l.current b v (m.cached b) refl g) owns back f
+good-act e m w l (LoadWord b) only a few g f owns back = absurd f
+good-act e m w l (StoreWord b v) only a few g f owns back = good-single e m (with_word m b (Value v)) w l Stored (change-store e m b v l.current f g) back tt refl
+good-act e m w l (FlushLine line) only a few g f owns back = good-single e m (with_copies m (λ b. b / 8 == line)) w l Flushed (change-copies e m (λ b. b / 8 == line) l.current g) back tt refl

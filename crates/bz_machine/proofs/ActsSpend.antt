@@ -3,11 +3,11 @@ use Rattle.std.proofs.Common.{◌≡◌, ◌≢◌, ◌==◌, nat_lt, ℕ, ◌+�
 use Rattle.std.proofs.lemmas.Grind.{common_steps}
 use Rattle.bz_word.specs.declared.kind.WordKind.TheVariants.{Dirty}
 use Rattle.bz_machine.specs.declared.place.HelpStep.{HelpStep}
-use Rattle.bz_machine.specs.declared.place.HelpStep.TheVariants.{Look, InstallTag, LookUnderTag, InstallPointer, RemoveTag, FlushDirty, ClearDirty, FlushTarget, Decide, FlushStatus, ClearStatus, PutFinal, FlushFinal, ClearFinal, SweepTag}
+use Rattle.bz_machine.specs.declared.place.HelpStep.TheVariants.{Look, InstallTag, LookUnderTag, InstallPointer, RemoveTag, AskDirty, FenceDirty, ClearDirty, AskTarget, FenceTargets, Decide, AskStatus, FenceStatus, ClearStatus, PutFinal, AskFinal, FenceFinal, ClearFinal, SweepTag}
 use Rattle.bz_machine.specs.declared.place.Place.{Place}
-use Rattle.bz_machine.specs.declared.place.Place.TheVariants.{Idle, Prepare, Learn, Help, ReadWord, FlushRead, ClearRead, LoadWord, StoreWord, FlushLine}
+use Rattle.bz_machine.specs.declared.place.Place.TheVariants.{Idle, Prepare, Learn, Help, ReadWord, AskRead, FenceRead, ClearRead, LoadWord, StoreWord, FlushLine}
 use Rattle.bz_machine.specs.declared.place.PrepareStep.{PrepareStep}
-use Rattle.bz_machine.specs.declared.place.PrepareStep.TheVariants.{WriteWord, WriteStatus, FlushHead, FlushTail}
+use Rattle.bz_machine.specs.declared.place.PrepareStep.TheVariants.{WriteWord, WriteStatus, AskHead, AskTail, FenceDescriptor}
 use Rattle.bz_machine.specs.declared.status.SwapStatus.{SwapStatus}
 use Rattle.bz_machine.specs.declared.status.SwapStatus.TheVariants.{Free, Undecided, Deciding, Decided}
 use Rattle.bz_machine.specs.declared.status.Verdict.{Verdict}
@@ -30,12 +30,12 @@ use Rattle.bz_machine.proofs.SpendDecides.{spends-decide}
 use Rattle.bz_machine.proofs.SpendFinals.{spends-clear_final, spends-sweep}
 use Rattle.bz_machine.proofs.SpendInstalls.{spends-try, spends-read}
 use Rattle.bz_machine.proofs.SpendPointers.{spends-pointer}
-use Rattle.bz_machine.proofs.SpendPrepares.{spends-write_status, spends-flush_tail}
+use Rattle.bz_machine.proofs.SpendPrepares.{spends-write_status, spends-fence_descriptor}
 use Rattle.bz_machine.proofs.SpendPuts.{spends-put_final}
 use Rattle.bz_machine.proofs.SpendReads.{spends-clear_read}
 use Rattle.bz_machine.proofs.SpendStale.{spends-remove_tag, spends-stale_sweep, spends-stale_pointer, spends-stale_tag}
 use Rattle.bz_machine.proofs.SpendStores.{spends-store}
-use Rattle.bz_machine.proofs.Spends.{Spends, spends-learn, spends-look, spends-under, spends-flush_dirty, spends-flush_target, spends-flush_status, spends-flush_final, spends-write_word, spends-flush_head, spends-flush_read, spends-flush_line}
+use Rattle.bz_machine.proofs.Spends.{Spends, spends-learn, spends-look, spends-under, spends-ask_dirty, spends-fence_dirty, spends-ask_target, spends-fence_targets, spends-ask_status, spends-fence_status, spends-ask_final, spends-fence_final, spends-write_word, spends-ask_head, spends-ask_tail, spends-ask_read, spends-fence_read, spends-flush_line}
 use Rattle.bz_machine.proofs.Lasting.{lasts-durable}
 
 -- the status of a published swap is not free
@@ -51,7 +51,8 @@ pub record KnowsEntry (x : State) (h i : ℕ) : Type 0 where
   pub inside : i < (x.entries (x.local h).current).count
 
 at-final : (x : State) (h i : ℕ) (d : Verdict) (p : Place) → IsAtFinal p i d → AtPlace x.entries x.memory h (x.local h) p → KnowsEntry x h i
-at-final x h i d (Help (FlushFinal j c)) at known = record { spell = known.2; inside = subst (λ k. k < (x.entries (x.local h).current).count) at.0 known.3.0 }
+at-final x h i d (Help (AskFinal j c)) at known = record { spell = known.2; inside = subst (λ k. k < (x.entries (x.local h).current).count) at.0 known.3.0 }
+at-final x h i d (Help (FenceFinal j c)) at known = record { spell = known.2; inside = subst (λ k. k < (x.entries (x.local h).current).count) at.0 known.3.0 }
 at-final x h i d (Help (ClearFinal j c)) at known = record { spell = known.2; inside = subst (λ k. k < (x.entries (x.local h).current).count) at.0 known.3.0 }
 at-final x h i d (Help step) at known = absurd at
 at-final x h i d p at known = absurd at
@@ -89,8 +90,9 @@ few-words k c f g = omega (arith, f, g)
 prepares : (x : State) (w n : ℕ) (step : PrepareStep) → IsBounded x n → AtPlace x.entries x.memory w (x.local w) (Prepare step) → Spends x.entries x.local x.memory w n (x.local w) (Prepare step)
 prepares x w n (WriteWord k) bounded known = spends-write_word x.entries x.local x.memory w n (x.local w) k (few-words k _ known.3.0 (bounded.short (x.local w).current))
 prepares x w n WriteStatus bounded known = spends-write_status x.entries x.local x.memory w n (x.local w) (bounded.state.sound.unset (x.local w).current known.1)
-prepares x w n FlushHead bounded known = spends-flush_head x.entries x.local x.memory w n (x.local w)
-prepares x w n FlushTail bounded known = spends-flush_tail x.entries x.local x.memory w n (x.local w) known.0 known.3.1
+prepares x w n AskHead bounded known = spends-ask_head x.entries x.local x.memory w n (x.local w)
+prepares x w n AskTail bounded known = spends-ask_tail x.entries x.local x.memory w n (x.local w)
+prepares x w n FenceDescriptor bounded known = spends-fence_descriptor x.entries x.local x.memory w n (x.local w) known.0 known.3.1
 
 -- on a published swap
 helps : (x : State) (w n : ℕ) (step : HelpStep) → IsBounded x n → (x.local w).place ≡ Help step → AtPlace x.entries x.memory w (x.local w) (Help step) → Spends x.entries x.local x.memory w n (x.local w) (Help step)
@@ -111,17 +113,21 @@ helps x w n (InstallPointer i v q) bounded at known = by_fresh (is_fresh_at (sce
     by_fresh false told =
         spends-stale_pointer x.entries x.local x.memory w n (x.local w) i v q bounded.few bounded.short (small i _ known.3.0 (bounded.short (x.local w).current)) ((agree-spell (x.entries (x.local w).current) (x.local w).list known.2).target i known.3.0) told
 helps x w n (RemoveTag i v q) bounded at known = spends-remove_tag x.entries x.local x.memory w n (x.local w) i v q bounded.few bounded.short
-helps x w n (FlushDirty i v) bounded at known = spends-flush_dirty x.entries x.local x.memory w n (x.local w) i v
+helps x w n (AskDirty i v) bounded at known = spends-ask_dirty x.entries x.local x.memory w n (x.local w) i v
+helps x w n (FenceDirty i v) bounded at known = spends-fence_dirty x.entries x.local x.memory w n (x.local w) i v
 helps x w n (ClearDirty i v) bounded at known =
     spends-clear_dirty x.entries x.local x.memory w n (x.local w) i v bounded.few bounded.short ((agree-spell (x.entries (x.local w).current) (x.local w).list known.2).target i known.3.0)
     (home-of x w n ((x.entries (x.local w).current).target i) v (Help (ClearDirty i v)) bounded at (λ j d final. final)) (small i _ known.3.0 (bounded.short (x.local w).current))
-helps x w n (FlushTarget i) bounded at known = spends-flush_target x.entries x.local x.memory w n (x.local w) i (small i _ known.3.0 (bounded.short (x.local w).current))
+helps x w n FenceTargets bounded at known = spends-fence_targets x.entries x.local x.memory w n (x.local w)
+helps x w n (AskTarget i) bounded at known = spends-ask_target x.entries x.local x.memory w n (x.local w) i (small i _ known.3.0 (bounded.short (x.local w).current))
 helps x w n (Decide d) bounded at known =
     spends-decide x.entries x.local x.memory w n (x.local w) d bounded.few bounded.short (not-free (x.memory.status (x.local w).current) (x.memory.durable_status (x.local w).current) (bounded.state.sound.follows (x.local w).current (x.memory.durable_status (x.local w).current) (lasts-durable _ _) known.0))
-helps x w n (FlushStatus d) bounded at known = spends-flush_status x.entries x.local x.memory w n (x.local w) d
+helps x w n (AskStatus d) bounded at known = spends-ask_status x.entries x.local x.memory w n (x.local w) d
+helps x w n (FenceStatus d) bounded at known = spends-fence_status x.entries x.local x.memory w n (x.local w) d
 helps x w n (ClearStatus d) bounded at known = spends-clear_status x w n d bounded known.0
 helps x w n (PutFinal i d) bounded at known = spends-put_final x w n i d bounded at known (small i _ known.3.0 (bounded.short (x.local w).current))
-helps x w n (FlushFinal i d) bounded at known = spends-flush_final x.entries x.local x.memory w n (x.local w) i d
+helps x w n (AskFinal i d) bounded at known = spends-ask_final x.entries x.local x.memory w n (x.local w) i d
+helps x w n (FenceFinal i d) bounded at known = spends-fence_final x.entries x.local x.memory w n (x.local w) i d
 helps x w n (ClearFinal i d) bounded at known = spends-clear_final x w n i d bounded at known (small i _ known.3.0 (bounded.short (x.local w).current))
 helps x w n (SweepTag i d v q) bounded at known = by_fresh (is_fresh_at (scene_of x) (x.local w).current (Help (SweepTag i d v q))) refl
   where
@@ -137,7 +143,8 @@ acts x w n (Prepare step) bounded at busy known rests = prepares x w n step boun
 acts x w n (Learn k) bounded at busy known rests = spends-learn x.entries x.local x.memory w n (x.local w) k (few-words k _ known.2 (bounded.short (x.local w).current))
 acts x w n (Help step) bounded at busy known rests = helps x w n step bounded at known
 acts x w n (ReadWord a) bounded at busy known rests = spends-read x w n a bounded at known (λ v. home-of x w n a v (ReadWord a) bounded at (λ i d final. final))
-acts x w n (FlushRead a v) bounded at busy known rests = spends-flush_read x.entries x.local x.memory w n (x.local w) a v
+acts x w n (AskRead a v) bounded at busy known rests = spends-ask_read x.entries x.local x.memory w n (x.local w) a v
+acts x w n (FenceRead a v) bounded at busy known rests = spends-fence_read x.entries x.local x.memory w n (x.local w) a v
 acts x w n (ClearRead a v) bounded at busy known rests = spends-clear_read x.entries x.local x.memory w n (x.local w) a v bounded.few bounded.short
 acts x w n (LoadWord a) bounded at busy known rests = absurd known
 acts x w n (StoreWord a v) bounded at busy known rests = spends-store x.entries x.local x.memory w n (x.local w) a v (bounded.state.sound.private a known) rests

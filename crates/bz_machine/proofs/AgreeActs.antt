@@ -7,7 +7,7 @@ use Rattle.bz_machine.specs.declared.status.Verdict.TheVariants.{Succeeded, Fail
 use Rattle.bz_machine.specs.Machine.{Entries, Memory}
 use Rattle.bz_machine.specs.Facts.{Fact}
 use Rattle.bz_machine.specs.declared.place.HelpStep.{HelpStep}
-use Rattle.bz_machine.specs.declared.place.HelpStep.TheVariants.{Look, InstallTag, LookUnderTag, InstallPointer, RemoveTag, FlushDirty, ClearDirty, FlushTarget, Decide, FlushStatus, ClearStatus, PutFinal, FlushFinal, ClearFinal, SweepTag}
+use Rattle.bz_machine.specs.declared.place.HelpStep.TheVariants.{Look, InstallTag, LookUnderTag, InstallPointer, RemoveTag, AskDirty, FenceDirty, ClearDirty, AskTarget, FenceTargets, Decide, AskStatus, FenceStatus, ClearStatus, PutFinal, AskFinal, FenceFinal, ClearFinal, SweepTag}
 use Rattle.bz_machine.specs.declared.place.Next.{Next}
 use Rattle.bz_machine.specs.declared.place.Next.TheVariants.{Step}
 use Rattle.bz_machine.specs.HelpActs.{passed, finished, final_value, after_install_tag, after_untag, cleared_word, after_put_final, help_act}
@@ -54,14 +54,18 @@ help_act-agrees e x m w s (RemoveTag i v q) a f =
     ap (λ t. after_untag x m s i v q (Value (x.expected i)) (Step Look) (Step Look) (m.cached t)) (a.target i f)
     ∙ ap (λ u. after_untag x m s i v q (Value u) (Step Look) (Step Look) (m.cached ((e s).target i))) (a.expected i f)
     ∙ untag-agrees x (e s) m s i v q (Value ((e s).expected i)) (Step Look) (Step Look) (m.cached ((e s).target i)) a f
-help_act-agrees e x m w s (FlushDirty i v) a f = rw (a.target i f.0) refl
+help_act-agrees e x m w s (AskDirty i v) a f = rw (a.target i f.0) refl
+help_act-agrees e x m w s (FenceDirty i v) a f = refl
 help_act-agrees e x m w s (ClearDirty i v) a f = ap (λ t. record { memory = cleared_word m t v (m.cached t); next = Step (InstallTag i) }) (a.target i f.0)
-help_act-agrees e x m w s (FlushTarget i) a f = rw (a.target i f.0, a.count) refl
+help_act-agrees e x m w s (AskTarget i) a f = rw (a.target i f.0, a.count) refl
+help_act-agrees e x m w s FenceTargets a f = refl
 help_act-agrees e x m w s (Decide d) a f = refl
-help_act-agrees e x m w s (FlushStatus d) a f = refl
+help_act-agrees e x m w s (AskStatus d) a f = refl
+help_act-agrees e x m w s (FenceStatus d) a f = refl
 help_act-agrees e x m w s (ClearStatus d) a f = refl
 help_act-agrees e x m w s (PutFinal i d) a f = ap (λ t. after_put_final x m s i d (m.cached t)) (a.target i f.0) ∙ put_final-agrees x (e s) m s i d _ a f.0
-help_act-agrees e x m w s (FlushFinal i d) a f = rw (a.target i f.0) refl
+help_act-agrees e x m w s (AskFinal i d) a f = rw (a.target i f.0) refl
+help_act-agrees e x m w s (FenceFinal i d) a f = refl
 help_act-agrees e x m w s (ClearFinal i d) a f =
     ap (λ t. record { memory = cleared_word m t (final_value x i d) (m.cached t); next = finished x i d }) (a.target i f.0)
     ∙ ap (λ u. record { memory = cleared_word m ((e s).target i) u (m.cached ((e s).target i)); next = finished x i d }) (final-agrees x (e s) i d a f.0)

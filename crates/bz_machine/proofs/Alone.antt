@@ -6,7 +6,7 @@ use Rattle.bz_machine.proofs.Lasting.{lasts-alone}
 pub swaps_alone : SwapsAlone
 swaps_alone = record {
   renewable = record { plain = λ a. tt; same = λ a. refl; free = λ s. refl; durable_free = λ s. refl };
-  may = ((refl, record { some = omega arith; apart = λ i lt. omega arith; told = λ i lt. refl; flushed = λ a y h named may. lasts-alone _ _ may; not_stored = λ w a v h. absurd (grind (arith, h)) }), tt);
+  may = ((refl, record { some = omega arith; few = omega arith; apart = λ i lt. omega arith; told = λ i lt. refl; flushed = λ a y h named may. lasts-alone _ _ may; not_stored = λ w a v h. absurd (grind (arith, h)) }), tt);
   before = refl;
   effect = refl;
   after = refl;

@@ -1,6 +1,6 @@
 -- What a worker's own fence would leave, after an act, an ask or a fence of another one: each value that may last then is the
 -- cached one, or might last after that fence before.
-use Rattle.std.proofs.Common.{◌⊎◌, ◌≡◌, ℕ, ◌==◌, if◌then◌else◌, nat_lt, ◌<◌, ◌≤◌, Bool, true, false, arith, refl, sym, ap, subst, ◌∙◌, inl, inr, Some, None}
+use Rattle.std.proofs.Common.{◌⊎◌, ◌≡◌, ℕ, ◌+◌, ◌==◌, if◌then◌else◌, nat_lt, ◌<◌, ◌≤◌, Bool, true, false, arith, refl, sym, ap, subst, ◌∙◌, inl, inr, Some, None}
 use Rattle.std.proofs.lemmas.Grind.{common_steps}
 use Rattle.std.proofs.lemmas.Bool.{cases_lt}
 use Rattle.std.specs.declared.option.Option.{Option}
@@ -44,6 +44,31 @@ asked-saved d p u v t c x other (IsAsked y q asked after is) =
 pub for-asked : {A : Type 0} (b : Bool) (d : A) (p : Pending A) (u v t : ℕ) (c x : A) → (v == u) ≡ false → LastsFenced d (if b then with_saved p u t c else p) v x → (x ≡ c) ⊎ LastsFenced d p v x
 for-asked true d p u v t c x other l = asked-saved d p u v t c x other (lasts-cases _ _ _ l)
 for-asked false d p u v t c x other l = inr l
+
+-- after a worker's own ask its fence will leave the value that it saved, and no other may last then
+own-saved : {A : Type 0} (d : A) (p : Pending A) (w now : ℕ) (c x : A) (o : Option (Saved A)) → o ≡ Some (record { moment = now + 1; value = c }) → IsPast now p
+    → IsLast (fenced_value d p.since o) (record { since = fenced_since p.since o; asked = λ v. if v == w then None else (with_saved p w (now + 1) c).asked v }) x → x ≡ c
+own-saved d p w now c x o own past (IsDurable is) =
+    let after : nat_lt p.since (now + 1) ≡ true = grind (arith, common_steps, past.since) in
+    is ∙ rw (own, after) refl
+own-saved d p w now c x o own past (IsAsked v q asked later is) =
+    let other : (v == w) ≡ false = not-own (v == w) ((with_saved p w (now + 1) c).asked v) q asked in
+    let after : nat_lt p.since (now + 1) ≡ true = grind (arith, common_steps, past.since) in
+    let made : now + 1 < q.moment = subst (λ t. t < q.moment) (rw (own, after) refl) later in
+    elim (saved-cases (v == w) (record { moment = now + 1; value = c }) (p.asked v) q (left-fenced (v == w) ((with_saved p w (now + 1) c).asked v) q asked)) [
+      | inl new ↦ absurd (grind (arith, new.0, other))
+      | inr old ↦ absurd (omega (arith, made, past.asked v q old))
+    ]
+
+own-if : {A : Type 0} (b : Bool) (x y : A) → b ≡ true → (if b then x else y) ≡ x
+own-if b x y told = rw told refl
+
+pub own-asked : {A : Type 0} (b : Bool) (d : A) (p : Pending A) (w now : ℕ) (c x : A) → IsPast now p → LastsFenced d (if b then with_saved p w (now + 1) c else p) w x
+    → ((b ≡ true) × (x ≡ c)) ⊎ ((b ≡ false) × LastsFenced d p w x)
+own-asked true d p w now c x past l =
+    let self : (w == w) ≡ true = grind (arith, common_steps) in
+    inl (refl, own-saved d p w now c x (if w == w then Some (record { moment = now + 1; value = c }) else p.asked w) (own-if (w == w) (Some (record { moment = now + 1; value = c })) (p.asked w) self) past (lasts-cases _ _ _ l))
+own-asked false d p w now c x past l = inr (refl, l)
 
 -- a fence leaves later moments, from a later moment on
 rising-if : (s s' moment : ℕ) (b b' : Bool) → s ≤ s' → nat_lt s moment ≡ b → nat_lt s' moment ≡ b' → (if b then moment else s) ≤ (if b' then moment else s')

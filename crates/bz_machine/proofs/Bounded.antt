@@ -4,11 +4,12 @@ use Rattle.std.proofs.lemmas.Grind.{common_steps}
 use Rattle.bz_word.specs.declared.kind.WordKind.{WordKind}
 use Rattle.bz_word.specs.declared.kind.WordKind.TheVariants.{Dirty, Tag}
 use Rattle.bz_machine.specs.declared.place.Place.TheVariants.{Idle}
-use Rattle.bz_machine.specs.Budgets.{AreShort, IsBounded, IsAmong, BeginsBounded, StaysBounded}
+use Rattle.bz_machine.specs.Sound.{AreShort}
+use Rattle.bz_machine.specs.Budgets.{IsBounded, IsAmong, BeginsBounded, StaysBounded}
 use Rattle.bz_machine.specs.Fronts.{MayRise}
 use Rattle.bz_machine.specs.Machine.{Entries}
 use Rattle.bz_machine.specs.Sound.{IsPlain}
-use Rattle.bz_machine.specs.State.{State, Event, StartRead, StartStore, StartFlush, StartSwap, Act, Evict, EvictStatus, EvictField, Ask, Fence, happens}
+use Rattle.bz_machine.specs.State.{State, Event, StartRead, StartStore, StartFlush, StartSwap, Act, Evict, EvictStatus, EvictField, happens}
 use Rattle.bz_machine.specs.Steps.{Local}
 use Rattle.bz_machine.proofs.DirtyHome.{dirty_stay_home}
 use Rattle.bz_machine.proofs.EndsStay.{ends_stay_whole}
@@ -27,8 +28,6 @@ rise-among n (Act u) among = tt
 rise-among n (Evict a) among = tt
 rise-among n (EvictStatus s) among = tt
 rise-among n (EvictField s k) among = tt
-rise-among n (Ask w p) among = tt
-rise-among n (Fence w s) among = tt
 
 short-put : (e : ℕ → Entries) (new : Entries) (s : ℕ) → AreShort e → new.count ≤ 4 → (b : Bool) → (if b then new else e s).count ≤ 4
 short-put e new s short few true = few
@@ -43,8 +42,6 @@ short-among x n (Act u) among short = short
 short-among x n (Evict a) among short = short
 short-among x n (EvictStatus s) among short = short
 short-among x n (EvictField s k) among short = short
-short-among x n (Ask w p) among short = short
-short-among x n (Fence w s) among short = short
 
 idle-put : (local : ℕ → Local) (u n : ℕ) (l : Local) (v : ℕ) → u < n → n ≤ v → (local v).place ≡ Idle → (b : Bool) → (v == u) ≡ b → (if b then l else local v).place ≡ Idle
 idle-put local u n l v below above idle true told =
@@ -61,8 +58,6 @@ idle-among x n (Act u) among bounded v above = idle-put x.local u n _ v among ab
 idle-among x n (Evict a) among bounded v above = bounded.idle v above
 idle-among x n (EvictStatus s) among bounded v above = bounded.idle v above
 idle-among x n (EvictField s k) among bounded v above = bounded.idle v above
-idle-among x n (Ask w p) among bounded v above = bounded.idle v above
-idle-among x n (Fence w s) among bounded v above = bounded.idle v above
 
 pub bounded-happens : StaysBounded
 bounded-happens x n v may among bounded = record {

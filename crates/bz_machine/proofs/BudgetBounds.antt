@@ -3,17 +3,18 @@ use Rattle.std.proofs.Common.{◌≡◌, ◌==◌, ◌&&◌, ◌||◌, not, nat_
 use Rattle.std.proofs.lemmas.Grind.{common_steps}
 use Rattle.std.specs.declared.option.Option.{Option}
 use Rattle.bz_machine.specs.declared.place.Place.{Place}
-use Rattle.bz_machine.specs.declared.place.Place.TheVariants.{Idle, Prepare, Learn, Help, ReadWord, FlushRead, ClearRead, LoadWord, StoreWord, FlushLine}
-use Rattle.bz_machine.specs.declared.place.PrepareStep.TheVariants.{WriteWord, WriteStatus, FlushHead, FlushTail}
+use Rattle.bz_machine.specs.declared.place.Place.TheVariants.{Idle, Prepare, Learn, Help, ReadWord, AskRead, FenceRead, ClearRead, LoadWord, StoreWord, FlushLine}
+use Rattle.bz_machine.specs.declared.place.PrepareStep.TheVariants.{WriteWord, WriteStatus, AskHead, AskTail, FenceDescriptor}
 use Rattle.bz_machine.specs.declared.place.HelpStep.{HelpStep}
-use Rattle.bz_machine.specs.declared.place.HelpStep.TheVariants.{Look, InstallTag, LookUnderTag, InstallPointer, RemoveTag, FlushDirty, ClearDirty, FlushTarget, Decide, FlushStatus, ClearStatus, PutFinal, FlushFinal, ClearFinal, SweepTag}
+use Rattle.bz_machine.specs.declared.place.HelpStep.TheVariants.{Look, InstallTag, LookUnderTag, InstallPointer, RemoveTag, AskDirty, FenceDirty, ClearDirty, AskTarget, FenceTargets, Decide, AskStatus, FenceStatus, ClearStatus, PutFinal, AskFinal, FenceFinal, ClearFinal, SweepTag}
 use Rattle.bz_machine.specs.declared.worker.Operation.{Operation}
 use Rattle.bz_machine.specs.declared.worker.Operation.TheVariants.{Nothing, Reading, Swapping}
 use Rattle.bz_machine.specs.Steps.{Local, is_own}
 use Rattle.bz_machine.specs.Allowed.{counted, is_busy, for_worker}
 use Rattle.bz_machine.specs.Standing.{Scene, scene_of, target_at, is_through, missing, top, swap_of, is_open_by, is_open_at, is_open}
 use Rattle.bz_machine.specs.Budget.{level, for_first, for_sweep, for_return, for_tag, for_detour, for_pointer, for_dirty, for_stale, for_stale_entry, open_count, open_above, walk_from, walk_back, walk_on, walk_at, if_any, reserve_by, reserve, lags, lags_back, detour_on, detour, own_missing_by, own_missing, left_in_help, left_at, is_over_at, left_by_help, left_by_place, left_by, for_walks, left_by_others, fresh_budget, is_fresh_at, stale_in, stale_at, allowed_by_others, budget_at}
-use Rattle.bz_machine.specs.Budgets.{AreShort, BudgetsAreAllowed}
+use Rattle.bz_machine.specs.Sound.{AreShort}
+use Rattle.bz_machine.specs.Budgets.{BudgetsAreAllowed}
 use Rattle.bz_machine.proofs.Sums.{for_open, others-le, counted-le, counted-and, ones-le, others-ones-le, others-split, others-weigh}
 
 -- what an open swap of another takes of the walks, and of what the worker itself counts; and the rest of what it counts itself
@@ -77,14 +78,18 @@ left_in_help-le (InstallTag i) = omega arith
 left_in_help-le (LookUnderTag i v q) = omega arith
 left_in_help-le (InstallPointer i v q) = omega arith
 left_in_help-le (RemoveTag i v q) = omega arith
-left_in_help-le (FlushDirty i v) = omega arith
+left_in_help-le (AskDirty i v) = omega arith
+left_in_help-le (FenceDirty i v) = omega arith
 left_in_help-le (ClearDirty i v) = omega arith
-left_in_help-le (FlushTarget i) = omega arith
+left_in_help-le (AskTarget i) = omega arith
+left_in_help-le FenceTargets = omega arith
 left_in_help-le (Decide d) = omega arith
-left_in_help-le (FlushStatus d) = omega arith
+left_in_help-le (AskStatus d) = omega arith
+left_in_help-le (FenceStatus d) = omega arith
 left_in_help-le (ClearStatus d) = omega arith
 left_in_help-le (PutFinal i d) = omega arith
-left_in_help-le (FlushFinal i d) = omega arith
+left_in_help-le (AskFinal i d) = omega arith
+left_in_help-le (FenceFinal i d) = omega arith
 left_in_help-le (ClearFinal i d) = omega arith
 left_in_help-le (SweepTag i d v q) = omega arith
 
@@ -95,7 +100,8 @@ open-busy x (Prepare step) o k = omega arith
 open-busy x (Learn i) o k = counted-le (is_open_by x o) k
 open-busy x (Help step) o k = counted-le (is_open_by x o) k
 open-busy x (ReadWord a) o k = counted-le (is_open_by x o) k
-open-busy x (FlushRead a v) o k = counted-le (is_open_by x o) k
+open-busy x (AskRead a v) o k = counted-le (is_open_by x o) k
+open-busy x (FenceRead a v) o k = counted-le (is_open_by x o) k
 open-busy x (ClearRead a v) o k = counted-le (is_open_by x o) k
 open-busy x (LoadWord a) o k = counted-le (is_open_by x o) k
 open-busy x (StoreWord a v) o k = counted-le (is_open_by x o) k
@@ -107,14 +113,21 @@ left_by_help-le x over l place v k (InstallTag i) = omega arith
 left_by_help-le x over l place v k (LookUnderTag i u q) = counted-le _ for_tag
 left_by_help-le x over l place v k (InstallPointer i u q) = counted-le _ for_tag
 left_by_help-le x over l place v k (RemoveTag i u q) = counted-le _ for_tag
-left_by_help-le x over l place v k (FlushDirty i u) = omega arith
+left_by_help-le x over l place v k (AskDirty i u) = omega arith
+left_by_help-le x over l place v k (FenceDirty i u) = omega arith
 left_by_help-le x over l place v k (ClearDirty i u) = omega arith
-left_by_help-le x over l place v k (FlushTarget i) = omega arith
+left_by_help-le x over l place v k (AskTarget i) = omega arith
+left_by_help-le x over l place v k FenceTargets = omega arith
 left_by_help-le x over l place v k (Decide d) = omega arith
-left_by_help-le x over l place v k (FlushStatus d) = omega arith
+left_by_help-le x over l place v k (AskStatus d) = omega arith
+left_by_help-le x over l place v k (FenceStatus d) = omega arith
 left_by_help-le x over l place v k (ClearStatus d) = omega arith
 left_by_help-le x over l place v k (PutFinal i d) = omega arith
-left_by_help-le x over l place v k (FlushFinal i d) = few (counted-le _ for_dirty)
+left_by_help-le x over l place v k (AskFinal i d) = few (counted-le _ for_dirty)
+  where
+    few : {k : ℕ} → k ≤ for_dirty → k ≤ for_tag
+    few le = omega arith
+left_by_help-le x over l place v k (FenceFinal i d) = few (counted-le _ for_dirty)
   where
     few : {k : ℕ} → k ≤ for_dirty → k ≤ for_tag
     few le = omega arith
@@ -130,7 +143,8 @@ left_by_place-le x over l place v k (Prepare step) = omega arith
 left_by_place-le x over l place v k (Learn i) = omega arith
 left_by_place-le x over l place v k (Help step) = left_by_help-le x over l place v k step
 left_by_place-le x over l place v k (ReadWord a) = omega arith
-left_by_place-le x over l place v k (FlushRead a u) = omega arith
+left_by_place-le x over l place v k (AskRead a u) = omega arith
+left_by_place-le x over l place v k (FenceRead a u) = omega arith
 left_by_place-le x over l place v k (ClearRead a u) = omega arith
 left_by_place-le x over l place v k (LoadWord a) = omega arith
 left_by_place-le x over l place v k (StoreWord a u) = omega arith
@@ -163,12 +177,14 @@ place-le : (x : Scene) (u : ℕ) (above : ℕ → ℕ) (l : Local) (place : Plac
 place-le x u above l Idle le short = omega (arith, if_any-le (u))
 place-le x u above l (Prepare (WriteWord k)) le short = omega (arith, if_any-le (u), reserve_by-le l.operation (if_any (u)), own_missing_by-le x l.operation short)
 place-le x u above l (Prepare WriteStatus) le short = omega (arith, if_any-le (u), reserve_by-le l.operation (if_any (u)), own_missing_by-le x l.operation short)
-place-le x u above l (Prepare FlushHead) le short = omega (arith, if_any-le (u), reserve_by-le l.operation (if_any (u)), own_missing_by-le x l.operation short)
-place-le x u above l (Prepare FlushTail) le short = omega (arith, if_any-le (u), reserve_by-le l.operation (if_any (u)), own_missing_by-le x l.operation short)
+place-le x u above l (Prepare AskHead) le short = omega (arith, if_any-le (u), reserve_by-le l.operation (if_any (u)), own_missing_by-le x l.operation short)
+place-le x u above l (Prepare AskTail) le short = omega (arith, if_any-le (u), reserve_by-le l.operation (if_any (u)), own_missing_by-le x l.operation short)
+place-le x u above l (Prepare FenceDescriptor) le short = omega (arith, if_any-le (u), reserve_by-le l.operation (if_any (u)), own_missing_by-le x l.operation short)
 place-le x u above l (Learn k) le short = omega (arith, walk_on-le x u above l le, detour_on-le x u l, reserve_by-le l.operation 0, own_missing_by-le x l.operation short)
 place-le x u above l (Help step) le short = omega (arith, walk_on-le x u above l le, detour_on-le x u l, reserve_by-le l.operation 0, own_missing_by-le x l.operation short, left_in_help-le step)
 place-le x u above l (ReadWord a) le short = omega (arith, if_any-le (u), reserve_by-le l.operation (if_any (u)), own_missing_by-le x l.operation short)
-place-le x u above l (FlushRead a v) le short = omega (arith, if_any-le (u), reserve_by-le l.operation (if_any (u)), own_missing_by-le x l.operation short)
+place-le x u above l (AskRead a v) le short = omega (arith, if_any-le (u), reserve_by-le l.operation (if_any (u)), own_missing_by-le x l.operation short)
+place-le x u above l (FenceRead a v) le short = omega (arith, if_any-le (u), reserve_by-le l.operation (if_any (u)), own_missing_by-le x l.operation short)
 place-le x u above l (ClearRead a v) le short = omega (arith, if_any-le (u), reserve_by-le l.operation (if_any (u)), own_missing_by-le x l.operation short)
 place-le x u above l (LoadWord a) le short = omega (arith, if_any-le (u), reserve_by-le l.operation (if_any (u)), own_missing_by-le x l.operation short)
 place-le x u above l (StoreWord a v) le short = omega (arith, if_any-le (u), reserve_by-le l.operation (if_any (u)), own_missing_by-le x l.operation short)
@@ -193,14 +209,18 @@ stale_in-le x s (InstallTag i) = omega (arith, if-le (x.any_dirty (target_at x s
 stale_in-le x s (LookUnderTag i v q) = omega arith
 stale_in-le x s (InstallPointer i v q) = if-le (x.decided s) (for_stale_entry * (4 - i) + 9) 1 100 (omega arith) (omega arith)
 stale_in-le x s (RemoveTag i v q) = omega arith
-stale_in-le x s (FlushDirty i v) = omega (arith, if-le (x.dirty (target_at x s i) v) 7 11 11 (omega arith) (omega arith))
+stale_in-le x s (AskDirty i v) = omega (arith, if-le (x.dirty (target_at x s i) v) 7 11 11 (omega arith) (omega arith))
+stale_in-le x s (FenceDirty i v) = omega (arith, if-le (x.dirty (target_at x s i) v) 6 10 11 (omega arith) (omega arith))
 stale_in-le x s (ClearDirty i v) = omega (arith, if-le (x.dirty (target_at x s i) v) 5 9 9 (omega arith) (omega arith))
-stale_in-le x s (FlushTarget i) = omega arith
+stale_in-le x s (AskTarget i) = omega arith
+stale_in-le x s FenceTargets = omega arith
 stale_in-le x s (Decide d) = omega arith
-stale_in-le x s (FlushStatus d) = omega arith
+stale_in-le x s (AskStatus d) = omega arith
+stale_in-le x s (FenceStatus d) = omega arith
 stale_in-le x s (ClearStatus d) = omega arith
 stale_in-le x s (PutFinal i d) = omega arith
-stale_in-le x s (FlushFinal i d) = omega arith
+stale_in-le x s (AskFinal i d) = omega arith
+stale_in-le x s (FenceFinal i d) = omega arith
 stale_in-le x s (ClearFinal i d) = omega arith
 stale_in-le x s (SweepTag i d v q) = omega arith
 
@@ -211,7 +231,8 @@ stale-le x s (Prepare step) stale = absurd cc
 stale-le x s (Learn k) stale = absurd cc
 stale-le x s (Help step) stale = omega (arith, stale_in-le x s step)
 stale-le x s (ReadWord a) stale = absurd cc
-stale-le x s (FlushRead a v) stale = omega arith
+stale-le x s (AskRead a v) stale = omega arith
+stale-le x s (FenceRead a v) stale = omega arith
 stale-le x s (ClearRead a v) stale = omega arith
 stale-le x s (LoadWord a) stale = absurd cc
 stale-le x s (StoreWord a v) stale = absurd cc

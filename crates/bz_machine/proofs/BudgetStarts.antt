@@ -52,4 +52,4 @@ starts_add_allowed x w n own idle =
     record { read = λ a. one-more _ (budget x w n) (adds.read a); store = λ a v. one-more _ (budget x w n) (adds.store a v); flush = adds.flush }
 
 pub evictions_keep_budgets : EvictionsKeepBudgets
-evictions_keep_budgets x w n = record { word = λ a. refl; status = λ s. refl; field = λ s k. refl; ask = λ v p. refl; fence = λ v s. refl }
+evictions_keep_budgets x w n = record { word = λ a. refl; status = λ s. refl; field = λ s k. refl }

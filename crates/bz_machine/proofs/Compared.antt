@@ -2,7 +2,7 @@
 use Rattle.std.proofs.Common.{◌≡◌, ◌==◌, ◌&&◌, not, ℕ, ◌+◌, ◌*◌, ◌<◌, ◌≤◌, Bool, true, false, arith, refl, mul-le-mul_left}
 use Rattle.std.proofs.lemmas.Grind.{common_steps}
 use Rattle.bz_machine.specs.declared.place.HelpStep.{HelpStep}
-use Rattle.bz_machine.specs.declared.place.HelpStep.TheVariants.{LookUnderTag, InstallPointer, RemoveTag, FlushFinal, ClearFinal}
+use Rattle.bz_machine.specs.declared.place.HelpStep.TheVariants.{LookUnderTag, InstallPointer, RemoveTag, AskFinal, FenceFinal, ClearFinal}
 use Rattle.bz_machine.specs.declared.place.Place.{Place}
 use Rattle.bz_machine.specs.declared.place.Place.TheVariants.{Idle, Prepare, Help}
 use Rattle.bz_machine.specs.declared.status.Verdict.{Verdict}
@@ -54,7 +54,8 @@ help-le : (e : ℕ → Entries) (local : ℕ → Local) (m r : Memory) (w : ℕ)
 help-le e local m r w l k p q fewer v o (LookUnderTag i u t) other = kept-le (u == v) _ _ _ _ for_tag (fewer.tags v o.current i t other)
 help-le e local m r w l k p q fewer v o (InstallPointer i u t) other = kept-le (u == v) _ _ _ _ for_tag (fewer.tags v o.current i t other)
 help-le e local m r w l k p q fewer v o (RemoveTag i u t) other = kept-le (u == v) _ _ _ _ for_tag (fewer.tags v o.current i t other)
-help-le e local m r w l k p q fewer v o (FlushFinal i d) other = kept-le true _ _ _ _ for_dirty (fewer.dirty o.current i d)
+help-le e local m r w l k p q fewer v o (AskFinal i d) other = kept-le true _ _ _ _ for_dirty (fewer.dirty o.current i d)
+help-le e local m r w l k p q fewer v o (FenceFinal i d) other = kept-le true _ _ _ _ for_dirty (fewer.dirty o.current i d)
 help-le e local m r w l k p q fewer v o (ClearFinal i d) other = kept-le true _ _ _ _ for_dirty (fewer.dirty o.current i d)
 help-le e local m r w l k p q fewer v o step other = omega arith
 

@@ -1,7 +1,7 @@
 -- Where a dirty value is cleaned, less is left by the worker that was to clean it, and no more by any.
 use Rattle.std.proofs.Common.{◌≡◌, ◌==◌, ◌&&◌, not, ℕ, ◌+◌, ◌<◌, ◌≤◌, Bool, true, false, arith, refl}
 use Rattle.bz_machine.specs.declared.place.HelpStep.{HelpStep}
-use Rattle.bz_machine.specs.declared.place.HelpStep.TheVariants.{LookUnderTag, InstallPointer, RemoveTag, FlushFinal, ClearFinal}
+use Rattle.bz_machine.specs.declared.place.HelpStep.TheVariants.{LookUnderTag, InstallPointer, RemoveTag, AskFinal, FenceFinal, ClearFinal}
 use Rattle.bz_machine.specs.declared.place.Place.{Place}
 use Rattle.bz_machine.specs.declared.place.Place.TheVariants.{Help}
 use Rattle.bz_machine.specs.declared.status.Verdict.{Verdict}
@@ -31,7 +31,9 @@ implied-le false true false k f = omega arith
 implied-le false false c k f = omega arith
 
 help-le : (x : Scene) (d : ℕ → ℕ → Bool) (over : Bool) (l : Local) (place : Place) (v : ℕ) (k : Local) (step : HelpStep) → Fewer d x.dirty → left_by_help (with_dirty x d) over l place v k step ≤ left_by_help x over l place v k step
-help-le x d over l place v k (FlushFinal i c) fewer =
+help-le x d over l place v k (AskFinal i c) fewer =
+    implied-le _ _ (not (cleans_at x l.current place (target_at x k.current i) (final_value (x.entries k.current) i c))) for_dirty (fewer (target_at x k.current i) (final_value (x.entries k.current) i c))
+help-le x d over l place v k (FenceFinal i c) fewer =
     implied-le _ _ (not (cleans_at x l.current place (target_at x k.current i) (final_value (x.entries k.current) i c))) for_dirty (fewer (target_at x k.current i) (final_value (x.entries k.current) i c))
 help-le x d over l place v k (ClearFinal i c) fewer =
     implied-le _ _ (not (cleans_at x l.current place (target_at x k.current i) (final_value (x.entries k.current) i c))) for_dirty (fewer (target_at x k.current i) (final_value (x.entries k.current) i c))
@@ -57,7 +59,8 @@ gone-drops true b c f g h = absurd cc
 help-drops : (x : Scene) (d : ℕ → ℕ → Bool) (over : Bool) (l : Local) (place : Place) (v : ℕ) (k : Local) (step : HelpStep) (i : ℕ) (c : Verdict) → CleansFinal step i c
     → d (target_at x k.current i) (final_value (x.entries k.current) i c) ≡ false → x.dirty (target_at x k.current i) (final_value (x.entries k.current) i c) ≡ true
     → cleans_at x l.current place (target_at x k.current i) (final_value (x.entries k.current) i c) ≡ false → left_by_help (with_dirty x d) over l place v k step + for_dirty ≤ left_by_help x over l place v k step
-help-drops x d over l place v k (FlushFinal j b) i c at gone stood none = gone-drops _ _ _ (rw (at.0, at.1) gone) (rw (at.0, at.1) stood) (rw (at.0, at.1) none)
+help-drops x d over l place v k (AskFinal j b) i c at gone stood none = gone-drops _ _ _ (rw (at.0, at.1) gone) (rw (at.0, at.1) stood) (rw (at.0, at.1) none)
+help-drops x d over l place v k (FenceFinal j b) i c at gone stood none = gone-drops _ _ _ (rw (at.0, at.1) gone) (rw (at.0, at.1) stood) (rw (at.0, at.1) none)
 help-drops x d over l place v k (ClearFinal j b) i c at gone stood none = gone-drops _ _ _ (rw (at.0, at.1) gone) (rw (at.0, at.1) stood) (rw (at.0, at.1) none)
 help-drops x d over l place v k step i c at gone stood none = absurd at
 

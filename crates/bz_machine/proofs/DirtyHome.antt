@@ -4,7 +4,7 @@ use Rattle.std.proofs.lemmas.Grind.{common_steps}
 use Rattle.bz_word.specs.declared.kind.WordKind.{WordKind}
 use Rattle.bz_word.specs.declared.kind.WordKind.TheVariants.{Value, Dirty, Swap, Tag}
 use Rattle.bz_machine.specs.declared.status.Verdict.{Verdict}
-use Rattle.bz_machine.specs.declared.place.HelpStep.TheVariants.{FlushFinal, ClearFinal}
+use Rattle.bz_machine.specs.declared.place.HelpStep.TheVariants.{AskFinal, FenceFinal, ClearFinal}
 use Rattle.bz_machine.specs.declared.place.Next.{Next}
 use Rattle.bz_machine.specs.declared.place.Place.{Place}
 use Rattle.bz_machine.specs.declared.place.Place.TheVariants.{Idle, Help}
@@ -12,7 +12,7 @@ use Rattle.bz_machine.specs.Changes.{put}
 use Rattle.bz_machine.specs.DirtyHomes.{IsAtFinal, Cleans, IsCleaned, DirtyAreHome, DirtyStayHome}
 use Rattle.bz_machine.specs.HelpActs.{final_value, finished, cleared_word}
 use Rattle.bz_machine.specs.Machine.{Memory, entries_in}
-use Rattle.bz_machine.specs.State.{State, StartRead, StartStore, StartFlush, StartSwap, Act, Evict, EvictStatus, EvictField, Ask, Fence, stepped, happens}
+use Rattle.bz_machine.specs.State.{State, StartRead, StartStore, StartFlush, StartSwap, Act, Evict, EvictStatus, EvictField, stepped, happens}
 use Rattle.bz_machine.specs.Steps.{Local, Stepped, after_help, act}
 use Rattle.bz_machine.proofs.TagHomes.{cached-help}
 use Rattle.bz_machine.proofs.WordChanges.{Written, Stays, PutsPlain, PutsTag, PutsPointer, PutsFinal, written}
@@ -30,7 +30,7 @@ none-comes m z b new puts none = λ a v is. by_test a v (a == b) (sym (puts a) �
     by_test a v false is = inl is
 
 final-comes : (m : Memory) (l : Local) (z : Stepped) (i : ℕ) (d : Verdict) → ((a : ℕ) → z.memory.cached a ≡ put m.cached (l.list (1 + 3 * i)) (Dirty (final_value (entries_in l.list) i d)) a)
-    → z.local ≡ record l { place = Help (FlushFinal i d) } → MayCome m z
+    → z.local ≡ record l { place = Help (AskFinal i d) } → MayCome m z
 final-comes m l z i d puts goes = λ a v is. by_test a v (a == l.list (1 + 3 * i)) refl (sym (puts a) ∙ is)
   where
     by_test : (a v : ℕ) (t : Bool) → (a == l.list (1 + 3 * i)) ≡ t → (if t then Dirty (final_value (entries_in l.list) i d) else m.cached a) ≡ Dirty v → (m.cached a ≡ Dirty v) ⊎ Cleans z.local a v
@@ -70,7 +70,8 @@ cleaned m l i d next a v target value stands now =
 
 own-stays : (m : Memory) (w : ℕ) (l : Local) (place : Place) (a v i : ℕ) (d : Verdict) → IsAtFinal place i d → l.list (1 + 3 * i) ≡ a → final_value (entries_in l.list) i d ≡ v → m.cached a ≡ Dirty v
     → (act m w l place).memory.cached a ≡ Dirty v → Cleans (act m w l place).local a v
-own-stays m w l (Help (FlushFinal j c)) a v i d at target value stands now = record { entry = i; verdict = d; place = at; target = target; value = value }
+own-stays m w l (Help (AskFinal j c)) a v i d at target value stands now = record { entry = i; verdict = d; place = at; target = target; value = value }
+own-stays m w l (Help (FenceFinal j c)) a v i d at target value stands now = record { entry = i; verdict = d; place = at; target = target; value = value }
 own-stays m w l (Help (ClearFinal j c)) a v i d at target value stands now =
     absurd (cleaned m l j c (finished (entries_in l.list) j c) a v (rw (at.0) target) (rw (at.0, at.1) value) stands now)
 own-stays m w l (Help step) a v i d at target value stands now = absurd at
@@ -116,5 +117,3 @@ dirty_stay_home x (Act w) may home a v is = act-home x w home a v is
 dirty_stay_home x (Evict b) may home a v is = home a v is
 dirty_stay_home x (EvictStatus t) may home a v is = home a v is
 dirty_stay_home x (EvictField t k) may home a v is = home a v is
-dirty_stay_home x (Ask w p) may home a v is = home a v is
-dirty_stay_home x (Fence w s) may home a v is = home a v is

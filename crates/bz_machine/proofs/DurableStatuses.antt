@@ -5,7 +5,7 @@ use Rattle.std.proofs.lemmas.Bool.{cases_eq}
 use Rattle.bz_machine.specs.declared.status.SwapStatus.{SwapStatus}
 use Rattle.bz_machine.specs.Pending.{Pending, Lasts, IsPast}
 use Rattle.bz_machine.specs.Machine.{Entries, Memory, is_succeeded, StatusMayLast, FieldMayLast}
-use Rattle.bz_machine.specs.Changes.{put, with_durable_status, with_durable_fields, in_head, with_durable_head}
+use Rattle.bz_machine.specs.Changes.{put, with_durable_status, with_durable_fields}
 use Rattle.bz_machine.specs.Sound.{Follows, InOrder, AreApart, Sound}
 use Rattle.bz_machine.proofs.Change.{Change}
 use Rattle.bz_machine.proofs.Lasting.{lasts-durable, lasts-copied, past-copied}
@@ -100,21 +100,6 @@ settles-fields e m s p g = record {
   words_past = λ t k. past-fields p m.now k (m.words_pending t k) (t == s) (g.words_past t k);
 }
 
-settles-head : (e : ℕ → Entries) (m : Memory) (s : ℕ) → Sound e m → Settles m (with_durable_head m s)
-settles-head e m s g =
-    let status : Settles m (with_durable_status m s) = settles-status e m s g in
-    let fields : Settles m (with_durable_fields m s in_head) = settles-fields e m s in_head g in
-    record {
-      words = λ a x may. inr may;
-      fields = fields.fields;
-      statuses = status.statuses;
-      order = status.order;
-      onward = status.onward;
-      past = g.past;
-      status_past = status.status_past;
-      words_past = fields.words_past;
-    }
-
 other-status : (m : Memory) (s t : ℕ) → t ≢ s → put m.durable_status s (m.status s) t ≡ m.durable_status t
 other-status m s t ne = grind (arith, common_steps, ne)
 
@@ -123,7 +108,3 @@ change-durable_status e m s o g = change-settled e m (with_durable_status m s) (
 
 pub change-durable_fields : (e : ℕ → Entries) (m : Memory) (s : ℕ) (p : ℕ → Bool) (t : ℕ) → Sound e m → Change e m (with_durable_fields m s p) t
 change-durable_fields e m s p t g = change-quietly e m (with_durable_fields m s p) (settles-fields e m s p g) g t (λ u. refl)
-
--- the first line of a descriptor becomes durable, and with it the status
-pub change-durable_head : (e : ℕ → Entries) (m : Memory) (s : ℕ) → AreApart e → Sound e m → Change e m (with_durable_head m s) s
-change-durable_head e m s o g = change-settled e m (with_durable_head m s) (settles-head e m s g) g s o (other-status m s)

@@ -9,10 +9,10 @@ use Rattle.bz_machine.specs.declared.status.SwapStatus.TheVariants.{Free, Undeci
 use Rattle.bz_machine.specs.declared.status.Verdict.{Verdict}
 use Rattle.bz_machine.specs.declared.status.Verdict.TheVariants.{Succeeded, Failed}
 use Rattle.bz_machine.specs.declared.place.HelpStep.{HelpStep}
-use Rattle.bz_machine.specs.declared.place.HelpStep.TheVariants.{Look, InstallTag, LookUnderTag, InstallPointer, RemoveTag, FlushDirty, ClearDirty, FlushTarget, Decide, FlushStatus, ClearStatus, PutFinal, FlushFinal, ClearFinal, SweepTag}
+use Rattle.bz_machine.specs.declared.place.HelpStep.TheVariants.{Look, InstallTag, LookUnderTag, InstallPointer, RemoveTag, AskDirty, FenceDirty, ClearDirty, AskTarget, FenceTargets, Decide, AskStatus, FenceStatus, ClearStatus, PutFinal, AskFinal, FenceFinal, ClearFinal, SweepTag}
 use Rattle.bz_machine.specs.declared.place.Place.{Place}
-use Rattle.bz_machine.specs.declared.place.Place.TheVariants.{Idle, Prepare, Learn, Help, ReadWord, FlushRead, ClearRead, LoadWord, StoreWord, FlushLine}
-use Rattle.bz_machine.specs.declared.place.PrepareStep.TheVariants.{WriteWord, WriteStatus, FlushHead, FlushTail}
+use Rattle.bz_machine.specs.declared.place.Place.TheVariants.{Idle, Prepare, Learn, Help, ReadWord, AskRead, FenceRead, ClearRead, LoadWord, StoreWord, FlushLine}
+use Rattle.bz_machine.specs.declared.place.PrepareStep.TheVariants.{WriteWord, WriteStatus, AskHead, AskTail, FenceDescriptor}
 use Rattle.bz_machine.specs.declared.place.Next.{Next}
 use Rattle.bz_machine.specs.declared.place.Next.TheVariants.{Step, Meet, Complete}
 use Rattle.bz_machine.specs.declared.worker.Operation.{Operation}
@@ -59,7 +59,7 @@ same-untag x m s i v q new changed unchanged (Tag t j u p) =
 same-final : (x : Entries) (m : Memory) (s i : ℕ) (d : Verdict) (found : WordKind) → SameStatus m (after_put_final x m s i d found).memory
 same-final x m s i d (Value v) = λ t. refl
 same-final x m s i d (Dirty v) = λ t. refl
-same-final x m s i d (Swap t) = same-if m (t == s) (record { memory = with_word m (x.target i) (Dirty (final_value x i d)); next = Step (FlushFinal i d) }) (record { memory = m; next = finished x i d }) (λ k. refl) (λ k. refl)
+same-final x m s i d (Swap t) = same-if m (t == s) (record { memory = with_word m (x.target i) (Dirty (final_value x i d)); next = Step (AskFinal i d) }) (record { memory = m; next = finished x i d }) (λ k. refl) (λ k. refl)
 same-final x m s i d (Tag t j v q) = λ k. refl
 
 same-cleared : (m : Memory) (a v : ℕ) (found : WordKind) → SameStatus m (cleared_word m a v found)
@@ -97,14 +97,18 @@ clean-help x m w c (InstallTag i) s clean = clean-same _ _ (same-install x m w c
 clean-help x m w c (LookUnderTag i v q) s clean = clean
 clean-help x m w c (InstallPointer i v q) s clean = clean-same _ _ (same-untag x m c i v q (Swap c) (Step (passed x i)) (Step (InstallTag i)) (m.cached (x.target i)) s) clean
 clean-help x m w c (RemoveTag i v q) s clean = clean-same _ _ (same-untag x m c i v q (Value (x.expected i)) (Step Look) (Step Look) (m.cached (x.target i)) s) clean
-clean-help x m w c (FlushDirty i v) s clean = clean
+clean-help x m w c (AskDirty i v) s clean = clean
+clean-help x m w c (FenceDirty i v) s clean = clean
 clean-help x m w c (ClearDirty i v) s clean = clean-same _ _ (same-cleared m (x.target i) v (m.cached (x.target i)) s) clean
-clean-help x m w c (FlushTarget i) s clean = clean
+clean-help x m w c (AskTarget i) s clean = clean
+clean-help x m w c FenceTargets s clean = clean
 clean-help x m w c (Decide d) s clean = clean-decide m c s d (m.status c) refl clean
-clean-help x m w c (FlushStatus d) s clean = clean
+clean-help x m w c (AskStatus d) s clean = clean
+clean-help x m w c (FenceStatus d) s clean = clean
 clean-help x m w c (ClearStatus d) s clean = clean-clear m c s d (m.status c) clean
 clean-help x m w c (PutFinal i d) s clean = clean-same _ _ (same-final x m c i d (m.cached (x.target i)) s) clean
-clean-help x m w c (FlushFinal i d) s clean = clean
+clean-help x m w c (AskFinal i d) s clean = clean
+clean-help x m w c (FenceFinal i d) s clean = clean
 clean-help x m w c (ClearFinal i d) s clean = clean-same _ _ (same-cleared m (x.target i) (final_value x i d) (m.cached (x.target i)) s) clean
 clean-help x m w c (SweepTag i d v q) s clean = clean-same _ _ (same-untag x m c i v q (Value (x.expected i)) (finished x i d) (Step (PutFinal i d)) (m.cached (x.target i)) s) clean
 
@@ -124,14 +128,16 @@ pub clean-act : (e : ℕ → Entries) (m : Memory) (w : ℕ) (l : Local) (place 
 clean-act e m w l Idle s sound at clean = clean
 clean-act e m w l (Prepare (WriteWord k)) s sound at clean = clean
 clean-act e m w l (Prepare WriteStatus) s sound at clean = clean-put m.status l.current s Undecided (λ same k. absurd (unset-clean (m.status s) (sound.unset s (ap m.published same ∙ at.1)) k)) clean
-clean-act e m w l (Prepare FlushHead) s sound at clean = clean
-clean-act e m w l (Prepare FlushTail) s sound at clean = clean
+clean-act e m w l (Prepare AskHead) s sound at clean = clean
+clean-act e m w l (Prepare AskTail) s sound at clean = clean
+clean-act e m w l (Prepare FenceDescriptor) s sound at clean = clean
 clean-act e m w l (Learn k) s sound at clean = clean
 clean-act e m w l (Help step) s sound at clean =
     let n : Memory = (help_act (entries_in l.list) m w l.current step).memory in
     subst IsClean (ap (λ (f : ℕ → SwapStatus). f s) (sym (status-help l n (help_act (entries_in l.list) m w l.current step).next))) (clean-help (entries_in l.list) m w l.current step s clean)
 clean-act e m w l (ReadWord a) s sound at clean = clean-read m l a s (m.cached a) clean
-clean-act e m w l (FlushRead a v) s sound at clean = clean
+clean-act e m w l (AskRead a v) s sound at clean = clean
+clean-act e m w l (FenceRead a v) s sound at clean = clean
 clean-act e m w l (ClearRead a v) s sound at clean = clean-same _ _ (same-cleared m a v (m.cached a) s) clean
 clean-act e m w l (LoadWord a) s sound at clean = clean
 clean-act e m w l (StoreWord a v) s sound at clean = clean
@@ -183,7 +189,7 @@ step-if true x y i v q f g = f
 step-if false x y i v q f g = g
 
 no-passed : (x : Entries) (j i v q : ℕ) → PutsPointer (passed x j) i v q → ⊥
-no-passed x j i v q = step-if (j + 1 == x.count) (FlushTarget 0) (InstallTag (j + 1)) i v q (λ k. k) (λ k. k)
+no-passed x j i v q = step-if (j + 1 == x.count) (AskTarget 0) (InstallTag (j + 1)) i v q (λ k. k) (λ k. k)
 
 no-finished : (x : Entries) (j : ℕ) (d : Verdict) (i v q : ℕ) → GoesTo (finished x j d) i v q → ⊥
 no-finished x j d i v q = goes-if (j + 1 == x.count) (Complete d) (Step (PutFinal (j + 1) d)) i v q (λ k. k) (λ k. k)
@@ -212,7 +218,7 @@ no-decide m s d (Decided c) i v q = λ k. k
 no-final : (x : Entries) (m : Memory) (s j : ℕ) (d : Verdict) (found : WordKind) (i v q : ℕ) → GoesTo (after_put_final x m s j d found).next i v q → ⊥
 no-final x m s j d (Value u) i v q = no-finished x j d i v q
 no-final x m s j d (Dirty u) i v q = no-finished x j d i v q
-no-final x m s j d (Swap t) i v q = after-if (t == s) (record { memory = with_word m (x.target j) (Dirty (final_value x j d)); next = Step (FlushFinal j d) }) (record { memory = m; next = finished x j d }) i v q (λ k. k) (no-finished x j d i v q)
+no-final x m s j d (Swap t) i v q = after-if (t == s) (record { memory = with_word m (x.target j) (Dirty (final_value x j d)); next = Step (AskFinal j d) }) (record { memory = m; next = finished x j d }) i v q (λ k. k) (no-finished x j d i v q)
 no-final x m s j d (Tag t k u p) i v q = goes-if (t == s) (Step (SweepTag j d u p)) (finished x j d) i v q (λ k'. k') (no-finished x j d i v q)
 
 help-points : (x : Entries) (m : Memory) (w s : ℕ) (step : HelpStep) (i v q : ℕ) → GoesTo (help_act x m w s step).next i v q → m.status s ≡ Undecided
@@ -221,14 +227,18 @@ help-points x m w s (InstallTag j) i v q at = absurd (no-install x m w s j (m.ca
 help-points x m w s (LookUnderTag j u p) i v q at = under-points j u p (m.status s) i v q at
 help-points x m w s (InstallPointer j u p) i v q at = absurd (no-untag x m s j u p (Swap s) (Step (passed x j)) (Step (InstallTag j)) (m.cached (x.target j)) i v q (no-passed x j i v q) (λ k. k) at)
 help-points x m w s (RemoveTag j u p) i v q at = absurd (no-untag x m s j u p (Value (x.expected j)) (Step Look) (Step Look) (m.cached (x.target j)) i v q (λ k. k) (λ k. k) at)
-help-points x m w s (FlushDirty j u) i v q at = absurd at
+help-points x m w s (AskDirty j u) i v q at = absurd at
+help-points x m w s (FenceDirty j u) i v q at = absurd at
 help-points x m w s (ClearDirty j u) i v q at = absurd at
-help-points x m w s (FlushTarget j) i v q at = absurd (step-if (j + 1 == x.count) (Decide Succeeded) (FlushTarget (j + 1)) i v q (λ k. k) (λ k. k) at)
+help-points x m w s (AskTarget j) i v q at = absurd (step-if (j + 1 == x.count) FenceTargets (AskTarget (j + 1)) i v q (λ k. k) (λ k. k) at)
+help-points x m w s FenceTargets i v q at = absurd at
 help-points x m w s (Decide d) i v q at = absurd (no-decide m s d (m.status s) i v q at)
-help-points x m w s (FlushStatus d) i v q at = absurd at
+help-points x m w s (AskStatus d) i v q at = absurd at
+help-points x m w s (FenceStatus d) i v q at = absurd at
 help-points x m w s (ClearStatus d) i v q at = absurd at
 help-points x m w s (PutFinal j d) i v q at = absurd (no-final x m s j d (m.cached (x.target j)) i v q at)
-help-points x m w s (FlushFinal j d) i v q at = absurd at
+help-points x m w s (AskFinal j d) i v q at = absurd at
+help-points x m w s (FenceFinal j d) i v q at = absurd at
 help-points x m w s (ClearFinal j d) i v q at = absurd (no-finished x j d i v q at)
 help-points x m w s (SweepTag j d u p) i v q at = absurd (no-untag x m s j u p (Value (x.expected j)) (finished x j d) (Step (PutFinal j d)) (m.cached (x.target j)) i v q (no-finished x j d i v q) (λ k. k) at)
 
@@ -237,8 +247,9 @@ pub act-points : (m : Memory) (w : ℕ) (l : Local) (place : Place) (i v q : ℕ
 act-points m w l Idle i v q at = absurd at
 act-points m w l (Prepare (WriteWord k)) i v q at = absurd at
 act-points m w l (Prepare WriteStatus) i v q at = absurd at
-act-points m w l (Prepare FlushHead) i v q at = absurd at
-act-points m w l (Prepare FlushTail) i v q at = absurd at
+act-points m w l (Prepare AskHead) i v q at = absurd at
+act-points m w l (Prepare AskTail) i v q at = absurd at
+act-points m w l (Prepare FenceDescriptor) i v q at = absurd at
 act-points m w l (Learn k) i v q at = absurd (by_last (k == 3 * put l.list k (m.words l.current k) 0) at)
   where
     by_last : (b : Bool) → IsAtPointer (if b then Help Look else Learn (k + 1)) i v q → ⊥
@@ -254,7 +265,8 @@ act-points m w l (ReadWord a) i v q at = absurd (by_found (m.cached a) at)
     by_found (Dirty u) at = at
     by_found (Swap t) at = at
     by_found (Tag t j u p) at = at
-act-points m w l (FlushRead a u) i v q at = absurd at
+act-points m w l (AskRead a u) i v q at = absurd at
+act-points m w l (FenceRead a u) i v q at = absurd at
 act-points m w l (ClearRead a u) i v q at = absurd at
 act-points m w l (LoadWord a) i v q at = absurd at
 act-points m w l (StoreWord a u) i v q at = absurd at

@@ -9,11 +9,11 @@ use Rattle.bz_machine.specs.declared.status.SwapStatus.TheVariants.{Free, Undeci
 use Rattle.bz_machine.specs.declared.status.Verdict.{Verdict}
 use Rattle.bz_machine.specs.declared.status.Verdict.TheVariants.{Succeeded, Failed}
 use Rattle.bz_machine.specs.declared.place.HelpStep.{HelpStep}
-use Rattle.bz_machine.specs.declared.place.HelpStep.TheVariants.{Look, InstallTag, LookUnderTag, InstallPointer, RemoveTag, FlushDirty, ClearDirty, FlushTarget, Decide, FlushStatus, ClearStatus, PutFinal, FlushFinal, ClearFinal, SweepTag}
+use Rattle.bz_machine.specs.declared.place.HelpStep.TheVariants.{Look, InstallTag, LookUnderTag, InstallPointer, RemoveTag, AskDirty, FenceDirty, ClearDirty, AskTarget, FenceTargets, Decide, AskStatus, FenceStatus, ClearStatus, PutFinal, AskFinal, FenceFinal, ClearFinal, SweepTag}
 use Rattle.bz_machine.specs.declared.place.Place.{Place}
-use Rattle.bz_machine.specs.declared.place.Place.TheVariants.{Idle, Prepare, Learn, Help, ReadWord, FlushRead, ClearRead, LoadWord, StoreWord, FlushLine}
+use Rattle.bz_machine.specs.declared.place.Place.TheVariants.{Idle, Prepare, Learn, Help, ReadWord, AskRead, FenceRead, ClearRead, LoadWord, StoreWord, FlushLine}
 use Rattle.bz_machine.specs.declared.place.PrepareStep.{PrepareStep}
-use Rattle.bz_machine.specs.declared.place.PrepareStep.TheVariants.{WriteWord, WriteStatus, FlushHead, FlushTail}
+use Rattle.bz_machine.specs.declared.place.PrepareStep.TheVariants.{WriteWord, WriteStatus, AskHead, AskTail, FenceDescriptor}
 use Rattle.bz_machine.specs.declared.place.Next.{Next}
 use Rattle.bz_machine.specs.declared.place.Next.TheVariants.{Step}
 use Rattle.bz_machine.specs.Agrees.{Agree, agree-spell}
@@ -24,7 +24,7 @@ use Rattle.bz_machine.specs.HelpActs.{After, final_value, finished, passed, afte
 use Rattle.bz_machine.specs.Knows.{AtPlace}
 use Rattle.bz_machine.specs.Machine.{Entries, Memory, entries_in, is_verdict}
 use Rattle.bz_machine.specs.Sound.{Sound}
-use Rattle.bz_machine.specs.State.{State, StartRead, StartStore, StartFlush, StartSwap, Act, Evict, EvictStatus, EvictField, Ask, Fence, stepped, swapping, happens, IsState}
+use Rattle.bz_machine.specs.State.{State, StartRead, StartStore, StartFlush, StartSwap, Act, Evict, EvictStatus, EvictField, stepped, swapping, happens, IsState}
 use Rattle.bz_machine.specs.Steps.{Local, Stepped, after_help, read_act, act}
 use Rattle.bz_machine.proofs.Ends.{clean-act}
 use Rattle.bz_machine.proofs.NextEnds.{NextEnds, OwnEnds, own-next, IsBefore, before-ends, behind-in_last, status-follows, passed-follows, install-follows, under-follows, untag-follows, decide-follows, final-follows, finished-ends}
@@ -70,7 +70,7 @@ answer-final : (x : Entries) (m : Memory) (s i : ℕ) (d : Verdict) (found : Wor
 answer-final x m s i d (Value v) = refl
 answer-final x m s i d (Dirty v) = refl
 answer-final x m s i d (Swap t) =
-    if-case (λ (a : After). SameAnswer m a.memory) (t == s) (record { memory = with_word m (x.target i) (Dirty (final_value x i d)); next = Step (FlushFinal i d) }) (record { memory = m; next = finished x i d }) refl refl
+    if-case (λ (a : After). SameAnswer m a.memory) (t == s) (record { memory = with_word m (x.target i) (Dirty (final_value x i d)); next = Step (AskFinal i d) }) (record { memory = m; next = finished x i d }) refl refl
 answer-final x m s i d (Tag t j v q) = refl
 
 pub answer-cleared : (m : Memory) (a v : ℕ) (found : WordKind) → SameAnswer m (cleared_word m a v found)
@@ -97,14 +97,18 @@ answer-help x m w s (InstallTag i) = answer-install x m w s i (m.cached (x.targe
 answer-help x m w s (LookUnderTag i v q) = refl
 answer-help x m w s (InstallPointer i v q) = answer-untag x m s i v q (Swap s) (Step (passed x i)) (Step (InstallTag i)) (m.cached (x.target i))
 answer-help x m w s (RemoveTag i v q) = answer-untag x m s i v q (Value (x.expected i)) (Step Look) (Step Look) (m.cached (x.target i))
-answer-help x m w s (FlushDirty i v) = refl
+answer-help x m w s (AskDirty i v) = refl
+answer-help x m w s (FenceDirty i v) = refl
 answer-help x m w s (ClearDirty i v) = answer-cleared m (x.target i) v (m.cached (x.target i))
-answer-help x m w s (FlushTarget i) = refl
+answer-help x m w s (AskTarget i) = refl
+answer-help x m w s FenceTargets = refl
 answer-help x m w s (Decide d) = answer-decide m s d (m.status s)
-answer-help x m w s (FlushStatus d) = refl
+answer-help x m w s (AskStatus d) = refl
+answer-help x m w s (FenceStatus d) = refl
 answer-help x m w s (ClearStatus d) = answer-status m s d (m.status s)
 answer-help x m w s (PutFinal i d) = answer-final x m s i d (m.cached (x.target i))
-answer-help x m w s (FlushFinal i d) = refl
+answer-help x m w s (AskFinal i d) = refl
+answer-help x m w s (FenceFinal i d) = refl
 answer-help x m w s (ClearFinal i d) = answer-cleared m (x.target i) (final_value x i d) (m.cached (x.target i))
 answer-help x m w s (SweepTag i d v q) = answer-untag x m s i v q (Value (x.expected i)) (finished x i d) (Step (PutFinal i d)) (m.cached (x.target i))
 
@@ -149,13 +153,16 @@ help-ends e m w l local new (InstallPointer i v q) sound at last =
 help-ends e m w l local new (RemoveTag i v q) sound at last =
     untag-follows (entries_in l.list) m l.current i v q (Value (l.list (2 + 3 * i))) (Step Look) (Step Look) (m.cached (l.list (1 + 3 * i))) (EndsAfter e m w l new (RemoveTag i v q))
     (λ is. before-after e m w l new (RemoveTag i v q) Look tt) (before-after e m w l new (RemoveTag i v q) Look tt)
-help-ends e m w l local new (FlushDirty i v) sound at last = before-after e m w l new (FlushDirty i v) (ClearDirty i v) tt
+help-ends e m w l local new (AskDirty i v) sound at last = before-after e m w l new (AskDirty i v) (FenceDirty i v) tt
+help-ends e m w l local new (FenceDirty i v) sound at last = before-after e m w l new (FenceDirty i v) (ClearDirty i v) tt
 help-ends e m w l local new (ClearDirty i v) sound at last = before-after e m w l new (ClearDirty i v) (InstallTag i) tt
-help-ends e m w l local new (FlushTarget i) sound at last =
-    if-case (λ k. EndsAfter e m w l new (FlushTarget i) (Step k)) (i + 1 == l.list 0) (Decide Succeeded) (FlushTarget (i + 1)) (before-after e m w l new (FlushTarget i) (Decide Succeeded) tt) (before-after e m w l new (FlushTarget i) (FlushTarget (i + 1)) tt)
+help-ends e m w l local new (AskTarget i) sound at last =
+    if-case (λ k. EndsAfter e m w l new (AskTarget i) (Step k)) (i + 1 == l.list 0) FenceTargets (AskTarget (i + 1)) (before-after e m w l new (AskTarget i) FenceTargets tt) (before-after e m w l new (AskTarget i) (AskTarget (i + 1)) tt)
+help-ends e m w l local new FenceTargets sound at last = before-after e m w l new FenceTargets (Decide Succeeded) tt
 help-ends e m w l local new (Decide d) sound at last =
     decide-follows m l.current d (m.status l.current) (EndsAfter e m w l new (Decide d)) (before-after e m w l new (Decide d)) (λ c clean. (λ k. last.cleans clean, λ j none. absurd (omega (arith, none))))
-help-ends e m w l local new (FlushStatus d) sound at last = before-after e m w l new (FlushStatus d) (ClearStatus d) tt
+help-ends e m w l local new (AskStatus d) sound at last = before-after e m w l new (AskStatus d) (FenceStatus d) tt
+help-ends e m w l local new (FenceStatus d) sound at last = before-after e m w l new (FenceStatus d) (ClearStatus d) tt
 help-ends e m w l local new (ClearStatus d) sound at last = (λ k. cleared-clean m l.current d (m.status l.current) refl (durable_verdict-cached e m l.current d sound at.3), λ j none. absurd (omega (arith, none)))
 help-ends e m w l local new (PutFinal i d) sound at last =
     let agree : Agree (entries_in l.list) (e l.current) = agree-spell (e l.current) l.list at.2 in
@@ -167,7 +174,8 @@ help-ends e m w l local new (PutFinal i d) sound at last =
     (λ none. finished-ends e (act m w l (Help (PutFinal i d))).memory.cached (act m w l (Help (PutFinal i d))).memory.status new l.current (entries_in l.list) i d agree.count (last.cleans clean) (behind none))
     (λ none. (λ k. last.cleans clean, behind none))
     (λ v q. (λ k. last.cleans clean, λ j upto below. last.stays j below clean (last.done j upto below)))
-help-ends e m w l local new (FlushFinal i d) sound at last = (λ k. last.cleans (last.clean tt), λ j upto below. last.stays j below (last.clean tt) (last.done j upto below))
+help-ends e m w l local new (AskFinal i d) sound at last = (λ k. last.cleans (last.clean tt), λ j upto below. last.stays j below (last.clean tt) (last.done j upto below))
+help-ends e m w l local new (FenceFinal i d) sound at last = (λ k. last.cleans (last.clean tt), λ j upto below. last.stays j below (last.clean tt) (last.done j upto below))
 help-ends e m w l local new (ClearFinal i d) sound at last =
     let agree : Agree (entries_in l.list) (e l.current) = agree-spell (e l.current) l.list at.2 in
     finished-ends e (act m w l (Help (ClearFinal i d))).memory.cached (act m w l (Help (ClearFinal i d))).memory.status new l.current (entries_in l.list) i d agree.count (last.cleans (last.clean tt)) (λ j upto below. last.stays j below (last.clean tt) (last.done j upto below))
@@ -192,8 +200,9 @@ own-ends : (e : ℕ → Entries) (m : Memory) (w : ℕ) (l : Local) (local new :
 own-ends e m w l local new Idle sound at last = none-ends e _ _ new m.answer _ (λ k. k)
 own-ends e m w l local new (Prepare (WriteWord k)) sound at last = none-ends e _ _ new m.answer _ (if-case (λ (p : PrepareStep). IsInLast (Prepare p) → ⊥) (k == 3 * l.list 0) WriteStatus (WriteWord (k + 1)) (λ t. t) (λ t. t))
 own-ends e m w l local new (Prepare WriteStatus) sound at last = none-ends e _ _ new m.answer _ (λ k. k)
-own-ends e m w l local new (Prepare FlushHead) sound at last = none-ends e _ _ new m.answer _ (λ k. k)
-own-ends e m w l local new (Prepare FlushTail) sound at last = none-ends e _ _ new m.answer _ (λ k. k)
+own-ends e m w l local new (Prepare AskHead) sound at last = none-ends e _ _ new m.answer _ (λ k. k)
+own-ends e m w l local new (Prepare AskTail) sound at last = none-ends e _ _ new m.answer _ (λ k. k)
+own-ends e m w l local new (Prepare FenceDescriptor) sound at last = none-ends e _ _ new m.answer _ (λ k. k)
 own-ends e m w l local new (Learn k) sound at last = none-ends e _ _ new m.answer _ (if-case (λ (p : Place). IsInLast p → ⊥) (k == 3 * put l.list k (m.words l.current k) 0) (Help Look) (Learn (k + 1)) (λ t. t) (λ t. t))
 own-ends e m w l local new (Help step) sound at last =
     let n : Memory = (help_act (entries_in l.list) m w l.current step).memory in
@@ -208,7 +217,8 @@ own-ends e m w l local new (ReadWord a) sound at last = by_found (m.cached a)
     by_found (Dirty v) = none-ends e _ _ new m.answer _ (λ k. k)
     by_found (Swap t) = none-ends e _ _ new m.answer _ (λ k. k)
     by_found (Tag t i v q) = none-ends e _ _ new m.answer _ (λ k. k)
-own-ends e m w l local new (FlushRead a v) sound at last = none-ends e _ _ new m.answer _ (λ k. k)
+own-ends e m w l local new (AskRead a v) sound at last = none-ends e _ _ new m.answer _ (λ k. k)
+own-ends e m w l local new (FenceRead a v) sound at last = none-ends e _ _ new m.answer _ (λ k. k)
 own-ends e m w l local new (ClearRead a v) sound at last =
     subst (λ (f : ℕ → Option Verdict). OwnEnds e (cleared_word m a v (m.cached a)).cached (cleared_word m a v (m.cached a)).status new m.answer f (record l { place = ReadWord a })) (sym (answer-cleared m a v (m.cached a))) (none-ends e _ _ new m.answer _ (λ k. k))
 own-ends e m w l local new (LoadWord a) sound at last = none-ends e _ _ new m.answer _ (λ k. k)
@@ -321,7 +331,7 @@ taken-whole x w new targets state whole = record {
         → j < (put x.entries x.memory.taken new (if b then swapping (x.local w) x.memory.taken new else x.local v).current).count
         → IsDone (put x.entries x.memory.taken new) x.memory.cached (put x.local w (swapping (x.local w) x.memory.taken new)) (if b then swapping (x.local w) x.memory.taken new else x.local v).current j
     done_of v j true behind below = absurd behind
-    done_of v j false behind below = by_kept (x.local v).current j (last-published x.entries x.memory w (x.local v) (x.local v).place (state.knows v).place (behind-in_last (x.local v).place j behind)) below (whole.done v j behind)
+    done_of v j false behind below = by_kept (x.local v).current j (last-published x.entries x.memory v (x.local v) (x.local v).place (state.knows v).place (behind-in_last (x.local v).place j behind)) below (whole.done v j behind)
 
 pub ends_stay_whole : EndsStayWhole
 ends_stay_whole x (StartRead w b) may state whole = started-whole x w _ (λ i v q at. at) (λ k. k) whole
@@ -332,5 +342,3 @@ ends_stay_whole x (Act w) may state whole = act-whole x w state whole (own-acted
 ends_stay_whole x (Evict b) may state whole = assumption whole
 ends_stay_whole x (EvictStatus t) may state whole = assumption whole
 ends_stay_whole x (EvictField t k) may state whole = assumption whole
-ends_stay_whole x (Ask w p) may state whole = assumption whole
-ends_stay_whole x (Fence w s) may state whole = assumption whole

@@ -1,11 +1,10 @@
 -- The laws of a single event, as lemmas that the crates above cite.
 use Rattle.bz_machine.specs.Budgets.{BeginsBounded, StaysBounded, BudgetsAreAllowed, ActsSpend}
-use Rattle.bz_machine.specs.Invariance.{BeginsAsState, KeepsState, ActsAtomically, KeepsRange, BeginsInRange, KeepsFences, CutRecovers}
+use Rattle.bz_machine.specs.Invariance.{BeginsAsState, KeepsState, ActsAtomically, KeepsRange, BeginsInRange, CutRecovers}
 use Rattle.bz_machine.proofs.ActsSpend as spend
 use Rattle.bz_machine.proofs.Bounded.{bounded-happens, bounded-power_on}
 use Rattle.bz_machine.proofs.BudgetBounds as bounds
 use Rattle.bz_machine.proofs.Events.{state-happens}
-use Rattle.bz_machine.proofs.FencesKept as fences
 use Rattle.bz_machine.proofs.Runs.{atomic-happens}
 use Rattle.bz_machine.proofs.PowerOn.{state-power_on, recoverable-cut}
 use Rattle.bz_machine.proofs.RangeEvents.{range-happens, range-power_on}
@@ -27,9 +26,6 @@ begins_in_range = range-power_on
 
 pub cut_recovers : CutRecovers
 cut_recovers x i = recoverable-cut x.entries x.memory i.sound
-
-pub keeps_fences : KeepsFences
-keeps_fences = fences.keeps_fences
 
 pub begins_bounded : BeginsBounded
 begins_bounded = bounded-power_on

@@ -1,5 +1,5 @@
 -- Every act of another worker keeps what is known of the memory after a worker's own fence.
-use Rattle.std.proofs.Common.{◌≡◌, ℕ, ◌/◌, ◌==◌, ◌&&◌, if◌then◌else◌, Bool, true, false, sym, ◌∙◌}
+use Rattle.std.proofs.Common.{◌≡◌, ◌≢◌, ℕ, ◌/◌, ◌==◌, ◌&&◌, if◌then◌else◌, Bool, true, false, sym, ◌∙◌}
 use Rattle.bz_word.specs.declared.kind.WordKind.{WordKind}
 use Rattle.bz_word.specs.declared.kind.WordKind.TheVariants.{Value, Dirty, Swap, Tag}
 use Rattle.bz_machine.specs.declared.status.SwapStatus.{SwapStatus}
@@ -7,28 +7,23 @@ use Rattle.bz_machine.specs.declared.status.SwapStatus.TheVariants.{Free, Undeci
 use Rattle.bz_machine.specs.declared.status.Verdict.{Verdict}
 use Rattle.bz_machine.specs.declared.status.Verdict.TheVariants.{Succeeded, Failed}
 use Rattle.bz_machine.specs.declared.place.HelpStep.{HelpStep}
-use Rattle.bz_machine.specs.declared.place.HelpStep.TheVariants.{Look, InstallTag, LookUnderTag, InstallPointer, RemoveTag, FlushDirty, ClearDirty, FlushTarget, Decide, FlushStatus, ClearStatus, PutFinal, FlushFinal, ClearFinal, SweepTag}
+use Rattle.bz_machine.specs.declared.place.HelpStep.TheVariants.{Look, InstallTag, LookUnderTag, InstallPointer, RemoveTag, AskDirty, FenceDirty, ClearDirty, AskTarget, FenceTargets, Decide, AskStatus, FenceStatus, ClearStatus, PutFinal, AskFinal, FenceFinal, ClearFinal, SweepTag}
 use Rattle.bz_machine.specs.declared.place.Next.{Next}
 use Rattle.bz_machine.specs.declared.place.Next.TheVariants.{Step, Meet, Complete}
 use Rattle.bz_machine.specs.declared.place.Place.{Place}
-use Rattle.bz_machine.specs.declared.place.Place.TheVariants.{Idle, Prepare, Learn, Help, ReadWord, FlushRead, ClearRead, LoadWord, StoreWord, FlushLine}
+use Rattle.bz_machine.specs.declared.place.Place.TheVariants.{Idle, Prepare, Learn, Help, ReadWord, AskRead, FenceRead, ClearRead, LoadWord, StoreWord, FlushLine}
 use Rattle.bz_machine.specs.declared.place.PrepareStep.{PrepareStep}
-use Rattle.bz_machine.specs.declared.place.PrepareStep.TheVariants.{WriteWord, WriteStatus, FlushHead, FlushTail}
+use Rattle.bz_machine.specs.declared.place.PrepareStep.TheVariants.{WriteWord, WriteStatus, AskHead, AskTail, FenceDescriptor}
 use Rattle.bz_machine.specs.Machine.{Entries, Memory, entries_in}
-use Rattle.bz_machine.specs.Changes.{with_word, with_tag, with_copies, in_line, with_status, with_field, with_durable_status, with_durable_fields, in_tail, with_published, with_miss, with_answer, with_ask, fenced}
+use Rattle.bz_machine.specs.Changes.{with_word, with_tag, with_status, with_field, with_published, with_miss, with_answer, line_of, head_of, tail_of, fenced}
 use Rattle.bz_machine.specs.HelpActs.{After, after_install_tag, after_untag, cleared_word, after_decide, cleared_status, after_put_final, final_value, help_act}
-use Rattle.bz_machine.specs.Keeps.{Keeps, KeepsDescriptor}
-use Rattle.bz_machine.specs.Invariance.{KeepsFences}
+use Rattle.bz_machine.specs.Keeps.{KeepsDescriptor}
 use Rattle.bz_machine.specs.Sound.{Sound}
-use Rattle.bz_machine.specs.State.{State, StartRead, StartStore, StartFlush, StartSwap, Act, Evict, EvictStatus, EvictField, Ask, Fence, stepped, IsState}
 use Rattle.bz_machine.specs.Steps.{Local, Stepped, is_own, after_help, prepare_act, read_act, act}
-use Rattle.bz_machine.proofs.Change.{Change, change-same}
-use Rattle.bz_machine.proofs.Copies.{change-copies}
-use Rattle.bz_machine.proofs.DurableStatuses.{change-durable_status, change-durable_fields}
-use Rattle.bz_machine.proofs.Events.{good-stepped}
-use Rattle.bz_machine.proofs.Fences.{change-ask, change-fence}
+use Rattle.bz_machine.proofs.Change.{Change}
 use Rattle.bz_machine.proofs.Good.{Good}
-use Rattle.bz_machine.proofs.KeepsAsked.{SettlesFor, keeps-for, descriptor-for, for-same, for-copies, for-fields, for-status, for-head, for-ask, for-fence}
+use Rattle.bz_machine.proofs.KeepsAsked.{SettlesFor, keeps-for, descriptor-for, for-same, for-copies, for-ask, for-fence}
+use Rattle.bz_machine.proofs.KeptKnowledge.{KeepsFor}
 
 after-if : (m : Memory) (v : ℕ) (b : Bool) (x y : After) → SettlesFor m x.memory v → SettlesFor m y.memory v → SettlesFor m (if b then x else y).memory v
 after-if m v true x y p q = p
@@ -81,22 +76,26 @@ for-put_final x m s i v d (Dirty u) = for-same m m v
 for-put_final x m s i v d (Tag t j u q) = for-same m m v
 for-put_final x m s i v d (Swap t) = after-if m v (t == s) _ _ (for-same m (with_word m (x.target i) (Dirty (final_value x i d))) v) (for-same m m v)
 
-for-help : (e : ℕ → Entries) (x : Entries) (m : Memory) (w s v : ℕ) (step : HelpStep) → Sound e m → SettlesFor m (help_act x m w s step).memory v
-for-help e x m w s v Look g = for-same m m v
-for-help e x m w s v (InstallTag i) g = for-install x m w s i v (m.cached (x.target i))
-for-help e x m w s v (LookUnderTag i u q) g = for-same m m v
-for-help e x m w s v (InstallPointer i u q) g = for-untag x m s i u q v _ _ _ (m.cached (x.target i))
-for-help e x m w s v (RemoveTag i u q) g = for-untag x m s i u q v _ _ _ (m.cached (x.target i))
-for-help e x m w s v (FlushDirty i y) g = for-copies e m (in_line (x.target i)) v g
-for-help e x m w s v (ClearDirty i y) g = for-cleared m (x.target i) y v (m.cached (x.target i))
-for-help e x m w s v (FlushTarget i) g = for-copies e m (in_line (x.target i)) v g
-for-help e x m w s v (Decide d) g = for-decide m s v d (m.status s)
-for-help e x m w s v (FlushStatus d) g = for-head e m s v g
-for-help e x m w s v (ClearStatus d) g = for-cleared_status m s v d (m.status s)
-for-help e x m w s v (PutFinal i d) g = for-put_final x m s i v d (m.cached (x.target i))
-for-help e x m w s v (FlushFinal i d) g = for-copies e m (in_line (x.target i)) v g
-for-help e x m w s v (ClearFinal i d) g = for-cleared m (x.target i) (final_value x i d) v (m.cached (x.target i))
-for-help e x m w s v (SweepTag i d u q) g = for-untag x m s i u q v _ _ _ (m.cached (x.target i))
+for-help : (e : ℕ → Entries) (x : Entries) (m : Memory) (w s v : ℕ) (step : HelpStep) → w ≢ v → Sound e m → SettlesFor m (help_act x m w s step).memory v
+for-help e x m w s v Look other g = for-same m m v
+for-help e x m w s v (InstallTag i) other g = for-install x m w s i v (m.cached (x.target i))
+for-help e x m w s v (LookUnderTag i u q) other g = for-same m m v
+for-help e x m w s v (InstallPointer i u q) other g = for-untag x m s i u q v _ _ _ (m.cached (x.target i))
+for-help e x m w s v (RemoveTag i u q) other g = for-untag x m s i u q v _ _ _ (m.cached (x.target i))
+for-help e x m w s v (AskDirty i y) other g = for-ask m w (line_of (x.target i)) v other
+for-help e x m w s v (FenceDirty i y) other g = for-fence e m w v other g
+for-help e x m w s v (ClearDirty i y) other g = for-cleared m (x.target i) y v (m.cached (x.target i))
+for-help e x m w s v (AskTarget i) other g = for-ask m w (line_of (x.target i)) v other
+for-help e x m w s v FenceTargets other g = for-fence e m w v other g
+for-help e x m w s v (Decide d) other g = for-decide m s v d (m.status s)
+for-help e x m w s v (AskStatus d) other g = for-ask m w (head_of s) v other
+for-help e x m w s v (FenceStatus d) other g = for-fence e m w v other g
+for-help e x m w s v (ClearStatus d) other g = for-cleared_status m s v d (m.status s)
+for-help e x m w s v (PutFinal i d) other g = for-put_final x m s i v d (m.cached (x.target i))
+for-help e x m w s v (AskFinal i d) other g = for-ask m w (line_of (x.target i)) v other
+for-help e x m w s v (FenceFinal i d) other g = for-fence e m w v other g
+for-help e x m w s v (ClearFinal i d) other g = for-cleared m (x.target i) (final_value x i d) v (m.cached (x.target i))
+for-help e x m w s v (SweepTag i d u q) other g = for-untag x m s i u q v _ _ _ (m.cached (x.target i))
 
 for-answer : (m n : Memory) (s v : ℕ) (d : Verdict) → SettlesFor m n v → SettlesFor m (with_answer n s d) v
 for-answer m n s v d h = record { words = h.words; fields = h.fields; statuses = h.statuses }
@@ -106,16 +105,17 @@ for-next m n l v (Step step) h = h
 for-next m n l v (Meet t) h = h
 for-next m n l v (Complete d) h = stepped-if m v (is_own l.operation l.current) _ _ (for-answer m n l.current v d h) h
 
-for-published : (e : ℕ → Entries) (m : Memory) (s v : ℕ) → Sound e m → SettlesFor m (with_published m s) v
-for-published e m s v g =
-    let h : SettlesFor m (with_durable_fields m s in_tail) v = for-fields e m s in_tail v g in
+for-published : (e : ℕ → Entries) (m : Memory) (w s v : ℕ) → w ≢ v → Sound e m → SettlesFor m (with_published m w s) v
+for-published e m w s v other g =
+    let h : SettlesFor m (fenced m w) v = for-fence e m w v other g in
     record { words = h.words; fields = h.fields; statuses = h.statuses }
 
-for-prepare : (e : ℕ → Entries) (m : Memory) (l : Local) (v : ℕ) (step : PrepareStep) → Sound e m → SettlesFor m (prepare_act m l step).memory v
-for-prepare e m l v (WriteWord k) g = for-same m (with_field m l.current k (l.list k)) v
-for-prepare e m l v WriteStatus g = for-same m (with_status m l.current Undecided) v
-for-prepare e m l v FlushHead g = for-head e m l.current v g
-for-prepare e m l v FlushTail g = for-published e m l.current v g
+for-prepare : (e : ℕ → Entries) (m : Memory) (w : ℕ) (l : Local) (v : ℕ) (step : PrepareStep) → w ≢ v → Sound e m → SettlesFor m (prepare_act m w l step).memory v
+for-prepare e m w l v (WriteWord k) other g = for-same m (with_field m l.current k (l.list k)) v
+for-prepare e m w l v WriteStatus other g = for-same m (with_status m l.current Undecided) v
+for-prepare e m w l v AskHead other g = for-ask m w (head_of l.current) v other
+for-prepare e m w l v AskTail other g = for-ask m w (tail_of l.current) v other
+for-prepare e m w l v FenceDescriptor other g = for-published e m w l.current v other g
 
 for-read : (m : Memory) (l : Local) (a v : ℕ) (found : WordKind) → SettlesFor m (read_act m l a found).memory v
 for-read m l a v (Value u) = for-same m m v
@@ -123,53 +123,37 @@ for-read m l a v (Dirty u) = for-same m m v
 for-read m l a v (Swap t) = for-same m m v
 for-read m l a v (Tag t i w q) = for-same m m v
 
-for-act : (e : ℕ → Entries) (m : Memory) (w : ℕ) (l : Local) (v : ℕ) (place : Place) → Sound e m → SettlesFor m (act m w l place).memory v
-for-act e m w l v Idle g = for-same m m v
-for-act e m w l v (Prepare step) g = for-prepare e m l v step g
-for-act e m w l v (Learn k) g = for-same m m v
-for-act e m w l v (Help step) g =
-    for-next m (help_act (entries_in l.list) m w l.current step).memory l v (help_act (entries_in l.list) m w l.current step).next (for-help e (entries_in l.list) m w l.current v step g)
-for-act e m w l v (ReadWord a) g = for-read m l a v (m.cached a)
-for-act e m w l v (FlushRead a y) g = for-copies e m (in_line a) v g
-for-act e m w l v (ClearRead a y) g = for-cleared m a y v (m.cached a)
-for-act e m w l v (LoadWord a) g = for-same m m v
-for-act e m w l v (StoreWord a y) g = for-same m (with_word m a (Value y)) v
-for-act e m w l v (FlushLine line) g = for-copies e m (λ b. b / 8 == line) v g
+for-act : (e : ℕ → Entries) (m : Memory) (w : ℕ) (l : Local) (v : ℕ) (place : Place) → w ≢ v → Sound e m → SettlesFor m (act m w l place).memory v
+for-act e m w l v Idle other g = for-same m m v
+for-act e m w l v (Prepare step) other g = for-prepare e m w l v step other g
+for-act e m w l v (Learn k) other g = for-same m m v
+for-act e m w l v (Help step) other g =
+    for-next m (help_act (entries_in l.list) m w l.current step).memory l v (help_act (entries_in l.list) m w l.current step).next (for-help e (entries_in l.list) m w l.current v step other g)
+for-act e m w l v (ReadWord a) other g = for-read m l a v (m.cached a)
+for-act e m w l v (AskRead a y) other g = for-ask m w (line_of a) v other
+for-act e m w l v (FenceRead a y) other g = for-fence e m w v other g
+for-act e m w l v (ClearRead a y) other g = for-cleared m a y v (m.cached a)
+for-act e m w l v (LoadWord a) other g = for-same m m v
+for-act e m w l v (StoreWord a y) other g = for-same m (with_word m a (Value y)) v
+for-act e m w l v (FlushLine line) other g = for-copies e m (λ b. b / 8 == line) v g
 
 -- a change that all other workers' facts survive
-kept-change : (e : ℕ → Entries) (m n : Memory) (v s : ℕ) → Sound e m → Change e m n s → SettlesFor m n v → Keeps e (fenced m v) (fenced n v) × ((t : ℕ) → m.owner t ≡ v → KeepsDescriptor (fenced m v) (fenced n v) t)
-kept-change e m n v s g c h = (keeps-for e m n v g c.keeps h, λ t own. descriptor-for m n v t (c.descriptors t) h)
+pub keeps_for-change : (e : ℕ → Entries) (m n : Memory) (v s : ℕ) → Sound e m → Change e m n s → SettlesFor m n v → KeepsFor e m n v
+keeps_for-change e m n v s g c h = record {
+  now = c.keeps;
+  after = keeps-for e m n v g c.keeps h;
+  descriptors = λ t own. c.descriptors t;
+  descriptors_after = λ t own. descriptor-for m n v t (c.descriptors t) h;
+}
 
-kept : (x : State) (n : Memory) (v s : ℕ) → IsState x → Change x.entries x.memory n s → SettlesFor x.memory n v → Keeps x.entries (fenced x.memory v) (fenced n v) × ((t : ℕ) → x.memory.owner t ≡ v → KeepsDescriptor (fenced x.memory v) (fenced n v) t)
-kept x n v s i c h = kept-change x.entries x.memory n v s i.sound c h
-
-same : (x : State) (v : ℕ) → IsState x → Keeps x.entries (fenced x.memory v) (fenced x.memory v) × ((t : ℕ) → x.memory.owner t ≡ v → KeepsDescriptor (fenced x.memory v) (fenced x.memory v) t)
-same x v i = kept x x.memory v 0 i (change-same x.entries x.memory 0 i.sound) (for-same x.memory x.memory v)
-
-pub keeps_fences : KeepsFences
-keeps_fences x (StartRead w a) v may i other = let k = same x v i in record { keeps = k.0; descriptors = k.1 }
-keeps_fences x (StartStore w a u) v may i other = let k = same x v i in record { keeps = k.0; descriptors = k.1 }
-keeps_fences x (StartFlush w line) v may i other = let k = same x v i in record { keeps = k.0; descriptors = k.1 }
-keeps_fences x (StartSwap w new targets) v may i other = absurd other
-keeps_fences x (Act w) v may i other =
-    let good : Good x.entries x.memory w (x.local w) (stepped x w) = good-stepped x w i in
-    let h : SettlesFor x.memory (stepped x w).memory v = for-act x.entries x.memory w (x.local w) v (x.local w).place i.sound in
+-- an act of worker w, for another one
+pub keeps_for-act : (e : ℕ → Entries) (m : Memory) (w v : ℕ) (l : Local) (place : Place) → w ≢ v → Sound e m → Good e m w l (act m w l place) → KeepsFor e m (act m w l place).memory v
+keeps_for-act e m w v l place other g good =
+    let h : SettlesFor m (act m w l place).memory v = for-act e m w l v place other g in
+    let others : (s : ℕ) → m.owner s ≡ v → KeepsDescriptor m (act m w l place).memory s = λ s own. good.descriptors s (λ mine. other (sym mine ∙ own)) in
     record {
-      keeps = keeps-for x.entries x.memory (stepped x w).memory v i.sound good.keeps h;
-      descriptors = λ s own. descriptor-for x.memory (stepped x w).memory v s (good.descriptors s (λ mine. other (sym mine ∙ own))) h;
+      now = good.keeps;
+      after = keeps-for e m (act m w l place).memory v g good.keeps h;
+      descriptors = others;
+      descriptors_after = λ s own. descriptor-for m (act m w l place).memory v s (others s own) h;
     }
-keeps_fences x (Evict a) v may i other =
-    let k = kept x (with_copies x.memory (λ b. b == a)) v 0 i (change-copies x.entries x.memory (λ b. b == a) 0 i.sound) (for-copies x.entries x.memory (λ b. b == a) v i.sound) in
-    record { keeps = k.0; descriptors = k.1 }
-keeps_fences x (EvictStatus s) v may i other =
-    let k = kept x (with_durable_status x.memory s) v s i (change-durable_status x.entries x.memory s i.apart i.sound) (for-status x.entries x.memory s v i.sound) in
-    record { keeps = k.0; descriptors = k.1 }
-keeps_fences x (EvictField s k) v may i other =
-    let h = kept x (with_durable_fields x.memory s (λ j. j == k)) v 0 i (change-durable_fields x.entries x.memory s (λ j. j == k) 0 i.sound) (for-fields x.entries x.memory s (λ j. j == k) v i.sound) in
-    record { keeps = h.0; descriptors = h.1 }
-keeps_fences x (Ask w p) v may i other =
-    let k = kept x (with_ask x.memory w p) v 0 i (change-ask x.entries x.memory w p 0 i.sound) (for-ask x.memory w p v other) in
-    record { keeps = k.0; descriptors = k.1 }
-keeps_fences x (Fence w s) v may i other =
-    let k = kept x (fenced x.memory w) v s i (change-fence x.entries x.memory w s may i.apart i.sound) (for-fence x.entries x.memory w v other i.sound) in
-    record { keeps = k.0; descriptors = k.1 }

@@ -1,29 +1,44 @@
 -- The acts that make the verdict durable and clear its dirty bit.
-use Rattle.std.proofs.Common.{◌≡◌, ℕ, ◌<◌, true, arith, refl, subst}
+use Rattle.std.proofs.Common.{◌≡◌, ◌≢◌, ℕ, ◌==◌, ◌<◌, true, arith, refl, sym, subst, inl, inr, None}
 use Rattle.std.proofs.lemmas.Grind.{common_steps}
 use Rattle.bz_machine.specs.declared.status.SwapStatus.{SwapStatus}
 use Rattle.bz_machine.specs.declared.status.SwapStatus.TheVariants.{Free, Undecided, Deciding, Decided}
 use Rattle.bz_machine.specs.declared.status.Verdict.{Verdict}
 use Rattle.bz_machine.specs.declared.status.Verdict.TheVariants.{Succeeded, Failed}
 use Rattle.bz_machine.specs.Machine.{Entries, Memory, is_verdict, StatusMayLast}
-use Rattle.bz_machine.specs.Changes.{with_durable_head}
+use Rattle.bz_machine.specs.Changes.{head_of, with_ask, fenced}
 use Rattle.bz_machine.specs.Sound.{Follows, AreApart, Sound}
 use Rattle.bz_machine.specs.Facts.{Fact}
-use Rattle.bz_machine.specs.declared.place.HelpStep.TheVariants.{FlushStatus, ClearStatus, PutFinal}
+use Rattle.bz_machine.specs.declared.place.HelpStep.TheVariants.{AskStatus, FenceStatus, ClearStatus, PutFinal}
 use Rattle.bz_machine.specs.declared.place.Next.TheVariants.{Step}
 use Rattle.bz_machine.specs.HelpActs.{cleared_status}
 use Rattle.bz_machine.proofs.Fine.{Fine}
 use Rattle.bz_machine.proofs.Change.{Change, change-same}
-use Rattle.bz_machine.proofs.DurableStatuses.{change-durable_head}
+use Rattle.bz_machine.proofs.AskedFor.{own-asked}
+use Rattle.bz_machine.proofs.DurableStatuses.{self-true}
+use Rattle.bz_machine.proofs.Fences.{change-ask, change-fence}
 use Rattle.bz_machine.proofs.Decisions.{MayBecome, change-status}
 use Rattle.bz_machine.proofs.Settles.{lasts-onward, onward-same}
 use Rattle.bz_machine.proofs.Lasting.{lasts-durable}
 
-pub fine-flush_status : (e : ℕ → Entries) (m : Memory) (w s : ℕ) (d : Verdict) → AreApart e → Fact e m w s (FlushStatus d) → Sound e m → Fine e m w s (record { memory = with_durable_head m s; next = Step (ClearStatus d) })
-fine-flush_status e m w s d o f g = record {
-  change = change-durable_head e m s o g;
-  fact = grind (arith, common_steps, f);
-}
+-- after the ask for the status a fence will leave the verdict
+own-status : (e : ℕ → Entries) (m : Memory) (w s : ℕ) (k : SwapStatus) → Sound e m → StatusMayLast (fenced (with_ask m w (head_of s)) w) s k → k ≡ m.status s
+own-status e m w s k g may = elim (own-asked (s == s) (m.durable_status s) (m.status_pending s) w m.now (m.status s) k (g.status_past s) may) [
+  | inl asked ↦ asked.1
+  | inr other ↦ absurd (grind (arith, other.0, self-true s))
+]
+
+pub fine-ask_status : (e : ℕ → Entries) (m : Memory) (w s : ℕ) (d : Verdict) → Fact e m w s (AskStatus d) → Sound e m → Fine e m w s (record { memory = with_ask m w (head_of s); next = Step (FenceStatus d) })
+fine-ask_status e m w s d f g =
+    let n : Memory = with_ask m w (head_of s) in
+    record {
+      change = change-ask e m w (head_of s) s g;
+      fact = (f, subst (λ k. is_verdict k d ≡ true) (sym (own-status e m w s ((fenced n w).durable_status s) g (lasts-durable _ _))) f);
+    }
+
+pub fine-fence_status : (e : ℕ → Entries) (m : Memory) (w s : ℕ) (d : Verdict) → ((t : ℕ) → t ≢ s → (m.status_pending t).asked w ≡ None) → AreApart e → Fact e m w s (FenceStatus d) → Sound e m
+    → Fine e m w s (record { memory = fenced m w; next = Step (ClearStatus d) })
+fine-fence_status e m w s d only o f g = record { change = change-fence e m w s only o g; fact = f.1 }
 
 -- where the verdict is durable each status that may last is a decided one
 goes-clear : (d : Verdict) (k durable : SwapStatus) → Follows (Deciding d) k → Follows k durable → is_verdict durable d ≡ true → Follows (Decided d) k

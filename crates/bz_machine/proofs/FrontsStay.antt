@@ -14,7 +14,7 @@ use Rattle.bz_machine.specs.HelpActs.{final_value}
 use Rattle.bz_machine.specs.Knows.{AtPlace}
 use Rattle.bz_machine.specs.Machine.{Entries, Memory, entries_in}
 use Rattle.bz_machine.specs.Sound.{AreApart, Sound}
-use Rattle.bz_machine.specs.State.{State, StartRead, StartStore, StartFlush, StartSwap, Act, Evict, EvictStatus, EvictField, Ask, Fence, stepped, happens, IsState}
+use Rattle.bz_machine.specs.State.{State, StartRead, StartStore, StartFlush, StartSwap, Act, Evict, EvictStatus, EvictField, stepped, happens, IsState}
 use Rattle.bz_machine.specs.Steps.{Local, Stepped}
 use Rattle.bz_machine.proofs.Events.{good-stepped}
 use Rattle.bz_machine.proofs.Good.{Good}
@@ -94,8 +94,6 @@ fronts_stay x (Act w) may state fronts = act-fronts x w state fronts
 fronts_stay x (Evict b) may state fronts = fronts
 fronts_stay x (EvictStatus t) may state fronts = fronts
 fronts_stay x (EvictField t k) may state fronts = fronts
-fronts_stay x (Ask w p) may state fronts = fronts
-fronts_stay x (Fence w s) may state fronts = fronts
 
 taken-rise : (x : State) (w : ℕ) (new : Entries) (targets : ℕ → Bool) → Rises new → AllRise x → AllRise (happens x (StartSwap w new targets))
 taken-rise x w new targets may rise s = by_test (s == x.memory.taken)
@@ -113,5 +111,3 @@ all_stay_rising x (Act w) may rise = rise
 all_stay_rising x (Evict b) may rise = rise
 all_stay_rising x (EvictStatus t) may rise = rise
 all_stay_rising x (EvictField t k) may rise = rise
-all_stay_rising x (Ask w p) may rise = rise
-all_stay_rising x (Fence w s) may rise = rise

@@ -10,7 +10,7 @@ use Rattle.bz_machine.specs.Machine.{Entries, Memory, is_succeeded}
 use Rattle.bz_machine.specs.Changes.{with_tag, with_miss}
 use Rattle.bz_machine.specs.Sound.{Follows, Sound}
 use Rattle.bz_machine.specs.Facts.{Fact}
-use Rattle.bz_machine.specs.declared.place.HelpStep.TheVariants.{InstallTag, LookUnderTag, InstallPointer, RemoveTag, FlushDirty, Decide}
+use Rattle.bz_machine.specs.declared.place.HelpStep.TheVariants.{InstallTag, LookUnderTag, InstallPointer, RemoveTag, AskDirty, FenceDirty, Decide}
 use Rattle.bz_machine.specs.declared.place.Next.TheVariants.{Step, Meet}
 use Rattle.bz_machine.specs.HelpActs.{stays, passed, after_install_tag, after_look_under}
 use Rattle.bz_machine.proofs.Change.{Change}
@@ -34,7 +34,7 @@ fine-install_tag e m w s i (Value v) h p f g = fine-if e m w s (v == (e s).expec
     let c : Change e m (with_tag m ((e s).target i) s i w) s = change-tag e m s i w p f.0 eq g in
     record { change = c; fact = (f.0, points-keeps e m _ s i c.keeps p (omega arith) f.1, grind (arith, common_steps)) })
     (λ b. record { change = change-miss e m s i v p f.0 h (grind (arith, common_steps)) g; fact = noted e m w s p g })
-fine-install_tag e m w s i (Dirty v) h p f g = fine-same e m w s (Step (FlushDirty i v)) g f
+fine-install_tag e m w s i (Dirty v) h p f g = fine-same e m w s (Step (AskDirty i v)) g f
 fine-install_tag e m w s i (Swap t) h p f g = fine-same e m w s _ g
     (fact-if e m w s (t == s) (Step (passed (e s) i)) (Meet t) (λ b. fact-passed e m w s i f.0 f.1 (grind (arith, common_steps))) (λ b. (g.pointer _ t h).standing))
 fine-install_tag e m w s i (Tag t j v q) h p f g = fine-same e m w s _ g

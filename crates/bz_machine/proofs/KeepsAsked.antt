@@ -7,7 +7,7 @@ use Rattle.bz_machine.specs.declared.status.SwapStatus.{SwapStatus}
 use Rattle.bz_machine.specs.declared.status.Verdict.{Verdict}
 use Rattle.bz_machine.specs.Pending.{Pending, IsPast}
 use Rattle.bz_machine.specs.Machine.{Entries, Memory, is_verdict, MayLast, StatusMayLast, FieldMayLast}
-use Rattle.bz_machine.specs.Changes.{with_copies, with_durable_status, with_durable_fields, in_head, with_durable_head, Lines, with_ask, fenced}
+use Rattle.bz_machine.specs.Changes.{with_copies, with_durable_status, with_durable_fields, Lines, with_ask, fenced}
 use Rattle.bz_machine.specs.Sound.{Sound}
 use Rattle.bz_machine.specs.Keeps.{Keeps, KeepsDescriptor}
 use Rattle.bz_machine.proofs.AskedFor.{LastsFenced, for-copied, for-asked, for-fenced}
@@ -104,9 +104,6 @@ for-status e m s v g = record {
   fields = λ t k u may. inr may;
   statuses = λ t k may. status-copied m s t k (StatusMayLast (fenced m v) t k) (for-copied (t == s) (m.status s) (m.durable_status t) m.now (m.status_pending t) v k (g.status_past t) may);
 }
-
-pub for-head : (e : ℕ → Entries) (m : Memory) (s v : ℕ) → Sound e m → SettlesFor m (with_durable_head m s) v
-for-head e m s v g = record { words = λ a x may. inr may; fields = (for-fields e m s in_head v g).fields; statuses = (for-status e m s v g).statuses }
 
 pub for-ask : (m : Memory) (w : ℕ) (p : Lines) (v : ℕ) → w ≢ v → SettlesFor m (with_ask m w p) v
 for-ask m w p v ne =

@@ -4,6 +4,7 @@ pub mod AgreeActs
 pub mod Alone
 pub mod Answered
 pub mod AskRuns
+pub mod AsksHome
 pub mod AskedFor
 pub mod Asleep
 pub mod Bounded

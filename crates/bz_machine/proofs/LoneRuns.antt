@@ -5,7 +5,7 @@ use Rattle.bz_machine.specs.Allowed.{allowed, allowed_by_kind}
 use Rattle.bz_machine.specs.Budget.{budget}
 use Rattle.bz_machine.specs.Budgets.{IsBounded, IsAmong}
 use Rattle.bz_machine.specs.LoneRuns.{IsLone, AreLone, step_of, steps_in, allowed_in, allowed_by_kind_in, LoneStepsAreAllowed, LoneStepsAreAllowedByKind}
-use Rattle.bz_machine.specs.State.{State, Event, StartRead, StartStore, StartFlush, StartSwap, Act, Evict, EvictStatus, EvictField, Ask, Fence, happens, MayHappen}
+use Rattle.bz_machine.specs.State.{State, Event, StartRead, StartStore, StartFlush, StartSwap, Act, Evict, EvictStatus, EvictField, happens, MayHappen}
 use Rattle.bz_machine.proofs.ActsSpend.{acts_spend}
 use Rattle.bz_machine.proofs.Bounded.{bounded-happens}
 use Rattle.bz_machine.proofs.BudgetBounds.{budgets_are_allowed}
@@ -22,8 +22,6 @@ among-lone x w n (Act u) below lone = let same : u ≡ w = lone.0 in omega (arit
 among-lone x w n (Evict a) below lone = tt
 among-lone x w n (EvictStatus s) below lone = tt
 among-lone x w n (EvictField s k) below lone = tt
-among-lone x w n (Ask u p) below lone = tt
-among-lone x w n (Fence u s) below lone = tt
 
 plain : {a b : ℕ} → a ≤ b → 0 + a ≤ b
 plain f = omega (arith, f)
@@ -50,8 +48,6 @@ spends-lone x w n (Act u) lone may bounded =
 spends-lone x w n (Evict a) lone may bounded = same (budget x w n)
 spends-lone x w n (EvictStatus s) lone may bounded = same (budget x w n)
 spends-lone x w n (EvictField s k) lone may bounded = same (budget x w n)
-spends-lone x w n (Ask u p) lone may bounded = same (budget x w n)
-spends-lone x w n (Fence u s) lone may bounded = same (budget x w n)
 
 sums : (s r b b' a t : ℕ) → s + b' ≤ b + a → r ≤ b' + t → s + r ≤ b + (a + t)
 sums s r b b' a t f g = omega (arith, f, g)

@@ -9,7 +9,7 @@ use Rattle.bz_machine.specs.declared.status.SwapStatus.TheVariants.{Free, Undeci
 use Rattle.bz_machine.specs.declared.status.Verdict.{Verdict}
 use Rattle.bz_machine.specs.declared.status.Verdict.TheVariants.{Failed}
 use Rattle.bz_machine.specs.declared.place.HelpStep.{HelpStep}
-use Rattle.bz_machine.specs.declared.place.HelpStep.TheVariants.{Look, InstallTag, LookUnderTag, InstallPointer, RemoveTag, FlushDirty, ClearDirty, FlushTarget, Decide, FlushStatus, ClearStatus, PutFinal, FlushFinal, ClearFinal, SweepTag}
+use Rattle.bz_machine.specs.declared.place.HelpStep.TheVariants.{Look, InstallTag, LookUnderTag, InstallPointer, RemoveTag, AskDirty, FenceDirty, ClearDirty, AskTarget, FenceTargets, Decide, AskStatus, FenceStatus, ClearStatus, PutFinal, AskFinal, FenceFinal, ClearFinal, SweepTag}
 use Rattle.bz_machine.specs.declared.place.Next.{Next}
 use Rattle.bz_machine.specs.declared.place.Next.TheVariants.{Step, Meet, Complete}
 use Rattle.bz_machine.specs.declared.worker.Operation.{Operation}
@@ -73,7 +73,8 @@ own-next e cached status local l n (Complete d) h =
 -- an act that is none of the last phase
 abbrev pub IsBefore : HelpStep → Type 0
 IsBefore (PutFinal i d) = ⊥
-IsBefore (FlushFinal i d) = ⊥
+IsBefore (AskFinal i d) = ⊥
+IsBefore (FenceFinal i d) = ⊥
 IsBefore (ClearFinal i d) = ⊥
 IsBefore (SweepTag i d v q) = ⊥
 IsBefore step = Unit {0}
@@ -84,20 +85,25 @@ before-last (InstallTag i) before at = at
 before-last (LookUnderTag i v q) before at = at
 before-last (InstallPointer i v q) before at = at
 before-last (RemoveTag i v q) before at = at
-before-last (FlushDirty i v) before at = at
+before-last (AskDirty i v) before at = at
+before-last (FenceDirty i v) before at = at
 before-last (ClearDirty i v) before at = at
-before-last (FlushTarget i) before at = at
+before-last (AskTarget i) before at = at
+before-last FenceTargets before at = at
 before-last (Decide d) before at = at
-before-last (FlushStatus d) before at = at
+before-last (AskStatus d) before at = at
+before-last (FenceStatus d) before at = at
 before-last (ClearStatus d) before at = at
 before-last (PutFinal i d) before at = before
-before-last (FlushFinal i d) before at = before
+before-last (AskFinal i d) before at = before
+before-last (FenceFinal i d) before at = before
 before-last (ClearFinal i d) before at = before
 before-last (SweepTag i d v q) before at = before
 
 behind-last : (step : HelpStep) (j : ℕ) → IsBehind step j → IsLast step
 behind-last (PutFinal i d) j at = tt
-behind-last (FlushFinal i d) j at = tt
+behind-last (AskFinal i d) j at = tt
+behind-last (FenceFinal i d) j at = tt
 behind-last (ClearFinal i d) j at = tt
 behind-last (SweepTag i d v q) j at = tt
 behind-last step j at = at
@@ -117,17 +123,17 @@ if-case P false x y f g = g
 pub status-follows : (found : SwapStatus) (P : Next → Type 0) → ((step : HelpStep) → IsBefore step → P (Step step)) → ((d : Verdict) → IsClean found → P (Step (PutFinal 0 d))) → P (Step (by_status found))
 status-follows Free P before last = before (InstallTag 0) tt
 status-follows Undecided P before last = before (InstallTag 0) tt
-status-follows (Deciding d) P before last = before (FlushStatus d) tt
+status-follows (Deciding d) P before last = before (AskStatus d) tt
 status-follows (Decided d) P before last = last d tt
 
 pub passed-follows : (x : Entries) (i : ℕ) (P : Next → Type 0) → ((step : HelpStep) → IsBefore step → P (Step step)) → P (Step (passed x i))
-passed-follows x i P before = if-case (λ k. P (Step k)) (i + 1 == x.count) (FlushTarget 0) (InstallTag (i + 1)) (before (FlushTarget 0) tt) (before (InstallTag (i + 1)) tt)
+passed-follows x i P before = if-case (λ k. P (Step k)) (i + 1 == x.count) (AskTarget 0) (InstallTag (i + 1)) (before (AskTarget 0) tt) (before (InstallTag (i + 1)) tt)
 
 pub install-follows : (x : Entries) (m : Memory) (w s i : ℕ) (found : WordKind) (P : Next → Type 0) → ((step : HelpStep) → IsBefore step → P (Step step)) → ((t : ℕ) → P (Meet t)) → P (after_install_tag x m w s i found).next
 install-follows x m w s i (Value v) P before meet =
     if-case (λ (a : After). P a.next) (v == x.expected i) (record { memory = with_tag m (x.target i) s i w; next = Step (LookUnderTag i w (m.next_tag w)) }) (record { memory = with_miss m s; next = Step (Decide Failed) })
     (before (LookUnderTag i w (m.next_tag w)) tt) (before (Decide Failed) tt)
-install-follows x m w s i (Dirty v) P before meet = before (FlushDirty i v) tt
+install-follows x m w s i (Dirty v) P before meet = before (AskDirty i v) tt
 install-follows x m w s i (Swap t) P before meet = if-case P (t == s) (Step (passed x i)) (Meet t) (passed-follows x i P before) (meet t)
 install-follows x m w s i (Tag t j v q) P before meet = if-case P (t == s) (Step (LookUnderTag i v q)) (Meet t) (before (LookUnderTag i v q) tt) (meet t)
 
@@ -153,23 +159,23 @@ untag-follows x m s i v q new changed unchanged (Tag t j u p) P f g = by_test ((
 
 pub decide-follows : (m : Memory) (s : ℕ) (d : Verdict) (found : SwapStatus) (P : Next → Type 0) → ((step : HelpStep) → IsBefore step → P (Step step)) → ((c : Verdict) → IsClean found → P (Step (PutFinal 0 c))) → P (after_decide m s d found).next
 decide-follows m s d Free P before last = before (InstallTag 0) tt
-decide-follows m s d Undecided P before last = before (FlushStatus d) tt
-decide-follows m s d (Deciding c) P before last = before (FlushStatus c) tt
+decide-follows m s d Undecided P before last = before (AskStatus d) tt
+decide-follows m s d (Deciding c) P before last = before (AskStatus c) tt
 decide-follows m s d (Decided c) P before last = last c tt
 
 -- after the compare-and-swap of the pointer to the final value nothing of the swap stands at the entry, or a tag that is swept
 pub final-follows : (x : Entries) (m : Memory) (s i : ℕ) (d : Verdict) (found : WordKind) (P : Next → Type 0) → m.cached (x.target i) ≡ found
     → ((StandsFor ((after_put_final x m s i d found).memory.cached (x.target i)) s → ⊥) → P (finished x i d))
-    → ((StandsFor ((after_put_final x m s i d found).memory.cached (x.target i)) s → ⊥) → P (Step (FlushFinal i d)))
+    → ((StandsFor ((after_put_final x m s i d found).memory.cached (x.target i)) s → ⊥) → P (Step (AskFinal i d)))
     → ((v q : ℕ) → P (Step (SweepTag i d v q))) → P (after_put_final x m s i d found).next
 final-follows x m s i d (Value v) P is finish flush sweep = finish (λ k. subst (λ y. StandsFor y s) is k)
 final-follows x m s i d (Dirty v) P is finish flush sweep = finish (λ k. subst (λ y. StandsFor y s) is k)
 final-follows x m s i d (Swap t) P is finish flush sweep = by_test (t == s) refl finish flush
   where
     after : Bool → After
-    after b = if b then record { memory = with_word m (x.target i) (Dirty (final_value x i d)); next = Step (FlushFinal i d) } else record { memory = m; next = finished x i d }
+    after b = if b then record { memory = with_word m (x.target i) (Dirty (final_value x i d)); next = Step (AskFinal i d) } else record { memory = m; next = finished x i d }
 
-    by_test : (b : Bool) → (t == s) ≡ b → ((StandsFor ((after b).memory.cached (x.target i)) s → ⊥) → P (finished x i d)) → ((StandsFor ((after b).memory.cached (x.target i)) s → ⊥) → P (Step (FlushFinal i d))) → P (after b).next
+    by_test : (b : Bool) → (t == s) ≡ b → ((StandsFor ((after b).memory.cached (x.target i)) s → ⊥) → P (finished x i d)) → ((StandsFor ((after b).memory.cached (x.target i)) s → ⊥) → P (Step (AskFinal i d))) → P (after b).next
     by_test true told fin put_dirty =
         let here : (x.target i == x.target i) ≡ true = grind (arith, common_steps) in
         put_dirty (λ k. subst (λ b. StandsFor (if b then Dirty (final_value x i d) else m.cached (x.target i)) s) here k)

@@ -5,8 +5,8 @@ use Rattle.std.specs.declared.option.Option.{Option}
 use Rattle.bz_word.specs.declared.kind.WordKind.{WordKind}
 use Rattle.bz_word.specs.declared.kind.WordKind.TheVariants.{Value, Dirty, Swap, Tag}
 use Rattle.bz_machine.specs.declared.place.Place.{Place}
-use Rattle.bz_machine.specs.declared.place.Place.TheVariants.{Idle, Prepare, Learn, Help, ReadWord, FlushRead, ClearRead, LoadWord, StoreWord, FlushLine}
-use Rattle.bz_machine.specs.declared.place.PrepareStep.TheVariants.{WriteWord, WriteStatus, FlushHead, FlushTail}
+use Rattle.bz_machine.specs.declared.place.Place.TheVariants.{Idle, Prepare, Learn, Help, ReadWord, AskRead, FenceRead, ClearRead, LoadWord, StoreWord, FlushLine}
+use Rattle.bz_machine.specs.declared.place.PrepareStep.TheVariants.{WriteWord, WriteStatus, AskHead, AskTail, FenceDescriptor}
 use Rattle.bz_machine.specs.declared.place.HelpStep.TheVariants.{Look}
 use Rattle.bz_machine.specs.declared.place.Next.{Next}
 use Rattle.bz_machine.specs.declared.place.Next.TheVariants.{Step, Meet, Complete}
@@ -20,7 +20,7 @@ use Rattle.bz_machine.specs.Keeps.{Keeps}
 use Rattle.bz_machine.specs.Knows.{AtPlace}
 use Rattle.bz_machine.specs.Machine.{Entries, Memory, entries_in}
 use Rattle.bz_machine.specs.Owners.{IsBusy, RestsAt, AreOwned, OwnersStay}
-use Rattle.bz_machine.specs.State.{State, StartRead, StartStore, StartFlush, StartSwap, Act, Evict, EvictStatus, EvictField, Ask, Fence, stepped, swapping, happens, IsState}
+use Rattle.bz_machine.specs.State.{State, StartRead, StartStore, StartFlush, StartSwap, Act, Evict, EvictStatus, EvictField, stepped, swapping, happens, IsState}
 use Rattle.bz_machine.specs.Steps.{Local, Stepped, is_own, is_success, answers, resumed, completed, after_help, read_act, act}
 use Rattle.bz_machine.proofs.EndsStay.{answer-help, answer-cleared}
 use Rattle.bz_machine.proofs.Events.{good-stepped}
@@ -101,15 +101,17 @@ own-act : (e : ℕ → Entries) (m : Memory) (w : ℕ) (l : Local) (place : Plac
 own-act e m w l Idle at rests = goes-own m.answer l _ refl rests
 own-act e m w l (Prepare (WriteWord k)) at rests = own-prepares m.answer l (k == 3 * l.list 0) k rests
 own-act e m w l (Prepare WriteStatus) at rests = goes-own m.answer l _ refl rests
-own-act e m w l (Prepare FlushHead) at rests = goes-own m.answer l _ refl rests
-own-act e m w l (Prepare FlushTail) at rests = goes-own m.answer l _ refl rests
+own-act e m w l (Prepare AskHead) at rests = goes-own m.answer l _ refl rests
+own-act e m w l (Prepare AskTail) at rests = goes-own m.answer l _ refl rests
+own-act e m w l (Prepare FenceDescriptor) at rests = goes-own m.answer l _ refl rests
 own-act e m w l (Learn k) at rests = own-learns m.answer l (put l.list k (m.words l.current k)) (k == 3 * put l.list k (m.words l.current k) 0) k rests
 own-act e m w l (Help step) at rests =
     let n : Memory = (help_act (entries_in l.list) m w l.current step).memory in
     let next : Next = (help_act (entries_in l.list) m w l.current step).next in
     subst (λ (f : ℕ → Option Verdict). OwnStays f (after_help l n next).memory.answer l (after_help l n next).local) (answer-help (entries_in l.list) m w l.current step) (own-follows l n next rests)
 own-act e m w l (ReadWord a) at rests = own-read m l a (m.cached a) at
-own-act e m w l (FlushRead a v) at rests = goes-own m.answer l _ refl rests
+own-act e m w l (AskRead a v) at rests = goes-own m.answer l _ refl rests
+own-act e m w l (FenceRead a v) at rests = goes-own m.answer l _ refl rests
 own-act e m w l (ClearRead a v) at rests =
     subst (λ (f : ℕ → Option Verdict). OwnStays m.answer f l (record l { place = ReadWord a })) (sym (answer-cleared m a v (m.cached a))) (goes-own m.answer l (record l { place = ReadWord a }) refl rests)
 own-act e m w l (LoadWord a) at rests = absurd at
@@ -193,5 +195,3 @@ owners_stay x (Act w) may state own = act-owned x w state own (own-act x.entries
 owners_stay x (Evict b) may state own = assumption own
 owners_stay x (EvictStatus t) may state own = assumption own
 owners_stay x (EvictField t k) may state own = assumption own
-owners_stay x (Ask w p) may state own = assumption own
-owners_stay x (Fence w s) may state own = assumption own

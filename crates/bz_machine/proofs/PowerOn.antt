@@ -24,8 +24,10 @@ sound-renewed m r = grind (arith, common_steps, lasts-alone, r)
 pub state-power_on : (m : Memory) → IsRenewable m → IsState (power_on m)
 state-power_on m r = record {
   apart = λ s i lt. absurd (omega arith);
+  short = λ s. omega arith;
   sound = sound-renewed m r;
   knows = λ w. record { place = tt; owns = tt; back = tt };
+  home = λ w t away. refl;
 }
 
 state-since : (m : Memory) (before : List Event) → IsRenewable m → AllMayHappen (power_on m) before → IsState (since m before)

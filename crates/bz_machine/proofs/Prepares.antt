@@ -12,7 +12,7 @@ use Rattle.bz_machine.specs.declared.place.Place.{Place}
 use Rattle.bz_machine.specs.declared.worker.Operation.TheVariants.{Swapping}
 use Rattle.bz_machine.specs.Steps.{Local, goes_on}
 use Rattle.bz_machine.specs.Knows.{Spell, BackPublished, AtPlace}
-use Rattle.bz_machine.proofs.Change.{unchanged, no_miss}
+use Rattle.bz_machine.specs.Content.{NotesMiss, QuietOrEffect}
 use Rattle.bz_machine.proofs.Good.{Good}
 use Rattle.bz_machine.proofs.KeptKnowledge.{back-keeps}
 
@@ -41,13 +41,13 @@ pub record OnOwn (e : ℕ → Entries) (m : Memory) (w : ℕ) (l : Local) : Type
 
 -- such an act owes this much: it can change the own descriptor
 pub good-prepared : (e : ℕ → Entries) (m n : Memory) (w : ℕ) (l : Local) (place : Place) → OnOwn e m w l → Sound e n → Keeps e m n → ((s : ℕ) → s ≢ l.current → KeepsDescriptor m n s)
-    → n.durable ≡ m.durable → n.durable_status ≡ m.durable_status → n.missed ≡ m.missed → n.answer l.current ≡ None → AtPlace e n w l place → Good e m w l (goes_on n l place)
-good-prepared e m n w l place o g k d dur st mi an f = record {
+    → QuietOrEffect e m n l.current → NotesMiss e m n → n.answer l.current ≡ None → AtPlace e n w l place → Good e m w l (goes_on n l place)
+good-prepared e m n w l place o g k d effect misses an f = record {
   sound = g;
   keeps = k;
   descriptors = λ s other. d s (λ same. other (rw same o.owner));
-  effect = unchanged e m n l.current dur st;
-  misses = no_miss e m n mi;
+  effect = effect;
+  misses = misses;
   knows = record { place = f; owns = rw o.operation ((k.owner l.current ∙ o.owner), omega (arith, k.taken, o.taken), an); back = back-keeps e m n l.back k o.back };
   answer = tt;
   ends = inl refl;

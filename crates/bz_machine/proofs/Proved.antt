@@ -8,7 +8,7 @@ use Rattle.bz_machine.proofs.BudgetBounds.{budgets_are_allowed as budgets_are_al
 use Rattle.bz_machine.proofs.BudgetStarts.{evictions_keep_budgets as evictions_keep_budgets-holds, starts_add_allowed as starts_add_allowed-holds, starts_add_by_kind as starts_add_by_kind-holds}
 use Rattle.bz_machine.proofs.DirtyHome.{dirty_stay_home as dirty_stay_home-holds}
 use Rattle.bz_machine.proofs.EndsStay.{ends_stay_whole as ends_stay_whole-holds}
-use Rattle.bz_machine.proofs.EventLaws.{acts_atomically as acts_atomically-holds, begins_as_state as begins_as_state-holds, begins_in_range as begins_in_range-holds, cut_recovers as cut_recovers-holds, keeps_fences as keeps_fences-holds, keeps_range as keeps_range-holds, keeps_state as keeps_state-holds}
+use Rattle.bz_machine.proofs.EventLaws.{acts_atomically as acts_atomically-holds, begins_as_state as begins_as_state-holds, begins_in_range as begins_in_range-holds, cut_recovers as cut_recovers-holds, keeps_range as keeps_range-holds, keeps_state as keeps_state-holds}
 use Rattle.bz_machine.proofs.FrontsStay.{all_stay_rising as all_stay_rising-holds, fronts_stay as fronts_stay-holds}
 use Rattle.bz_machine.proofs.LoneRuns.{lone_steps_are_allowed as lone_steps_are_allowed-holds, lone_steps_are_allowed_by_kind as lone_steps_are_allowed_by_kind-holds}
 use Rattle.bz_machine.proofs.OwnersStay.{owners_stay as owners_stay-holds}
@@ -24,7 +24,7 @@ use Rattle.bz_machine.specs.DirtyHomes.{DirtyStayHome}
 use Rattle.bz_machine.specs.Ends.{EndsStayWhole}
 use Rattle.bz_machine.specs.Examples.{SwapsAlone}
 use Rattle.bz_machine.specs.Fronts.{AllStayRising, FrontsStay}
-use Rattle.bz_machine.specs.Invariance.{ActsAtomically, BeginsAsState, BeginsInRange, CutRecovers, KeepsFences, KeepsRange, KeepsState}
+use Rattle.bz_machine.specs.Invariance.{ActsAtomically, BeginsAsState, BeginsInRange, CutRecovers, KeepsRange, KeepsState}
 use Rattle.bz_machine.specs.Lawful.{StayInRange}
 use Rattle.bz_machine.specs.LoneRuns.{LoneStepsAreAllowed, LoneStepsAreAllowedByKind}
 use Rattle.bz_machine.specs.Owners.{OwnersStay}
@@ -88,10 +88,6 @@ begins_in_range = begins_in_range-holds
 pub keeps_range : KeepsRange
 keeps_range = keeps_range-holds
 
--- under the invariant, what is known of the memory after a worker's own fence stays under the events of others
-pub keeps_fences : KeepsFences
-keeps_fences = keeps_fences-holds
-
 -- under the invariant, a power cut leaves what every address holds, and what is needed to resolve it
 pub cut_recovers : CutRecovers
 cut_recovers = cut_recovers-holds
@@ -140,7 +136,7 @@ starts_add_allowed = starts_add_allowed-holds
 pub starts_add_by_kind : StartsAddByKind
 starts_add_by_kind = starts_add_by_kind-holds
 
--- no eviction, ask or fence changes a budget
+-- no eviction changes a budget
 pub evictions_keep_budgets : EvictionsKeepBudgets
 evictions_keep_budgets = evictions_keep_budgets-holds
 

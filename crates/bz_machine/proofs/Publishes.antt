@@ -1,5 +1,5 @@
 -- A swap is published: its descriptor is durable whole.
-use Rattle.std.proofs.Common.{◌⊎◌, ◌∙◌, inl, inr, ◌≡◌, ◌≢◌, ℕ, ◌*◌, ◌==◌, if◌then◌else◌, ◌<◌, ◌≤◌, Bool, true, false, arith, refl, sym, subst}
+use Rattle.std.proofs.Common.{inl, inr, ◌≡◌, ◌≢◌, ℕ, ◌*◌, ◌==◌, if◌then◌else◌, ◌<◌, ◌≤◌, Bool, true, false, arith, refl, sym, subst}
 use Rattle.std.proofs.lemmas.Grind.{common_steps}
 use Rattle.bz_word.specs.declared.kind.WordKind.{WordKind}
 use Rattle.bz_word.specs.declared.kind.WordKind.TheVariants.{Swap, Tag}
@@ -7,12 +7,13 @@ use Rattle.bz_machine.specs.Pending.{Pending, Lasts}
 use Rattle.bz_machine.specs.declared.status.SwapStatus.{SwapStatus}
 use Rattle.bz_machine.specs.declared.status.SwapStatus.TheVariants.{Undecided}
 use Rattle.bz_machine.specs.Machine.{Entries, Memory, spelled, MayLast, StatusMayLast, FieldMayLast}
-use Rattle.bz_machine.specs.Changes.{put, in_head, in_tail, with_durable_fields, with_published}
+use Rattle.bz_machine.specs.Changes.{put, fenced, with_published}
+use Rattle.bz_machine.specs.Content.{QuietOrEffect}
 use Rattle.bz_machine.specs.Sound.{Follows, InOrder, IsTarget, IsEntry, Sound}
 use Rattle.bz_machine.specs.Keeps.{Keeps, KeepsDescriptor}
-use Rattle.bz_machine.specs.declared.place.PrepareStep.TheVariants.{FlushTail}
-use Rattle.bz_machine.specs.Knows.{Spell, HeadLasts, Prepared}
-use Rattle.bz_machine.proofs.DurableStatuses.{lasts-own_fields, change-durable_fields}
+use Rattle.bz_machine.specs.declared.place.PrepareStep.TheVariants.{FenceDescriptor}
+use Rattle.bz_machine.specs.Knows.{Spell, Prepared}
+use Rattle.bz_machine.proofs.KeepsAsked.{sound-fenced}
 use Rattle.bz_machine.proofs.Lasting.{lasts-durable, lasts-by_ask}
 
 -- a place of a published swap stays one when another is published
@@ -67,20 +68,40 @@ sound-publish e m s taken spell u all fields g =
     let order : (t : ℕ) → n.published t ≡ true → InOrder (m.durable_status t) (m.status_pending t) = λ t p. order-more e m s all g t (t == s) refl p in
     grind (arith, common_steps, pointer, pointer_durable, tag, tag_durable, words, durable_words, follows, order, g)
 
-head-told : (k : ℕ) → in_tail k ≡ false → in_head k ≡ true
-head-told k told = grind (arith, told)
+-- the fence after the asks for both lines
+pub sound-published : (e : ℕ → Entries) (m : Memory) (w s : ℕ) → s < m.taken → Prepared e m w s FenceDescriptor → Sound e m → Sound e (with_published m w s)
+sound-published e m w s taken f g = sound-publish e (fenced m w) s taken f.0 f.1 f.2 f.3 (sound-fenced e m w g)
 
--- the flush of the second line, after that of the first one
-fields-published : (e : ℕ → Entries) (m : Memory) (s k v : ℕ) → Spell (e s) (m.words s) → HeadLasts e m s → ((in_tail k ≡ true) × (v ≡ m.words s k)) ⊎ ((in_tail k ≡ false) × FieldMayLast m s k v) → k ≤ 3 * (e s).count → v ≡ spelled (e s) k
-fields-published e m s k v spell head (inl copied) le = copied.1 ∙ spell k le
-fields-published e m s k v spell head (inr was) le = head k v was.1 (head-told k was.0) le
+pub keeps-published : (e : ℕ → Entries) (m : Memory) (w s : ℕ) → Keeps e m (fenced m w) → Keeps e m (with_published m w s)
+keeps-published e m w s k = record {
+  published = λ t p. grind (arith, common_steps, p);
+  missed = k.missed;
+  numbers = k.numbers;
+  named = k.named;
+  taken = k.taken;
+  owner = k.owner;
+  undecided = k.undecided;
+  verdict = k.verdict;
+  durable_verdict = k.durable_verdict;
+  pointer = k.pointer;
+  pointer_durable = k.pointer_durable;
+  old_tag = k.old_tag;
+  under_tag = k.under_tag;
+}
 
-pub sound-published : (e : ℕ → Entries) (m : Memory) (w s : ℕ) → s < m.taken → Prepared e m w s FlushTail → Sound e m → Sound e (with_published m s)
-sound-published e m w s taken f g = sound-publish e (with_durable_fields m s in_tail) s taken f.0 f.1 f.2
-    (λ k v may le. fields-published e m s k v f.0 f.3 (lasts-own_fields e m s in_tail k v g may) le) (change-durable_fields e m s in_tail 0 g).sound
+pub descriptor-published : (m : Memory) (w s t : ℕ) → t ≢ s → KeepsDescriptor m (fenced m w) t → KeepsDescriptor m (with_published m w s) t
+descriptor-published m w s t ne d = record {
+  published = grind (arith, common_steps, ne);
+  answer = d.answer;
+  words = d.words;
+  durable_words = d.durable_words;
+  status = d.status;
+  durable_status = d.durable_status;
+}
 
-pub keeps-published : (e : ℕ → Entries) (m : Memory) (s : ℕ) → Keeps e m (with_published m s)
-keeps-published e m s = grind (arith, common_steps)
-
-pub descriptor-published : (m : Memory) (s t : ℕ) → t ≢ s → KeepsDescriptor m (with_published m s) t
-descriptor-published m s t ne = grind (arith, common_steps)
+-- no address tells whether a swap is published
+pub effect-published : (e : ℕ → Entries) (m : Memory) (w s : ℕ) → QuietOrEffect e m (fenced m w) s → QuietOrEffect e m (with_published m w s) s
+effect-published e m w s q = elim q [
+  | inl quiet ↦ inl (record { content = quiet.content; swaps = quiet.swaps })
+  | inr takes ↦ inr (record { before = takes.before; done = takes.done; other_swaps = takes.other_swaps; expected = takes.expected; value = takes.value; others = takes.others })
+]

@@ -3,7 +3,7 @@ use Rattle.std.proofs.Common.{◌≡◌, ℕ, ◌+◌, ◌*◌, ◌/◌, ◌==�
 use Rattle.bz_word.specs.declared.kind.WordKind.{WordKind}
 use Rattle.bz_word.specs.declared.kind.WordKind.TheVariants.{Value, Dirty, Swap, Tag}
 use Rattle.bz_machine.specs.Machine.{Entries, Memory}
-use Rattle.bz_machine.specs.Changes.{put, in_line}
+use Rattle.bz_machine.specs.Changes.{put, line_of, head_of, tail_of, fenced}
 use Rattle.bz_machine.specs.Sound.{Sound}
 use Rattle.bz_machine.specs.declared.place.HelpStep.TheVariants.{Look}
 use Rattle.bz_machine.specs.declared.place.Next.{Next}
@@ -11,16 +11,16 @@ use Rattle.bz_machine.specs.declared.place.Next.TheVariants.{Step, Meet, Complet
 use Rattle.bz_machine.specs.HelpActs.{help_act}
 use Rattle.std.specs.declared.option.Option.{Option}
 use Rattle.bz_machine.specs.declared.place.Place.{Place}
-use Rattle.bz_machine.specs.declared.place.Place.TheVariants.{Idle, Prepare, Learn, Help, ReadWord, FlushRead, ClearRead, LoadWord, StoreWord, FlushLine}
+use Rattle.bz_machine.specs.declared.place.Place.TheVariants.{Idle, Prepare, Learn, Help, ReadWord, AskRead, FenceRead, ClearRead, LoadWord, StoreWord, FlushLine}
 use Rattle.bz_machine.specs.declared.place.PrepareStep.{PrepareStep}
-use Rattle.bz_machine.specs.declared.place.PrepareStep.TheVariants.{WriteWord, WriteStatus, FlushHead, FlushTail}
+use Rattle.bz_machine.specs.declared.place.PrepareStep.TheVariants.{WriteWord, WriteStatus, AskHead, AskTail, FenceDescriptor}
 use Rattle.bz_machine.specs.declared.worker.Operation.{Operation}
 use Rattle.bz_machine.specs.declared.worker.Operation.TheVariants.{Nothing, Reading, Swapping}
 use Rattle.bz_machine.specs.Machine.{entries_in}
 use Rattle.bz_machine.specs.Steps.{Local, Stepped, is_own, resumed, after_help, prepare_act, read_act, act}
 use Rattle.bz_machine.specs.Knows.{AtPlace}
 use Rattle.std.proofs.Common.{List, [], ◌∷◌}
-use Rattle.bz_machine.specs.State.{State, Event, StartRead, StartStore, StartFlush, StartSwap, Act, Evict, EvictStatus, EvictField, Ask, Fence, stepped, swapping, happens, IsState, AllMayHappen, after_all, power_on}
+use Rattle.bz_machine.specs.State.{State, Event, StartRead, StartStore, StartFlush, StartSwap, Act, Evict, EvictStatus, EvictField, stepped, swapping, happens, IsState, AllMayHappen, after_all, power_on}
 use Rattle.std.proofs.Common.{◌^◌}
 use Rattle.bz_word.specs.Kinds.{IsKind}
 use Rattle.bz_machine.specs.Ranges.{IsTagger, AreValues, HoldsKinds, NextInRange, PlaceInRange}
@@ -57,11 +57,12 @@ range-after_help l n (Complete d) h r = stepped-if (is_own l.operation l.current
     (record { memory = assumption h; place = tt })
     (record { memory = h; place = range-resumed l l.back l.operation })
 
-range-prepare : (m : Memory) (l : Local) (step : PrepareStep) → HoldsKinds m → SteppedInRange (prepare_act m l step)
-range-prepare m l (WriteWord k) h = record { memory = assumption h; place = tt }
-range-prepare m l WriteStatus h = record { memory = assumption h; place = tt }
-range-prepare m l FlushHead h = record { memory = assumption h; place = tt }
-range-prepare m l FlushTail h = record { memory = assumption h; place = tt }
+range-prepare : (m : Memory) (w : ℕ) (l : Local) (step : PrepareStep) → HoldsKinds m → SteppedInRange (prepare_act m w l step)
+range-prepare m w l (WriteWord k) h = record { memory = assumption h; place = tt }
+range-prepare m w l WriteStatus h = record { memory = assumption h; place = tt }
+range-prepare m w l AskHead h = record { memory = holds-ask m w (head_of l.current) h; place = tt }
+range-prepare m w l AskTail h = record { memory = holds-ask m w (tail_of l.current) h; place = tt }
+range-prepare m w l FenceDescriptor h = let k : HoldsKinds (fenced m w) = holds-fenced m w h in record { memory = assumption k; place = tt }
 
 range-read : (m : Memory) (l : Local) (a : ℕ) (found : WordKind) → m.cached a ≡ found → HoldsKinds m → SteppedInRange (read_act m l a found)
 range-read m l a (Value v) e h = record { memory = h; place = tt }
@@ -72,14 +73,15 @@ range-read m l a (Tag t i w q) e h = record { memory = h; place = tt }
 range-act : (e : ℕ → Entries) (m : Memory) (w : ℕ) (l : Local) (place : Place) → AtPlace e m w l place → PlaceInRange place → (m.published l.current ≡ true → l.current < 2 ^ 16) → AreValues (e l.current)
     → IsTagger w (m.next_tag w) → HoldsKinds m → SteppedInRange (act m w l place)
 range-act e m w l Idle f r sm a t h = record { memory = h; place = tt }
-range-act e m w l (Prepare step) f r sm a t h = range-prepare m l step h
+range-act e m w l (Prepare step) f r sm a t h = range-prepare m w l step h
 range-act e m w l (Learn k) f r sm a t h = record { memory = h; place = place-if (k == 3 * put l.list k (m.words l.current k) 0) (Help Look) (Learn (k + 1)) tt tt }
 range-act e m w l (Help step) f r sm a t h =
     let acted : InRange (help_act (e l.current) m w l.current step) = range-help_act e m w l.current step f.3 r (sm f.0) a t h in
     rw (help_act-agrees e (entries_in l.list) m w l.current step (agree-spell (e l.current) l.list f.2) f.3)
     (range-after_help l (help_act (e l.current) m w l.current step).memory (help_act (e l.current) m w l.current step).next acted.memory acted.next)
 range-act e m w l (ReadWord b) f r sm a t h = range-read m l b (m.cached b) refl h
-range-act e m w l (FlushRead b v) f r sm a t h = record { memory = holds-copies m (in_line b) h; place = r }
+range-act e m w l (AskRead b v) f r sm a t h = record { memory = holds-ask m w (line_of b) h; place = r }
+range-act e m w l (FenceRead b v) f r sm a t h = record { memory = holds-fenced m w h; place = r }
 range-act e m w l (ClearRead b v) f r sm a t h = record { memory = holds-cleared m b v (m.cached b) r h; place = tt }
 range-act e m w l (LoadWord b) f r sm a t h = record { memory = h; place = tt }
 range-act e m w l (StoreWord b v) f r sm a t h = record { memory = holds-word m b (Value v) r h; place = tt }
@@ -112,8 +114,6 @@ range-happens x (Act w) may i r =
 range-happens x (Evict a) may i r = record { kinds = holds-copies x.memory (λ b. b == a) r.kinds; values = r.values; places = r.places }
 range-happens x (EvictStatus s) may i r = record { kinds = assumption r.kinds; values = r.values; places = r.places }
 range-happens x (EvictField s k) may i r = record { kinds = assumption r.kinds; values = r.values; places = r.places }
-range-happens x (Ask w p) may i r = record { kinds = holds-ask x.memory w p r.kinds; values = r.values; places = r.places }
-range-happens x (Fence w s) may i r = record { kinds = holds-fenced x.memory w r.kinds; values = r.values; places = r.places }
 
 range-after_all : (x : State) (vs : List Event) → AllMayHappen x vs → AllMayHold x vs → IsState x → AreInRange x → AreInRange (after_all x vs)
 range-after_all x [] may hold i r = r

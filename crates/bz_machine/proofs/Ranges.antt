@@ -7,10 +7,10 @@ use Rattle.bz_machine.specs.declared.status.SwapStatus.TheVariants.{Free, Undeci
 use Rattle.bz_machine.specs.declared.status.Verdict.{Verdict}
 use Rattle.bz_machine.specs.declared.status.Verdict.TheVariants.{Succeeded, Failed}
 use Rattle.bz_machine.specs.Machine.{Entries, Memory}
-use Rattle.bz_machine.specs.Changes.{with_word, with_tag, with_copies, in_line, with_status, with_durable_head, with_miss}
+use Rattle.bz_machine.specs.Changes.{with_word, with_tag, with_copies, with_status, with_miss, line_of, head_of}
 use Rattle.bz_machine.specs.Facts.{Fact}
 use Rattle.bz_machine.specs.declared.place.HelpStep.{HelpStep}
-use Rattle.bz_machine.specs.declared.place.HelpStep.TheVariants.{Look, InstallTag, LookUnderTag, InstallPointer, RemoveTag, FlushDirty, ClearDirty, FlushTarget, Decide, FlushStatus, ClearStatus, PutFinal, FlushFinal, ClearFinal, SweepTag}
+use Rattle.bz_machine.specs.declared.place.HelpStep.TheVariants.{Look, InstallTag, LookUnderTag, InstallPointer, RemoveTag, AskDirty, FenceDirty, ClearDirty, AskTarget, FenceTargets, Decide, AskStatus, FenceStatus, ClearStatus, PutFinal, AskFinal, FenceFinal, ClearFinal, SweepTag}
 use Rattle.bz_machine.specs.declared.place.Next.{Next}
 use Rattle.bz_machine.specs.declared.place.Next.TheVariants.{Step, Meet, Complete}
 use Rattle.bz_machine.specs.HelpActs.{After, passed, finished, by_status, final_value, after_install_tag, after_look_under, after_untag, cleared_word, after_decide, cleared_status, after_put_final, help_act}
@@ -88,9 +88,6 @@ holds-miss m s h = assumption h
 holds-status : (m : Memory) (s : ℕ) (c : SwapStatus) → HoldsKinds m → HoldsKinds (with_status m s c)
 holds-status m s c h = assumption h
 
-holds-head : (m : Memory) (s : ℕ) → HoldsKinds m → HoldsKinds (with_durable_head m s)
-holds-head m s h = assumption h
-
 holds-if : (b : Bool) (m n : Memory) → HoldsKinds m → HoldsKinds n → HoldsKinds (if b then m else n)
 holds-if true m n p q = p
 holds-if false m n p q = q
@@ -102,7 +99,7 @@ found-kind m a found h k = subst IsKind h (k.cached a)
 range-install : (x : Entries) (m : Memory) (w s i : ℕ) (found : WordKind) → m.cached (x.target i) ≡ found → s < 2 ^ 16 → i < 4 → IsTagger w (m.next_tag w) → HoldsKinds m → InRange (after_install_tag x m w s i found)
 range-install x m w s i (Value v) h sm lt t k = range-if (v == x.expected i) _ _ (record { memory = holds-tag m (x.target i) s i w sm lt t k; next = t }) (record { memory = holds-miss m s k; next = tt })
 range-install x m w s i (Dirty v) h sm lt t k = record { memory = k; next = found-kind m (x.target i) (Dirty v) h k }
-range-install x m w s i (Swap u) h sm lt t k = record { memory = k; next = next-if (u == s) (Step (passed x i)) (Meet u) (step-if (i + 1 == x.count) (FlushTarget 0) (InstallTag (i + 1)) tt tt) tt }
+range-install x m w s i (Swap u) h sm lt t k = record { memory = k; next = next-if (u == s) (Step (passed x i)) (Meet u) (step-if (i + 1 == x.count) (AskTarget 0) (InstallTag (i + 1)) tt tt) tt }
 range-install x m w s i (Tag u j v q) h sm lt t k =
     let kind : IsKind (Tag u j v q) = found-kind m (x.target i) (Tag u j v q) h k in
     record { memory = k; next = next-if (u == s) (Step (LookUnderTag i v q)) (Meet u) (kind.2, kind.3, kind.4) tt }
@@ -168,15 +165,19 @@ range-help_act e m w s Look f r sm a t k = record { memory = k; next = range-by_
 range-help_act e m w s (InstallTag i) f r sm a t k = range-install (e s) m w s i (m.cached ((e s).target i)) refl sm (omega (arith, f.0, a.count)) t k
 range-help_act e m w s (LookUnderTag i v q) f r sm a t k = record { memory = k; next = range-look_under i v q (m.status s) r }
 range-help_act e m w s (InstallPointer i v q) f r sm a t k =
-    range-untag (e s) m s i v q (Swap s) (Step (passed (e s) i)) (Step (InstallTag i)) (m.cached ((e s).target i)) sm (step-if (i + 1 == (e s).count) (FlushTarget 0) (InstallTag (i + 1)) tt tt) tt k
+    range-untag (e s) m s i v q (Swap s) (Step (passed (e s) i)) (Step (InstallTag i)) (m.cached ((e s).target i)) sm (step-if (i + 1 == (e s).count) (AskTarget 0) (InstallTag (i + 1)) tt tt) tt k
 range-help_act e m w s (RemoveTag i v q) f r sm a t k = range-untag (e s) m s i v q (Value ((e s).expected i)) (Step Look) (Step Look) (m.cached ((e s).target i)) (a.expected i f) tt tt k
-range-help_act e m w s (FlushDirty i v) f r sm a t k = record { memory = holds-copies m (in_line ((e s).target i)) k; next = r }
+range-help_act e m w s (AskDirty i v) f r sm a t k = record { memory = holds-ask m w (line_of ((e s).target i)) k; next = r }
+range-help_act e m w s (FenceDirty i v) f r sm a t k = record { memory = holds-fenced m w k; next = r }
 range-help_act e m w s (ClearDirty i v) f r sm a t k = record { memory = holds-cleared m ((e s).target i) v (m.cached ((e s).target i)) r k; next = tt }
-range-help_act e m w s (FlushTarget i) f r sm a t k = record { memory = holds-copies m (in_line ((e s).target i)) k; next = step-if (i + 1 == (e s).count) (Decide Succeeded) (FlushTarget (i + 1)) tt tt }
+range-help_act e m w s (AskTarget i) f r sm a t k = record { memory = holds-ask m w (line_of ((e s).target i)) k; next = step-if (i + 1 == (e s).count) FenceTargets (AskTarget (i + 1)) tt tt }
+range-help_act e m w s FenceTargets f r sm a t k = record { memory = holds-fenced m w k; next = tt }
 range-help_act e m w s (Decide d) f r sm a t k = range-decide m s d (m.status s) k
-range-help_act e m w s (FlushStatus d) f r sm a t k = record { memory = holds-head m s k; next = tt }
+range-help_act e m w s (AskStatus d) f r sm a t k = record { memory = holds-ask m w (head_of s) k; next = tt }
+range-help_act e m w s (FenceStatus d) f r sm a t k = record { memory = holds-fenced m w k; next = tt }
 range-help_act e m w s (ClearStatus d) f r sm a t k = record { memory = holds-cleared_status m s d (m.status s) k; next = tt }
 range-help_act e m w s (PutFinal i d) f r sm a t k = range-put_final (e s) m s i d (m.cached ((e s).target i)) refl a f.0 k
-range-help_act e m w s (FlushFinal i d) f r sm a t k = record { memory = holds-copies m (in_line ((e s).target i)) k; next = tt }
+range-help_act e m w s (AskFinal i d) f r sm a t k = record { memory = holds-ask m w (line_of ((e s).target i)) k; next = tt }
+range-help_act e m w s (FenceFinal i d) f r sm a t k = record { memory = holds-fenced m w k; next = tt }
 range-help_act e m w s (ClearFinal i d) f r sm a t k = record { memory = holds-cleared m ((e s).target i) (final_value (e s) i d) (m.cached ((e s).target i)) (final-small (e s) i d a f.0) k; next = range-finished (e s) i d }
 range-help_act e m w s (SweepTag i d v q) f r sm a t k = range-untag (e s) m s i v q (Value ((e s).expected i)) (finished (e s) i d) (Step (PutFinal i d)) (m.cached ((e s).target i)) (a.expected i f.0) (range-finished (e s) i d) tt k

@@ -2,18 +2,17 @@
 use Rattle.std.proofs.Common.{◌≡◌, ℕ, ◌==◌, true, refl, sym, subst, inl, inr}
 use Rattle.bz_machine.specs.declared.status.Verdict.{Verdict}
 use Rattle.bz_machine.specs.Machine.{Entries, Memory, is_verdict}
-use Rattle.bz_machine.specs.Changes.{put, with_copies, with_durable_status, with_durable_fields, with_ask, fenced}
+use Rattle.bz_machine.specs.Changes.{put, with_copies, with_durable_status, with_durable_fields}
 use Rattle.bz_machine.specs.Steps.{effect_of}
 use Rattle.std.proofs.Common.{List, [], ◌∷◌}
 use Rattle.bz_machine.specs.Changes.{with_taken}
 use Rattle.bz_machine.specs.Content.{has_effect, QuietOrEffect}
-use Rattle.bz_machine.specs.State.{State, Event, StartRead, StartStore, StartFlush, StartSwap, Act, Evict, EvictStatus, EvictField, Ask, Fence, stepped, happens, MayHappen, IsState, AllMayHappen, after_all}
+use Rattle.bz_machine.specs.State.{State, Event, StartRead, StartStore, StartFlush, StartSwap, Act, Evict, EvictStatus, EvictField, stepped, happens, MayHappen, IsState, AllMayHappen, after_all}
 use Rattle.bz_machine.specs.Promise.{EffectIs, IsAtomic}
 use Rattle.bz_machine.proofs.Change.{Change, unchanged, no_miss}
 use Rattle.bz_machine.proofs.Good.{Good}
 use Rattle.bz_machine.proofs.Takes.{content-taken}
 use Rattle.bz_machine.proofs.Copies.{change-copies}
-use Rattle.bz_machine.proofs.Fences.{change-ask, change-fence}
 use Rattle.bz_machine.proofs.DurableStatuses.{change-durable_status, change-durable_fields}
 use Rattle.bz_machine.proofs.Told.{none-told, some-told}
 use Rattle.bz_machine.proofs.Events.{good-stepped, state-happens}
@@ -58,12 +57,6 @@ atomic-happens x (EvictStatus s) may i =
 atomic-happens x (EvictField s k) may i =
     let c : Change x.entries x.memory (with_durable_fields x.memory s (λ j. j == k)) 0 = change-durable_fields x.entries x.memory s (λ j. j == k) 0 i.sound in
     record { effect = atomic-change x _ 0 c; entries = λ b nm. refl; misses = c.misses; answer = tt; ends = tt }
-atomic-happens x (Ask w p) may i =
-    let c : Change x.entries x.memory (with_ask x.memory w p) 0 = change-ask x.entries x.memory w p 0 i.sound in
-    record { effect = atomic-change x _ 0 c; entries = λ b nm. refl; misses = c.misses; answer = tt; ends = tt }
-atomic-happens x (Fence w s) may i =
-    let c : Change x.entries x.memory (fenced x.memory w) s = change-fence x.entries x.memory w s may i.apart i.sound in
-    record { effect = atomic-change x _ s c; entries = λ b nm. refl; misses = c.misses; answer = tt; ends = tt }
 
 -- a durable verdict stays
 verdict-happens : (x : State) (v : Event) (s : ℕ) (d : Verdict) → MayHappen x v → IsState x → is_verdict (x.memory.durable_status s) d ≡ true → is_verdict ((happens x v).memory.durable_status s) d ≡ true
@@ -75,8 +68,6 @@ verdict-happens x (Act w) s d may i h = (good-stepped x w i).keeps.durable_verdi
 verdict-happens x (Evict a) s d may i h = h
 verdict-happens x (EvictStatus t) s d may i h = (change-durable_status x.entries x.memory t i.apart i.sound).keeps.durable_verdict s d h
 verdict-happens x (EvictField t k) s d may i h = h
-verdict-happens x (Ask w p) s d may i h = h
-verdict-happens x (Fence w t) s d may i h = (change-fence x.entries x.memory w t may i.apart i.sound).keeps.durable_verdict s d h
 
 pub verdict-after_all : (x : State) (vs : List Event) (s : ℕ) (d : Verdict) → AllMayHappen x vs → IsState x → is_verdict (x.memory.durable_status s) d ≡ true → is_verdict ((after_all x vs).memory.durable_status s) d ≡ true
 verdict-after_all x [] s d may i h = h

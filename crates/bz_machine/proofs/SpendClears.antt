@@ -8,7 +8,7 @@ use Rattle.bz_machine.specs.declared.place.Place.{Place}
 use Rattle.bz_machine.specs.declared.place.Place.TheVariants.{Help}
 use Rattle.bz_machine.specs.declared.status.Verdict.{Verdict}
 use Rattle.bz_machine.specs.Budget.{for_dirty, for_stale, for_stale_entry, open_count, open_above, walk_at, reserve, detour, own_missing, cleans_at, for_walks, left_by_others, fresh_budget, allowed_by_others, budget_at}
-use Rattle.bz_machine.specs.Budgets.{AreShort}
+use Rattle.bz_machine.specs.Sound.{AreShort}
 use Rattle.bz_machine.specs.Changes.{put, with_word}
 use Rattle.bz_machine.specs.DirtyHomes.{IsAtFinal}
 use Rattle.bz_machine.specs.HelpActs.{final_value, cleared_word}

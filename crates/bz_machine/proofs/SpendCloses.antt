@@ -2,7 +2,7 @@
 use Rattle.std.proofs.Common.{◌≡◌, ◌==◌, ◌&&◌, if◌then◌else◌, ℕ, ◌+◌, ◌-◌, ◌*◌, ◌<◌, ◌≤◌, Bool, true, false, arith, refl, ap, subst}
 use Rattle.std.proofs.lemmas.Grind.{common_steps}
 use Rattle.bz_word.specs.declared.kind.WordKind.TheVariants.{Dirty, Swap}
-use Rattle.bz_machine.specs.declared.place.HelpStep.TheVariants.{ClearStatus, PutFinal, FlushFinal}
+use Rattle.bz_machine.specs.declared.place.HelpStep.TheVariants.{ClearStatus, PutFinal, AskFinal, FenceFinal}
 use Rattle.bz_machine.specs.declared.place.Place.TheVariants.{Help}
 use Rattle.bz_machine.specs.declared.status.SwapStatus.{SwapStatus}
 use Rattle.bz_machine.specs.declared.status.SwapStatus.TheVariants.{Free, Undecided, Deciding, Decided}
@@ -140,7 +140,7 @@ none-kept : (over : Bool) (l : Local) (i : ℕ) (d : Verdict) (s j : ℕ) → ov
 none-kept over l i d s j none = rw none refl
 
 nothing-finalized : (e : ℕ → Entries) (local : ℕ → Local) (m : Memory) (w : ℕ) (l : Local) (i : ℕ) (d : Verdict) → m.cached ((e l.current).target i) ≡ Swap l.current → is_decided (m.status l.current) ≡ true → is_through (meets e local m) l.current ≡ false
-    → NoMore e local m (finalized m ((e l.current).target i) (final_value (e l.current) i d)) w l l (Help (PutFinal i d)) (Help (FlushFinal i d))
+    → NoMore e local m (finalized m ((e l.current).target i) (final_value (e l.current) i d)) w l l (Help (PutFinal i d)) (Help (AskFinal i d))
 nothing-finalized e local m w l i d found settled unfinished = record {
   through = λ s. through-finalized e local m ((e l.current).target i) (final_value (e l.current) i d) s;
   missing = λ s. missing-finalized e local m ((e l.current).target i) (final_value (e l.current) i d) l.current s found settled;
@@ -150,15 +150,15 @@ nothing-finalized e local m w l i d found settled unfinished = record {
 
 -- the pointer of the swap stands at the entry
 pub put-falls : (x : State) (w n i : ℕ) (d : Verdict) → IsBounded x n → x.memory.published (x.local w).current ≡ true → i < 4 → x.memory.cached ((x.entries (x.local w).current).target i) ≡ Swap (x.local w).current → is_decided (x.memory.status (x.local w).current) ≡ true
-    → fresh_budget (meets x.entries x.local (finalized x.memory ((x.entries (x.local w).current).target i) (final_value (x.entries (x.local w).current) i d))) w n (x.local w) (Help (FlushFinal i d)) + 1 ≤ fresh_budget (scene_of x) w n (x.local w) (Help (PutFinal i d))
+    → fresh_budget (meets x.entries x.local (finalized x.memory ((x.entries (x.local w).current).target i) (final_value (x.entries (x.local w).current) i d))) w n (x.local w) (Help (AskFinal i d)) + 1 ≤ fresh_budget (scene_of x) w n (x.local w) (Help (PutFinal i d))
 put-falls x w n i d bounded published small found settled =
     let unfinished : is_through (scene_of x) (x.local w).current ≡ false = pointer-unfinished x n (x.local w).current ((x.entries (x.local w).current).target i) bounded found in
-    closing-falls x (finalized x.memory ((x.entries (x.local w).current).target i) (final_value (x.entries (x.local w).current) i d)) w n (PutFinal i d) (FlushFinal i d) bounded published
+    closing-falls x (finalized x.memory ((x.entries (x.local w).current).target i) (final_value (x.entries (x.local w).current) i d)) w n (PutFinal i d) (AskFinal i d) bounded published
     (closing-finalized x.entries x.local x.memory ((x.entries (x.local w).current).target i) (final_value (x.entries (x.local w).current) i d) (x.local w).current found settled unfinished)
     (sums _ _ _ _
     (own-less x.entries x.local x.memory (finalized x.memory ((x.entries (x.local w).current).target i) (final_value (x.entries (x.local w).current) i d)) (x.local w).operation
     (λ s. missing-finalized x.entries x.local x.memory ((x.entries (x.local w).current).target i) (final_value (x.entries (x.local w).current) i d) (x.local w).current s found settled))
-    (no-more x.entries x.local x.memory (finalized x.memory ((x.entries (x.local w).current).target i) (final_value (x.entries (x.local w).current) i d)) w n (x.local w) (x.local w) (Help (PutFinal i d)) (Help (FlushFinal i d))
+    (no-more x.entries x.local x.memory (finalized x.memory ((x.entries (x.local w).current).target i) (final_value (x.entries (x.local w).current) i d)) w n (x.local w) (x.local w) (Help (PutFinal i d)) (Help (AskFinal i d))
     (nothing-finalized x.entries x.local x.memory w (x.local w) i d found settled unfinished)))
   where
     sums : (a b a' b' : ℕ) → a' ≤ a → b' ≤ b → a' + (3 + 4 * (3 - i)) + b' + 1 ≤ a + 4 * (4 - i) + b

@@ -2,7 +2,7 @@
 use Rattle.std.proofs.Common.{◌≡◌, ◌==◌, ◌&&◌, ◌||◌, not, nat_lt, if◌then◌else◌, ℕ, ◌+◌, ◌*◌, ◌≤◌, Bool, true, false, arith, refl, ap, sym, subst, ◌∙◌, Some, None}
 use Rattle.std.proofs.lemmas.Grind.{common_steps}
 use Rattle.std.specs.declared.option.Option.{Option}
-use Rattle.bz_machine.specs.declared.place.HelpStep.TheVariants.{Decide, FlushStatus, PutFinal}
+use Rattle.bz_machine.specs.declared.place.HelpStep.TheVariants.{Decide, AskStatus, FenceStatus, PutFinal}
 use Rattle.bz_machine.specs.declared.place.Place.{Place}
 use Rattle.bz_machine.specs.declared.place.Place.TheVariants.{Idle, Learn, Help}
 use Rattle.bz_machine.specs.declared.status.SwapStatus.{SwapStatus}
@@ -12,7 +12,7 @@ use Rattle.bz_machine.specs.declared.worker.Operation.{Operation}
 use Rattle.bz_machine.specs.declared.worker.Operation.TheVariants.{Nothing, Reading, Swapping}
 use Rattle.bz_machine.specs.Allowed.{sum_below, counted, is_busy}
 use Rattle.bz_machine.specs.Budget.{level, for_sweep, for_return, for_detour, for_stale, open_count, open_above, walk_home, walk_from, walk_back, walk_on, walk_at, reserve, lags, lags_back, detour_on, detour, own_missing_by, own_missing, left_at, is_over_at, left_by, for_walks, left_by_others, fresh_budget, is_fresh_at, stale_at, allowed_by_others, budget_at}
-use Rattle.bz_machine.specs.Budgets.{AreShort}
+use Rattle.bz_machine.specs.Sound.{AreShort}
 use Rattle.bz_machine.specs.Changes.{put, with_status}
 use Rattle.bz_machine.specs.HelpActs.{after_decide}
 use Rattle.bz_machine.specs.Machine.{Entries, Memory}
@@ -184,9 +184,9 @@ spends-decide e local m w n l d few short set = by_found (m.status l.current) re
     by_found Undecided is =
         let decided : ℕ → Bool = λ s. is_decided (put m.status l.current (Deciding d) s) in
         let same : meets e local (with_status m l.current (Deciding d)) ≡ with_decided (meets e local m) decided = λ j. record (meets e local (with_status m l.current (Deciding d))) { clean = λ s. clean-put m.status l.current s d is j } in
-        subst (λ y. budget_at y w n (record l { place = Help (FlushStatus d) }) (Help (FlushStatus d)) + 1 ≤ budget_at (meets e local m) w n l (Help (Decide d))) (sym same)
-        (falls-to (meets e local m) (with_decided (meets e local m) decided) w n l (record l { place = Help (FlushStatus d) }) (Help (Decide d)) (Help (FlushStatus d)) (ap (λ k. not (is_decided k)) is) refl
-        (both (fresh_budget (with_decided (meets e local m) decided) w n l (Help (FlushStatus d))) (fresh_budget (with_decided (meets e local m) decided) w n l (Help (Decide d))) (fresh_budget (meets e local m) w n l (Help (Decide d))) (here-falls (with_decided (meets e local m) decided) w n l l (Help (Decide d)) (Help (FlushStatus d)) refl refl refl refl refl (omega arith))
+        subst (λ y. budget_at y w n (record l { place = Help (AskStatus d) }) (Help (AskStatus d)) + 1 ≤ budget_at (meets e local m) w n l (Help (Decide d))) (sym same)
+        (falls-to (meets e local m) (with_decided (meets e local m) decided) w n l (record l { place = Help (AskStatus d) }) (Help (Decide d)) (Help (AskStatus d)) (ap (λ k. not (is_decided k)) is) refl
+        (both (fresh_budget (with_decided (meets e local m) decided) w n l (Help (AskStatus d))) (fresh_budget (with_decided (meets e local m) decided) w n l (Help (Decide d))) (fresh_budget (meets e local m) w n l (Help (Decide d))) (here-falls (with_decided (meets e local m) decided) w n l l (Help (Decide d)) (Help (AskStatus d)) refl refl refl refl refl (omega arith))
         (decided-less (meets e local m) decided w n l (Help (Decide d)) (more-put m.status l.current d))))
-    by_found (Deciding c) is = falls-again (meets e local m) w n l (Help (Decide d)) (Help (FlushStatus c)) (ap (λ k. not (is_decided k)) is) refl few short
+    by_found (Deciding c) is = falls-again (meets e local m) w n l (Help (Decide d)) (Help (AskStatus c)) (ap (λ k. not (is_decided k)) is) refl few short
     by_found (Decided c) is = falls-again (meets e local m) w n l (Help (Decide d)) (Help (PutFinal 0 c)) (ap (λ k. not (is_decided k)) is) refl few short

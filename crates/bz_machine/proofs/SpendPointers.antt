@@ -4,7 +4,7 @@ use Rattle.std.proofs.lemmas.Grind.{common_steps}
 use Rattle.bz_word.specs.declared.kind.WordKind.{WordKind}
 use Rattle.bz_word.specs.declared.kind.WordKind.TheVariants.{Value, Dirty, Swap, Tag}
 use Rattle.bz_machine.specs.declared.place.HelpStep.{HelpStep}
-use Rattle.bz_machine.specs.declared.place.HelpStep.TheVariants.{InstallTag, InstallPointer, FlushTarget}
+use Rattle.bz_machine.specs.declared.place.HelpStep.TheVariants.{InstallTag, InstallPointer, AskTarget, FenceTargets}
 use Rattle.bz_machine.specs.declared.place.Next.TheVariants.{Step}
 use Rattle.bz_machine.specs.declared.place.Place.TheVariants.{Help}
 use Rattle.bz_machine.specs.declared.worker.Operation.{Operation}
@@ -211,10 +211,10 @@ spends-pointer x w n i v q bounded published inside small target fresh =
     second true b is = absurd cc
 
     by_last : is_decided (x.memory.status (x.local w).current) ≡ false → x.memory.cached ((x.entries (x.local w).current).target i) ≡ Tag (x.local w).current i v q → (b : Bool)
-        → Owes x.entries x.local x.memory w n (x.local w) (Help (InstallPointer i v q)) (record { memory = pointed x.memory ((x.entries (x.local w).current).target i) (x.local w).current; next = Step (if b then FlushTarget 0 else InstallTag (i + 1)) })
+        → Owes x.entries x.local x.memory w n (x.local w) (Help (InstallPointer i v q)) (record { memory = pointed x.memory ((x.entries (x.local w).current).target i) (x.local w).current; next = Step (if b then AskTarget 0 else InstallTag (i + 1)) })
     by_last undecided found true =
-        falls-to (scene_of x) (meets x.entries x.local (pointed x.memory ((x.entries (x.local w).current).target i) (x.local w).current)) w n (x.local w) (x.local w) (Help (InstallPointer i v q)) (Help (FlushTarget 0)) fresh
-        (not-false (is_decided (x.memory.status (x.local w).current)) undecided) (goes-on x w n i v q (FlushTarget 0) bounded published undecided inside found (omega (arith, small)))
+        falls-to (scene_of x) (meets x.entries x.local (pointed x.memory ((x.entries (x.local w).current).target i) (x.local w).current)) w n (x.local w) (x.local w) (Help (InstallPointer i v q)) (Help (AskTarget 0)) fresh
+        (not-false (is_decided (x.memory.status (x.local w).current)) undecided) (goes-on x w n i v q (AskTarget 0) bounded published undecided inside found (omega (arith, small)))
     by_last undecided found false =
         falls-to (scene_of x) (meets x.entries x.local (pointed x.memory ((x.entries (x.local w).current).target i) (x.local w).current)) w n (x.local w) (x.local w) (Help (InstallPointer i v q)) (Help (InstallTag (i + 1))) fresh
         (not-false (is_decided (x.memory.status (x.local w).current)) undecided) (goes-on x w n i v q (InstallTag (i + 1)) bounded published undecided inside found (omega (arith, small)))

@@ -3,7 +3,7 @@ use Rattle.std.proofs.Common.{◌≡◌, ◌==◌, not, if◌then◌else◌, ℕ
 use Rattle.std.proofs.lemmas.Grind.{common_steps}
 use Rattle.bz_machine.specs.declared.place.HelpStep.TheVariants.{InstallTag}
 use Rattle.bz_machine.specs.declared.place.Place.TheVariants.{Prepare, Help}
-use Rattle.bz_machine.specs.declared.place.PrepareStep.TheVariants.{WriteStatus, FlushHead, FlushTail}
+use Rattle.bz_machine.specs.declared.place.PrepareStep.TheVariants.{WriteStatus, AskHead, FenceDescriptor}
 use Rattle.bz_machine.specs.declared.status.SwapStatus.{SwapStatus}
 use Rattle.bz_machine.specs.declared.status.SwapStatus.TheVariants.{Free, Undecided, Deciding, Decided}
 use Rattle.bz_machine.specs.declared.worker.Operation.{Operation}
@@ -42,18 +42,18 @@ spends-write_status e local m w n l unset =
     let clean : (s : ℕ) → is_clean (put m.status l.current Undecided s) ≡ is_clean (m.status s) = λ s. same-test is_clean m.status l.current s refl (unset-clean (m.status l.current) unset) in
     let after : Scene = scene e m.cached (put m.status l.current Undecided) local in
     let same : after ≡ meets e local m = λ i. record (meets e local m) { decided = λ s. decided s i; clean = λ s. clean s i } in
-    subst (λ x. budget_at x w n (record l { place = Prepare FlushHead }) (Prepare FlushHead) + 1 ≤ budget_at (meets e local m) w n l (Prepare WriteStatus)) (sym same)
-    (here-falls (meets e local m) w n l (record l { place = Prepare FlushHead }) (Prepare WriteStatus) (Prepare FlushHead) refl refl refl refl refl (omega arith))
+    subst (λ x. budget_at x w n (record l { place = Prepare AskHead }) (Prepare AskHead) + 1 ≤ budget_at (meets e local m) w n l (Prepare WriteStatus)) (sym same)
+    (here-falls (meets e local m) w n l (record l { place = Prepare AskHead }) (Prepare WriteStatus) (Prepare AskHead) refl refl refl refl refl (omega arith))
 
 reserve-same : (o : Operation) (s k : ℕ) → o ≡ Swapping s → reserve_by o 0 ≡ reserve_by o k
 reserve-same o s k is = rw is refl
 
 -- the own swap is published, and is visited
-pub spends-flush_tail : (e : ℕ → Entries) (local : ℕ → Local) (m : Memory) (w n : ℕ) (l : Local) → l.operation ≡ Swapping l.current → m.status l.current ≡ Undecided → Spends e local m w n l (Prepare FlushTail)
-spends-flush_tail e local m w n l own undecided =
+pub spends-fence_descriptor : (e : ℕ → Entries) (local : ℕ → Local) (m : Memory) (w n : ℕ) (l : Local) → l.operation ≡ Swapping l.current → m.status l.current ≡ Undecided → Spends e local m w n l (Prepare FenceDescriptor)
+spends-fence_descriptor e local m w n l own undecided =
     let here : (l.current == l.current) ≡ true = grind (arith, common_steps) in
     let is : is_own l.operation l.current ≡ true = ap (λ o. is_own o l.current) own ∙ here in
     let over : is_over (meets e local m) l ≡ false = rw is refl in
-    fresh-falls (meets e local m) w n l (Prepare FlushTail) (Help (InstallTag 0)) refl (ap (λ s. not (is_decided s)) undecided)
-    (here-falls (meets e local m) w n l l (Prepare FlushTail) (Help (InstallTag 0)) (rw is refl) (reserve-same l.operation l.current _ own) (rw is refl) refl
+    fresh-falls (meets e local m) w n l (Prepare FenceDescriptor) (Help (InstallTag 0)) refl (ap (λ s. not (is_decided s)) undecided)
+    (here-falls (meets e local m) w n l l (Prepare FenceDescriptor) (Help (InstallTag 0)) (rw is refl) (reserve-same l.operation l.current _ own) (rw is refl) refl
     (ap (λ b. sum_others w (λ v. left_by (meets e local m) b l (Help (InstallTag 0)) v (local v)) n) over) (omega arith))

@@ -3,7 +3,7 @@ use Rattle.std.proofs.Common.{◌≡◌, ◌==◌, if◌then◌else◌, ℕ, ◌
 use Rattle.std.proofs.lemmas.Grind.{common_steps}
 use Rattle.bz_word.specs.declared.kind.WordKind.{WordKind}
 use Rattle.bz_word.specs.declared.kind.WordKind.TheVariants.{Value, Dirty, Swap, Tag}
-use Rattle.bz_machine.specs.declared.place.HelpStep.TheVariants.{PutFinal, FlushFinal, SweepTag}
+use Rattle.bz_machine.specs.declared.place.HelpStep.TheVariants.{PutFinal, AskFinal, FenceFinal, SweepTag}
 use Rattle.bz_machine.specs.declared.place.Next.TheVariants.{Step}
 use Rattle.bz_machine.specs.declared.place.Place.TheVariants.{Help}
 use Rattle.bz_machine.specs.declared.status.Verdict.{Verdict}
@@ -47,7 +47,7 @@ spends-put_final x w n i d bounded at known small = by-entries x w n (PutFinal i
 
     by_swap : (t : ℕ) (b : Bool) → (t == (x.local w).current) ≡ b → x.memory.cached ((x.entries (x.local w).current).target i) ≡ Swap t
         → Owes x.entries x.local x.memory w n (x.local w) (Help (PutFinal i d))
-        (if b then record { memory = with_word x.memory ((x.entries (x.local w).current).target i) (Dirty (final_value (x.entries (x.local w).current) i d)); next = Step (FlushFinal i d) }
+        (if b then record { memory = with_word x.memory ((x.entries (x.local w).current).target i) (Dirty (final_value (x.entries (x.local w).current) i d)); next = Step (AskFinal i d) }
         else record { memory = x.memory; next = finished (x.entries (x.local w).current) i d })
     by_swap t true told is =
         let same : t ≡ (x.local w).current = grind (arith, common_steps, told) in

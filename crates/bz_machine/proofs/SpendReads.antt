@@ -3,13 +3,13 @@ use Rattle.std.proofs.Common.{◌≡◌, ◌==◌, ◌&&◌, not, if◌then◌el
 use Rattle.std.proofs.lemmas.Grind.{common_steps}
 use Rattle.bz_word.specs.declared.kind.WordKind.TheVariants.{Value, Dirty}
 use Rattle.bz_machine.specs.declared.place.HelpStep.{HelpStep}
-use Rattle.bz_machine.specs.declared.place.HelpStep.TheVariants.{FlushFinal, ClearFinal}
+use Rattle.bz_machine.specs.declared.place.HelpStep.TheVariants.{AskFinal, FenceFinal, ClearFinal}
 use Rattle.bz_machine.specs.declared.place.Place.{Place}
-use Rattle.bz_machine.specs.declared.place.Place.TheVariants.{Help, ReadWord, FlushRead, ClearRead}
+use Rattle.bz_machine.specs.declared.place.Place.TheVariants.{Help, ReadWord, AskRead, FenceRead, ClearRead}
 use Rattle.bz_machine.specs.declared.status.Verdict.{Verdict}
 use Rattle.bz_machine.specs.Allowed.{counted}
 use Rattle.bz_machine.specs.Budget.{for_dirty, for_stale, open_count, open_above, walk_at, reserve, detour, own_missing, left_by_help, left_by_place, for_walks, left_by_others, fresh_budget, allowed_by_others, budget_at}
-use Rattle.bz_machine.specs.Budgets.{AreShort}
+use Rattle.bz_machine.specs.Sound.{AreShort}
 use Rattle.bz_machine.specs.Changes.{put, with_word}
 use Rattle.bz_machine.specs.DirtyHomes.{CleansFinal, IsAtFinal}
 use Rattle.bz_machine.specs.HelpActs.{final_value, cleared_word}
@@ -23,7 +23,7 @@ use Rattle.bz_machine.proofs.Spends.{meets, Spends, fresh-falls}
 use Rattle.bz_machine.proofs.Visits.{put-implied}
 
 -- no more is counted once the dirty value is met
-met-less : (e : ℕ → Entries) (local : ℕ → Local) (m : Memory) (w a v : ℕ) (l : Local) → NoMore e local m m w l l (ReadWord a) (FlushRead a v)
+met-less : (e : ℕ → Entries) (local : ℕ → Local) (m : Memory) (w a v : ℕ) (l : Local) → NoMore e local m m w l l (ReadWord a) (AskRead a v)
 met-less e local m w a v l = record {
   through = λ s is. is;
   missing = λ s. omega arith;
@@ -36,22 +36,23 @@ gone-counts a c f g = rw (f, g) (omega arith)
 
 -- the worker that was to clean it is counted less
 help-drops : (x : Scene) (l : Local) (a v h : ℕ) (k : Local) (step : HelpStep) (i : ℕ) (d : Verdict) → CleansFinal step i d → x.dirty (target_at x k.current i) (final_value (x.entries k.current) i d) ≡ true
-    → ((a == target_at x k.current i) && (v == final_value (x.entries k.current) i d)) ≡ true → left_by_help x false l (FlushRead a v) h k step + for_dirty ≤ left_by_help x false l (ReadWord a) h k step
-help-drops x l a v h k (FlushFinal j c) i d at stands cleans = gone-counts _ _ (rw (at.0, at.1) stands) (rw (at.0, at.1) cleans)
+    → ((a == target_at x k.current i) && (v == final_value (x.entries k.current) i d)) ≡ true → left_by_help x false l (AskRead a v) h k step + for_dirty ≤ left_by_help x false l (ReadWord a) h k step
+help-drops x l a v h k (AskFinal j c) i d at stands cleans = gone-counts _ _ (rw (at.0, at.1) stands) (rw (at.0, at.1) cleans)
+help-drops x l a v h k (FenceFinal j c) i d at stands cleans = gone-counts _ _ (rw (at.0, at.1) stands) (rw (at.0, at.1) cleans)
 help-drops x l a v h k (ClearFinal j c) i d at stands cleans = gone-counts _ _ (rw (at.0, at.1) stands) (rw (at.0, at.1) cleans)
 help-drops x l a v h k step i d at stands cleans = absurd at
 
 place-drops : (x : Scene) (l : Local) (a v h : ℕ) (k : Local) (place : Place) (i : ℕ) (d : Verdict) → IsAtFinal place i d → x.dirty (target_at x k.current i) (final_value (x.entries k.current) i d) ≡ true
-    → ((a == target_at x k.current i) && (v == final_value (x.entries k.current) i d)) ≡ true → left_by_place x false l (FlushRead a v) h k place + for_dirty ≤ left_by_place x false l (ReadWord a) h k place
+    → ((a == target_at x k.current i) && (v == final_value (x.entries k.current) i d)) ≡ true → left_by_place x false l (AskRead a v) h k place + for_dirty ≤ left_by_place x false l (ReadWord a) h k place
 place-drops x l a v h k (Help step) i d at stands cleans = help-drops x l a v h k step i d at stands cleans
 place-drops x l a v h k place i d at stands cleans = absurd at
 
 met-drops : (e : ℕ → Entries) (local : ℕ → Local) (m : Memory) (w n a v : ℕ) (l : Local) → Home e local w n a v → m.cached a ≡ Dirty v
-    → left_by_others (meets e local m) w n l (FlushRead a v) + for_dirty ≤ left_by_others (meets e local m) w n l (ReadWord a)
+    → left_by_others (meets e local m) w n l (AskRead a v) + for_dirty ≤ left_by_others (meets e local m) w n l (ReadWord a)
 met-drops e local m w n a v l home is =
     let self : (v == v) ≡ true = grind (arith, common_steps) in
     let here : ((a == a) && (v == v)) ≡ true = grind (arith, common_steps) in
-    one-less e local m m w n l l (ReadWord a) (FlushRead a v) home.worker for_dirty (met-less e local m w a v l) home.other home.below
+    one-less e local m m w n l l (ReadWord a) (AskRead a v) home.worker for_dirty (met-less e local m w a v l) home.other home.below
     (more _ _ _ (place-drops (meets e local m) l a v home.worker (local home.worker) (local home.worker).place home.entry home.verdict home.place (rw (home.target, home.value) (ap (λ k. is_dirty k v) is ∙ self)) (rw (home.target, home.value) here)))
   where
     more : (b c d : ℕ) → b + for_dirty ≤ c → b + d + for_dirty ≤ c + d
@@ -62,7 +63,7 @@ pub spends-read_dirty : (e : ℕ → Entries) (local : ℕ → Local) (m : Memor
 spends-read_dirty e local m w n l a v is home =
     let self : (v == v) ≡ true = grind (arith, common_steps) in
     subst (λ f. budget_at (meets e local (read_act m l a f).memory) w n (read_act m l a f).local (read_act m l a f).local.place + 1 ≤ budget_at (meets e local m) w n l (ReadWord a)) (sym is)
-    (fresh-falls (meets e local m) w n l (ReadWord a) (FlushRead a v) refl (ap (λ k. is_dirty k v) is ∙ self)
+    (fresh-falls (meets e local m) w n l (ReadWord a) (AskRead a v) refl (ap (λ k. is_dirty k v) is ∙ self)
     (paid (for_walks (open_count (meets e local m) w n)) (walk_at (meets e local m) (open_count (meets e local m) w n) (open_above (meets e local m) w n) l (ReadWord a)) (reserve (ReadWord a) l.operation (open_count (meets e local m) w n))
     (detour (meets e local m) (open_count (meets e local m) w n) l (ReadWord a)) (own_missing (meets e local m) (ReadWord a) l.operation) 1 (left_by_others (meets e local m) w n l (ReadWord a)) 4 _ (omega arith) (met-drops e local m w n a v l home is)))
 

@@ -3,7 +3,7 @@ use Rattle.std.proofs.Common.{◌≡◌, ◌==◌, ◌&&◌, not, if◌then◌el
 use Rattle.std.proofs.lemmas.Grind.{common_steps}
 use Rattle.bz_word.specs.declared.kind.WordKind.{WordKind}
 use Rattle.bz_word.specs.declared.kind.WordKind.TheVariants.{Value, Dirty, Swap, Tag}
-use Rattle.bz_machine.specs.declared.place.HelpStep.TheVariants.{Look, InstallTag, LookUnderTag, InstallPointer, RemoveTag, FlushDirty, FlushTarget, Decide, PutFinal, SweepTag}
+use Rattle.bz_machine.specs.declared.place.HelpStep.TheVariants.{Look, InstallTag, LookUnderTag, InstallPointer, RemoveTag, AskDirty, FenceDirty, AskTarget, FenceTargets, Decide, PutFinal, SweepTag}
 use Rattle.bz_machine.specs.declared.place.Next.{Next}
 use Rattle.bz_machine.specs.declared.place.Next.TheVariants.{Step, Meet}
 use Rattle.bz_machine.specs.declared.place.Place.{Place}
@@ -11,7 +11,7 @@ use Rattle.bz_machine.specs.declared.place.Place.TheVariants.{Learn, Help}
 use Rattle.bz_machine.specs.declared.status.Verdict.{Verdict}
 use Rattle.bz_machine.specs.declared.status.Verdict.TheVariants.{Failed}
 use Rattle.bz_machine.specs.Budget.{for_stale, for_stale_entry, fresh_budget, is_fresh_at, stale_at, allowed_by_others, budget_at}
-use Rattle.bz_machine.specs.Budgets.{AreShort}
+use Rattle.bz_machine.specs.Sound.{AreShort}
 use Rattle.bz_machine.specs.Changes.{with_word, with_tag, with_miss}
 use Rattle.bz_machine.specs.HelpActs.{After, passed, finished, after_install_tag, after_untag}
 use Rattle.bz_machine.specs.Machine.{Entries, Memory, entries_in}
@@ -100,8 +100,8 @@ passes : (e : ℕ → Entries) (local : ℕ → Local) (m r : Memory) (w n : ℕ
     → for_stale_entry * (4 - i) + k ≡ stale_at (meets e local m) l.current p → 4 ≤ k → Owes e local m w n l p (record { memory = r; next = Step (passed x i) })
 passes e local m r w n l p x i k few short inside stale counts some = by_last (i + 1 == x.count)
   where
-    by_last : (b : Bool) → budget_at (meets e local r) w n (record l { place = Help (if b then FlushTarget 0 else InstallTag (i + 1)) }) (Help (if b then FlushTarget 0 else InstallTag (i + 1))) + 1 ≤ budget_at (meets e local m) w n l p
-    by_last true = stale-to e local m r w n l (record l { place = Help (FlushTarget 0) }) p (Help (FlushTarget 0)) few short stale (λ old. omega (arith, counts, some, inside))
+    by_last : (b : Bool) → budget_at (meets e local r) w n (record l { place = Help (if b then AskTarget 0 else InstallTag (i + 1)) }) (Help (if b then AskTarget 0 else InstallTag (i + 1))) + 1 ≤ budget_at (meets e local m) w n l p
+    by_last true = stale-to e local m r w n l (record l { place = Help (AskTarget 0) }) p (Help (AskTarget 0)) few short stale (λ old. omega (arith, counts, some, inside))
     by_last false =
         stale-to e local m r w n l (record l { place = Help (InstallTag (i + 1)) }) p (Help (InstallTag (i + 1))) few short stale
         (λ old. omega (arith, counts, some, inside, if-most (is_any_dirty (r.cached ((e l.current).target (i + 1))))))
@@ -147,7 +147,7 @@ spends-stale_tag e local m w n l i few short inside target stale = by_found (m.c
         (stale-to e local m (with_tag m (l.list (1 + 3 * i)) l.current i w) w n l (record l { place = Help (LookUnderTag i w (m.next_tag w)) }) (Help (InstallTag i)) (Help (LookUnderTag i w (m.next_tag w))) few short stale (λ old. enough 2 (omega arith)))
         (stale-to e local m (with_miss m l.current) w n l (record l { place = Help (Decide Failed) }) (Help (InstallTag i)) (Help (Decide Failed)) few short stale (λ old. enough 1 (omega arith)))
     by_found (Dirty v) is =
-        stale-to e local m m w n l (record l { place = Help (FlushDirty i v) }) (Help (InstallTag i)) (Help (FlushDirty i v)) few short stale
+        stale-to e local m m w n l (record l { place = Help (AskDirty i v) }) (Help (InstallTag i)) (Help (AskDirty i v)) few short stale
         (λ old. dirty-counts (m.cached ((e l.current).target i)) v (for_stale_entry * (4 - i)) (ap m.cached (sym target) ∙ is))
     by_found (Swap t) is =
         next-if (Owes e local m w n l (Help (InstallTag i))) m (t == l.current) (Step (passed (entries_in l.list) i)) (Meet t)

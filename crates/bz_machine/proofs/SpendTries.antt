@@ -6,7 +6,7 @@ use Rattle.bz_word.specs.declared.kind.WordKind.TheVariants.{Value, Dirty, Swap,
 use Rattle.bz_machine.specs.declared.place.HelpStep.{HelpStep}
 use Rattle.bz_machine.specs.declared.place.Next.{Next}
 use Rattle.bz_machine.specs.declared.place.Next.TheVariants.{Step, Meet}
-use Rattle.bz_machine.specs.declared.place.HelpStep.TheVariants.{InstallTag, LookUnderTag, FlushDirty, FlushTarget, Decide}
+use Rattle.bz_machine.specs.declared.place.HelpStep.TheVariants.{InstallTag, LookUnderTag, AskDirty, FenceDirty, AskTarget, FenceTargets, Decide}
 use Rattle.bz_machine.specs.declared.place.Place.TheVariants.{Help}
 use Rattle.bz_machine.specs.declared.status.Verdict.TheVariants.{Failed}
 use Rattle.bz_machine.specs.Budget.{is_fresh_at, budget_at}
@@ -42,8 +42,8 @@ GoesOn e local m w n l i step = budget_at (meets e local m) w n l (Help step) + 
 tries-pass : (e : ℕ → Entries) (local : ℕ → Local) (m : Memory) (w n : ℕ) (l : Local) (i : ℕ) → i < 4 → is_fresh_at (meets e local m) l.current (Help (InstallTag i)) ≡ true → GoesOn e local m w n l i (passed (entries_in l.list) i)
 tries-pass e local m w n l i inside fresh = by_last (i + 1 == l.list 0)
   where
-    by_last : (b : Bool) → budget_at (meets e local m) w n l (Help (if b then FlushTarget 0 else InstallTag (i + 1))) + 1 ≤ budget_at (meets e local m) w n l (Help (InstallTag i))
-    by_last true = fresh-falls (meets e local m) w n l (Help (InstallTag i)) (Help (FlushTarget 0)) fresh fresh (here-falls (meets e local m) w n l l (Help (InstallTag i)) (Help (FlushTarget 0)) refl refl refl refl refl (omega (arith, inside)))
+    by_last : (b : Bool) → budget_at (meets e local m) w n l (Help (if b then AskTarget 0 else InstallTag (i + 1))) + 1 ≤ budget_at (meets e local m) w n l (Help (InstallTag i))
+    by_last true = fresh-falls (meets e local m) w n l (Help (InstallTag i)) (Help (AskTarget 0)) fresh fresh (here-falls (meets e local m) w n l l (Help (InstallTag i)) (Help (AskTarget 0)) refl refl refl refl refl (omega (arith, inside)))
     by_last false = fresh-falls (meets e local m) w n l (Help (InstallTag i)) (Help (InstallTag (i + 1))) fresh fresh (here-falls (meets e local m) w n l l (Help (InstallTag i)) (Help (InstallTag (i + 1))) refl refl refl refl refl (omega (arith, inside)))
 
 -- the pointer of the swap stands at the entry
@@ -71,8 +71,8 @@ spends-try_dirty e local m w n l i v target fresh found =
     let self : (v == v) ≡ true = grind (arith, common_steps) in
     let dirty : is_dirty (m.cached ((e l.current).target i)) v ≡ true = ap (λ k. is_dirty k v) (ap m.cached (sym target) ∙ found) ∙ self in
     subst (λ k. Tried e local m w n l i k) (sym found)
-    (fresh-falls (meets e local m) w n l (Help (InstallTag i)) (Help (FlushDirty i v)) fresh (both (not (is_decided (m.status l.current))) _ fresh dirty)
-    (here-falls (meets e local m) w n l l (Help (InstallTag i)) (Help (FlushDirty i v)) refl refl refl refl refl (omega arith)))
+    (fresh-falls (meets e local m) w n l (Help (InstallTag i)) (Help (AskDirty i v)) fresh (both (not (is_decided (m.status l.current))) _ fresh dirty)
+    (here-falls (meets e local m) w n l l (Help (InstallTag i)) (Help (AskDirty i v)) refl refl refl refl refl (omega arith)))
 
 -- a tag of the swap stands there
 pub spends-try_tag : (e : ℕ → Entries) (local : ℕ → Local) (m : Memory) (w n : ℕ) (l : Local) (i v q : ℕ) → l.list (1 + 3 * i) ≡ (e l.current).target i → is_fresh_at (meets e local m) l.current (Help (InstallTag i)) ≡ true

@@ -2,9 +2,9 @@
 use Rattle.std.proofs.Common.{◌≡◌, ◌==◌, ◌&&◌, not, if◌then◌else◌, ℕ, ◌+◌, ◌-◌, ◌*◌, ◌<◌, ◌≤◌, Bool, true, false, arith, refl, ap, sym, subst}
 use Rattle.std.proofs.lemmas.Grind.{common_steps}
 use Rattle.bz_machine.specs.declared.place.Place.{Place}
-use Rattle.bz_machine.specs.declared.place.Place.TheVariants.{Idle, Prepare, Learn, Help, ReadWord, FlushRead, ClearRead, FlushLine}
-use Rattle.bz_machine.specs.declared.place.PrepareStep.TheVariants.{WriteWord, WriteStatus, FlushHead, FlushTail}
-use Rattle.bz_machine.specs.declared.place.HelpStep.TheVariants.{Look, InstallTag, LookUnderTag, InstallPointer, RemoveTag, FlushDirty, ClearDirty, FlushTarget, Decide, FlushStatus, ClearStatus, PutFinal, FlushFinal, ClearFinal}
+use Rattle.bz_machine.specs.declared.place.Place.TheVariants.{Idle, Prepare, Learn, Help, ReadWord, AskRead, FenceRead, ClearRead, FlushLine}
+use Rattle.bz_machine.specs.declared.place.PrepareStep.TheVariants.{WriteWord, WriteStatus, AskHead, AskTail, FenceDescriptor}
+use Rattle.bz_machine.specs.declared.place.HelpStep.TheVariants.{Look, InstallTag, LookUnderTag, InstallPointer, RemoveTag, AskDirty, FenceDirty, ClearDirty, AskTarget, FenceTargets, Decide, AskStatus, FenceStatus, ClearStatus, PutFinal, AskFinal, FenceFinal, ClearFinal}
 use Rattle.bz_word.specs.declared.kind.WordKind.TheVariants.{Value}
 use Rattle.bz_machine.specs.declared.worker.Operation.TheVariants.{Nothing, Reading}
 use Rattle.bz_machine.specs.declared.status.SwapStatus.{SwapStatus}
@@ -70,16 +70,20 @@ spends-look e local m w n l = by_found (m.status l.current) refl
         fresh-falls (meets e local m) w n l (Help Look) (Help (InstallTag 0)) refl (ap (λ s. not (is_decided s)) is)
         (here-falls (meets e local m) w n l l (Help Look) (Help (InstallTag 0)) refl refl refl refl refl (omega arith))
     by_found (Deciding d) is =
-        here-falls (meets e local m) w n l l (Help Look) (Help (FlushStatus d)) refl refl refl refl refl (omega arith)
+        here-falls (meets e local m) w n l l (Help Look) (Help (AskStatus d)) refl refl refl refl refl (omega arith)
     by_found (Decided d) is =
         here-falls (meets e local m) w n l l (Help Look) (Help (PutFinal 0 d)) refl refl refl refl refl (omega arith)
 
 decided-fresh : (found : SwapStatus) (b : Bool) → is_decided found ≡ true → (not (is_decided found) && b) ≡ true → ⊥
 decided-fresh found b decided told = absurd (grind (arith, common_steps, rw decided at told))
 
-dirty-falls : (k : ℕ) (b : Bool) → (k + (if b then 5 else 9)) + 1 ≤ k + (if b then 7 else 11)
+dirty-falls : (k : ℕ) (b : Bool) → (k + (if b then 6 else 10)) + 1 ≤ k + (if b then 7 else 11)
 dirty-falls k true = omega arith
 dirty-falls k false = omega arith
+
+fenced-falls : (k : ℕ) (b : Bool) → (k + (if b then 5 else 9)) + 1 ≤ k + (if b then 6 else 10)
+fenced-falls k true = omega arith
+fenced-falls k false = omega arith
 
 pub spends-under : (e : ℕ → Entries) (local : ℕ → Local) (m : Memory) (w n : ℕ) (l : Local) (i v q : ℕ) → (m.status l.current ≡ Free → ⊥) → Spends e local m w n l (Help (LookUnderTag i v q))
 spends-under e local m w n l i v q set = by_found (m.status l.current) refl (is_fresh_at (meets e local m) l.current (Help (LookUnderTag i v q))) refl
@@ -97,34 +101,58 @@ spends-under e local m w n l i v q set = by_found (m.status l.current) refl (is_
     by_found (Decided d) is false told = stale-falls (meets e local m) w n l (Help (LookUnderTag i v q)) (Help (RemoveTag i v q)) told refl (omega arith)
 
 -- an act that goes on by the same knowledge
-pub spends-flush_dirty : (e : ℕ → Entries) (local : ℕ → Local) (m : Memory) (w n : ℕ) (l : Local) (i v : ℕ) → Spends e local m w n l (Help (FlushDirty i v))
-spends-flush_dirty e local m w n l i v = by_fresh (is_fresh_at (meets e local m) l.current (Help (FlushDirty i v))) refl
+pub spends-ask_dirty : (e : ℕ → Entries) (local : ℕ → Local) (m : Memory) (w n : ℕ) (l : Local) (i v : ℕ) → Spends e local m w n l (Help (AskDirty i v))
+spends-ask_dirty e local m w n l i v = by_fresh (is_fresh_at (meets e local m) l.current (Help (AskDirty i v))) refl
   where
-    by_fresh : (b : Bool) → is_fresh_at (meets e local m) l.current (Help (FlushDirty i v)) ≡ b → budget_at (meets e local m) w n l (Help (ClearDirty i v)) + 1 ≤ budget_at (meets e local m) w n l (Help (FlushDirty i v))
+    by_fresh : (b : Bool) → is_fresh_at (meets e local m) l.current (Help (AskDirty i v)) ≡ b → budget_at (meets e local m) w n l (Help (FenceDirty i v)) + 1 ≤ budget_at (meets e local m) w n l (Help (AskDirty i v))
     by_fresh true told =
-        fresh-falls (meets e local m) w n l (Help (FlushDirty i v)) (Help (ClearDirty i v)) told told
-        (here-falls (meets e local m) w n l l (Help (FlushDirty i v)) (Help (ClearDirty i v)) refl refl refl refl refl (omega arith))
-    by_fresh false told = stale-falls (meets e local m) w n l (Help (FlushDirty i v)) (Help (ClearDirty i v)) told told (dirty-falls (for_stale_entry * (4 - i)) (is_dirty (m.cached ((e l.current).target i)) v))
+        fresh-falls (meets e local m) w n l (Help (AskDirty i v)) (Help (FenceDirty i v)) told told
+        (here-falls (meets e local m) w n l l (Help (AskDirty i v)) (Help (FenceDirty i v)) refl refl refl refl refl (omega arith))
+    by_fresh false told = stale-falls (meets e local m) w n l (Help (AskDirty i v)) (Help (FenceDirty i v)) told told (dirty-falls (for_stale_entry * (4 - i)) (is_dirty (m.cached ((e l.current).target i)) v))
 
-pub spends-flush_target : (e : ℕ → Entries) (local : ℕ → Local) (m : Memory) (w n : ℕ) (l : Local) (i : ℕ) → i < 4 → Spends e local m w n l (Help (FlushTarget i))
-spends-flush_target e local m w n l i few = by_last (i + 1 == l.list 0) (is_fresh_at (meets e local m) l.current (Help (FlushTarget i))) refl
+pub spends-fence_dirty : (e : ℕ → Entries) (local : ℕ → Local) (m : Memory) (w n : ℕ) (l : Local) (i v : ℕ) → Spends e local m w n l (Help (FenceDirty i v))
+spends-fence_dirty e local m w n l i v = by_fresh (is_fresh_at (meets e local m) l.current (Help (FenceDirty i v))) refl
   where
-    by_last : (t b : Bool) → is_fresh_at (meets e local m) l.current (Help (FlushTarget i)) ≡ b
-        → budget_at (meets e local m) w n l (Help (if t then Decide Succeeded else FlushTarget (i + 1))) + 1 ≤ budget_at (meets e local m) w n l (Help (FlushTarget i))
+    by_fresh : (b : Bool) → is_fresh_at (meets e local m) l.current (Help (FenceDirty i v)) ≡ b → budget_at (meets e local m) w n l (Help (ClearDirty i v)) + 1 ≤ budget_at (meets e local m) w n l (Help (FenceDirty i v))
+    by_fresh true told =
+        fresh-falls (meets e local m) w n l (Help (FenceDirty i v)) (Help (ClearDirty i v)) told told
+        (here-falls (meets e local m) w n l l (Help (FenceDirty i v)) (Help (ClearDirty i v)) refl refl refl refl refl (omega arith))
+    by_fresh false told = stale-falls (meets e local m) w n l (Help (FenceDirty i v)) (Help (ClearDirty i v)) told told (fenced-falls (for_stale_entry * (4 - i)) (is_dirty (m.cached ((e l.current).target i)) v))
+
+pub spends-ask_target : (e : ℕ → Entries) (local : ℕ → Local) (m : Memory) (w n : ℕ) (l : Local) (i : ℕ) → i < 4 → Spends e local m w n l (Help (AskTarget i))
+spends-ask_target e local m w n l i few = by_last (i + 1 == l.list 0) (is_fresh_at (meets e local m) l.current (Help (AskTarget i))) refl
+  where
+    by_last : (t b : Bool) → is_fresh_at (meets e local m) l.current (Help (AskTarget i)) ≡ b
+        → budget_at (meets e local m) w n l (Help (if t then FenceTargets else AskTarget (i + 1))) + 1 ≤ budget_at (meets e local m) w n l (Help (AskTarget i))
     by_last true true told =
-        fresh-falls (meets e local m) w n l (Help (FlushTarget i)) (Help (Decide Succeeded)) told told
-        (here-falls (meets e local m) w n l l (Help (FlushTarget i)) (Help (Decide Succeeded)) refl refl refl refl refl (omega (arith, few)))
-    by_last true false told = stale-falls (meets e local m) w n l (Help (FlushTarget i)) (Help (Decide Succeeded)) told told (omega (arith, few))
+        fresh-falls (meets e local m) w n l (Help (AskTarget i)) (Help FenceTargets) told told
+        (here-falls (meets e local m) w n l l (Help (AskTarget i)) (Help FenceTargets) refl refl refl refl refl (omega (arith, few)))
+    by_last true false told = stale-falls (meets e local m) w n l (Help (AskTarget i)) (Help FenceTargets) told told (omega (arith, few))
     by_last false true told =
-        fresh-falls (meets e local m) w n l (Help (FlushTarget i)) (Help (FlushTarget (i + 1))) told told
-        (here-falls (meets e local m) w n l l (Help (FlushTarget i)) (Help (FlushTarget (i + 1))) refl refl refl refl refl (omega (arith, few)))
-    by_last false false told = stale-falls (meets e local m) w n l (Help (FlushTarget i)) (Help (FlushTarget (i + 1))) told told (omega (arith, few))
+        fresh-falls (meets e local m) w n l (Help (AskTarget i)) (Help (AskTarget (i + 1))) told told
+        (here-falls (meets e local m) w n l l (Help (AskTarget i)) (Help (AskTarget (i + 1))) refl refl refl refl refl (omega (arith, few)))
+    by_last false false told = stale-falls (meets e local m) w n l (Help (AskTarget i)) (Help (AskTarget (i + 1))) told told (omega (arith, few))
 
-pub spends-flush_status : (e : ℕ → Entries) (local : ℕ → Local) (m : Memory) (w n : ℕ) (l : Local) (d : Verdict) → Spends e local m w n l (Help (FlushStatus d))
-spends-flush_status e local m w n l d = here-falls (meets e local m) w n l l (Help (FlushStatus d)) (Help (ClearStatus d)) refl refl refl refl refl (omega arith)
+pub spends-fence_targets : (e : ℕ → Entries) (local : ℕ → Local) (m : Memory) (w n : ℕ) (l : Local) → Spends e local m w n l (Help FenceTargets)
+spends-fence_targets e local m w n l = by_fresh (is_fresh_at (meets e local m) l.current (Help FenceTargets)) refl
+  where
+    by_fresh : (b : Bool) → is_fresh_at (meets e local m) l.current (Help FenceTargets) ≡ b → budget_at (meets e local m) w n l (Help (Decide Succeeded)) + 1 ≤ budget_at (meets e local m) w n l (Help FenceTargets)
+    by_fresh true told =
+        fresh-falls (meets e local m) w n l (Help FenceTargets) (Help (Decide Succeeded)) told told
+        (here-falls (meets e local m) w n l l (Help FenceTargets) (Help (Decide Succeeded)) refl refl refl refl refl (omega arith))
+    by_fresh false told = stale-falls (meets e local m) w n l (Help FenceTargets) (Help (Decide Succeeded)) told told (omega arith)
 
-pub spends-flush_final : (e : ℕ → Entries) (local : ℕ → Local) (m : Memory) (w n : ℕ) (l : Local) (i : ℕ) (d : Verdict) → Spends e local m w n l (Help (FlushFinal i d))
-spends-flush_final e local m w n l i d = here-falls (meets e local m) w n l l (Help (FlushFinal i d)) (Help (ClearFinal i d)) refl refl refl refl refl (omega arith)
+pub spends-ask_status : (e : ℕ → Entries) (local : ℕ → Local) (m : Memory) (w n : ℕ) (l : Local) (d : Verdict) → Spends e local m w n l (Help (AskStatus d))
+spends-ask_status e local m w n l d = here-falls (meets e local m) w n l l (Help (AskStatus d)) (Help (FenceStatus d)) refl refl refl refl refl (omega arith)
+
+pub spends-ask_final : (e : ℕ → Entries) (local : ℕ → Local) (m : Memory) (w n : ℕ) (l : Local) (i : ℕ) (d : Verdict) → Spends e local m w n l (Help (AskFinal i d))
+spends-ask_final e local m w n l i d = here-falls (meets e local m) w n l l (Help (AskFinal i d)) (Help (FenceFinal i d)) refl refl refl refl refl (omega arith)
+
+pub spends-fence_status : (e : ℕ → Entries) (local : ℕ → Local) (m : Memory) (w n : ℕ) (l : Local) (d : Verdict) → Spends e local m w n l (Help (FenceStatus d))
+spends-fence_status e local m w n l d = here-falls (meets e local m) w n l l (Help (FenceStatus d)) (Help (ClearStatus d)) refl refl refl refl refl (omega arith)
+
+pub spends-fence_final : (e : ℕ → Entries) (local : ℕ → Local) (m : Memory) (w n : ℕ) (l : Local) (i : ℕ) (d : Verdict) → Spends e local m w n l (Help (FenceFinal i d))
+spends-fence_final e local m w n l i d = here-falls (meets e local m) w n l l (Help (FenceFinal i d)) (Help (ClearFinal i d)) refl refl refl refl refl (omega arith)
 
 pub spends-write_word : (e : ℕ → Entries) (local : ℕ → Local) (m : Memory) (w n : ℕ) (l : Local) (k : ℕ) → k < 13 → Spends e local m w n l (Prepare (WriteWord k))
 spends-write_word e local m w n l k few = by_last (k == 3 * l.list 0)
@@ -133,15 +161,25 @@ spends-write_word e local m w n l k few = by_last (k == 3 * l.list 0)
     by_last true = here-falls (meets e local m) w n l l (Prepare (WriteWord k)) (Prepare WriteStatus) refl refl refl refl refl (omega (arith, few))
     by_last false = here-falls (meets e local m) w n l l (Prepare (WriteWord k)) (Prepare (WriteWord (k + 1))) refl refl refl refl refl (omega (arith, few))
 
-pub spends-flush_head : (e : ℕ → Entries) (local : ℕ → Local) (m : Memory) (w n : ℕ) (l : Local) → Spends e local m w n l (Prepare FlushHead)
-spends-flush_head e local m w n l = here-falls (meets e local m) w n l l (Prepare FlushHead) (Prepare FlushTail) refl refl refl refl refl (omega arith)
+pub spends-ask_head : (e : ℕ → Entries) (local : ℕ → Local) (m : Memory) (w n : ℕ) (l : Local) → Spends e local m w n l (Prepare AskHead)
+spends-ask_head e local m w n l = here-falls (meets e local m) w n l l (Prepare AskHead) (Prepare AskTail) refl refl refl refl refl (omega arith)
 
-pub spends-flush_read : (e : ℕ → Entries) (local : ℕ → Local) (m : Memory) (w n : ℕ) (l : Local) (a v : ℕ) → Spends e local m w n l (FlushRead a v)
-spends-flush_read e local m w n l a v = by_fresh (is_fresh_at (meets e local m) l.current (FlushRead a v)) refl
+pub spends-ask_tail : (e : ℕ → Entries) (local : ℕ → Local) (m : Memory) (w n : ℕ) (l : Local) → Spends e local m w n l (Prepare AskTail)
+spends-ask_tail e local m w n l = here-falls (meets e local m) w n l l (Prepare AskTail) (Prepare FenceDescriptor) refl refl refl refl refl (omega arith)
+
+pub spends-ask_read : (e : ℕ → Entries) (local : ℕ → Local) (m : Memory) (w n : ℕ) (l : Local) (a v : ℕ) → Spends e local m w n l (AskRead a v)
+spends-ask_read e local m w n l a v = by_fresh (is_fresh_at (meets e local m) l.current (AskRead a v)) refl
   where
-    by_fresh : (b : Bool) → is_fresh_at (meets e local m) l.current (FlushRead a v) ≡ b → budget_at (meets e local m) w n l (ClearRead a v) + 1 ≤ budget_at (meets e local m) w n l (FlushRead a v)
-    by_fresh true told = fresh-falls (meets e local m) w n l (FlushRead a v) (ClearRead a v) told told (here-falls (meets e local m) w n l l (FlushRead a v) (ClearRead a v) refl refl refl refl refl (omega arith))
-    by_fresh false told = stale-falls (meets e local m) w n l (FlushRead a v) (ClearRead a v) told told (omega arith)
+    by_fresh : (b : Bool) → is_fresh_at (meets e local m) l.current (AskRead a v) ≡ b → budget_at (meets e local m) w n l (FenceRead a v) + 1 ≤ budget_at (meets e local m) w n l (AskRead a v)
+    by_fresh true told = fresh-falls (meets e local m) w n l (AskRead a v) (FenceRead a v) told told (here-falls (meets e local m) w n l l (AskRead a v) (FenceRead a v) refl refl refl refl refl (omega arith))
+    by_fresh false told = stale-falls (meets e local m) w n l (AskRead a v) (FenceRead a v) told told (omega arith)
+
+pub spends-fence_read : (e : ℕ → Entries) (local : ℕ → Local) (m : Memory) (w n : ℕ) (l : Local) (a v : ℕ) → Spends e local m w n l (FenceRead a v)
+spends-fence_read e local m w n l a v = by_fresh (is_fresh_at (meets e local m) l.current (FenceRead a v)) refl
+  where
+    by_fresh : (b : Bool) → is_fresh_at (meets e local m) l.current (FenceRead a v) ≡ b → budget_at (meets e local m) w n l (ClearRead a v) + 1 ≤ budget_at (meets e local m) w n l (FenceRead a v)
+    by_fresh true told = fresh-falls (meets e local m) w n l (FenceRead a v) (ClearRead a v) told told (here-falls (meets e local m) w n l l (FenceRead a v) (ClearRead a v) refl refl refl refl refl (omega arith))
+    by_fresh false told = stale-falls (meets e local m) w n l (FenceRead a v) (ClearRead a v) told told (omega arith)
 
 pub spends-flush_line : (e : ℕ → Entries) (local : ℕ → Local) (m : Memory) (w n : ℕ) (l : Local) (line : ℕ) → l.operation ≡ Nothing → Spends e local m w n l (FlushLine line)
 spends-flush_line e local m w n l line rests =

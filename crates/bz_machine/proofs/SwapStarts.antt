@@ -2,7 +2,7 @@
 use Rattle.std.proofs.Common.{◌≡◌, ◌==◌, ◌&&◌, not, if◌then◌else◌, ℕ, ◌+◌, ◌*◌, ◌<◌, ◌≤◌, Bool, true, false, arith, refl, ap, sym, subst}
 use Rattle.std.proofs.lemmas.Grind.{common_steps}
 use Rattle.bz_machine.specs.declared.place.HelpStep.{HelpStep}
-use Rattle.bz_machine.specs.declared.place.HelpStep.TheVariants.{LookUnderTag, InstallPointer, RemoveTag, FlushFinal, ClearFinal}
+use Rattle.bz_machine.specs.declared.place.HelpStep.TheVariants.{LookUnderTag, InstallPointer, RemoveTag, AskFinal, FenceFinal, ClearFinal}
 use Rattle.bz_machine.specs.declared.place.Place.{Place}
 use Rattle.bz_machine.specs.declared.place.Place.TheVariants.{Idle, Prepare, Help}
 use Rattle.bz_machine.specs.declared.place.PrepareStep.TheVariants.{WriteWord}
@@ -85,7 +85,8 @@ help-same : (x : State) (new : Entries) (l k : Local) (v : ℕ) (o : Local) (ste
 help-same x new l k v o (LookUnderTag i u q) apart = ap (λ (e : Entries). counted ((u == v) && (is_tag (x.memory.cached (e.target i)) o.current i v q && true)) for_tag) (put-other x.entries x.memory.taken new o.current apart)
 help-same x new l k v o (InstallPointer i u q) apart = ap (λ (e : Entries). counted ((u == v) && (is_tag (x.memory.cached (e.target i)) o.current i v q && true)) for_tag) (put-other x.entries x.memory.taken new o.current apart)
 help-same x new l k v o (RemoveTag i u q) apart = ap (λ (e : Entries). counted ((u == v) && (is_tag (x.memory.cached (e.target i)) o.current i v q && true)) for_tag) (put-other x.entries x.memory.taken new o.current apart)
-help-same x new l k v o (FlushFinal i d) apart = ap (λ (e : Entries). counted (is_dirty (x.memory.cached (e.target i)) (final_value e i d) && true) for_dirty) (put-other x.entries x.memory.taken new o.current apart)
+help-same x new l k v o (AskFinal i d) apart = ap (λ (e : Entries). counted (is_dirty (x.memory.cached (e.target i)) (final_value e i d) && true) for_dirty) (put-other x.entries x.memory.taken new o.current apart)
+help-same x new l k v o (FenceFinal i d) apart = ap (λ (e : Entries). counted (is_dirty (x.memory.cached (e.target i)) (final_value e i d) && true) for_dirty) (put-other x.entries x.memory.taken new o.current apart)
 help-same x new l k v o (ClearFinal i d) apart = ap (λ (e : Entries). counted (is_dirty (x.memory.cached (e.target i)) (final_value e i d) && true) for_dirty) (put-other x.entries x.memory.taken new o.current apart)
 help-same x new l k v o step apart = refl
 

@@ -12,12 +12,14 @@ places_count = record {
   install_tag = refl;
   look_under = refl;
   install_pointer = refl;
-  flush_dirty = refl;
+  ask_dirty = refl;
+  fence_dirty = refl;
   clear_dirty = refl;
-  flush_target = refl;
+  ask_target = refl;
   verdict = refl;
   put_final = refl;
-  flush_final = refl;
+  ask_final = refl;
+  fence_final = refl;
   sweep = refl;
   clear_final = refl;
 }

@@ -7,7 +7,7 @@ use Rattle.bz_machine.specs.declared.status.SwapStatus.TheVariants.{Free, Undeci
 use Rattle.bz_machine.specs.declared.status.Verdict.{Verdict}
 use Rattle.bz_machine.specs.declared.status.Verdict.TheVariants.{Succeeded, Failed}
 use Rattle.bz_machine.specs.declared.place.HelpStep.{HelpStep}
-use Rattle.bz_machine.specs.declared.place.HelpStep.TheVariants.{Look, InstallTag, LookUnderTag, InstallPointer, RemoveTag, FlushDirty, ClearDirty, FlushTarget, Decide, FlushStatus, ClearStatus, PutFinal, FlushFinal, ClearFinal, SweepTag}
+use Rattle.bz_machine.specs.declared.place.HelpStep.TheVariants.{Look, InstallTag, LookUnderTag, InstallPointer, RemoveTag, AskDirty, FenceDirty, ClearDirty, AskTarget, FenceTargets, Decide, AskStatus, FenceStatus, ClearStatus, PutFinal, AskFinal, FenceFinal, ClearFinal, SweepTag}
 use Rattle.bz_machine.specs.declared.place.Next.{Next}
 use Rattle.bz_machine.specs.declared.place.Next.TheVariants.{Step, Meet, Complete}
 use Rattle.bz_machine.specs.Machine.{Entries, Memory}
@@ -78,7 +78,7 @@ comes-final : (x : Entries) (m : Memory) (s i : ℕ) (d : Verdict) (found : Word
 comes-final x m s i d (Value v) = λ a t j w p is. is
 comes-final x m s i d (Dirty v) = λ a t j w p is. is
 comes-final x m s i d (Swap t) =
-    after-if m (t == s) (record { memory = with_word m (x.target i) (Dirty (final_value x i d)); next = Step (FlushFinal i d) }) (record { memory = m; next = finished x i d })
+    after-if m (t == s) (record { memory = with_word m (x.target i) (Dirty (final_value x i d)); next = Step (AskFinal i d) }) (record { memory = m; next = finished x i d })
     (comes-word m (x.target i) (Dirty (final_value x i d)) tt) (λ a t j w p is. is)
 comes-final x m s i d (Tag t j v q) = λ a s i w p is. is
 
@@ -103,13 +103,17 @@ comes-help x m w s (InstallTag i) none = absurd none
 comes-help x m w s (LookUnderTag i v q) none = λ a t j u p is. is
 comes-help x m w s (InstallPointer i v q) none = comes-untag x m s i v q (Swap s) (Step (passed x i)) (Step (InstallTag i)) (m.cached (x.target i)) tt
 comes-help x m w s (RemoveTag i v q) none = comes-untag x m s i v q (Value (x.expected i)) (Step Look) (Step Look) (m.cached (x.target i)) tt
-comes-help x m w s (FlushDirty i v) none = λ a t j u p is. is
+comes-help x m w s (AskDirty i v) none = λ a t j u p is. is
+comes-help x m w s (FenceDirty i v) none = λ a t j u p is. is
 comes-help x m w s (ClearDirty i v) none = comes-cleared m (x.target i) v (m.cached (x.target i))
-comes-help x m w s (FlushTarget i) none = λ a t j u p is. is
+comes-help x m w s (AskTarget i) none = λ a t j u p is. is
+comes-help x m w s FenceTargets none = λ a t j u p is. is
 comes-help x m w s (Decide d) none = comes-decide m s d (m.status s)
-comes-help x m w s (FlushStatus d) none = λ a t j u p is. is
+comes-help x m w s (AskStatus d) none = λ a t j u p is. is
+comes-help x m w s (FenceStatus d) none = λ a t j u p is. is
 comes-help x m w s (ClearStatus d) none = comes-status m s d (m.status s)
 comes-help x m w s (PutFinal i d) none = comes-final x m s i d (m.cached (x.target i))
-comes-help x m w s (FlushFinal i d) none = λ a t j u p is. is
+comes-help x m w s (AskFinal i d) none = λ a t j u p is. is
+comes-help x m w s (FenceFinal i d) none = λ a t j u p is. is
 comes-help x m w s (ClearFinal i d) none = comes-cleared m (x.target i) (final_value x i d) (m.cached (x.target i))
 comes-help x m w s (SweepTag i d v q) none = comes-untag x m s i v q (Value (x.expected i)) (finished x i d) (Step (PutFinal i d)) (m.cached (x.target i)) tt

@@ -7,8 +7,8 @@ use Rattle.bz_machine.specs.declared.status.SwapStatus.{SwapStatus}
 use Rattle.bz_machine.specs.declared.status.SwapStatus.TheVariants.{Free, Undecided, Deciding, Decided}
 use Rattle.bz_machine.specs.declared.place.HelpStep.TheVariants.{Look, InstallTag, LookUnderTag, InstallPointer, RemoveTag, Decide}
 use Rattle.bz_machine.specs.declared.place.Place.{Place}
-use Rattle.bz_machine.specs.declared.place.Place.TheVariants.{Idle, Prepare, Learn, Help, ReadWord, FlushRead, ClearRead, LoadWord, StoreWord, FlushLine}
-use Rattle.bz_machine.specs.declared.place.PrepareStep.TheVariants.{WriteWord, WriteStatus, FlushHead, FlushTail}
+use Rattle.bz_machine.specs.declared.place.Place.TheVariants.{Idle, Prepare, Learn, Help, ReadWord, AskRead, FenceRead, ClearRead, LoadWord, StoreWord, FlushLine}
+use Rattle.bz_machine.specs.declared.place.PrepareStep.TheVariants.{WriteWord, WriteStatus, AskHead, AskTail, FenceDescriptor}
 use Rattle.bz_machine.specs.declared.place.Next.{Next}
 use Rattle.bz_machine.specs.declared.place.Next.TheVariants.{Step, Meet}
 use Rattle.bz_machine.specs.declared.status.Verdict.TheVariants.{Failed}
@@ -19,7 +19,7 @@ use Rattle.bz_machine.specs.Knows.{AtPlace}
 use Rattle.bz_machine.specs.Machine.{Entries, Memory, entries_in}
 use Rattle.bz_machine.specs.Progress.{GoesOnWith, IsAtTag, IsHome, TagsAreHome, TagsStayHome}
 use Rattle.bz_machine.specs.Sound.{Sound}
-use Rattle.bz_machine.specs.State.{State, StartRead, StartStore, StartFlush, StartSwap, Act, Evict, EvictStatus, EvictField, Ask, Fence, stepped, happens, IsState}
+use Rattle.bz_machine.specs.State.{State, StartRead, StartStore, StartFlush, StartSwap, Act, Evict, EvictStatus, EvictField, stepped, happens, IsState}
 use Rattle.bz_machine.specs.Steps.{Local, Stepped, after_help, read_act, act}
 use Rattle.bz_machine.proofs.TagHomes.{NoTagComes, IsNoTag, comes-word, comes-cleared, comes-help, cached-help, no-tag}
 
@@ -66,14 +66,16 @@ come-act : (m : Memory) (w : ℕ) (l : Local) (place : Place) → MayCome m w (a
 come-act m w l Idle = λ a s i v q is. inl is
 come-act m w l (Prepare (WriteWord k)) = λ a s i v q is. inl is
 come-act m w l (Prepare WriteStatus) = λ a s i v q is. inl is
-come-act m w l (Prepare FlushHead) = λ a s i v q is. inl is
-come-act m w l (Prepare FlushTail) = λ a s i v q is. inl is
+come-act m w l (Prepare AskHead) = λ a s i v q is. inl is
+come-act m w l (Prepare AskTail) = λ a s i v q is. inl is
+come-act m w l (Prepare FenceDescriptor) = λ a s i v q is. inl is
 come-act m w l (Learn k) = λ a s i v q is. inl is
 come-act m w l (Help (InstallTag i)) = come-install (entries_in l.list) m w l i (m.cached (l.list (1 + 3 * i)))
 come-act m w l (Help step) =
     come-next l m w (help_act (entries_in l.list) m w l.current step).memory (help_act (entries_in l.list) m w l.current step).next (comes-help (entries_in l.list) m w l.current step tt)
 come-act m w l (ReadWord a) = come-read m w l a (m.cached a)
-come-act m w l (FlushRead a v) = λ b s i u q is. inl is
+come-act m w l (AskRead a v) = λ b s i u q is. inl is
+come-act m w l (FenceRead a v) = λ b s i u q is. inl is
 come-act m w l (ClearRead a v) = λ b s i u q is. inl (comes-cleared m a v (m.cached a) b s i u q is)
 come-act m w l (LoadWord a) = λ b s i u q is. inl is
 come-act m w l (StoreWord a v) = λ b s i u q is. inl (comes-word m a (Value v) tt b s i u q is)
@@ -167,5 +169,3 @@ tags_stay_home x (Act w) may state home a s i v q is = act-home x w state home a
 tags_stay_home x (Evict b) may state home a s i v q is = home a s i v q is
 tags_stay_home x (EvictStatus t) may state home a s i v q is = home a s i v q is
 tags_stay_home x (EvictField t k) may state home a s i v q is = home a s i v q is
-tags_stay_home x (Ask w p) may state home a s i v q is = home a s i v q is
-tags_stay_home x (Fence w t) may state home a s i v q is = home a s i v q is

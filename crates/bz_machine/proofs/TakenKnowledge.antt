@@ -6,7 +6,7 @@ use Rattle.bz_machine.specs.Changes.{put}
 use Rattle.bz_machine.specs.Sound.{Sound}
 use Rattle.std.specs.declared.option.Option.{Option}
 use Rattle.bz_machine.specs.declared.place.Place.{Place}
-use Rattle.bz_machine.specs.declared.place.Place.TheVariants.{Idle, Prepare, Learn, Help, ReadWord, FlushRead, ClearRead, LoadWord, StoreWord, FlushLine}
+use Rattle.bz_machine.specs.declared.place.Place.TheVariants.{Idle, Prepare, Learn, Help, ReadWord, AskRead, FenceRead, ClearRead, LoadWord, StoreWord, FlushLine}
 use Rattle.bz_machine.specs.declared.worker.Operation.{Operation}
 use Rattle.bz_machine.specs.declared.worker.Operation.TheVariants.{Nothing, Reading, Swapping}
 use Rattle.bz_machine.specs.Steps.{Local}
@@ -45,7 +45,8 @@ place-taken e m v w new targets l (Prepare step) g out o f =
 place-taken e m v w new targets l (Learn k) g out o f = at_place-same e (put e m.taken new) (with_taken m w targets) v l (Learn k) (current-taken e m new l.current g f.0) f
 place-taken e m v w new targets l (Help step) g out o f = at_place-same e (put e m.taken new) (with_taken m w targets) v l (Help step) (current-taken e m new l.current g f.0) f
 place-taken e m v w new targets l (ReadWord a) g out o f = f
-place-taken e m v w new targets l (FlushRead a u) g out o f = f
+place-taken e m v w new targets l (AskRead a u) g out o f = f
+place-taken e m v w new targets l (FenceRead a u) g out o f = f
 place-taken e m v w new targets l (ClearRead a u) g out o f = f
 place-taken e m v w new targets l (LoadWord a) g out o f = f
 place-taken e m v w new targets l (StoreWord a u) g out o f = grind (arith, common_steps, f, out a u refl)

@@ -1,5 +1,5 @@
--- The acts on the way to the verdict: the flush of the targets, and the decision.
-use Rattle.std.proofs.Common.{◌⊎◌, ◌≡◌, ℕ, ◌+◌, ◌==◌, if◌then◌else◌, ◌<◌, true, false, arith, refl, subst, ◌∙◌, inl, inr}
+-- The acts on the way to the verdict: the asks for the targets, their fence, and the decision.
+use Rattle.std.proofs.Common.{◌⊎◌, ◌≡◌, ◌≢◌, ℕ, ◌+◌, ◌==◌, if◌then◌else◌, ◌<◌, true, false, arith, refl, subst, ◌∙◌, inl, inr, None}
 use Rattle.std.proofs.lemmas.Grind.{common_steps}
 use Rattle.std.proofs.lemmas.Bool.{cases_eq}
 use Rattle.bz_word.specs.declared.kind.WordKind.{WordKind}
@@ -9,14 +9,15 @@ use Rattle.bz_machine.specs.declared.status.SwapStatus.TheVariants.{Free, Undeci
 use Rattle.bz_machine.specs.declared.status.Verdict.{Verdict}
 use Rattle.bz_machine.specs.declared.status.Verdict.TheVariants.{Succeeded, Failed}
 use Rattle.bz_machine.specs.Machine.{Entries, Memory, is_verdict, MayLast, StatusMayLast}
-use Rattle.bz_machine.specs.Changes.{with_copies, in_line}
-use Rattle.bz_machine.specs.Sound.{Follows, Sound}
+use Rattle.bz_machine.specs.Changes.{in_line, line_of, with_ask, fenced}
+use Rattle.bz_machine.specs.Sound.{Follows, AreApart, Sound}
 use Rattle.bz_machine.specs.Facts.{Points, PointsDurably, Fact}
-use Rattle.bz_machine.specs.declared.place.HelpStep.TheVariants.{FlushTarget, Decide}
+use Rattle.bz_machine.specs.declared.place.HelpStep.TheVariants.{AskTarget, FenceTargets, Decide}
 use Rattle.bz_machine.specs.declared.place.Next.TheVariants.{Step}
 use Rattle.bz_machine.specs.HelpActs.{after_decide}
 use Rattle.bz_machine.proofs.Fine.{Fine, fine-same, fact-by_status, step-if}
-use Rattle.bz_machine.proofs.Copies.{lasts-copies, change-copies}
+use Rattle.bz_machine.proofs.AskedFor.{own-asked}
+use Rattle.bz_machine.proofs.Fences.{change-ask, change-fence}
 use Rattle.bz_machine.proofs.Decisions.{MayBecome, change-status}
 
 line-own : (a : ℕ) → in_line a a ≡ true
@@ -29,25 +30,32 @@ before-target x i j below out = elim (cases_eq j i) [
   | inr ne ↦ omega (arith, below, ne)
 ]
 
--- the flush of the line of target i makes its pointer durable, and the targets before it stay
+-- after the ask for the line of target i a fence will make its pointer durable, and those of the targets before it
 points-more : (e : ℕ → Entries) (m : Memory) (s i j : ℕ) (x : WordKind) → Points e m s (e s).count → PointsDurably e m s i → m.status s ≡ Undecided → j < i + 1
     → ((in_line ((e s).target i) ((e s).target j) ≡ true) × (x ≡ m.cached ((e s).target j))) ⊎ ((in_line ((e s).target i) ((e s).target j) ≡ false) × MayLast m ((e s).target j) x) → j < (e s).count → x ≡ Swap s
 points-more e m s i j x points durably u below cases within = elim cases [
-  | inl copied ↦ copied.1 ∙ points u j within
+  | inl asked ↦ asked.1 ∙ points u j within
   | inr was ↦ durably u j x (before-target (e s) i j below was.0) was.1
 ]
 
-pub fine-flush_target : (e : ℕ → Entries) (m : Memory) (w s i : ℕ) → Fact e m w s (FlushTarget i) → Sound e m
-    → Fine e m w s (record { memory = with_copies m (in_line ((e s).target i)); next = Step (if i + 1 == (e s).count then Decide Succeeded else FlushTarget (i + 1)) })
-fine-flush_target e m w s i f g =
-    let n : Memory = with_copies m (in_line ((e s).target i)) in
-    let more : PointsDurably e n s (i + 1) = λ u j x below may. points-more e m s i j x f.1 f.2 u below (lasts-copies e m (in_line ((e s).target i)) ((e s).target j) x g may) (omega (arith, below, f.0)) in
+pub fine-ask_target : (e : ℕ → Entries) (m : Memory) (w s i : ℕ) → Fact e m w s (AskTarget i) → Sound e m
+    → Fine e m w s (record { memory = with_ask m w (line_of ((e s).target i)); next = Step (if i + 1 == (e s).count then FenceTargets else AskTarget (i + 1)) })
+fine-ask_target e m w s i f g =
+    let n : Memory = with_ask m w (line_of ((e s).target i)) in
+    let more : PointsDurably e (fenced n w) s (i + 1) = λ u j x below may.
+    points-more e (fenced m w) s i j x f.1 f.2 u below
+    (own-asked (in_line ((e s).target i) ((e s).target j)) (m.durable ((e s).target j)) (m.pending ((e s).target j)) w m.now (m.cached ((e s).target j)) x (g.past ((e s).target j)) may) (omega (arith, below, f.0)) in
     record {
-      change = change-copies e m _ s g;
-      fact = step-if e n w s (i + 1 == (e s).count) (Decide Succeeded) (FlushTarget (i + 1))
+      change = change-ask e m w (line_of ((e s).target i)) s g;
+      fact = step-if e n w s (i + 1 == (e s).count) FenceTargets (AskTarget (i + 1))
           (λ b. (f.1, (λ u j x below may. more u j x (grind (arith, common_steps)) may)))
           (λ b. (grind (arith, common_steps), f.1, more));
     }
+
+-- one fence makes all of them durable
+pub fine-fence_targets : (e : ℕ → Entries) (m : Memory) (w s : ℕ) → ((t : ℕ) → t ≢ s → (m.status_pending t).asked w ≡ None) → AreApart e → Fact e m w s FenceTargets → Sound e m
+    → Fine e m w s (record { memory = fenced m w; next = Step (Decide Succeeded) })
+fine-fence_targets e m w s only o f g = record { change = change-fence e m w s only o g; fact = f }
 
 deciding-verdict : (d : Verdict) → is_verdict (Deciding d) d ≡ true
 deciding-verdict Succeeded = refl

@@ -8,10 +8,10 @@ use Rattle.bz_machine.specs.declared.status.SwapStatus.TheVariants.{Free, Undeci
 use Rattle.bz_machine.specs.declared.status.Verdict.{Verdict}
 use Rattle.bz_machine.specs.declared.status.Verdict.TheVariants.{Succeeded, Failed}
 use Rattle.bz_machine.specs.declared.place.HelpStep.{HelpStep}
-use Rattle.bz_machine.specs.declared.place.HelpStep.TheVariants.{Look, InstallTag, LookUnderTag, InstallPointer, RemoveTag, FlushDirty, ClearDirty, FlushTarget, Decide, FlushStatus, ClearStatus, PutFinal, FlushFinal, ClearFinal, SweepTag}
+use Rattle.bz_machine.specs.declared.place.HelpStep.TheVariants.{Look, InstallTag, LookUnderTag, InstallPointer, RemoveTag, AskDirty, FenceDirty, ClearDirty, AskTarget, FenceTargets, Decide, AskStatus, FenceStatus, ClearStatus, PutFinal, AskFinal, FenceFinal, ClearFinal, SweepTag}
 use Rattle.bz_machine.specs.declared.place.Place.{Place}
-use Rattle.bz_machine.specs.declared.place.Place.TheVariants.{Idle, Prepare, Learn, Help, ReadWord, FlushRead, ClearRead, LoadWord, StoreWord, FlushLine}
-use Rattle.bz_machine.specs.declared.place.PrepareStep.TheVariants.{WriteWord, WriteStatus, FlushHead, FlushTail}
+use Rattle.bz_machine.specs.declared.place.Place.TheVariants.{Idle, Prepare, Learn, Help, ReadWord, AskRead, FenceRead, ClearRead, LoadWord, StoreWord, FlushLine}
+use Rattle.bz_machine.specs.declared.place.PrepareStep.TheVariants.{WriteWord, WriteStatus, AskHead, AskTail, FenceDescriptor}
 use Rattle.bz_machine.specs.declared.place.Next.{Next}
 use Rattle.bz_machine.specs.declared.place.Next.TheVariants.{Step, Meet}
 use Rattle.bz_machine.specs.Changes.{put, with_word, with_tag, with_miss}
@@ -36,7 +36,7 @@ pub data Written (m : Memory) (w : ℕ) (l : Local) (place : Place) (z : Stepped
   -- the final value, for the pointer
   PutsFinal : (i : ℕ) (d : Verdict) → place ≡ Help (PutFinal i d) → m.cached (l.list (1 + 3 * i)) ≡ Swap l.current
       → ((b : ℕ) → z.memory.cached b ≡ put m.cached (l.list (1 + 3 * i)) (Dirty (final_value (entries_in l.list) i d)) b)
-      → z.local ≡ record l { place = Help (FlushFinal i d) } → Written m w l place z
+      → z.local ≡ record l { place = Help (AskFinal i d) } → Written m w l place z
 
 -- what an act on a swap leaves of the words, whatever follows
 stays-next : (m : Memory) (w : ℕ) (l : Local) (place : Place) (n : Memory) (next : Next) → ((b : ℕ) → n.cached b ≡ m.cached b) → Written m w l place (after_help l n next)
@@ -91,7 +91,7 @@ written-final : (m : Memory) (w : ℕ) (l : Local) (i : ℕ) (d : Verdict) (foun
 written-final m w l i d (Value v) is = stays-next m w l _ m (finished (entries_in l.list) i d) (λ b. refl)
 written-final m w l i d (Dirty v) is = stays-next m w l _ m (finished (entries_in l.list) i d) (λ b. refl)
 written-final m w l i d (Swap t) is =
-    either-next m w l _ (t == l.current) (record { memory = with_word m (l.list (1 + 3 * i)) (Dirty (final_value (entries_in l.list) i d)); next = Step (FlushFinal i d) }) (record { memory = m; next = finished (entries_in l.list) i d })
+    either-next m w l _ (t == l.current) (record { memory = with_word m (l.list (1 + 3 * i)) (Dirty (final_value (entries_in l.list) i d)); next = Step (AskFinal i d) }) (record { memory = m; next = finished (entries_in l.list) i d })
     (λ told. let same : t ≡ l.current = grind (arith, common_steps, told) in PutsFinal i d refl (rw (is, same) refl) (λ b. refl) refl)
     (stays-next m w l _ m (finished (entries_in l.list) i d) (λ b. refl))
 written-final m w l i d (Tag t j v q) is = stays-next m w l _ m (if t == l.current then Step (SweepTag i d v q) else finished (entries_in l.list) i d) (λ b. refl)
@@ -131,14 +131,18 @@ written-help m w l (InstallTag i) = written-install m w l i (m.cached (l.list (1
 written-help m w l (LookUnderTag i v q) = Stays (λ b. refl)
 written-help m w l (InstallPointer i v q) = written-pointer m w l i v q (Step (InstallTag i)) (m.cached (l.list (1 + 3 * i))) refl
 written-help m w l (RemoveTag i v q) = written-untag m w l _ i v q (Step Look) (Step Look) (m.cached (l.list (1 + 3 * i)))
-written-help m w l (FlushDirty i v) = Stays (λ b. refl)
+written-help m w l (AskDirty i v) = Stays (λ b. refl)
+written-help m w l (FenceDirty i v) = Stays (λ b. refl)
 written-help m w l (ClearDirty i v) = written-cleared m w l _ (l.list (1 + 3 * i)) v (m.cached (l.list (1 + 3 * i))) (Step (InstallTag i))
-written-help m w l (FlushTarget i) = Stays (λ b. refl)
+written-help m w l (AskTarget i) = Stays (λ b. refl)
+written-help m w l FenceTargets = Stays (λ b. refl)
 written-help m w l (Decide d) = stays-next m w l _ (after_decide m l.current d (m.status l.current)).memory (after_decide m l.current d (m.status l.current)).next (decided-words m l.current d (m.status l.current))
-written-help m w l (FlushStatus d) = Stays (λ b. refl)
+written-help m w l (AskStatus d) = Stays (λ b. refl)
+written-help m w l (FenceStatus d) = Stays (λ b. refl)
 written-help m w l (ClearStatus d) = stays-next m w l _ (cleared_status m l.current d (m.status l.current)) (Step (PutFinal 0 d)) (status-words m l.current d (m.status l.current))
 written-help m w l (PutFinal i d) = written-final m w l i d (m.cached (l.list (1 + 3 * i))) refl
-written-help m w l (FlushFinal i d) = Stays (λ b. refl)
+written-help m w l (AskFinal i d) = Stays (λ b. refl)
+written-help m w l (FenceFinal i d) = Stays (λ b. refl)
 written-help m w l (ClearFinal i d) = written-cleared m w l _ (l.list (1 + 3 * i)) (final_value (entries_in l.list) i d) (m.cached (l.list (1 + 3 * i))) (finished (entries_in l.list) i d)
 written-help m w l (SweepTag i d v q) = written-untag m w l _ i v q (finished (entries_in l.list) i d) (Step (PutFinal i d)) (m.cached (l.list (1 + 3 * i)))
 
@@ -152,12 +156,14 @@ pub written : (m : Memory) (w : ℕ) (l : Local) (place : Place) → Written m w
 written m w l Idle = Stays (λ b. refl)
 written m w l (Prepare (WriteWord k)) = Stays (λ b. refl)
 written m w l (Prepare WriteStatus) = Stays (λ b. refl)
-written m w l (Prepare FlushHead) = Stays (λ b. refl)
-written m w l (Prepare FlushTail) = Stays (λ b. refl)
+written m w l (Prepare AskHead) = Stays (λ b. refl)
+written m w l (Prepare AskTail) = Stays (λ b. refl)
+written m w l (Prepare FenceDescriptor) = Stays (λ b. refl)
 written m w l (Learn k) = Stays (λ b. refl)
 written m w l (Help step) = written-help m w l step
 written m w l (ReadWord a) = written-read m w l a (m.cached a)
-written m w l (FlushRead a v) = Stays (λ b. refl)
+written m w l (AskRead a v) = Stays (λ b. refl)
+written m w l (FenceRead a v) = Stays (λ b. refl)
 written m w l (ClearRead a v) = cleared-cases m a v (m.cached a) (λ n. Written m w l (ClearRead a v) (record { memory = n; local = record l { place = ReadWord a }; done = Busy })) (PutsPlain a v (λ b. refl)) (Stays (λ b. refl))
 written m w l (LoadWord a) = Stays (λ b. refl)
 written m w l (StoreWord a v) = PutsPlain a v (λ b. refl)

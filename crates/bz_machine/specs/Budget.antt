@@ -1,14 +1,13 @@
--- The budget of a worker: how many steps it takes at most while it steps alone, as a number that each of them lowers. A flush counts
--- one, and the last one before the worker goes on counts two: as many acts as it takes to ask for the lines and then to fence.
+-- The budget of a worker: how many steps it takes at most while it steps alone, as a number that each of them lowers.
 use Rattle.std.specs.Prelude.{if◌then◌else◌, ℕ, ◌+◌, ◌-◌, ◌*◌, ◌==◌, ◌&&◌, ◌||◌, not, nat_lt, Bool, true, false, Some, None}
 use Rattle.std.specs.declared.option.Option.{Option}
 use Rattle.bz_machine.specs.declared.status.Verdict.{Verdict}
 use Rattle.bz_machine.specs.declared.place.Place.{Place}
-use Rattle.bz_machine.specs.declared.place.Place.TheVariants.{Idle, Prepare, Learn, Help, ReadWord, FlushRead, ClearRead, LoadWord, StoreWord, FlushLine}
+use Rattle.bz_machine.specs.declared.place.Place.TheVariants.{Idle, Prepare, Learn, Help, ReadWord, AskRead, FenceRead, ClearRead, LoadWord, StoreWord, FlushLine}
 use Rattle.bz_machine.specs.declared.place.PrepareStep.{PrepareStep}
-use Rattle.bz_machine.specs.declared.place.PrepareStep.TheVariants.{WriteWord, WriteStatus, FlushHead, FlushTail}
+use Rattle.bz_machine.specs.declared.place.PrepareStep.TheVariants.{WriteWord, WriteStatus, AskHead, AskTail, FenceDescriptor}
 use Rattle.bz_machine.specs.declared.place.HelpStep.{HelpStep}
-use Rattle.bz_machine.specs.declared.place.HelpStep.TheVariants.{Look, InstallTag, LookUnderTag, InstallPointer, RemoveTag, FlushDirty, ClearDirty, FlushTarget, Decide, FlushStatus, ClearStatus, PutFinal, FlushFinal, ClearFinal, SweepTag}
+use Rattle.bz_machine.specs.declared.place.HelpStep.TheVariants.{Look, InstallTag, LookUnderTag, InstallPointer, RemoveTag, AskDirty, FenceDirty, ClearDirty, AskTarget, FenceTargets, Decide, AskStatus, FenceStatus, ClearStatus, PutFinal, AskFinal, FenceFinal, ClearFinal, SweepTag}
 use Rattle.bz_machine.specs.declared.worker.Operation.{Operation}
 use Rattle.bz_machine.specs.declared.worker.Operation.TheVariants.{Nothing, Reading, Swapping}
 use Rattle.bz_machine.specs.HelpActs.{final_value}
@@ -47,7 +46,7 @@ for_detour = 46
 abbrev pub for_pointer : ℕ
 for_pointer = 2
 
--- a dirty value: its flush, which counts two, a compare-and-swap, and the act again
+-- a dirty value: its ask, its fence, a compare-and-swap, and the act again
 abbrev pub for_dirty : ℕ
 for_dirty = 4
 
@@ -149,8 +148,9 @@ own_missing x place o = own_missing_by x o
 abbrev pub left_in_prepare : PrepareStep → ℕ
 left_in_prepare (WriteWord k) = 33 + (descriptor_words - k)
 left_in_prepare WriteStatus = 33
-left_in_prepare FlushHead = 32
-left_in_prepare FlushTail = 31
+left_in_prepare AskHead = 32
+left_in_prepare AskTail = 31
+left_in_prepare FenceDescriptor = 30
 
 abbrev pub left_in_help : HelpStep → ℕ
 left_in_help Look = 30
@@ -158,14 +158,18 @@ left_in_help (InstallTag i) = 25 + (most_entries - i)
 left_in_help (LookUnderTag i v q) = 24 + (most_entries - i)
 left_in_help (InstallPointer i v q) = 23 + (most_entries - i)
 left_in_help (RemoveTag i v q) = 0
-left_in_help (FlushDirty i v) = 24 + (most_entries - i)
+left_in_help (AskDirty i v) = 24 + (most_entries - i)
+left_in_help (FenceDirty i v) = 23 + (most_entries - i)
 left_in_help (ClearDirty i v) = 22 + (most_entries - i)
-left_in_help (FlushTarget i) = 21 + (most_entries - i)
+left_in_help (AskTarget i) = 21 + (most_entries - i)
+left_in_help FenceTargets = 21
 left_in_help (Decide d) = 20
-left_in_help (FlushStatus d) = 19
+left_in_help (AskStatus d) = 19
+left_in_help (FenceStatus d) = 18
 left_in_help (ClearStatus d) = 17
 left_in_help (PutFinal i d) = 4 * (most_entries - i)
-left_in_help (FlushFinal i d) = 3 + 4 * (3 - i)
+left_in_help (AskFinal i d) = 3 + 4 * (3 - i)
+left_in_help (FenceFinal i d) = 2 + 4 * (3 - i)
 left_in_help (ClearFinal i d) = 1 + 4 * (3 - i)
 left_in_help (SweepTag i d v q) = 3 + 4 * (3 - i)
 
@@ -175,7 +179,8 @@ left_at (Prepare step) = left_in_prepare step
 left_at (Learn k) = 30 + (descriptor_words - k)
 left_at (Help step) = left_in_help step
 left_at (ReadWord a) = 1
-left_at (FlushRead a v) = 4
+left_at (AskRead a v) = 4
+left_at (FenceRead a v) = 3
 left_at (ClearRead a v) = 2
 left_at (LoadWord a) = 1
 left_at (StoreWord a v) = 1
@@ -184,7 +189,8 @@ left_at (FlushLine line) = 2
 -- the first entry at which this visit still takes tags away
 abbrev pub swept_in : HelpStep → ℕ
 swept_in (PutFinal i d) = i
-swept_in (FlushFinal i d) = i + 1
+swept_in (AskFinal i d) = i + 1
+swept_in (FenceFinal i d) = i + 1
 swept_in (ClearFinal i d) = i + 1
 swept_in (SweepTag i d v q) = i
 swept_in step = 0
@@ -212,14 +218,16 @@ tag_stands x over l place v k i u q =
     counted ((u == v) && (x.tag (target_at x k.current i) k.current i v q && not (is_swept over l place k.current i))) for_tag
 
 abbrev pub cleans_in : Scene → ℕ → HelpStep → ℕ → ℕ → Bool
-cleans_in x s (FlushFinal i d) a v = ((x.entries s).target i == a) && (final_value (x.entries s) i d == v)
+cleans_in x s (AskFinal i d) a v = ((x.entries s).target i == a) && (final_value (x.entries s) i d == v)
+cleans_in x s (FenceFinal i d) a v = ((x.entries s).target i == a) && (final_value (x.entries s) i d == v)
 cleans_in x s (ClearFinal i d) a v = ((x.entries s).target i == a) && (final_value (x.entries s) i d == v)
 cleans_in x s step a v = false
 
 -- worker w is about to clean this dirty value: its place counts what that takes
 abbrev pub cleans_at : Scene → ℕ → Place → ℕ → ℕ → Bool
 cleans_at x s (Help step) a v = cleans_in x s step a v
-cleans_at x s (FlushRead b u) a v = (b == a) && (u == v)
+cleans_at x s (AskRead b u) a v = (b == a) && (u == v)
+cleans_at x s (FenceRead b u) a v = (b == a) && (u == v)
 cleans_at x s (ClearRead b u) a v = (b == a) && (u == v)
 cleans_at x s place a v = false
 
@@ -232,7 +240,8 @@ abbrev pub left_by_help : Scene → Bool → Local → Place → ℕ → Local �
 left_by_help x over l place v k (LookUnderTag i u q) = tag_stands x over l place v k i u q
 left_by_help x over l place v k (InstallPointer i u q) = tag_stands x over l place v k i u q
 left_by_help x over l place v k (RemoveTag i u q) = tag_stands x over l place v k i u q
-left_by_help x over l place v k (FlushFinal i d) = dirty_stands x l place k.current i d
+left_by_help x over l place v k (AskFinal i d) = dirty_stands x l place k.current i d
+left_by_help x over l place v k (FenceFinal i d) = dirty_stands x l place k.current i d
 left_by_help x over l place v k (ClearFinal i d) = dirty_stands x l place k.current i d
 left_by_help x over l place v k step = 0
 
@@ -265,16 +274,19 @@ is_fresh_in x s (InstallTag i) = not (x.decided s)
 is_fresh_in x s (LookUnderTag i v q) = not (x.decided s) && x.tag (target_at x s i) s i v q
 is_fresh_in x s (InstallPointer i v q) = not (x.decided s) && x.tag (target_at x s i) s i v q
 is_fresh_in x s (RemoveTag i v q) = false
-is_fresh_in x s (FlushDirty i v) = not (x.decided s) && x.dirty (target_at x s i) v
+is_fresh_in x s (AskDirty i v) = not (x.decided s) && x.dirty (target_at x s i) v
+is_fresh_in x s (FenceDirty i v) = not (x.decided s) && x.dirty (target_at x s i) v
 is_fresh_in x s (ClearDirty i v) = not (x.decided s) && x.dirty (target_at x s i) v
-is_fresh_in x s (FlushTarget i) = not (x.decided s)
+is_fresh_in x s (AskTarget i) = not (x.decided s)
+is_fresh_in x s FenceTargets = not (x.decided s)
 is_fresh_in x s (Decide d) = not (x.decided s)
 is_fresh_in x s (SweepTag i d v q) = x.tag (target_at x s i) s i v q
 is_fresh_in x s step = true
 
 abbrev pub is_fresh_at : Scene → ℕ → Place → Bool
 is_fresh_at x s (Help step) = is_fresh_in x s step
-is_fresh_at x s (FlushRead a v) = x.dirty a v
+is_fresh_at x s (AskRead a v) = x.dirty a v
+is_fresh_at x s (FenceRead a v) = x.dirty a v
 is_fresh_at x s (ClearRead a v) = x.dirty a v
 is_fresh_at x s place = true
 
@@ -284,16 +296,19 @@ stale_in x s (InstallTag i) = for_stale_entry * (most_entries - i) + (if x.any_d
 stale_in x s (LookUnderTag i v q) = 2
 stale_in x s (InstallPointer i v q) = if x.decided s then for_stale_entry * (most_entries - i) + 9 else 1
 stale_in x s (RemoveTag i v q) = 1
-stale_in x s (FlushDirty i v) = for_stale_entry * (most_entries - i) + (if x.dirty (target_at x s i) v then 7 else 11)
+stale_in x s (AskDirty i v) = for_stale_entry * (most_entries - i) + (if x.dirty (target_at x s i) v then 7 else 11)
+stale_in x s (FenceDirty i v) = for_stale_entry * (most_entries - i) + (if x.dirty (target_at x s i) v then 6 else 10)
 stale_in x s (ClearDirty i v) = for_stale_entry * (most_entries - i) + (if x.dirty (target_at x s i) v then 5 else 9)
-stale_in x s (FlushTarget i) = 7 + (most_entries - i)
+stale_in x s (AskTarget i) = 7 + (most_entries - i)
+stale_in x s FenceTargets = 6
 stale_in x s (Decide d) = 1
 stale_in x s (SweepTag i d v q) = 1
 stale_in x s step = 0
 
 abbrev pub stale_at : Scene → ℕ → Place → ℕ
 stale_at x s (Help step) = stale_in x s step
-stale_at x s (FlushRead a v) = 3
+stale_at x s (AskRead a v) = 3
+stale_at x s (FenceRead a v) = 2
 stale_at x s (ClearRead a v) = 1
 stale_at x s place = 0
 

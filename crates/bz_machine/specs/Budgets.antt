@@ -3,19 +3,15 @@ use Rattle.std.specs.Prelude.{◌≡◌, ◌≢◌, ℕ, ◌+◌, ◌<◌, ◌�
 use Rattle.bz_machine.specs.declared.place.Place.TheVariants.{Idle}
 use Rattle.bz_machine.specs.Allowed.{allowed, allowed_by_kind, allowed_by}
 use Rattle.bz_machine.specs.Budget.{budget}
-use Rattle.bz_machine.specs.Changes.{Lines}
 use Rattle.bz_machine.specs.Machine.{Entries, Memory}
 use Rattle.bz_machine.specs.DirtyHomes.{DirtyAreHome}
 use Rattle.bz_machine.specs.Ends.{EndWhole}
 use Rattle.bz_machine.specs.Fronts.{Rises, HaveFronts, AllRise}
 use Rattle.bz_machine.specs.Owners.{AreOwned}
 use Rattle.bz_machine.specs.Progress.{TagsAreHome}
+use Rattle.bz_machine.specs.Sound.{AreShort}
 use Rattle.bz_machine.specs.Sizes.{most_entries, most_workers}
-use Rattle.bz_machine.specs.State.{State, Event, StartRead, StartStore, StartFlush, StartSwap, Act, Evict, EvictStatus, EvictField, Ask, Fence, happens, MayHappen, IsState, IsRenewable, power_on}
-
--- each swap has at most four entries
-abbrev pub AreShort : (ℕ → Entries) → Type 0
-AreShort e = (s : ℕ) → (e s).count ≤ most_entries
+use Rattle.bz_machine.specs.State.{State, Event, StartRead, StartStore, StartFlush, StartSwap, Act, Evict, EvictStatus, EvictField, happens, MayHappen, IsState, IsRenewable, power_on}
 
 -- the budget of one of n workers is at most what those that are not idle allow
 abbrev pub BudgetsAreAllowed : Type 0
@@ -62,8 +58,6 @@ IsAmong n (Act w) = w < n
 IsAmong n (Evict a) = Unit {0}
 IsAmong n (EvictStatus s) = Unit {0}
 IsAmong n (EvictField s k) = Unit {0}
-IsAmong n (Ask w p) = Unit {0}
-IsAmong n (Fence w s) = Unit {0}
 
 -- so it is at power on, and stays, whatever may happen
 abbrev pub BeginsBounded : Type 0
@@ -81,13 +75,11 @@ SwapsAddAllowed = (x : State) (w n : ℕ) (new : Entries) (targets : ℕ → Boo
 abbrev pub ActsSpend : Type 0
 ActsSpend = (x : State) (w n : ℕ) → IsBounded x n → (x.local w).place ≢ Idle → budget (happens x (Act w)) w n < budget x w n
 
--- no eviction, ask or fence changes a budget
+-- no eviction changes a budget
 pub record IsKept (x : State) (w n : ℕ) : Type 0 where
   pub word : (a : ℕ) → budget (happens x (Evict a)) w n ≡ budget x w n
   pub status : (s : ℕ) → budget (happens x (EvictStatus s)) w n ≡ budget x w n
   pub field : (s k : ℕ) → budget (happens x (EvictField s k)) w n ≡ budget x w n
-  pub ask : (v : ℕ) (p : Lines) → budget (happens x (Ask v p)) w n ≡ budget x w n
-  pub fence : (v s : ℕ) → budget (happens x (Fence v s)) w n ≡ budget x w n
 
 abbrev pub EvictionsKeepBudgets : Type 0
 EvictionsKeepBudgets = (x : State) (w n : ℕ) → IsKept x w n

@@ -6,6 +6,7 @@ use Rattle.bz_machine.specs.declared.status.SwapStatus.{SwapStatus}
 use Rattle.bz_machine.specs.declared.status.Verdict.{Verdict}
 use Rattle.bz_machine.specs.Machine.{Entries, Memory, is_succeeded}
 use Rattle.bz_machine.specs.Pending.{no_asks, with_saved, fenced_value, with_fence}
+use Rattle.bz_machine.specs.Sizes.{line_fields}
 
 -- the function with one value changed
 abbrev pub put : {A : Type 0} → (ℕ → A) → ℕ → A → ℕ → A
@@ -52,20 +53,12 @@ with_durable_fields m s p = record m {
   words_pending = λ t k. record { since = if t == s then if p k then m.now else (m.words_pending t k).since else (m.words_pending t k).since; asked = (m.words_pending t k).asked };
 }
 
--- a descriptor's first line holds the status and seven words, its second line the other words
+-- a descriptor's first line holds the status and seven words, its second line eight
 abbrev pub in_head : ℕ → Bool
 in_head k = nat_lt k 7
 
 abbrev pub in_tail : ℕ → Bool
-in_tail k = if nat_lt k 7 then false else true
-
--- the flush of a descriptor's first line
-abbrev pub with_durable_head : Memory → ℕ → Memory
-with_durable_head m s = with_durable_status (with_durable_fields m s in_head) s
-
--- the second line is durable too, and with it the whole descriptor
-abbrev pub with_published : Memory → ℕ → Memory
-with_published m s = record (with_durable_fields m s in_tail) { published = put m.published s true }
+in_tail k = if nat_lt k 7 then false else nat_lt k line_fields
 
 -- a swap that has not taken effect is noted as missed
 abbrev pub with_miss : Memory → ℕ → Memory
@@ -114,6 +107,10 @@ fenced m w = record m {
   status_pending = λ s. with_fence (m.status_pending s) w;
   words_pending = λ s k. with_fence (m.words_pending s k) w;
 }
+
+-- the fence of worker w after which the descriptor of its swap is durable
+abbrev pub with_published : Memory → ℕ → ℕ → Memory
+with_published m w s = record (fenced m w) { published = put m.published s true }
 
 -- a power cut: the durable words are all that is left, and what was asked for is forgotten
 abbrev pub after_cut : Memory → Memory

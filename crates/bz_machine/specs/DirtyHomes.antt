@@ -3,7 +3,7 @@ use Rattle.std.specs.Prelude.{◌≡◌, ℕ, ◌+◌, ◌*◌}
 use Rattle.bz_word.specs.declared.kind.WordKind.TheVariants.{Dirty}
 use Rattle.bz_machine.specs.declared.status.Verdict.{Verdict}
 use Rattle.bz_machine.specs.declared.place.HelpStep.{HelpStep}
-use Rattle.bz_machine.specs.declared.place.HelpStep.TheVariants.{FlushFinal, ClearFinal}
+use Rattle.bz_machine.specs.declared.place.HelpStep.TheVariants.{AskFinal, FenceFinal, ClearFinal}
 use Rattle.bz_machine.specs.declared.place.Place.{Place}
 use Rattle.bz_machine.specs.declared.place.Place.TheVariants.{Help}
 use Rattle.bz_machine.specs.Machine.{entries_in}
@@ -13,7 +13,8 @@ use Rattle.bz_machine.specs.State.{State, Event, happens, MayHappen}
 
 -- the act goes on with the final value that verdict d leaves at entry i
 abbrev pub CleansFinal : HelpStep → ℕ → Verdict → Type 0
-CleansFinal (FlushFinal j c) i d = (j ≡ i) × (c ≡ d)
+CleansFinal (AskFinal j c) i d = (j ≡ i) × (c ≡ d)
+CleansFinal (FenceFinal j c) i d = (j ≡ i) × (c ≡ d)
 CleansFinal (ClearFinal j c) i d = (j ≡ i) × (c ≡ d)
 CleansFinal step i d = ⊥
 

@@ -6,7 +6,7 @@ use Rattle.bz_machine.specs.declared.status.SwapStatus.{SwapStatus}
 use Rattle.bz_machine.specs.declared.status.SwapStatus.TheVariants.{Free, Undecided, Deciding, Decided}
 use Rattle.bz_machine.specs.declared.status.Verdict.{Verdict}
 use Rattle.bz_machine.specs.declared.place.HelpStep.{HelpStep}
-use Rattle.bz_machine.specs.declared.place.HelpStep.TheVariants.{InstallPointer, PutFinal, FlushFinal, ClearFinal, SweepTag}
+use Rattle.bz_machine.specs.declared.place.HelpStep.TheVariants.{InstallPointer, PutFinal, AskFinal, FenceFinal, ClearFinal, SweepTag}
 use Rattle.bz_machine.specs.declared.place.Place.{Place}
 use Rattle.bz_machine.specs.declared.place.Place.TheVariants.{Help}
 use Rattle.bz_machine.specs.Machine.{Entries}
@@ -37,14 +37,16 @@ pub record IsDone (e : ℕ → Entries) (cached : ℕ → WordKind) (local : ℕ
 -- an act of the last phase, and the entries that it has behind it
 abbrev pub IsLast : HelpStep → Type 0
 IsLast (PutFinal i d) = Unit {0}
-IsLast (FlushFinal i d) = Unit {0}
+IsLast (AskFinal i d) = Unit {0}
+IsLast (FenceFinal i d) = Unit {0}
 IsLast (ClearFinal i d) = Unit {0}
 IsLast (SweepTag i d v q) = Unit {0}
 IsLast step = ⊥
 
 abbrev pub IsBehind : HelpStep → ℕ → Type 0
 IsBehind (PutFinal i d) j = j < i
-IsBehind (FlushFinal i d) j = j ≤ i
+IsBehind (AskFinal i d) j = j ≤ i
+IsBehind (FenceFinal i d) j = j ≤ i
 IsBehind (ClearFinal i d) j = j ≤ i
 IsBehind (SweepTag i d v q) j = j < i
 IsBehind step j = ⊥

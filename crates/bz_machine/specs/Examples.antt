@@ -42,12 +42,12 @@ begun = StartSwap 1 one_entry (λ a. a == 100) ∷ []
 abbrev pub run : ℕ → State
 run acts = since zeros (begun ++ replicate acts (Act 1))
 
--- the swap is answered by its 17th act, and takes effect at the 13th, the flush of its status
+-- the swap is answered by its 21st act, and takes effect at the 16th, the fence of its status
 pub record SwapsAlone : Type 0 where
   pub renewable : IsRenewable zeros
   pub may : AllMayHappen (power_on zeros) begun
-  pub before : content (run 12).entries (run 12).memory 100 ≡ 0
-  pub effect : effect_at (run 12) (Act 1) ≡ Some 0
-  pub after : content (run 13).entries (run 13).memory 100 ≡ 7
-  pub answer : (stepped (run 16) 1).done ≡ Swapped true
-  pub word : (run 17).memory.cached 100 ≡ Value 7
+  pub before : content (run 15).entries (run 15).memory 100 ≡ 0
+  pub effect : effect_at (run 15) (Act 1) ≡ Some 0
+  pub after : content (run 16).entries (run 16).memory 100 ≡ 7
+  pub answer : (stepped (run 20) 1).done ≡ Swapped true
+  pub word : (run 21).memory.cached 100 ≡ Value 7

@@ -5,7 +5,7 @@ use Rattle.bz_word.specs.declared.kind.WordKind.{WordKind}
 use Rattle.bz_word.specs.declared.kind.WordKind.TheVariants.{Value, Dirty, Swap, Tag}
 use Rattle.bz_machine.specs.Facts.{Points}
 use Rattle.bz_machine.specs.Machine.{Entries}
-use Rattle.bz_machine.specs.State.{State, Event, StartRead, StartStore, StartFlush, StartSwap, Act, Evict, EvictStatus, EvictField, Ask, Fence, happens, MayHappen, IsState}
+use Rattle.bz_machine.specs.State.{State, Event, StartRead, StartStore, StartFlush, StartSwap, Act, Evict, EvictStatus, EvictField, happens, MayHappen, IsState}
 
 -- the word is a pointer or a tag of swap s
 abbrev pub StandsFor : WordKind → ℕ → Type 0
@@ -36,8 +36,6 @@ MayRise (Act w) = Unit {0}
 MayRise (Evict a) = Unit {0}
 MayRise (EvictStatus s) = Unit {0}
 MayRise (EvictField s k) = Unit {0}
-MayRise (Ask w p) = Unit {0}
-MayRise (Fence w s) = Unit {0}
 
 abbrev pub AllRise : State → Type 0
 AllRise x = (s : ℕ) → Rises (x.entries s)

@@ -8,11 +8,11 @@ use Rattle.bz_machine.specs.declared.status.SwapStatus.TheVariants.{Free, Undeci
 use Rattle.bz_machine.specs.declared.status.Verdict.{Verdict}
 use Rattle.bz_machine.specs.declared.status.Verdict.TheVariants.{Succeeded, Failed}
 use Rattle.bz_machine.specs.declared.place.HelpStep.{HelpStep}
-use Rattle.bz_machine.specs.declared.place.HelpStep.TheVariants.{Look, InstallTag, LookUnderTag, InstallPointer, RemoveTag, FlushDirty, ClearDirty, FlushTarget, Decide, FlushStatus, ClearStatus, PutFinal, FlushFinal, ClearFinal, SweepTag}
+use Rattle.bz_machine.specs.declared.place.HelpStep.TheVariants.{Look, InstallTag, LookUnderTag, InstallPointer, RemoveTag, AskDirty, FenceDirty, ClearDirty, AskTarget, FenceTargets, Decide, AskStatus, FenceStatus, ClearStatus, PutFinal, AskFinal, FenceFinal, ClearFinal, SweepTag}
 use Rattle.bz_machine.specs.declared.place.Next.{Next}
 use Rattle.bz_machine.specs.declared.place.Next.TheVariants.{Step, Meet, Complete}
 use Rattle.bz_machine.specs.Machine.{Entries, Memory}
-use Rattle.bz_machine.specs.Changes.{with_word, with_tag, with_copies, in_line, with_status, with_durable_head, with_miss}
+use Rattle.bz_machine.specs.Changes.{with_word, with_tag, with_status, with_miss, line_of, head_of, with_ask, fenced}
 
 -- the memory after an act, and what follows
 pub record After : Type 0 where
@@ -23,9 +23,9 @@ pub record After : Type 0 where
 abbrev pub stays : Memory → HelpStep → After
 stays m step = record { memory = m; next = Step step }
 
--- what follows when the pointer of entry i stands: the next entry, or the flush of the targets
+-- what follows when the pointer of entry i stands: the next entry, or the targets are asked for
 abbrev pub passed : Entries → ℕ → HelpStep
-passed x i = if i + 1 == x.count then FlushTarget 0 else InstallTag (i + 1)
+passed x i = if i + 1 == x.count then AskTarget 0 else InstallTag (i + 1)
 
 -- what follows when entry i holds its final value: the next entry, or the end
 abbrev pub finished : Entries → ℕ → Verdict → Next
@@ -35,7 +35,7 @@ finished x i d = if i + 1 == x.count then Complete d else Step (PutFinal (i + 1)
 abbrev pub by_status : SwapStatus → HelpStep
 by_status Free = InstallTag 0
 by_status Undecided = InstallTag 0
-by_status (Deciding d) = FlushStatus d
+by_status (Deciding d) = AskStatus d
 by_status (Decided d) = PutFinal 0 d
 
 -- the value that a verdict leaves at entry i
@@ -49,7 +49,7 @@ after_install_tag x m w s i (Value v) =
     if v == x.expected i
     then record { memory = with_tag m (x.target i) s i w; next = Step (LookUnderTag i w (m.next_tag w)) }
     else record { memory = with_miss m s; next = Step (Decide Failed) }
-after_install_tag x m w s i (Dirty v) = stays m (FlushDirty i v)
+after_install_tag x m w s i (Dirty v) = stays m (AskDirty i v)
 after_install_tag x m w s i (Swap t) = record { memory = m; next = if t == s then Step (passed x i) else Meet t }
 after_install_tag x m w s i (Tag t j v q) = record { memory = m; next = if t == s then Step (LookUnderTag i v q) else Meet t }
 
@@ -80,7 +80,7 @@ cleared_word m a v (Dirty u) = if u == v then with_word m a (Value v) else m
 -- the compare-and-swap of undecided to a verdict with the dirty bit, which found this status
 abbrev pub after_decide : Memory → ℕ → Verdict → SwapStatus → After
 after_decide m s d Free = stays m (by_status Free)
-after_decide m s d Undecided = record { memory = with_status m s (Deciding d); next = Step (FlushStatus d) }
+after_decide m s d Undecided = record { memory = with_status m s (Deciding d); next = Step (AskStatus d) }
 after_decide m s d (Deciding c) = stays m (by_status (Deciding c))
 after_decide m s d (Decided c) = stays m (by_status (Decided c))
 
@@ -100,7 +100,7 @@ after_put_final x m s i d (Value v) = record { memory = m; next = finished x i d
 after_put_final x m s i d (Dirty v) = record { memory = m; next = finished x i d }
 after_put_final x m s i d (Swap t) =
     if t == s
-    then record { memory = with_word m (x.target i) (Dirty (final_value x i d)); next = Step (FlushFinal i d) }
+    then record { memory = with_word m (x.target i) (Dirty (final_value x i d)); next = Step (AskFinal i d) }
     else record { memory = m; next = finished x i d }
 after_put_final x m s i d (Tag t j v q) = record { memory = m; next = if t == s then Step (SweepTag i d v q) else finished x i d }
 
@@ -111,16 +111,20 @@ help_act x m w s (InstallTag i) = after_install_tag x m w s i (m.cached (x.targe
 help_act x m w s (LookUnderTag i v q) = stays m (after_look_under i v q (m.status s))
 help_act x m w s (InstallPointer i v q) = after_untag x m s i v q (Swap s) (Step (passed x i)) (Step (InstallTag i)) (m.cached (x.target i))
 help_act x m w s (RemoveTag i v q) = after_untag x m s i v q (Value (x.expected i)) (Step Look) (Step Look) (m.cached (x.target i))
-help_act x m w s (FlushDirty i v) = record { memory = with_copies m (in_line (x.target i)); next = Step (ClearDirty i v) }
+help_act x m w s (AskDirty i v) = record { memory = with_ask m w (line_of (x.target i)); next = Step (FenceDirty i v) }
+help_act x m w s (FenceDirty i v) = record { memory = fenced m w; next = Step (ClearDirty i v) }
 help_act x m w s (ClearDirty i v) = record { memory = cleared_word m (x.target i) v (m.cached (x.target i)); next = Step (InstallTag i) }
-help_act x m w s (FlushTarget i) = record {
-  memory = with_copies m (in_line (x.target i));
-  next = Step (if i + 1 == x.count then Decide Succeeded else FlushTarget (i + 1));
+help_act x m w s (AskTarget i) = record {
+  memory = with_ask m w (line_of (x.target i));
+  next = Step (if i + 1 == x.count then FenceTargets else AskTarget (i + 1));
 }
+help_act x m w s FenceTargets = record { memory = fenced m w; next = Step (Decide Succeeded) }
 help_act x m w s (Decide d) = after_decide m s d (m.status s)
-help_act x m w s (FlushStatus d) = record { memory = with_durable_head m s; next = Step (ClearStatus d) }
+help_act x m w s (AskStatus d) = record { memory = with_ask m w (head_of s); next = Step (FenceStatus d) }
+help_act x m w s (FenceStatus d) = record { memory = fenced m w; next = Step (ClearStatus d) }
 help_act x m w s (ClearStatus d) = record { memory = cleared_status m s d (m.status s); next = Step (PutFinal 0 d) }
 help_act x m w s (PutFinal i d) = after_put_final x m s i d (m.cached (x.target i))
-help_act x m w s (FlushFinal i d) = record { memory = with_copies m (in_line (x.target i)); next = Step (ClearFinal i d) }
+help_act x m w s (AskFinal i d) = record { memory = with_ask m w (line_of (x.target i)); next = Step (FenceFinal i d) }
+help_act x m w s (FenceFinal i d) = record { memory = fenced m w; next = Step (ClearFinal i d) }
 help_act x m w s (ClearFinal i d) = record { memory = cleared_word m (x.target i) (final_value x i d) (m.cached (x.target i)); next = finished x i d }
 help_act x m w s (SweepTag i d v q) = after_untag x m s i v q (Value (x.expected i)) (finished x i d) (Step (PutFinal i d)) (m.cached (x.target i))

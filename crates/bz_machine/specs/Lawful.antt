@@ -3,7 +3,7 @@ use Rattle.std.specs.Prelude.{ℕ, ◌^◌, ◌<◌, List, [], ◌∷◌}
 use Rattle.bz_word.specs.Kinds.{IsKind}
 use Rattle.bz_machine.specs.Machine.{Memory}
 use Rattle.bz_machine.specs.Ranges.{IsTagger, AreValues, HoldsKinds, PlaceInRange}
-use Rattle.bz_machine.specs.State.{State, Event, StartRead, StartStore, StartFlush, StartSwap, Act, Evict, EvictStatus, EvictField, Ask, Fence, happens, AllMayHappen, IsRenewable, power_on}
+use Rattle.bz_machine.specs.State.{State, Event, StartRead, StartStore, StartFlush, StartSwap, Act, Evict, EvictStatus, EvictField, happens, AllMayHappen, IsRenewable, power_on}
 use Rattle.bz_machine.specs.Promise.{since}
 
 pub record AreInRange (x : State) : Type 0 where
@@ -21,8 +21,6 @@ MayHold x (Act w) = IsTagger w (x.memory.next_tag w)
 MayHold x (Evict a) = Unit {0}
 MayHold x (EvictStatus s) = Unit {0}
 MayHold x (EvictField s k) = Unit {0}
-MayHold x (Ask w p) = Unit {0}
-MayHold x (Fence w s) = Unit {0}
 
 abbrev pub AllMayHold : State → List Event → Type 0
 AllMayHold x [] = Unit {0}

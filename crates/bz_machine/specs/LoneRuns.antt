@@ -1,12 +1,11 @@
--- A run of one worker alone: its starts and its steps, while no other worker does anything, and evictions, asks and fences at
--- any moment.
+-- A run of one worker alone: its starts and its steps, while no other worker does anything, and evictions at any moment.
 use Rattle.std.specs.Prelude.{◌≡◌, ◌≢◌, ℕ, ◌+◌, ◌<◌, ◌≤◌, List, [], ◌∷◌}
 use Rattle.bz_machine.specs.declared.place.Place.TheVariants.{Idle}
 use Rattle.bz_machine.specs.Allowed.{allowed, allowed_by_kind, allowed_by}
 use Rattle.bz_machine.specs.Budgets.{IsBounded}
 use Rattle.bz_machine.specs.Fronts.{Rises}
 use Rattle.bz_machine.specs.Sizes.{most_entries}
-use Rattle.bz_machine.specs.State.{State, Event, StartRead, StartStore, StartFlush, StartSwap, Act, Evict, EvictStatus, EvictField, Ask, Fence, happens, MayHappen}
+use Rattle.bz_machine.specs.State.{State, Event, StartRead, StartStore, StartFlush, StartSwap, Act, Evict, EvictStatus, EvictField, happens, MayHappen}
 
 -- worker w begins, or steps while it is not idle; a swap that it begins has at most four entries, whose targets rise
 abbrev pub IsLone : State → ℕ → Event → Type 0
@@ -18,8 +17,6 @@ IsLone x w (Act u) = (u ≡ w) × ((x.local w).place ≢ Idle)
 IsLone x w (Evict a) = Unit {0}
 IsLone x w (EvictStatus s) = Unit {0}
 IsLone x w (EvictField s k) = Unit {0}
-IsLone x w (Ask u p) = Unit {0}
-IsLone x w (Fence u s) = Unit {0}
 
 abbrev pub AreLone : State → ℕ → List Event → Type 0
 AreLone x w [] = Unit {0}

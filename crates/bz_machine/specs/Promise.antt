@@ -12,7 +12,7 @@ use Rattle.bz_machine.specs.Changes.{after_cut}
 use Rattle.bz_machine.specs.Content.{content, has_effect, TakesEffect, Quiet, NotesMiss}
 use Rattle.bz_machine.specs.Recovery.{IsRecoverable}
 use Rattle.bz_machine.specs.Steps.{effect_of}
-use Rattle.bz_machine.specs.State.{State, Event, StartRead, StartStore, StartFlush, StartSwap, Act, Evict, EvictStatus, EvictField, Ask, Fence, stepped, happens, MayHappen, IsRenewable, power_on, AllMayHappen, after_all}
+use Rattle.bz_machine.specs.State.{State, Event, StartRead, StartStore, StartFlush, StartSwap, Act, Evict, EvictStatus, EvictField, stepped, happens, MayHappen, IsRenewable, power_on, AllMayHappen, after_all}
 
 -- what is said of an effect is so: the one named takes effect, and where none is named nothing does
 abbrev pub EffectIs : (ℕ → Entries) → Memory → Memory → Option ℕ → Type 0
@@ -29,8 +29,6 @@ swap_at x (Act w) = (x.local w).current
 swap_at x (Evict a) = 0
 swap_at x (EvictStatus s) = s
 swap_at x (EvictField s k) = 0
-swap_at x (Ask w p) = 0
-swap_at x (Fence w s) = s
 
 abbrev pub effect_at : State → Event → Option ℕ
 effect_at x v = effect_of x.memory (happens x v).memory (swap_at x v)
@@ -57,8 +55,6 @@ AnswersRightly x (Act w) = IsAnswer x.entries (happens x (Act w)).memory (x.loca
 AnswersRightly x (Evict a) = Unit {0}
 AnswersRightly x (EvictStatus s) = Unit {0}
 AnswersRightly x (EvictField s k) = Unit {0}
-AnswersRightly x (Ask w p) = Unit {0}
-AnswersRightly x (Fence w s) = Unit {0}
 
 -- an act that gives a swap its effect answers nothing yet
 abbrev pub EndsLater : State → Event → Type 0
@@ -70,8 +66,6 @@ EndsLater x (Act w) = ((stepped x w).done ≡ Busy) ⊎ (effect_at x (Act w) ≡
 EndsLater x (Evict a) = Unit {0}
 EndsLater x (EvictStatus s) = Unit {0}
 EndsLater x (EvictField s k) = Unit {0}
-EndsLater x (Ask w p) = Unit {0}
-EndsLater x (Fence w s) = Unit {0}
 
 -- what one event does
 pub record IsAtomic (x : State) (v : Event) : Type 0 where

@@ -3,9 +3,9 @@ use Rattle.std.specs.Prelude.{◌≡◌, ℕ, Some, ◌^◌, ◌<◌, ◌≤◌}
 use Rattle.bz_word.specs.Kinds.{IsKind}
 use Rattle.bz_word.specs.declared.kind.WordKind.{WordKind}
 use Rattle.bz_machine.specs.declared.place.Place.{Place}
-use Rattle.bz_machine.specs.declared.place.Place.TheVariants.{Idle, Prepare, Learn, Help, ReadWord, FlushRead, ClearRead, LoadWord, StoreWord, FlushLine}
+use Rattle.bz_machine.specs.declared.place.Place.TheVariants.{Idle, Prepare, Learn, Help, ReadWord, AskRead, FenceRead, ClearRead, LoadWord, StoreWord, FlushLine}
 use Rattle.bz_machine.specs.declared.place.HelpStep.{HelpStep}
-use Rattle.bz_machine.specs.declared.place.HelpStep.TheVariants.{Look, InstallTag, LookUnderTag, InstallPointer, RemoveTag, FlushDirty, ClearDirty, FlushTarget, Decide, FlushStatus, ClearStatus, PutFinal, FlushFinal, ClearFinal, SweepTag}
+use Rattle.bz_machine.specs.declared.place.HelpStep.TheVariants.{Look, InstallTag, LookUnderTag, InstallPointer, RemoveTag, AskDirty, FenceDirty, ClearDirty, AskTarget, FenceTargets, Decide, AskStatus, FenceStatus, ClearStatus, PutFinal, AskFinal, FenceFinal, ClearFinal, SweepTag}
 use Rattle.bz_machine.specs.declared.place.Next.{Next}
 use Rattle.bz_machine.specs.declared.place.Next.TheVariants.{Step, Meet, Complete}
 use Rattle.bz_machine.specs.Pending.{Saved}
@@ -35,14 +35,18 @@ StepInRange (InstallTag i) = Unit {0}
 StepInRange (LookUnderTag i w q) = IsTagger w q
 StepInRange (InstallPointer i w q) = IsTagger w q
 StepInRange (RemoveTag i w q) = IsTagger w q
-StepInRange (FlushDirty i v) = v < 2 ^ 61
+StepInRange (AskDirty i v) = v < 2 ^ 61
+StepInRange (FenceDirty i v) = v < 2 ^ 61
 StepInRange (ClearDirty i v) = v < 2 ^ 61
-StepInRange (FlushTarget i) = Unit {0}
+StepInRange (AskTarget i) = Unit {0}
+StepInRange FenceTargets = Unit {0}
 StepInRange (Decide d) = Unit {0}
-StepInRange (FlushStatus d) = Unit {0}
+StepInRange (AskStatus d) = Unit {0}
+StepInRange (FenceStatus d) = Unit {0}
 StepInRange (ClearStatus d) = Unit {0}
 StepInRange (PutFinal i d) = Unit {0}
-StepInRange (FlushFinal i d) = Unit {0}
+StepInRange (AskFinal i d) = Unit {0}
+StepInRange (FenceFinal i d) = Unit {0}
 StepInRange (ClearFinal i d) = Unit {0}
 StepInRange (SweepTag i d w q) = IsTagger w q
 
@@ -57,7 +61,8 @@ PlaceInRange (Prepare step) = Unit {0}
 PlaceInRange (Learn k) = Unit {0}
 PlaceInRange (Help step) = StepInRange step
 PlaceInRange (ReadWord a) = Unit {0}
-PlaceInRange (FlushRead a v) = v < 2 ^ 61
+PlaceInRange (AskRead a v) = v < 2 ^ 61
+PlaceInRange (FenceRead a v) = v < 2 ^ 61
 PlaceInRange (ClearRead a v) = v < 2 ^ 61
 PlaceInRange (LoadWord a) = Unit {0}
 PlaceInRange (StoreWord a v) = v < 2 ^ 61

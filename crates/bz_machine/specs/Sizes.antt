@@ -12,3 +12,7 @@ descriptor_words = 13
 -- the workers, at most: those that swap, and the one that recovers
 abbrev pub most_workers : ℕ
 most_workers = 65
+
+-- the words of a descriptor's two lines after its status
+abbrev pub line_fields : ℕ
+line_fields = 15

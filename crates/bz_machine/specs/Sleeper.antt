@@ -16,11 +16,11 @@ way_back = record { count = 1; target = λ i. 100; expected = λ i. 7; value = �
 
 -- worker 1 puts its tag for swap 0; worker 2 reads, meets the tag, learns the swap and sees it undecided
 abbrev pub asleep : List Event
-asleep = (StartSwap 1 one_entry (λ a. a == 100) ∷ replicate 8 (Act 1)) ++ (StartRead 2 100 ∷ replicate 8 (Act 2))
+asleep = (StartSwap 1 one_entry (λ a. a == 100) ∷ replicate 9 (Act 1)) ++ (StartRead 2 100 ∷ replicate 8 (Act 2))
 
 -- worker 1 completes swap 0 and makes swap 1, the way back
 abbrev pub meanwhile : List Event
-meanwhile = replicate 9 (Act 1) ++ (StartSwap 1 way_back (λ a. a == 100) ∷ replicate 17 (Act 1))
+meanwhile = replicate 12 (Act 1) ++ (StartSwap 1 way_back (λ a. a == 100) ∷ replicate 21 (Act 1))
 
 -- one more effect, if there is one
 abbrev with_effect : Option ℕ → List ℕ → List ℕ

@@ -7,6 +7,7 @@ use Rattle.bz_machine.specs.declared.status.SwapStatus.TheVariants.{Free, Undeci
 use Rattle.bz_machine.specs.declared.status.Verdict.{Verdict}
 use Rattle.bz_machine.specs.declared.status.Verdict.TheVariants.{Failed}
 use Rattle.bz_machine.specs.Pending.{Saved, Pending, IsPast}
+use Rattle.bz_machine.specs.Sizes.{most_entries}
 use Rattle.bz_machine.specs.Machine.{Entries, Memory, spelled, is_verdict, is_succeeded, resolve, MayLast, StatusMayLast, FieldMayLast}
 
 -- the second status is the first or one before it: undecided, decided with the dirty bit, decided
@@ -47,6 +48,10 @@ IsPlain (Tag s i w q) = ⊥
 -- the targets of a swap differ: each address has one entry
 abbrev pub AreApart : (ℕ → Entries) → Type 0
 AreApart e = (s i : ℕ) → i < (e s).count → (e s).index ((e s).target i) ≡ i
+
+-- each swap has at most four entries
+abbrev pub AreShort : (ℕ → Entries) → Type 0
+AreShort e = (s : ℕ) → (e s).count ≤ most_entries
 
 -- an address is a target of a published swap
 pub record IsTarget (e : ℕ → Entries) (published : ℕ → Bool) (s a : ℕ) : Type 0 where

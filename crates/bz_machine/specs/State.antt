@@ -1,15 +1,16 @@
 -- The whole machine, what happens to it, and its invariant.
-use Rattle.std.specs.Prelude.{◌≡◌, ◌≢◌, ℕ, ◌<◌, ◌==◌, Bool, true, false, List, [], ◌∷◌, None}
+use Rattle.std.specs.Prelude.{◌≡◌, ◌≢◌, ℕ, ◌<◌, ◌≤◌, ◌==◌, Bool, true, false, List, [], ◌∷◌, None}
 use Rattle.bz_machine.specs.declared.status.SwapStatus.TheVariants.{Free}
 use Rattle.bz_machine.specs.declared.place.Place.TheVariants.{Idle, Prepare, ReadWord, StoreWord, FlushLine}
 use Rattle.bz_machine.specs.declared.place.PrepareStep.TheVariants.{WriteWord}
 use Rattle.bz_machine.specs.declared.worker.Operation.TheVariants.{Nothing, Reading, Swapping}
 use Rattle.bz_word.specs.declared.kind.WordKind.{WordKind}
 use Rattle.bz_machine.specs.Machine.{Entries, Memory, MayLast, spelled}
-use Rattle.bz_machine.specs.Changes.{put, with_copies, with_durable_status, with_durable_fields, Lines, with_ask, fenced, with_taken, no_entries, renewed}
-use Rattle.bz_machine.specs.Sound.{AreApart, IsPlain, Sound}
+use Rattle.bz_machine.specs.Changes.{put, with_copies, with_durable_status, with_durable_fields, with_taken, no_entries, renewed}
+use Rattle.bz_machine.specs.Sizes.{most_entries}
+use Rattle.bz_machine.specs.Sound.{AreApart, AreShort, IsPlain, Sound}
 use Rattle.bz_machine.specs.Steps.{Local, Stepped, act}
-use Rattle.bz_machine.specs.Knows.{Knows}
+use Rattle.bz_machine.specs.Knows.{Knows, AsksAtHome}
 
 -- what each swap is to do, the memory, and each worker
 pub record State : Type 0 where
@@ -27,10 +28,6 @@ pub data Event : Type 0 where
   Evict : (a : ℕ) → Event
   EvictStatus : (s : ℕ) → Event
   EvictField : (s k : ℕ) → Event
-  -- worker w asks for these words
-  Ask : (w : ℕ) (p : Lines) → Event
-  -- worker w, which has asked for the status of no swap but s, fences
-  Fence : (w s : ℕ) → Event
 
 -- the state with another worker w
 abbrev pub with_local : State → ℕ → Local → State
@@ -59,13 +56,12 @@ happens x (Act w) = record { entries = x.entries; memory = (stepped x w).memory;
 happens x (Evict a) = with_memory x (with_copies x.memory (λ b. b == a))
 happens x (EvictStatus s) = with_memory x (with_durable_status x.memory s)
 happens x (EvictField s k) = with_memory x (with_durable_fields x.memory s (λ j. j == k))
-happens x (Ask w p) = with_memory x (with_ask x.memory w p)
-happens x (Fence w s) = with_memory x (fenced x.memory w)
 
--- entries of a swap that worker w may begin: they have targets of their own, which the test names, and on none of
+-- entries of a swap that worker w may begin: they are at most four and have targets of their own, which the test names, and on none of
 -- them does a private store stand unflushed or unfenced, or wait to be made
 pub record MaySwap (x : State) (new : Entries) (targets : ℕ → Bool) : Type 0 where
   pub some : 0 < new.count
+  pub few : new.count ≤ most_entries
   pub apart : (i : ℕ) → i < new.count → new.index (new.target i) ≡ i
   pub told : (i : ℕ) → i < new.count → targets (new.target i) ≡ true
   pub flushed : (a : ℕ) (y : WordKind) → targets a ≡ true → x.memory.named a ≡ false → MayLast x.memory a y → y ≡ x.memory.cached a
@@ -81,14 +77,14 @@ MayHappen x (Act w) = Unit {0}
 MayHappen x (Evict a) = Unit {0}
 MayHappen x (EvictStatus s) = Unit {0}
 MayHappen x (EvictField s k) = Unit {0}
-MayHappen x (Ask w p) = Unit {0}
-MayHappen x (Fence w s) = (t : ℕ) → t ≢ s → (x.memory.status_pending t).asked w ≡ None
 
 -- the invariant
 pub record IsState (x : State) : Type 0 where
   pub apart : AreApart x.entries
+  pub short : AreShort x.entries
   pub sound : Sound x.entries x.memory
   pub knows : (w : ℕ) → Knows x.entries x.memory w (x.local w)
+  pub home : (w : ℕ) → AsksAtHome x.memory w (x.local w)
 
 -- a list of events that may happen one after the other, and the state after them
 abbrev pub AllMayHappen : State → List Event → Type 0

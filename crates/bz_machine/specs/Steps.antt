@@ -8,9 +8,9 @@ use Rattle.bz_machine.specs.declared.status.SwapStatus.TheVariants.{Undecided}
 use Rattle.bz_machine.specs.declared.status.Verdict.{Verdict}
 use Rattle.bz_machine.specs.declared.status.Verdict.TheVariants.{Succeeded, Failed}
 use Rattle.bz_machine.specs.declared.place.Place.{Place}
-use Rattle.bz_machine.specs.declared.place.Place.TheVariants.{Idle, Prepare, Learn, Help, ReadWord, FlushRead, ClearRead, LoadWord, StoreWord, FlushLine}
+use Rattle.bz_machine.specs.declared.place.Place.TheVariants.{Idle, Prepare, Learn, Help, ReadWord, AskRead, FenceRead, ClearRead, LoadWord, StoreWord, FlushLine}
 use Rattle.bz_machine.specs.declared.place.PrepareStep.{PrepareStep}
-use Rattle.bz_machine.specs.declared.place.PrepareStep.TheVariants.{WriteWord, WriteStatus, FlushHead, FlushTail}
+use Rattle.bz_machine.specs.declared.place.PrepareStep.TheVariants.{WriteWord, WriteStatus, AskHead, AskTail, FenceDescriptor}
 use Rattle.bz_machine.specs.declared.place.HelpStep.TheVariants.{Look, InstallTag}
 use Rattle.bz_machine.specs.declared.place.Next.{Next}
 use Rattle.bz_machine.specs.declared.place.Next.TheVariants.{Step, Meet, Complete}
@@ -19,7 +19,7 @@ use Rattle.bz_machine.specs.declared.worker.Operation.TheVariants.{Nothing, Read
 use Rattle.bz_machine.specs.declared.done.Done.{Done}
 use Rattle.bz_machine.specs.declared.done.Done.TheVariants.{Busy, Read, Swapped, Stored, Flushed}
 use Rattle.bz_machine.specs.Machine.{Memory, entries_in, is_succeeded}
-use Rattle.bz_machine.specs.Changes.{put, with_word, with_copies, in_line, with_status, with_field, with_durable_head, with_published, with_answer}
+use Rattle.bz_machine.specs.Changes.{put, with_word, with_copies, with_status, with_field, with_published, with_answer, line_of, head_of, tail_of, with_ask, fenced}
 use Rattle.bz_machine.specs.HelpActs.{cleared_word, help_act}
 
 -- one worker, but for the number of its next tag: what it comes back to, where its next act is due, the swap that
@@ -92,27 +92,29 @@ learnt m l k =
     }
 
 -- an act on the descriptor of the own swap, which is the current one
-abbrev pub prepare_act : Memory → Local → PrepareStep → Stepped
-prepare_act m l (WriteWord k) = goes_on (with_field m l.current k (l.list k)) l (Prepare (if k == 3 * l.list 0 then WriteStatus else WriteWord (k + 1)))
-prepare_act m l WriteStatus = goes_on (with_status m l.current Undecided) l (Prepare FlushHead)
-prepare_act m l FlushHead = goes_on (with_durable_head m l.current) l (Prepare FlushTail)
-prepare_act m l FlushTail = goes_on (with_published m l.current) l (Help (InstallTag 0))
+abbrev pub prepare_act : Memory → ℕ → Local → PrepareStep → Stepped
+prepare_act m w l (WriteWord k) = goes_on (with_field m l.current k (l.list k)) l (Prepare (if k == 3 * l.list 0 then WriteStatus else WriteWord (k + 1)))
+prepare_act m w l WriteStatus = goes_on (with_status m l.current Undecided) l (Prepare AskHead)
+prepare_act m w l AskHead = goes_on (with_ask m w (head_of l.current)) l (Prepare AskTail)
+prepare_act m w l AskTail = goes_on (with_ask m w (tail_of l.current)) l (Prepare FenceDescriptor)
+prepare_act m w l FenceDescriptor = goes_on (with_published m w l.current) l (Help (InstallTag 0))
 
 -- the load of the word that is read: a plain value is the answer
 abbrev pub read_act : Memory → Local → ℕ → WordKind → Stepped
 read_act m l a (Value v) = answers m l (Read v)
-read_act m l a (Dirty v) = goes_on m l (FlushRead a v)
+read_act m l a (Dirty v) = goes_on m l (AskRead a v)
 read_act m l a (Swap t) = record { memory = m; local = helping l t None; done = Busy }
 read_act m l a (Tag t i w q) = record { memory = m; local = helping l t None; done = Busy }
 
 -- one act of worker w
 abbrev pub act : Memory → ℕ → Local → Place → Stepped
 act m w l Idle = goes_on m l Idle
-act m w l (Prepare step) = prepare_act m l step
+act m w l (Prepare step) = prepare_act m w l step
 act m w l (Learn k) = learnt m l k
 act m w l (Help step) = after_help l (help_act (entries_in l.list) m w l.current step).memory (help_act (entries_in l.list) m w l.current step).next
 act m w l (ReadWord a) = read_act m l a (m.cached a)
-act m w l (FlushRead a v) = goes_on (with_copies m (in_line a)) l (ClearRead a v)
+act m w l (AskRead a v) = goes_on (with_ask m w (line_of a)) l (FenceRead a v)
+act m w l (FenceRead a v) = goes_on (fenced m w) l (ClearRead a v)
 act m w l (ClearRead a v) = goes_on (cleared_word m a v (m.cached a)) l (ReadWord a)
 act m w l (LoadWord a) = answers m l (Read (word (m.cached a)))
 act m w l (StoreWord a v) = answers (with_word m a (Value v)) l Stored

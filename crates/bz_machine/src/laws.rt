@@ -98,7 +98,7 @@ pub fn starts_add_by_kind()
     ensures { StartsAddByKind }
 {}
 
-/// No eviction, ask or fence changes a budget.
+/// No eviction changes a budget.
 pub fn evictions_keep_budgets()
     ensures { EvictionsKeepBudgets }
 {}

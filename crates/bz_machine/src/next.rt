@@ -17,7 +17,7 @@ pub fn passed(count: u8, entry: u8) -> HelpStep
     ensures { (x : Entries) → x.count ≡ count → result ≡ passed_by x entry }
 {
     if entry + 1 == count {
-        HelpStep::FlushTarget(0)
+        HelpStep::AskTarget(0)
     } else {
         HelpStep::InstallTag(entry + 1)
     }
@@ -45,7 +45,7 @@ pub fn by_status(found: SwapStatus) -> HelpStep
     match found {
         SwapStatus::Free => HelpStep::InstallTag(0),
         SwapStatus::Undecided => HelpStep::InstallTag(0),
-        SwapStatus::Deciding(verdict) => HelpStep::FlushStatus(verdict),
+        SwapStatus::Deciding(verdict) => HelpStep::AskStatus(verdict),
         SwapStatus::Decided(verdict) => HelpStep::PutFinal { entry: 0, verdict },
     }
 }
@@ -84,7 +84,7 @@ pub fn after_install_tag(
     match found {
         WordKind::Value(value) if value == expected => { look_under(entry, worker, seq) }
         WordKind::Value(_) => Next::Step(HelpStep::Decide(Verdict::Failed)),
-        WordKind::Dirty(value) => Next::Step(HelpStep::FlushDirty { entry, value }),
+        WordKind::Dirty(value) => Next::Step(HelpStep::AskDirty { entry, value }),
         WordKind::Swap(other) if other == swap => Next::Step(passed(count, entry)),
         WordKind::Swap(other) => Next::Meet(other),
         WordKind::Tag {
@@ -109,7 +109,7 @@ pub fn after_put_final(swap: u16, count: u8, entry: u8, verdict: Verdict, found:
 {
     match found {
         WordKind::Swap(other) if other == swap => {
-            Next::Step(HelpStep::FlushFinal { entry, verdict })
+            Next::Step(HelpStep::AskFinal { entry, verdict })
         }
         WordKind::Tag {
             swap: other,

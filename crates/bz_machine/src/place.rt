@@ -17,8 +17,10 @@ pub enum Place {
     Help(HelpStep),
     /// Load the word at the address that is read.
     ReadWord(u32),
-    /// Flush the line of the address that is read, whose word was dirty.
-    FlushRead { address: u32, value: u64 },
+    /// Ask for the line of the address that is read, whose word was dirty.
+    AskRead { address: u32, value: u64 },
+    /// Fence, so that the value is durable.
+    FenceRead { address: u32, value: u64 },
     /// Change the dirty value at the address that is read to the plain one.
     ClearRead { address: u32, value: u64 },
     /// Load a word as it is: worker 0, in a recovery time.
@@ -36,10 +38,12 @@ pub enum PrepareStep {
     WriteWord(u8),
     /// Store the status: undecided.
     WriteStatus,
-    /// Flush the descriptor's first line, which holds the status.
-    FlushHead,
-    /// Flush its second line. Then the swap is published.
-    FlushTail,
+    /// Ask for the descriptor's first line, which holds the status.
+    AskHead,
+    /// Ask for its second line.
+    AskTail,
+    /// Fence, so that both are durable. Then the swap is published.
+    FenceDescriptor,
 }
 
 /// What is due on a published swap. Entries count from 0. A tag is named by its worker and this worker's
@@ -68,8 +72,13 @@ pub enum HelpStep {
         worker: u8,
         seq: u64,
     },
-    /// Flush the target's line, since a dirty value stands there.
-    FlushDirty {
+    /// Ask for the target's line, since a dirty value stands there.
+    AskDirty {
+        entry: u8,
+        value: u64,
+    },
+    /// Fence, so that the value is durable.
+    FenceDirty {
         entry: u8,
         value: u64,
     },
@@ -78,12 +87,16 @@ pub enum HelpStep {
         entry: u8,
         value: u64,
     },
-    /// Flush the line of a target, once all pointers stand.
-    FlushTarget(u8),
+    /// Ask for the line of a target, once all pointers stand.
+    AskTarget(u8),
+    /// Fence, so that the pointers are durable.
+    FenceTargets,
     /// Compare-and-swap the status from undecided to the verdict, with the dirty bit.
     Decide(Verdict),
-    /// Flush the descriptor's first line, and with it the verdict.
-    FlushStatus(Verdict),
+    /// Ask for the descriptor's first line, and with it for the verdict.
+    AskStatus(Verdict),
+    /// Fence, so that the verdict is durable.
+    FenceStatus(Verdict),
     /// Compare-and-swap the dirty bit of the status away.
     ClearStatus(Verdict),
     /// Compare-and-swap the pointer to the value that the verdict leaves, with the dirty bit.
@@ -91,8 +104,13 @@ pub enum HelpStep {
         entry: u8,
         verdict: Verdict,
     },
-    /// Flush the line of that value.
-    FlushFinal {
+    /// Ask for the line of that value.
+    AskFinal {
+        entry: u8,
+        verdict: Verdict,
+    },
+    /// Fence, so that the value is durable.
+    FenceFinal {
         entry: u8,
         verdict: Verdict,
     },
@@ -126,34 +144,34 @@ impl PrepareStep {
     pub fn is_flush(&self) -> bool
         ensures { result ≡ prepares_by_flush self.now }
     {
-        matches!(self, PrepareStep::FlushHead | PrepareStep::FlushTail)
+        matches!(self, PrepareStep::FenceDescriptor)
     }
 }
 
 impl HelpStep {
-    /// Whether the act is a flush.
+    /// Whether the act is a fence.
     pub fn is_flush(&self) -> bool
         ensures { result ≡ helps_by_flush self.now }
     {
         matches!(
             self,
-            HelpStep::FlushDirty { .. }
-                | HelpStep::FlushTarget(_)
-                | HelpStep::FlushStatus(_)
-                | HelpStep::FlushFinal { .. }
+            HelpStep::FenceDirty { .. }
+                | HelpStep::FenceTargets
+                | HelpStep::FenceStatus(_)
+                | HelpStep::FenceFinal { .. }
         )
     }
 }
 
 impl Place {
-    /// Whether the act that is due is a flush.
+    /// Whether the act that is due is a flush or a fence.
     pub fn is_flush(&self) -> bool
         ensures { result ≡ flushes self.now }
     {
         match self {
             Place::Prepare(step) => step.is_flush(),
             Place::Help(step) => step.is_flush(),
-            Place::FlushRead { .. } | Place::FlushLine(_) => true,
+            Place::FenceRead { .. } | Place::FlushLine(_) => true,
             _ => false,
         }
     }

@@ -1,19 +1,14 @@
--- How many acts a memory counts before each moment, since the last cut, and that moments of one count have the same words.
+-- How many asks a memory counts before each moment, since the last cut.
 use Rattle.std.proofs.Common.{◌≡◌, ◌<◌, ◌≤◌, ◌+◌, if◌then◌else◌, ℕ, List, [], ◌∷◌, length, refl, sym, ap, ◌∙◌, inl, inr, arith}
 use Rattle.std.specs.Prelude.{nat_lt}
 use Rattle.std.proofs.lemmas.Bool.{cases_lt}
 use Rattle.bz_mark.specs.declared.marks.Mark.{Mark}
-use Rattle.bz_mark.specs.declared.marks.Mark.TheVariants.{Store, Cas, Flush, Ask, Fence, Cut}
-use Rattle.bz_mark.specs.Dates.{cached_at}
-use Rattle.bz_mark.proofs.DateLaws.{IsNoCut, before_it, after_it, changed, cached-before, cached-now}
+use Rattle.bz_mark.specs.declared.marks.Mark.TheVariants.{Ask, Cut}
+use Rattle.bz_mark.proofs.DateLaws.{IsNoCut, before_it, after_it}
 
 -- a mark that a memory counts
 abbrev pub counts : Mark → ℕ
-counts (Store w a v) = 1
-counts (Cas w a old new found) = 1
-counts (Flush w line) = 1
 counts (Ask w line) = 1
-counts (Fence w) = 1
 counts mark = 0
 
 -- how many it counts up to a moment from the last cut on
@@ -49,6 +44,10 @@ pub counted-now : (mark : Mark) (past : List Mark) → IsNoCut mark → counted 
 counted-now mark past go =
     counted-after mark past (length (mark ∷ past)) go (omega arith) ∙ ap (λ (n : ℕ). n + counts mark) (counted-beyond past (length (mark ∷ past)) (omega arith))
 
+pub counted-newest : (mark : Mark) (past : List Mark) → IsNoCut mark → counted (mark ∷ past) (length past + 1) ≡ counted past (length past) + counts mark
+counted-newest mark past go =
+    counted-after mark past (length past + 1) go (omega arith) ∙ ap (λ (n : ℕ). n + counts mark) (counted-beyond past (length past + 1) (omega arith))
+
 -- the count never falls
 pub counted-rises : (past : List Mark) (x y : ℕ) → x ≤ y → counted past x ≤ counted past y
 counted-rises [] x y h = omega arith
@@ -62,11 +61,7 @@ counted-rises (mark ∷ past) x y h = elim (cases_lt (length past) x) [
 ]
 
 one_or_none : (mark : Mark) → counts mark ≤ 1
-one_or_none (Store w a v) = omega arith
-one_or_none (Cas w a old new found) = omega arith
-one_or_none (Flush w line) = omega arith
 one_or_none (Ask w line) = omega arith
-one_or_none (Fence w) = omega arith
 one_or_none mark = omega arith
 
 -- and is at most the number of marks
@@ -74,33 +69,3 @@ pub counted-few : (past : List Mark) → counted past (length past) ≤ length p
 counted-few [] = omega arith
 counted-few (Cut ∷ past) = omega arith
 counted-few (mark ∷ past) = rw (counted-now mark past tt) (omega (arith, counted-few past, one_or_none mark))
-
--- a mark that is not counted changes no cached word
-quiet : (mark : Mark) (a x : ℕ) → counts mark ≡ 0 → changed mark a x ≡ x
-quiet (Store w b v) a x none = absurd (omega arith)
-quiet (Cas w b old new found) a x none = absurd (omega arith)
-quiet mark a x none = refl
-
--- moments from the last cut on with one count have the same cached words
-pub counted-same : (start : List ℕ) (past : List Mark) (x y a : ℕ) → cut_at past ≤ x → x ≤ y → y ≤ length past → counted past x ≡ counted past y → cached_at start past x a ≡ cached_at start past y a
-counted-same start [] x y a cut h within same = refl
-counted-same start (Cut ∷ past) x y a cut h within same = ap (λ (k : ℕ). cached_at start (Cut ∷ past) k a) (omega arith)
-counted-same start (mark ∷ past) x y a cut h within same = elim (cases_lt (length past) y) [
-  | inr below ↦
-      cached-before start mark past x a (omega arith)
-      ∙ counted-same start past x y a cut h below (sym (counted-before mark past x tt (omega arith)) ∙ same ∙ counted-before mark past y tt below)
-      ∙ sym (cached-before start mark past y a below)
-  | inl last ↦ elim (cases_lt (length past) x) [
-    | inl both ↦ ap (λ (k : ℕ). cached_at start (mark ∷ past) k a) (omega arith)
-    | inr low ↦
-        let now : y ≡ length (mark ∷ past) = omega arith in
-        let total : counted past x ≡ counted past (length past) + counts mark =
-        sym (counted-before mark past x tt low) ∙ same ∙ ap (counted (mark ∷ past)) now ∙ counted-now mark past tt in
-        let rises = counted-rises past x (length past) low in
-        cached-before start mark past x a low
-        ∙ counted-same start past x (length past) a cut low (omega arith) (omega arith)
-        ∙ sym (quiet mark a (cached_at start past (length past) a) (omega arith))
-        ∙ sym (cached-now start mark past a tt)
-        ∙ ap (λ (k : ℕ). cached_at start (mark ∷ past) k a) (sym now)
-  ]
-]

@@ -18,8 +18,8 @@ use Rattle.bz_mark.specs.Dates.{asked, since, cached_at}
 use Rattle.bz_mark.specs.WordsAfter.{state_after, state_after_marks}
 use Rattle.bz_mark.specs.Laws.{IsImage, IsOfMemory, AreOfMemory, WordsAreByMoments}
 use Rattle.bz_mark.proofs.DateLaws.{IsNoCut, changed, cached-before, cached-now, cached-cut, asked-within, since-within}
-use Rattle.bz_mark.proofs.Counting.{counts, counted, cut_at, counted-before, counted-now, counted-rises, counted-same}
-use Rattle.bz_mark.proofs.Joining.{AskIs, Joins, state-by, counted_one, AskIs-later, stays_so, word-in, few_acts, store_joins, cas_joins}
+use Rattle.bz_mark.proofs.Counting.{counts, counted, cut_at, counted-before, counted-now, counted-newest, counted-rises}
+use Rattle.bz_mark.proofs.Joining.{AskIs, DateIs, DateIs-later, Joins, state-by, counted_one, AskIs-later, stays_so, word-in, few_asks, store_joins, cas_joins}
 
 cut-within : (past : List Mark) → cut_at past ≤ length past
 cut-within [] = omega arith
@@ -38,12 +38,13 @@ record Settles (start : List ℕ) (past : List Mark) (mark : Mark) (here : ℕ �
   since : (a : ℕ) → since (mark ∷ past) a ≡ (if here a then length past else since past a)
   asked : (w line : ℕ) → asked (mark ∷ past) w line ≡ asked past w line
   stays : StaysMemory m.words n.words
-  acts : n.acts ≡ m.acts + counts mark
+  none : counts mark ≡ 0
+  count : n.count ≡ m.count
   quiet : (a x : ℕ) → x ≡ changed mark a x
   cached : (a : ℕ) → slice_index n.words.cached a ≡ slice_index m.words.cached a
   durable : (a : ℕ) → slice_index n.words.durable a ≡ (if here a then slice_index m.words.cached a else slice_index m.words.durable a)
   long : length n.since ≡ length m.since
-  moments : (a : ℕ) → a < length m.since → slice_index n.since a ≡ (if here a then m.acts else slice_index m.since a)
+  moments : (a : ℕ) → a < length m.since → slice_index n.since a ≡ (if here a then m.count else slice_index m.since a)
   same_asks : n.asks ≡ m.asks
 
 -- a value of each word by whether it is made durable
@@ -59,19 +60,22 @@ least_here : (t : Bool) (x y n : ℕ) → n ≤ x → n ≤ y → n ≤ (if t th
 least_here true x y n p q = p
 least_here false x y n p q = q
 
-settled_past : (start : List ℕ) (past : List Mark) (mark : Mark) (here : ℕ → Bool) (m n : State) → IsState m → Settles start past mark here m n → (a : ℕ) → slice_index n.since a ≤ n.acts
+settled_past : (start : List ℕ) (past : List Mark) (mark : Mark) (here : ℕ → Bool) (m n : State) → IsState m → Settles start past mark here m n → (a : ℕ) → slice_index n.since a ≤ n.count
 settled_past start past mark here m n i v a = elim (cases_lt a (length m.since)) [
-  | inl within ↦ rw (v.moments a within) (most_here (here a) m.acts (slice_index m.since a) n.acts (omega (arith, v.acts)) (omega (arith, i.past a, v.acts)))
+  | inl within ↦ rw (v.moments a within) (most_here (here a) m.count (slice_index m.since a) n.count (omega (arith, v.count)) (omega (arith, i.past a, v.count)))
   | inr beyond ↦ rw (get_or_past n.since a 0 (omega (arith, v.long))) (omega arith)
 ]
 
+plus_none : (n : ℕ) → n + 0 ≡ n
+plus_none n = omega arith
+
 settled_joins : (start : List ℕ) (past : List Mark) (mark : Mark) (here : ℕ → Bool) (m n : State) → Joins start past m → Settles start past mark here m n → Joins start (mark ∷ past) n
 settled_joins start past mark here m n j v = record {
-  state = state-by m n j.state v.stays v.long (settled_past start past mark here m n j.state v) (omega (arith, v.acts)) v.same_asks;
+  state = state-by m n j.state v.stays v.long (settled_past start past mark here m n j.state v) (omega (arith, v.count)) v.same_asks;
   fit = v.stays.fit j.fit;
   size = v.stays.durable ∙ j.size;
   workers = ap (length {A = List Ask}) v.same_asks ∙ j.workers;
-  acts = v.acts ∙ ap (λ (n : ℕ). n + counts mark) j.acts ∙ sym (counted-now mark past v.no_cut);
+  count = v.count ∙ j.count ∙ sym (counted-now mark past v.no_cut ∙ ap (λ (k : ℕ). counted past (length past) + k) v.none ∙ plus_none (counted past (length past)));
   dated = λ a. rw (v.cut, v.since a) (least_here (here a) (length past) (since past a) (cut_at past) (cut-within past) (j.dated a));
   cached = λ a within. v.cached a ∙ j.cached a within ∙ v.quiet a (cached_at start past (length past) a) ∙ sym (cached-now start mark past a v.no_cut);
   durable = λ a within. rw (v.durable a, v.since a)
@@ -79,9 +83,9 @@ settled_joins start past mark here m n j v = record {
       (j.cached a within ∙ sym (cached-before start mark past (length past) a (omega arith)))
       (j.durable a within ∙ sym (cached-before start mark past (since past a) a (since-within past a))));
   moments = λ a within. rw (v.moments a (omega (arith, j.state.dated, j.size)), v.since a)
-      (by_here (here a) (λ (date moment : ℕ). date ≡ counted (mark ∷ past) moment) m.acts (slice_index m.since a) (length past) (since past a)
-      (j.acts ∙ sym (counted-before mark past (length past) v.no_cut (omega arith)))
-      (j.moments a within ∙ sym (counted-before mark past (since past a) v.no_cut (since-within past a))));
+      (by_here (here a) (λ (date moment : ℕ). DateIs (mark ∷ past) moment date) m.count (slice_index m.since a) (length past) (since past a)
+      (inl (omega arith, omega (arith, j.count, v.none, counted-newest mark past v.no_cut)))
+      (DateIs-later mark past (since past a) (slice_index m.since a) v.no_cut v.cut (j.moments a within)));
   asks = λ w line few. subst (λ (all : List (List Ask)). AskIs start (mark ∷ past) w line (ask_for (get_or all w []) line)) (sym v.same_asks)
       (AskIs-later start mark past w line (ask_for (asks_of m w) line) v.no_cut v.cut (v.asked w line) (j.asks w line few));
 }
@@ -89,8 +93,8 @@ settled_joins start past mark here m n j v = record {
 flush_joins : (start : List ℕ) (past : List Mark) (m : State) (w line : ℕ) → Joins start past m → length past < 2 ^ 64 - 1 → line * 8 < length start → Joins start (Flush w line ∷ past) (state_after m (Flush w line))
 flush_joins start past m w line j few within =
     let f : FlushesOnly m.words (flushed m.words line) line = memory.flush m.words line j.state.memory (word-in start past m (line * 8) j within) in
-    let now : List ℕ = replicate (length m.since) m.acts in
-    let long : length now ≡ length m.since = length-replicate (length m.since) m.acts in
+    let now : List ℕ = replicate (length m.since) m.count in
+    let long : length now ≡ length m.since = length-replicate (length m.since) m.count in
     let here : line * 8 < length now = omega (arith, long, j.state.dated, j.size) in
     let whole : length m.since % 8 ≡ 0 = rw j.state.dated j.state.memory.lines in
     settled_joins start past (Flush w line) (λ a. a / 8 == line) m (state_after m (Flush w line)) j (record {
@@ -99,12 +103,13 @@ flush_joins start past m w line j few within =
       since = λ a. refl;
       asked = λ u other. refl;
       stays = f.stays;
-      acts = counted_one m.acts (few_acts start past m j few);
+      none = refl;
+      count = refl;
       quiet = λ a x. refl;
       cached = f.cached;
       durable = f.durable;
       long = length-with_line line now m.since here long whole;
-      moments = λ a inside. word-with_line line now m.since a here long whole ∙ ap (λ (date : ℕ). if a / 8 == line then date else slice_index m.since a) (get_or-replicate (length m.since) a m.acts 0 inside);
+      moments = λ a inside. word-with_line line now m.since a here long whole ∙ ap (λ (date : ℕ). if a / 8 == line then date else slice_index m.since a) (get_or-replicate (length m.since) a m.count 0 inside);
       same_asks = refl;
     })
 
@@ -129,12 +134,13 @@ evict_joins start past m b j within =
       since = λ a. refl;
       asked = λ u line. refl;
       stays = e.stays;
-      acts = omega arith;
+      none = refl;
+      count = refl;
       quiet = λ a x. refl;
       cached = e.cached;
       durable = e.durable;
-      long = length-set m.since b m.acts;
-      moments = λ a inside. set_word m.since b m.acts a (omega (arith, j.state.dated, j.size));
+      long = length-set m.since b m.count;
+      moments = λ a inside. set_word m.since b m.count a (omega (arith, j.state.dated, j.size));
       same_asks = refl;
     })
 
@@ -145,25 +151,27 @@ line_word words line k low = get_or-take 8 (drop (line * 8) words) k 0 low ∙ g
 ask_joins : (start : List ℕ) (past : List Mark) (m : State) (w line : ℕ) → Joins start past m → length past < 2 ^ 64 - 1 → w ≤ MAX_WORKERS → line * 8 < length start
     → Joins start (Asks w line ∷ past) (state_after m (Asks w line))
 ask_joins start past m w line j few worker within =
-    let acts = few_acts start past m j few in
+    let acts = few_asks start past m j few in
     let q : AsksOnly m (after_ask m w line) w line = memory.ask m w line j.state j.fit (omega (arith, acts)) (omega (arith, j.workers)) (word-in start past m (line * 8) j within) in
     record {
       state = q.state;
       fit = j.fit;
       size = j.size;
       workers = length-set m.asks w _ ∙ j.workers;
-      acts = counted_one m.acts acts ∙ ap (λ (n : ℕ). n + 1) j.acts ∙ sym (counted-now (Asks w line) past tt);
+      count = counted_one m.count acts ∙ ap (λ (n : ℕ). n + 1) j.count ∙ sym (counted-now (Asks w line) past tt);
       dated = j.dated;
       cached = λ a inside. j.cached a inside ∙ sym (cached-now start (Asks w line) past a tt);
       durable = j.durable;
-      moments = λ a inside. j.moments a inside ∙ sym (counted-before (Asks w line) past (since past a) tt (since-within past a));
+      moments = λ a inside. DateIs-later (Asks w line) past (since past a) (slice_index m.since a) tt refl (j.moments a inside);
       asks = λ u other small. subst (AskIs start (Asks w line ∷ past) u other) (sym (q.asks u other)) (elim (cases_eq u w) [
         | inr ne ↦ rw (other_test u w ne) (kept u other small (rw (other_test w u (λ e. ne (sym e))) refl))
         | inl same ↦ rw (same_test u w same) (elim (cases_eq line other) [
           | inr away ↦ rw (other_test line other away) (kept u other small (rw (same_test w u (sym same), other_test line other away) refl))
           | inl here ↦ rw (same_test line other here) (
-            j.acts ∙ sym (counted-before (Asks w line) past (length past) tt (omega arith)) ∙ ap (counted (Asks w line ∷ past)) (sym (now u other same here)),
+            counted_one m.count acts ∙ ap (λ (n : ℕ). n + 1) j.count ∙ sym (counted-newest (Asks w line) past tt) ∙ ap (λ (moment : ℕ). counted (Asks w line ∷ past) (moment + 1)) (sym (now u other same here)),
             rw (now u other same here) (cut-within past),
+            rw (now u other same here) (omega arith),
+            rw (now u other same here, counted-before (Asks w line) past (length past) tt (omega arith)) (omega (arith, j.count, counted_one m.count acts)),
             λ k low inside.
                 line_word m.words.cached line k low ∙ j.cached (line * 8 + k) (omega (arith, here, inside))
                 ∙ ap (λ (l : ℕ). cached_at start past (length past) (l * 8 + k)) here
@@ -182,62 +190,64 @@ ask_joins start past m w line j few worker within =
 -- a word after a fence
 record IsFenced (start : List ℕ) (past : List Mark) (w a word date : ℕ) : Type 0 where
   word_is : word ≡ cached_at start past (max (since past a) (asked past w (a / 8))) a
-  date_is : date ≡ counted past (max (since past a) (asked past w (a / 8)))
+  date_is : DateIs past (max (since past a) (asked past w (a / 8))) date
+
+-- where the date of a word is before an ask, so is the moment from which it dates; and where it is not, neither is that
+before-ask : (past : List Mark) (since date asked moment : ℕ) → moment ≡ counted past (asked + 1) → cut_at past ≤ asked → date < moment → DateIs past since date → since ≤ asked
+before-ask past since date asked moment is cut lt (inr none) = omega (arith, none.0)
+before-ask past since date asked moment is cut lt (inl dated) = elim (cases_lt asked since) [
+  | inl late ↦ absurd (omega (arith, dated.1, counted-rises past (asked + 1) (since + 1) (omega (arith, late))))
+  | inr early ↦ early
+]
+
+after-ask : (past : List Mark) (since date asked moment : ℕ) → counted past asked < moment → moment ≤ date → DateIs past since date → asked ≤ since
+after-ask past since date asked moment before ge (inr none) = absurd (omega (arith, none.1))
+after-ask past since date asked moment before ge (inl dated) = elim (cases_lt since asked) [
+  | inl early ↦ absurd (omega (arith, dated.1, counted-rises past (since + 1) asked (omega (arith, early))))
+  | inr late ↦ late
+]
 
 fenced-by : (start : List ℕ) (past : List Mark) (m : State) (w a : ℕ) (q : Option Ask) → Joins start past m → a < length start → AskIs start past w (a / 8) q
     → IsFenced start past w a (fenced_word q (slice_index m.since a) (slice_index m.words.durable a) (a % 8)) (fenced_since q (slice_index m.since a))
 fenced-by start past m w a None j within is =
-    let same : max (since past a) (asked past w (a / 8)) ≡ since past a = omega arith in
+    let same : since past a ≡ max (since past a) (asked past w (a / 8)) = omega arith in
     record {
-      word_is = j.durable a within ∙ ap (λ (moment : ℕ). cached_at start past moment a) (sym same);
-      date_is = j.moments a within ∙ ap (counted past) (sym same);
+      word_is = j.durable a within ∙ ap (λ (moment : ℕ). cached_at start past moment a) same;
+      date_is = subst (λ (moment : ℕ). DateIs past moment (slice_index m.since a)) same (j.moments a within);
     }
 fenced-by start past m w a (Some q) j within is = elim (cases_lt (slice_index m.since a) q.moment) [
   | inl lt ↦
       let test : nat_lt (slice_index m.since a) q.moment ≡ true = grind (arith, nat_tests) in
-      let rises = counted-rises past (asked past w (a / 8)) (since past a) in
-      let before : since past a < asked past w (a / 8) = elim (cases_lt (since past a) (asked past w (a / 8))) [ inl earlier ↦ earlier | inr late ↦ absurd (omega (arith, rises late, is.0, j.moments a within, lt)) ] in
-      let same : asked past w (a / 8) ≡ max (since past a) (asked past w (a / 8)) = omega arith in
+      let same : asked past w (a / 8) ≡ max (since past a) (asked past w (a / 8)) = omega (arith, before-ask past (since past a) (slice_index m.since a) (asked past w (a / 8)) q.moment is.0 is.1 lt (j.moments a within)) in
       let place : a / 8 * 8 + a % 8 ≡ a = omega arith in
       rw test (record {
         word_is =
-            is.2 (a % 8) (omega arith) (omega arith) ∙ ap (cached_at start past (asked past w (a / 8))) place ∙ ap (λ (moment : ℕ). cached_at start past moment a) same;
-        date_is = is.0 ∙ ap (counted past) same;
+            is.4 (a % 8) (omega arith) (omega arith) ∙ ap (cached_at start past (asked past w (a / 8))) place ∙ ap (λ (moment : ℕ). cached_at start past moment a) same;
+        date_is = subst (λ (moment : ℕ). DateIs past moment q.moment) same (inl (is.2, is.0));
       })
   | inr ge ↦
       let test : nat_lt (slice_index m.since a) q.moment ≡ false = grind (arith, nat_tests) in
-      rw test (elim (cases_lt (since past a) (asked past w (a / 8))) [
-        | inl before ↦
-            let same : asked past w (a / 8) ≡ max (since past a) (asked past w (a / 8)) = omega arith in
-            let counts_same : counted past (since past a) ≡ counted past (asked past w (a / 8)) =
-            omega (arith, counted-rises past (since past a) (asked past w (a / 8)) (omega arith), is.0, j.moments a within, ge) in
-            record {
-              word_is =
-                  j.durable a within ∙ counted-same start past (since past a) (asked past w (a / 8)) a (j.dated a) (omega arith) (asked-within past w (a / 8)) counts_same
-                  ∙ ap (λ (moment : ℕ). cached_at start past moment a) same;
-              date_is = j.moments a within ∙ counts_same ∙ ap (counted past) same;
-            }
-        | inr after ↦
-            let same : since past a ≡ max (since past a) (asked past w (a / 8)) = omega arith in
-            record { word_is = j.durable a within ∙ ap (λ (moment : ℕ). cached_at start past moment a) same; date_is = j.moments a within ∙ ap (counted past) same }
-      ])
+      let same : since past a ≡ max (since past a) (asked past w (a / 8)) = omega (arith, after-ask past (since past a) (slice_index m.since a) (asked past w (a / 8)) q.moment is.3 ge (j.moments a within)) in
+      rw test (record {
+        word_is = j.durable a within ∙ ap (λ (moment : ℕ). cached_at start past moment a) same;
+        date_is = subst (λ (moment : ℕ). DateIs past moment (slice_index m.since a)) same (j.moments a within);
+      })
 ]
 
 fence_joins : (start : List ℕ) (past : List Mark) (m : State) (w : ℕ) → Joins start past m → length past < 2 ^ 64 - 1 → w ≤ MAX_WORKERS → Joins start (Fence w ∷ past) (state_after m (Fence w))
 fence_joins start past m w j few worker =
-    let acts = few_acts start past m j few in
-    let f : FencesOnly m (after_fence m w) w = memory.fence m w j.state (omega (arith, acts)) (omega (arith, j.workers)) in
+    let f : FencesOnly m (after_fence m w) w = memory.fence m w j.state (omega (arith, j.workers)) in
     let word = λ (a : ℕ) (within : a < length start). fenced-by start past m w a (ask_for (asks_of m w) (a / 8)) j within (j.asks w (a / 8) worker) in
     record {
       state = f.state;
       fit = f.stays.fit j.fit;
       size = f.stays.durable ∙ j.size;
       workers = length-set m.asks w [] ∙ j.workers;
-      acts = counted_one m.acts acts ∙ ap (λ (n : ℕ). n + 1) j.acts ∙ sym (counted-now (Fence w) past tt);
+      count = j.count ∙ sym (counted-now (Fence w) past tt ∙ plus_none (counted past (length past)));
       dated = λ a. omega (arith, j.dated a);
       cached = λ a within. j.cached a within ∙ sym (cached-now start (Fence w) past a tt);
       durable = λ a within. f.durable a ∙ (word a within).word_is;
-      moments = λ a within. f.since a ∙ (word a within).date_is ∙ sym (counted-before (Fence w) past (since (Fence w ∷ past) a) tt (omega (arith, since-within past a, asked-within past w (a / 8))));
+      moments = λ a within. subst (DateIs (Fence w ∷ past) (since (Fence w ∷ past) a)) (sym (f.since a)) (DateIs-later (Fence w) past (since (Fence w ∷ past) a) (fenced_since (ask_for (asks_of m w) (a / 8)) (slice_index m.since a)) tt refl (word a within).date_is);
       asks = λ u line small. subst (λ (qs : List Ask). AskIs start (Fence w ∷ past) u line (ask_for qs line)) (sym (f.asks u)) (elim (cases_eq u w) [
         | inl same ↦ rw (same_test u w same, same_test w u (sym same)) refl
         | inr ne ↦ rw (other_test u w ne) (AskIs-later start (Fence w) past u line (ask_for (asks_of m u) line) tt refl (rw (other_test w u (λ e. ne (sym e))) refl) (j.asks u line small))
@@ -267,11 +277,11 @@ cut_joins start past m j =
       fit = c.stays.fit j.fit;
       size = j.size;
       workers = length-replicate {A = List Ask} (length m.asks) [] ∙ j.workers;
-      acts = refl;
+      count = refl;
       dated = λ a. omega arith;
       cached = λ a within. c.cached a ∙ j.durable a within ∙ sym (cached-cut start past (length (Cut ∷ past)) a (omega arith));
       durable = λ a within. c.durable a ∙ j.durable a within ∙ sym (cached-cut start past (length past + 1) a (omega arith));
-      moments = λ a within. get_or-replicate (length m.since) a 0 0 (omega (arith, j.state.dated, j.size));
+      moments = λ a within. inr (refl, get_or-replicate (length m.since) a 0 0 (omega (arith, j.state.dated, j.size)));
       asks = λ w line small. subst (AskIs start (Cut ∷ past) w line) (sym (no_line (length m.asks) w line)) refl;
     }
 
@@ -286,11 +296,11 @@ opened_joins start image = record {
   fit = record { cached = image.fit; durable = image.fit };
   size = refl;
   workers = length-replicate {A = List Ask} (MAX_WORKERS + 1) [];
-  acts = refl;
+  count = refl;
   dated = λ a. omega arith;
   cached = λ a within. refl;
   durable = λ a within. refl;
-  moments = λ a within. get_or-replicate (length start) a 0 0 within;
+  moments = λ a within. inr (refl, get_or-replicate (length start) a 0 0 within);
   asks = λ w line small. subst (AskIs start [] w line) (sym (no_line (MAX_WORKERS + 1) w line)) refl;
 }
 

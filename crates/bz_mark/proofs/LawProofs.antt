@@ -25,7 +25,6 @@ pub swaps_as_found : SwapsAsFound
 swaps_as_found m w a old new found is =
     ap (λ (seen : ℕ). let after : State = record m {
       words = record { cached = if seen == old then slice_set m.words.cached a new else m.words.cached; durable = m.words.durable };
-      acts = next_moment m.acts;
     } in after)
     (read-found m.words.cached a found is)
 

@@ -64,7 +64,7 @@ abbrev pub AreOfMemory : ℕ → List Mark → Type 0
 AreOfMemory words [] = Unit {0}
 AreOfMemory words (mark ∷ past) = IsOfMemory words mark × AreOfMemory words past
 
--- the words of the memory after marks are those by moments, where the marks are fewer than the acts that a memory counts
+-- the words of the memory after marks are those by moments, where the marks are fewer than the asks that a memory counts
 abbrev pub WordsAreByMoments : Type 0
 WordsAreByMoments = (start : List ℕ) (past : List Mark) (a : ℕ) → IsImage start → AreOfMemory (length start) past → length past < 2 ^ 64 - 1 → a < length start
     → (slice_index (words_after_marks start past).cached a ≡ cached_at start past (length past) a) × (slice_index (words_after_marks start past).durable a ≡ durable_word start past a)

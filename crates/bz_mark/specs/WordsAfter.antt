@@ -11,10 +11,7 @@ use Rattle.bz_mark.specs.declared.marks.Mark.TheVariants.{Load, Store, Cas, Flus
 -- A compare-and-swap changes the word where it found the expected value.
 abbrev pub state_after : State → Mark → State
 state_after m (Store w a v) = after_store m a v
-state_after m (Cas w a old new found) = record m {
-  words = record { cached = if found == old then slice_set m.words.cached a new else m.words.cached; durable = m.words.durable };
-  acts = next_moment m.acts;
-}
+state_after m (Cas w a old new found) = record m { words = record { cached = if found == old then slice_set m.words.cached a new else m.words.cached; durable = m.words.durable }; acts = next_moment m.acts }
 state_after m (Flush w line) = after_flush m line
 state_after m (Ask w line) = after_ask m w line
 state_after m (Fence w) = after_fence m w

@@ -34,25 +34,25 @@ fit_fenced None acts qs size b since word are told fit = fit
 fit_fenced (Some q) acts qs size b since word are told fit = either_below _ _ _ (2 ^ 64) (fit_ask qs q acts size (b / 8) are told (b % 8)) fit
 
 pub fence : FenceFencesOnly
-fence m w i small lt =
+fence m w i lt =
     let d : Dated = record { durable = m.words.durable; since = m.since } in
     let qs : List Ask = asks_of m w in
-    let are : AreAsks (length d.durable) m.acts qs = i.asks w in
-    let word = λ (b : ℕ). fenced (ask_for qs (b / 8)) m.acts qs d b are i.dated refl in
+    let are : AreAsks (length d.durable) m.count qs = i.asks w in
+    let word = λ (b : ℕ). fenced (ask_for qs (b / 8)) m.count qs d b are i.dated refl in
     let long = long_asks qs d in
     record {
       cached = λ b. refl;
       durable = λ b. (word b).0;
       since = λ b. (word b).1;
       asks = λ v. asks_of-set m.asks w [] v lt;
-      state = state-fenced m w (next_moment m.acts) qs (settled qs d) i lt (later m.acts small) refl refl;
+      state = state-fenced m w qs (settled qs d) i lt refl refl;
       stays = record {
         cached = refl;
         durable = long.durable;
         memory = IsMemory-same_lengths m.words _ i.memory refl long.durable;
         fit = λ h. record {
           cached = h.cached;
-          durable = λ b. rw (word b).0 (fit_fenced (ask_for qs (b / 8)) m.acts qs (length d.durable) b _ _ are refl (h.durable b));
+          durable = λ b. rw (word b).0 (fit_fenced (ask_for qs (b / 8)) m.count qs (length d.durable) b _ _ are refl (h.durable b));
         };
       };
     }
@@ -72,5 +72,5 @@ ask m w line i fit small lt within = record {
   words = refl;
   since = refl;
   asks = λ v l. asked m w line v l lt;
-  state = state-asked m w line (next_moment m.acts) (asks_of m w) _ _ i lt within (λ k. fit_line m.words.cached line k fit.cached) (later m.acts small) refl refl refl;
+  state = state-asked m w line (next_moment m.count) (asks_of m w) _ _ i lt within (λ k. fit_line m.words.cached line k fit.cached) (later m.count small) refl refl refl;
 }

@@ -3,6 +3,7 @@ pub mod Fences
 mod Asked
 mod Asking
 mod Copying
+pub mod Dates
 mod Settling
 mod States
 pub mod Proved

@@ -14,13 +14,12 @@ use Rattle.bz_pm.proofs.Lemmas.Copies.{length-with_line, word-with_line}
 use Rattle.bz_pm.proofs.Settling.{long_asks, past_asks}
 
 -- the words change in the caches alone
-pub state-cached : (m : State) (into : List ℕ) (later : ℕ) → IsState m → length into ≡ length m.words.cached → m.acts ≤ later
-    → IsState (record m { words = record { cached = into; durable = m.words.durable }; acts = later })
-state-cached m into later i same le = record {
+pub state-cached : (m : State) (into : List ℕ) → IsState m → length into ≡ length m.words.cached → IsState (record m { words = record { cached = into; durable = m.words.durable } })
+state-cached m into i same = record {
   memory = IsMemory-same_lengths m.words _ i.memory same refl;
   dated = i.dated;
-  past = λ a. omega (arith, i.past a);
-  asks = λ w. AreAsks-later _ m.acts later _ le (i.asks w);
+  past = i.past;
+  asks = i.asks;
 }
 
 at_most-replicate : (n x a : ℕ) → slice_index (replicate n x) a ≤ x
@@ -33,11 +32,11 @@ at_most-if true x y most p q = p
 at_most-if false x y most p q = q
 
 -- a line becomes durable now
-pub state-flushed : (m : State) (line later : ℕ) → IsState m → line * 8 < length m.words.cached → m.acts ≤ later
-    → IsState (record m { words = flushed m.words line; acts = later; since = with_line line (replicate (length m.since) m.acts) m.since })
-state-flushed m line later i within le =
-    let now : List ℕ = replicate (length m.since) m.acts in
-    let long : length now ≡ length m.since = length-replicate (length m.since) m.acts in
+pub state-flushed : (m : State) (line : ℕ) → IsState m → line * 8 < length m.words.cached
+    → IsState (record m { words = flushed m.words line; since = with_line line (replicate (length m.since) m.count) m.since })
+state-flushed m line i within =
+    let now : List ℕ = replicate (length m.since) m.count in
+    let long : length now ≡ length m.since = length-replicate (length m.since) m.count in
     let here : line * 8 < length now = omega (arith, i.memory.same, i.dated) in
     let whole : length m.since % 8 ≡ 0 = rw i.dated i.memory.lines in
     let durable = length-with_line line m.words.cached m.words.durable within i.memory.same i.memory.lines in
@@ -46,8 +45,8 @@ state-flushed m line later i within le =
       memory = IsMemory-same_lengths m.words _ i.memory refl durable;
       dated = since ∙ (i.dated ∙ sym durable);
       past = λ a. rw (word-with_line line now m.since a here long whole)
-          (at_most-if (a / 8 == line) _ _ later (omega (arith, at_most-replicate (length m.since) m.acts a)) (omega (arith, i.past a)));
-      asks = λ w. rw durable (AreAsks-later _ m.acts later _ le (i.asks w));
+          (at_most-if (a / 8 == line) _ _ m.count (at_most-replicate (length m.since) m.count a) (i.past a));
+      asks = λ w. rw durable (i.asks w);
     }
 
 -- one worker's asks are others
@@ -67,37 +66,37 @@ fit_line words line k fit = elim (cases_lt k 8) [
 
 -- a line is asked for now
 pub state-asked : (m : State) (w line later : ℕ) (was after : List Ask) (words : List ℕ) → IsState m → w < length m.asks → line * 8 < length m.words.cached
-    → ((k : ℕ) → slice_index words k < 2 ^ 64) → m.acts ≤ later → was ≡ get_or m.asks w [] → words ≡ line_words line m.words.cached
-    → after ≡ with_ask was (record { line = line; moment = m.acts; words = words })
-    → IsState (record m { acts = later; asks = slice_set m.asks w after })
+    → ((k : ℕ) → slice_index words k < 2 ^ 64) → m.count ≤ later → was ≡ get_or m.asks w [] → words ≡ line_words line m.words.cached
+    → after ≡ with_ask was (record { line = line; moment = later; words = words })
+    → IsState (record m { count = later; asks = slice_set m.asks w after })
 state-asked m w line later was after words i lt within fit le is saved e = record {
   memory = i.memory;
   dated = i.dated;
   past = λ a. omega (arith, i.past a);
-  asks = λ v. asks-set _ later m.asks w after (λ u. AreAsks-later _ m.acts later _ le (i.asks u)) (rw (e, is) (AreAsks-with_ask _ later _ _ ask (AreAsks-later _ m.acts later _ le (i.asks w)))) lt v;
+  asks = λ v. asks-set _ later m.asks w after (λ u. AreAsks-later _ m.count later _ le (i.asks u)) (rw (e, is) (AreAsks-with_ask _ later _ _ ask (AreAsks-later _ m.count later _ le (i.asks w)))) lt v;
 }
   where
-    ask : IsAsk (length m.words.durable) later (record { line = line; moment = m.acts; words = words })
+    ask : IsAsk (length m.words.durable) later (record { line = line; moment = later; words = words })
     ask = record {
       line = omega (arith, i.memory.same, i.memory.lines);
-      moment = le;
+      moment = omega arith;
       eight = rw (saved, length-take 8 (drop (line * 8) m.words.cached), length-drop (line * 8) m.words.cached) (omega (arith, i.memory.same, i.memory.lines));
       fit = fit;
     }
 
 -- what a worker asked for is durable
-pub state-fenced : (m : State) (w later : ℕ) (qs : List Ask) (d : Dated) → IsState m → w < length m.asks → m.acts ≤ later → qs ≡ get_or m.asks w []
+pub state-fenced : (m : State) (w : ℕ) (qs : List Ask) (d : Dated) → IsState m → w < length m.asks → qs ≡ get_or m.asks w []
     → d ≡ settled qs (record { durable = m.words.durable; since = m.since })
-    → IsState (record { words = record { cached = m.words.cached; durable = d.durable }; acts = later; since = d.since; asks = slice_set m.asks w [] })
-state-fenced m w later qs d i lt le is e =
+    → IsState (record m { words = record { cached = m.words.cached; durable = d.durable }; since = d.since; asks = slice_set m.asks w [] })
+state-fenced m w qs d i lt is e =
     let was : Dated = record { durable = m.words.durable; since = m.since } in
     let long = long_asks (asks_of m w) was in
-    let past = past_asks _ m.acts (asks_of m w) was (i.asks w) i.past in
+    let past = past_asks _ m.count (asks_of m w) was (i.asks w) i.past in
     rw (e, is) (record {
       memory = IsMemory-same_lengths m.words _ i.memory refl long.durable;
       dated = long.since ∙ (i.dated ∙ sym long.durable);
-      past = λ a. omega (arith, past a);
-      asks = λ v. rw long.durable (asks-set _ later m.asks w [] (λ u. AreAsks-later _ m.acts later _ le (i.asks u)) tt lt v);
+      past = past;
+      asks = λ v. rw long.durable (asks-set _ m.count m.asks w [] i.asks tt lt v);
     })
 
 no_asks : (size acts n v : ℕ) → AreAsks size acts (get_or (replicate n []) v [])
@@ -105,9 +104,9 @@ no_asks size acts zero v = tt
 no_asks size acts (suc n) zero = tt
 no_asks size acts (suc n) (suc v) = no_asks size acts n v
 
--- no act was made, and nothing was asked for
+-- nothing was asked for
 pub state-begun : (words : Words) (moments workers : ℕ) → IsMemory words → moments ≡ length words.durable
-    → IsState (record { words = words; acts = 0; since = replicate moments 0; asks = replicate workers [] })
+    → IsState (record { words = words; acts = 0; count = 0; since = replicate moments 0; asks = replicate workers [] })
 state-begun words moments workers i same = record {
   memory = i;
   dated = length-replicate moments 0 ∙ same;

@@ -4,7 +4,7 @@ use Rattle.bz_pm.specs.Acts.{with_line, stored, compared, flushed, evicted, afte
 use Rattle.bz_pm.specs.State.{State, asks_of}
 use Rattle.bz_pm.specs.declared.asks.Ask.{Ask}
 
--- the moment after an act: the count stops at its last value
+-- one more is counted, of acts or of asks: the count stops at its last value
 abbrev pub next_moment : ℕ → ℕ
 next_moment n = min (n + 1) (2 ^ 64 - 1)
 
@@ -17,11 +17,11 @@ after_cas m a old new = record m { words = compared m.words a old new; acts = ne
 
 -- after a flush the durable words of the line date from now
 abbrev pub after_flush : State → ℕ → State
-after_flush m line = record m { words = flushed m.words line; acts = next_moment m.acts; since = with_line line (replicate (length m.since) m.acts) m.since }
+after_flush m line = record m { words = flushed m.words line; acts = next_moment m.acts; since = with_line line (replicate (length m.since) m.count) m.since }
 
--- after an eviction the durable word dates from now; no worker made an act
+-- after an eviction the durable word dates from now
 abbrev pub after_eviction : State → ℕ → State
-after_eviction m a = record m { words = evicted m.words a; since = slice_set m.since a m.acts }
+after_eviction m a = record m { words = evicted m.words a; since = slice_set m.since a m.count }
 
 -- the eight words of a line
 abbrev pub line_words : ℕ → List ℕ → List ℕ
@@ -34,11 +34,11 @@ with_ask (r ∷ rs) q = if r.line == q.line then q ∷ rs else r ∷ with_ask rs
 
 -- the ask for a line that captures its cached words as they are now
 abbrev pub ask_now : State → ℕ → Ask
-ask_now m line = record { line = line; moment = m.acts; words = line_words line m.words.cached }
+ask_now m line = record { line = line; moment = next_moment m.count; words = line_words line m.words.cached }
 
 -- after an ask the worker has asked for the line as it is now
 abbrev pub after_ask : State → ℕ → ℕ → State
-after_ask m w line = record m { acts = next_moment m.acts; asks = slice_set m.asks w (with_ask (asks_of m w) (ask_now m line)) }
+after_ask m w line = record m { acts = next_moment m.acts; count = next_moment m.count; asks = slice_set m.asks w (with_ask (asks_of m w) (ask_now m line)) }
 
 -- the durable words, and the moment from which each dates
 pub record Dated : Type 0 where
@@ -66,27 +66,33 @@ settled (q ∷ qs) d = settled qs (settled_words (q.line * 8) q.moment q.words d
 abbrev pub after_fence : State → ℕ → State
 after_fence m w =
     let d = settled (asks_of m w) (record { durable = m.words.durable; since = m.since }) in
-    record {
+    record m {
       words = record { cached = m.words.cached; durable = d.durable };
       acts = next_moment m.acts;
       since = d.since;
       asks = slice_set m.asks w [];
     }
 
--- a power cut forgets what was asked for, and moments are counted anew from it
+-- a power cut forgets what was asked for, and asks are counted anew from it
 abbrev pub after_power_cut : State → State
 after_power_cut m = record {
   words = after_cut m.words;
   acts = 0;
+  count = 0;
   since = replicate (length m.since) 0;
   asks = replicate (length m.asks) [];
 }
 
--- a memory as it is opened: no act was made, and no worker from 0 to this one has asked for a line
+-- a renewal leaves the words; it forgets what was asked for, and asks are counted anew from it
+abbrev pub after_renewal : State → State
+after_renewal m = record m { acts = 0; count = 0; since = replicate (length m.since) 0; asks = replicate (length m.asks) [] }
+
+-- a memory as it is opened: no worker from 0 to this one has asked for a line
 abbrev pub opened : List ℕ → ℕ → State
 opened start workers = record {
   words = record { cached = start; durable = start };
   acts = 0;
+  count = 0;
   since = replicate (length start) 0;
   asks = replicate (workers + 1) [];
 }

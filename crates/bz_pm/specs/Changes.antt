@@ -91,7 +91,7 @@ pub record AsksOnly (old new : State) (w line : ℕ) : Type 0 where
 
 -- what each act leaves of what was asked for differs from what it found as said
 abbrev pub FenceFencesOnly : Type 0
-FenceFencesOnly = (m : State) (w : ℕ) → IsState m → m.acts < 2 ^ 64 → w < length m.asks → FencesOnly m (after_fence m w) w
+FenceFencesOnly = (m : State) (w : ℕ) → IsState m → w < length m.asks → FencesOnly m (after_fence m w) w
 
 abbrev pub AskAsksOnly : Type 0
-AskAsksOnly = (m : State) (w line : ℕ) → IsState m → HoldsWords m.words → m.acts < 2 ^ 64 → w < length m.asks → line * 8 < length m.words.cached → AsksOnly m (after_ask m w line) w line
+AskAsksOnly = (m : State) (w line : ℕ) → IsState m → HoldsWords m.words → m.count < 2 ^ 64 → w < length m.asks → line * 8 < length m.words.cached → AsksOnly m (after_ask m w line) w line

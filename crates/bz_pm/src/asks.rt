@@ -10,7 +10,7 @@ use std::marker::Model;
 /// How many lines a worker may ask for between two of its fences.
 pub(crate) const LINES_ASKED: usize = 64;
 
-/// A line that was asked for, with the number of acts that had been made then and its eight cached words of then.
+/// A line that was asked for, with the number of asks until then, itself among them, and its eight cached words of then.
 #[derive(Clone, Copy)]
 pub struct Ask {
     pub line: u32,

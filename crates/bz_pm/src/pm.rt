@@ -3,7 +3,7 @@
 ghost use Rattle.std.specs.Prelude.{◌≡◌, ◌↔◌, ◌*◌, ◌%◌, ◌<◌, ◌^◌, IsTrue, length, slice_index, IfOk};
 ghost use Rattle.bz_pm.specs.Words.{HoldsWords};
 ghost use Rattle.bz_pm.specs.State.{IsState, asks_of};
-ghost use Rattle.bz_pm.specs.After.{opened, after_store, after_cas, after_ask, after_fence, after_flush, after_eviction, after_power_cut};
+ghost use Rattle.bz_pm.specs.After.{opened, after_store, after_cas, after_ask, after_fence, after_flush, after_eviction, after_power_cut, after_renewal};
 
 use crate::asks::{Ask, Asks, LINES_ASKED, forget, no_asks};
 use crate::line::{copy_line, fill_line, words_of};
@@ -13,15 +13,19 @@ use std::alloc::Global;
 use std::marker::Model;
 
 /// A memory of words, each below 2^64, that has a cached and a durable value for every word. Addresses
-/// count words, a line is eight words, and address a lies in line a / 8. Acts are those of workers from 0 on, and
-/// are counted from the opening or the last power cut; a load changes nothing and is not counted.
+/// count words, a line is eight words, and address a lies in line a / 8. Acts are those of workers from 0 on. A moment is a
+/// number of asks since the opening or the last power cut.
 #[derive(Drop)]
 pub struct Pm {
     cached: Vec<u64>,
     durable: Vec<u64>,
+    // how many acts were made
     acts: u64,
 
-    // for each word how many acts had been made when its durable value was the cached one
+    // how many asks were made
+    count: u64,
+
+    // for each word how many asks had been made when its durable value was the cached one
     since: Vec<u64>,
 
     // for each worker what it asked for since its last fence
@@ -33,9 +37,9 @@ impl Model for Pm {
 
     ghost Value = { State };
 
-    ghost view = { λ pm. record { words = record { cached = pm.cached.items; durable = pm.durable.items }; acts = pm.acts; since = pm.since.items; asks = pm.asks.items } };
+    ghost view = { λ pm. record { words = record { cached = pm.cached.items; durable = pm.durable.items }; acts = pm.acts; count = pm.count; since = pm.since.items; asks = pm.asks.items } };
 
-    ghost invariant = { λ pm. IsState (record { words = record { cached = pm.cached.items; durable = pm.durable.items }; acts = pm.acts; since = pm.since.items; asks = pm.asks.items }) };
+    ghost invariant = { λ pm. IsState (record { words = record { cached = pm.cached.items; durable = pm.durable.items }; acts = pm.acts; count = pm.count; since = pm.since.items; asks = pm.asks.items }) };
 }
 
 impl Pm {
@@ -53,6 +57,7 @@ impl Pm {
             cached,
             durable,
             acts: 0,
+            count: 0,
             since,
             asks,
         })
@@ -108,6 +113,13 @@ impl Pm {
         (w as usize) < self.asks.len() && self.asks[w as usize].as_slice().len() < LINES_ASKED
     }
 
+    /// How many asks were made since the opening, the last power cut or the last renewal; the count stops at its last value.
+    pub fn asked(&self) -> u64
+        ensures { result ≡ self.now.count }
+    {
+        self.count
+    }
+
     /// Asks, for a worker, that the eight cached words of a line as they are now be durable after its next fence.
     pub fn ask(&mut self, w: u8, line: u32)
         requires worker { w < length self.old.asks }
@@ -116,13 +128,14 @@ impl Pm {
         ensures { self.new ≡ after_ask self.old w line }
     {
         let words = words_of(&self.cached, line as usize);
-        let moment = self.acts;
+        let moment = self.count.saturating_add(1);
         self.asks[w as usize].put(Ask {
             line,
             moment,
             words,
         });
-        self.acts = moment.saturating_add(1);
+        self.count = moment;
+        self.acts = self.acts.saturating_add(1);
     }
 
     /// Makes what a worker asked for durable, each word unless a later value of it is, and forgets what it asked for.
@@ -142,7 +155,7 @@ impl Pm {
         ensures { self.new ≡ after_flush self.old line }
     {
         copy_line(&self.cached, &mut self.durable, line as usize);
-        fill_line(&mut self.since, line as usize, self.acts);
+        fill_line(&mut self.since, line as usize, self.count);
         self.acts = self.acts.saturating_add(1);
     }
 
@@ -152,7 +165,7 @@ impl Pm {
         ensures { self.new ≡ after_eviction self.old a }
     {
         self.durable[a as usize] = self.cached[a as usize];
-        self.since[a as usize] = self.acts;
+        self.since[a as usize] = self.count;
     }
 
     /// Cuts the power: every cached word is lost, and the durable one stands in its place; what was asked for is forgotten.
@@ -163,6 +176,19 @@ impl Pm {
         self.since.fill(0);
         forget(&mut self.asks);
         self.acts = 0;
+        self.count = 0;
+    }
+
+    /// Forgets what was asked for, and counts asks anew. The words stay. Where no worker waits for a fence, no act tells the
+    /// difference.
+    pub fn renew(&mut self)
+        ensures { self.new ≡ after_renewal self.old }
+    {
+        let asks = &mut self.asks;
+        forget(asks);
+        self.since.fill(0);
+        self.acts = 0;
+        self.count = 0;
     }
 
     /// The durable word at an address.

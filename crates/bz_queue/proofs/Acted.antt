@@ -15,7 +15,7 @@ use Rattle.bz_ring.specs.declared.marks.QMark.TheVariants.{Memory}
 use Rattle.bz_ring.specs.Calls.{open_call}
 use Rattle.bz_ring.specs.Journal.{with_mark}
 use Rattle.bz_ring.specs.Sound.{IsSound}
-use Rattle.bz_queue.specs.Acts.{mark_of}
+use Rattle.bz_marked.specs.Marks.{mark_of}
 use Rattle.bz_queue.specs.Inside.Acted.{IsActed, HasActed, HasEnded}
 use Rattle.bz_queue.specs.Inside.Going.{MustGoOn}
 use Rattle.bz_queue.specs.Inside.Kept.{IsTabled, IsKept}

@@ -25,7 +25,7 @@ use Rattle.bz_ring.proofs.Proved.{sound_journals_grow, other_words_do_not_matter
 use Rattle.bz_change.specs.Changes as change
 use Rattle.bz_change.specs.Values.{SameValues, StoresNothing}
 use Rattle.bz_change.proofs.Proved.{reads_tell}
-use Rattle.bz_queue.specs.Acts.{mark_of}
+use Rattle.bz_marked.specs.Marks.{mark_of}
 use Rattle.bz_queue.specs.Inside.Going.{HasRead, HasReadAt, HasSwapped, HasSwappedAt, IsAnswered}
 use Rattle.bz_queue.specs.Inside.Kept.{IsMemory}
 use Rattle.bz_queue.specs.Inside.Serving.{counter_now, IsChanged, IsReading, IsAt, IsOpened, IsServed, IsSlot}
@@ -79,7 +79,7 @@ module _ (r : Ring) (old new : SwapMemory) (log : QLog) (owners : List ℕ) (cre
   quiet-sound =
       let happens : Happens log.start log.past (mark_of w made) = record {
         may = act-follows log.past w made h.opened.worker (record { opened = _; is_open = h.opened.is_open });
-        found = act-found w old new log.start (memory_of log.past) made k.words step.one.act step.one.within;
+        found = act-found w old new log.start (memory_of log.past) made k.words step.one.act.found step.one.within;
       } in
       let holds = holds-now r old log.start log.past k.words swaps sound.durable.0 in
       let after = other_words_do_not_matter r (value_at old) (value_at new) _ (quiet.1 HEAD_AT) (quiet.1 TAIL_AT) (λ counter. quiet.1 (cell_of r counter)) holds in

@@ -145,7 +145,7 @@ module _ (old new : Parts) (w : ℕ) (called : QCall) (n : ℕ) (k : IsKept old)
   memory : IsMemory m (with_mark old.journal (Begin w n called))
   memory =
       let it = started-memory old.access old.journal w (Reading (change.counter_of called)) k.memory may.worker free.idle (λ s is. cc) held in
-      record { words = it.words; calm = it.calm; owned = it.owned; noted = it.noted; shown = record { begun = it.shown.begun; shown = it.shown.shown }; unused = it.unused; low = omega (arith, it.low) }
+      record { words = it.words; past = it.past; calm = it.calm; owned = it.owned; noted = it.noted; shown = record { begun = it.shown.begun; shown = it.shown.shown }; unused = it.unused; low = omega (arith, it.low) }
 
   pub kept-begun : IsKept new
   kept-begun = subst IsKept (sym rest) (record { tabled = tabled; memory = memory; sound = sound; slots = slot })

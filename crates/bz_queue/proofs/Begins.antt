@@ -1,20 +1,15 @@
 -- The swap of a call begins.
-use Rattle.std.proofs.Common.{◌≡◌, ◌≢◌, ◌<◌, ◌≤◌, inl, inr, ◌^◌, ℕ, zero, suc, true, false, List, [], ◌∷◌, ◌++◌, length, get_or, slice_index, refl, sym, ap, subst, ◌∙◌, arith, Option, Some, None}
+use Rattle.std.proofs.Common.{◌≡◌, ◌≢◌, ◌<◌, ◌≤◌, inl, inr, ◌^◌, ℕ, zero, suc, false, List, [], ◌∷◌, ◌++◌, length, get_or, slice_index, refl, sym, ap, subst, ◌∙◌, arith, Option, Some, None}
 use Rattle.std.specs.Prelude.{slice_set, All}
-use Rattle.std.proofs.lemmas.Bool.{cases_eq, eq-eqb}
+use Rattle.std.proofs.lemmas.Bool.{cases_eq}
 use Rattle.std.proofs.lemmas.Grind.{common_steps}
 use Rattle.bz_word.specs.declared.entry.Entry.{Entry}
-use Rattle.bz_cells.specs.Store.{IsOutside}
-use Rattle.bz_swap.specs.declared.phase.Phase.{Phase}
-use Rattle.bz_swap.specs.declared.phase.Phase.TheVariants.{Opened, Running, Recovering}
-use Rattle.bz_swap.specs.Atomic.{value_in}
 use Rattle.bz_swap.specs.Held.{IsHeld}
 use Rattle.bz_swap.specs.Starts.{IsAddress, IsEntry, MaySwap, swapping}
-use Rattle.bz_swap.specs.SwapMemory.{SwapMemory, Working, Idle, Swapping, Storing, idle, is_named, is_settled_at, doing_of, worker_of}
+use Rattle.bz_swap.specs.SwapMemory.{SwapMemory, Working, Idle, Swapping, Storing, idle, doing_of, worker_of}
 use Rattle.bz_ring.specs.declared.calls.QCall.{QCall}
 use Rattle.bz_ring.specs.declared.calls.QCall.TheVariants as call
 use Rattle.bz_change.specs.Changes as change
-use Rattle.bz_change.specs.Laws.{IsCalm}
 use Rattle.bz_queue.specs.Inside.Going.{IsBetween, MustJudge, WentOn}
 use Rattle.bz_queue.specs.Inside.Kept.{IsTabled, IsKept}
 use Rattle.bz_queue.specs.Inside.Serving.{counter_now, IsChanged, IsAt, IsServed, IsSlot}
@@ -41,22 +36,12 @@ nobody-stores p w x b v a c is = elim (cases_eq v w) [
   | inr other ↦ stores-in p w v x (get_or p.workers.items v None) (b.others v other) a c is
 ]
 
--- a word that no swap has named is the same in the caches and in the memory itself
-private-value : (phase : Phase) (m : SwapMemory) (a : ℕ) → phase ≢ Recovering → is_named m a ≡ false → value_in phase m a ≡ slice_index m.cached a
-private-value Opened m a calm none = rw none refl
-private-value Running m a calm none = rw none refl
-private-value Recovering m a calm none = absurd (calm refl)
-
-settled-at : (m : SwapMemory) (a : ℕ) → IsCalm m → IsOutside m.swaps a → is_named m a ≡ false → is_settled_at m a ≡ true
-settled-at m a calm outside none =
-    eq-eqb (slice_index m.cached a) (slice_index m.durable a) (sym (private-value m.phase m a calm.phase none) ∙ calm.settled a outside ∙ (calm.held.private a outside none).1)
-
 entry-of : (p : Parts) (w : ℕ) (x : OpenCall) (e : Entry) → IsBetween p w x → IsAddress p.access e.target → e.expected < 2 ^ 61 → e.new < 2 ^ 61 → IsEntry p.access e
 entry-of p w x e b address expected value = record {
   address = address;
   expected = expected;
   value = value;
-  settled = λ none. settled-at p.access e.target b.memory.calm address.outside none;
+  settled = b.memory.calm.settled e.target address.outside;
   not_stored = λ v c. nobody-stores p w x b v e.target c;
 }
 

@@ -95,6 +95,7 @@ module _ (old new : Parts) (w : ℕ) (x : OpenCall) (answer : QReply) (moment n 
   memory : IsMemory old.access (with_mark old.journal (End w n answer moment))
   memory = record {
     words = b.memory.words;
+    past = b.memory.past;
     calm = b.memory.calm;
     owned = b.memory.owned;
     noted = b.memory.noted;

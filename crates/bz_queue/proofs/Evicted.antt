@@ -2,6 +2,8 @@
 use Rattle.std.proofs.Common.{◌≡◌, ◌<◌, ◌≤◌, ℕ, List, ◌∷◌, length, get_or, refl, sym, ap, subst, ◌∙◌, arith, None}
 use Rattle.bz_mark.specs.declared.marks.Mark.TheVariants.{Evict}
 use Rattle.bz_rivals.proofs.Proved.{notes_are_of_begun}
+use Rattle.bz_mark.specs.WordsAfter.{state_after_marks}
+use Rattle.bz_marked.proofs.Pasts.{evict-past}
 use Rattle.bz_swap.specs.Effects.{NoneTakesEffect}
 use Rattle.bz_swap.specs.Held.{IsHeld}
 use Rattle.bz_swap.specs.SwapMemory.{SwapMemory, value_at, entries_of, doing_of}
@@ -11,7 +13,7 @@ use Rattle.bz_ring.specs.declared.marks.QMark.TheVariants.{Memory}
 use Rattle.bz_ring.specs.declared.ring.TheConstants.{HEAD_AT, TAIL_AT}
 use Rattle.bz_ring.specs.Content.{cell_of}
 use Rattle.bz_ring.specs.Growth.{Happens}
-use Rattle.bz_ring.specs.Journal.{with_mark}
+use Rattle.bz_ring.specs.Journal.{memory_of, with_mark}
 use Rattle.bz_ring.specs.Sound.{IsSound, Decodes}
 use Rattle.bz_ring.proofs.EachMoment.{at_moment-earlier}
 use Rattle.bz_ring.proofs.Proved.{sound_journals_grow, other_words_do_not_matter}
@@ -49,6 +51,7 @@ module _ (old new : Parts) (a : ℕ) (k : IsKept old) (room : length old.journal
   memory : IsMemory new.access (with_mark old.journal (Memory (Evict a)))
   memory = record {
     words = eviction-marked old.access new.access a None old.journal.start old k.memory.words e.eviction;
+    past = evict-past old.access new.access (state_after_marks old.journal.start (memory_of old.journal.past)) a None e.eviction k.memory.past;
     calm = quiet.0;
     owned = owned_stay.eviction old.access new.access a None e.eviction k.memory.owned;
     noted = notes_are_of_begun.eviction old.access new.access a None e.eviction k.memory.noted;

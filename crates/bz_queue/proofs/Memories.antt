@@ -14,9 +14,9 @@ use Rattle.bz_ring.specs.declared.ring.TheConstants.{TAIL_AT}
 use Rattle.bz_ring.specs.Journal.{QLog, with_mark, memory_of}
 use Rattle.bz_change.specs.Values.{SameValues, StoresNothing}
 use Rattle.bz_change.proofs.Proved.{quiet_acts_leave, starts_leave}
-use Rattle.bz_queue.specs.Acts.{mark_of}
+use Rattle.bz_marked.specs.Marks.{mark_of}
 use Rattle.bz_queue.specs.Inside.Kept.{IsMemory}
-use Rattle.bz_queue.proofs.Marks.{act-marked}
+use Rattle.bz_queue.proofs.Marks.{act-marked, act-kept}
 use Rattle.bz_queue.proofs.Shown.{shown-step}
 
 pub quiet-memory : (old new : SwapMemory) (log : QLog) (w : ℕ) (made : Act) (done : Done) → 0 < w → IsMemory old log → StoresNothing old w → IsHeld new → IsStep old w made done None new
@@ -24,7 +24,8 @@ pub quiet-memory : (old new : SwapMemory) (log : QLog) (w : ℕ) (made : Act) (d
 quiet-memory old new log w made done some k none held step =
     let calm = quiet_acts_leave.step old new w made done k.calm none held step in (
       record {
-        words = act-marked w old new log.start (memory_of log.past) made k.words step.one.act;
+        words = act-marked w old new log.start (memory_of log.past) made done k.words k.past step.one;
+        past = act-kept w old new log.start (memory_of log.past) made done k.words k.past step.one;
         calm = calm.0;
         owned = owned_stay.step old new w made done None step k.owned;
         noted = notes_are_of_begun.step old new w made done None step k.noted;
@@ -38,6 +39,7 @@ quiet-memory old new log w made done some k none held step =
 pub started-memory : (m : SwapMemory) (log : QLog) (w : ℕ) (doing : Doing) → IsMemory m log → 0 < w → doing_of m w ≡ Idle → ((s : ℕ) → doing ≢ Swapping s) → IsHeld (started m w doing) → IsMemory (started m w doing) log
 started-memory m log w doing k some idle no_swap held = record {
   words = k.words;
+  past = record { count = k.past.count; since = k.past.since; asks = k.past.asks; workers = k.past.workers };
   calm = starts_leave.start m w doing some k.calm held;
   owned = owned_stay.start m w doing no_swap (λ zero. absurd (omega arith)) k.owned;
   noted = notes_are_of_begun.start m w doing k.noted;
@@ -49,6 +51,7 @@ started-memory m log w doing k some idle no_swap held = record {
 pub swapping-memory : (m : SwapMemory) (log : QLog) (w : ℕ) (entries : List Entry) → IsMemory m log → MaySwap m w entries → IsHeld (swapping m w entries) → IsMemory (swapping m w entries) log
 swapping-memory m log w entries k may held = record {
   words = k.words;
+  past = record { count = k.past.count; since = k.past.since; asks = k.past.asks; workers = k.past.workers };
   calm = starts_leave.swap m w entries k.calm may held;
   owned = owned_stay.swap m w entries may.work.some k.owned;
   noted = notes_are_of_begun.swap m w entries k.noted;

@@ -14,7 +14,8 @@ use Rattle.bz_swap.specs.declared.phase.Phase.TheVariants.{Opened}
 use Rattle.bz_swap.specs.Held.{IsHeld, Holds}
 use Rattle.bz_swap.specs.Power.{AreRecovered, IsOpened, opened}
 use Rattle.bz_swap.specs.SwapMemory.{SwapMemory, Working, idle, has_effect}
-use Rattle.bz_swap.proofs.Proved.{begun_stay_taken, owned_stay}
+use Rattle.bz_swap.proofs.Proved.{begun_stay_taken, owned_stay, settled_words_stay}
+use Rattle.bz_marked.proofs.Pasts.{fresh-past}
 use Rattle.bz_ring.specs.declared.ring.Ring.{Ring}
 use Rattle.bz_ring.specs.declared.ring.TheConstants.{TAIL_AT}
 use Rattle.bz_ring.specs.Content.{size_of}
@@ -76,7 +77,8 @@ module _ (n : Numbers) (are : AreNumbers n) where
   pub fresh-memory : (most : ℕ) → IsHeld m0 → IsMemory m0 (record { start = fresh_words r; past = []; most = most })
   fresh-memory most held = record {
     words = refl;
-    calm = record { phase = λ is. cc; held = held; settled = λ a outside. sym (held.private a outside refl).1 };
+    past = fresh-past Opened (fresh_words r) r.swaps n.workers (omega (arith, are.workers.at_most));
+    calm = record { phase = λ is. cc; held = held; settled = λ a outside none. settled_words_stay.opening Opened (fresh_words r) r.swaps n.workers a };
     owned = owned_stay.opening Opened (fresh_words r) r.swaps n.workers;
     noted = notes_are_of_begun.opening Opened (fresh_words r) r.swaps n.workers;
     shown = record { begun = begun_stay_taken.opening Opened (fresh_words r) r.swaps n.workers; shown = λ s within taken. absurd (taken (free s)) };

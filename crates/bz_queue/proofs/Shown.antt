@@ -2,7 +2,7 @@
 use Rattle.std.proofs.Common.{◌≡◌, ◌≢◌, ◌<◌, inl, inr, ◌+◌, ◌||◌, ℕ, zero, suc, Bool, true, false, List, ◌∷◌, slice_index, refl, sym, ap, subst, arith, Option}
 use Rattle.std.proofs.lemmas.Bool.{cases_eq, eq-eqb, ne_eqb}
 use Rattle.bz_acts.specs.declared.acted.Act.{Act}
-use Rattle.bz_acts.specs.declared.acted.Act.TheVariants.{Load, Store, Cas, Flush}
+use Rattle.bz_acts.specs.declared.acted.Act.TheVariants.{Load, Store, Cas, Flush, Ask, Fence}
 use Rattle.bz_cells.specs.Store.{status_word}
 use Rattle.bz_layout.specs.Addresses.{swap_address}
 use Rattle.bz_machine.specs.declared.done.Done.{Done}
@@ -19,7 +19,7 @@ use Rattle.bz_mark.specs.declared.marks.Mark.TheVariants.{Evict}
 use Rattle.bz_ring.specs.declared.marks.QMark.{QMark}
 use Rattle.bz_ring.specs.declared.marks.QMark.TheVariants.{Memory}
 use Rattle.bz_ring.specs.Journal.{memory_of}
-use Rattle.bz_queue.specs.Acts.{mark_of}
+use Rattle.bz_marked.specs.Marks.{mark_of}
 use Rattle.bz_queue.specs.Inside.Kept.{AreShown}
 
 or-right : (x y : Bool) → y ≡ true → (x || y) ≡ true
@@ -32,6 +32,8 @@ taken-still s w (Load a v) marks is = is
 taken-still s w (Store a v) marks is = or-right _ _ is
 taken-still s w (Cas a old new found) marks is = is
 taken-still s w (Flush line) marks is = is
+taken-still s w (Ask line) marks is = is
+taken-still s w Fence marks is = is
 
 -- the store of undecided takes
 taken-now : (s w : ℕ) (marks : List Mark) → 0 < w → is_taken s (since_on (mark_of w (Store (swap_address s) (status_word Undecided)) ∷ marks)) ≡ true

@@ -6,10 +6,11 @@ use Rattle.bz_cells.specs.FromPm.Acts.{evicted}
 use Rattle.bz_cells.specs.FromPm.Words.{Words}
 use Rattle.bz_machine.specs.declared.done.Done.{Done}
 use Rattle.bz_machine.specs.declared.done.Done.TheVariants.{Busy}
-use Rattle.bz_mark.specs.WordsAfter.{words_after_marks}
+use Rattle.bz_mark.specs.WordsAfter.{state_after_marks, words_after_marks}
 use Rattle.bz_mark.specs.declared.marks.Mark.TheVariants.{Evict}
 use Rattle.bz_mark.specs.declared.power.Power.TheVariants as power
 use Rattle.bz_rivals.proofs.Proved.{notes_are_of_begun}
+use Rattle.bz_marked.proofs.Pasts.{evict-past}
 use Rattle.bz_swap.specs.Effects.{TakesEffect}
 use Rattle.bz_swap.specs.Evictions.{IsEviction, EvictsIn}
 use Rattle.bz_swap.specs.Effects.{EffectIs}
@@ -24,13 +25,13 @@ use Rattle.bz_ring.specs.Follows.{MakesDurable, power_after}
 use Rattle.bz_ring.specs.Journal.{memory_of}
 use Rattle.bz_change.specs.Values.{IsSwapOf}
 use Rattle.bz_change.proofs.Proved.{effects_change}
-use Rattle.bz_queue.specs.Acts.{mark_of}
+use Rattle.bz_marked.specs.Marks.{mark_of}
 use Rattle.bz_queue.specs.Inside.Acted.{IsActed, IsEvicted, IsStriking}
 use Rattle.bz_queue.specs.Inside.Kept.{IsKept}
 use Rattle.bz_queue.specs.declared.parts.Parts.{Parts}
 use Rattle.bz_queue.proofs.Acting.{is-serving}
 use Rattle.bz_queue.proofs.Acted.{holds-held}
-use Rattle.bz_queue.proofs.Marks.{act-marked, act-found, act-follows, act-plain}
+use Rattle.bz_queue.proofs.Marks.{act-marked, act-kept, act-found, act-follows, act-plain}
 use Rattle.bz_queue.proofs.Shown.{shown-step, shown-eviction}
 use Rattle.bz_queue.proofs.Struck.{HasSwap, has-swap}
 
@@ -57,7 +58,8 @@ act-strikes old new w made done s k open_is a =
       kept = k;
       memory = mark_of w made;
       strikes = record {
-        words = act-marked w old.access new.access old.journal.start (memory_of old.journal.past) made k.memory.words a.step.one.act;
+        words = act-marked w old.access new.access old.journal.start (memory_of old.journal.past) made done k.memory.words k.memory.past a.step.one;
+        past = act-kept w old.access new.access old.journal.start (memory_of old.journal.past) made done k.memory.words k.memory.past a.step.one;
         calm = (effects_change.step old.numbers.ring old.access new.access w made done s h.x.call h.counter h.word k.memory.calm held a.step (is-swap-of old s new.access k t)).0;
         owned = owned_stay.step old.access new.access w made done (Some s) a.step k.memory.owned;
         noted = notes_are_of_begun.step old.access new.access w made done (Some s) a.step k.memory.noted;
@@ -75,7 +77,7 @@ act-strikes old new w made done s k open_is a =
         durable = subst (λ (it : Act). MakesDurable (mark_of w it)) (sym (effects_stay_inside.step old.access new.access w made done s k.memory.calm.held.memory a.step).act) tt;
         happens = record {
           may = act-follows old.journal.past w made serving.served.opened.worker (record { opened = _; is_open = serving.served.opened.is_open });
-          found = act-found w old.access new.access old.journal.start (memory_of old.journal.past) made k.memory.words a.step.one.act a.step.one.within;
+          found = act-found w old.access new.access old.journal.start (memory_of old.journal.past) made k.memory.words a.step.one.act.found a.step.one.within;
         };
       };
       moves = record { size = a.step.one.others.size; count = a.step.one.others.count; steps = omega (arith, a.step.one.steps) };
@@ -109,6 +111,7 @@ eviction-strikes old new a s k e =
       memory = Evict a;
       strikes = record {
         words = eviction-marked old.access new.access a (Some s) old.journal.start old k.memory.words e.eviction;
+        past = evict-past old.access new.access (state_after_marks old.journal.start (memory_of old.journal.past)) a (Some s) e.eviction k.memory.past;
         calm = (effects_change.eviction old.numbers.ring old.access new.access a s h.x.call h.counter h.word k.memory.calm held e.eviction (is-swap-of old s new.access k t)).0;
         owned = owned_stay.eviction old.access new.access a (Some s) e.eviction k.memory.owned;
         noted = notes_are_of_begun.eviction old.access new.access a (Some s) e.eviction k.memory.noted;

@@ -147,6 +147,7 @@ module _ (r : Ring) (ring : IsRing r) (old new : SwapMemory) (log : QLog) (owner
   pub struck-memory : IsMemory new (record log { past = struck })
   struck-memory = record {
     words = strikes.words;
+    past = strikes.past;
     calm = strikes.calm;
     owned = strikes.owned;
     noted = strikes.noted;

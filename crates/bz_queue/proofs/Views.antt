@@ -1,5 +1,7 @@
 -- What callers see of a step, and of workers that there are not.
-use Rattle.std.proofs.Common.{◌≡◌, ◌≢◌, ◌≤◌, ℕ, zero, suc, Bool, false, List, [], ◌∷◌, length, map, get_or, refl, sym, ap, ◌∙◌, Option, Some, None}
+use Rattle.std.proofs.Common.{◌≡◌, ◌≢◌, ◌<◌, ◌≤◌, ◌+◌, arith, ℕ, zero, suc, Bool, true, false, List, [], ◌∷◌, length, map, get_or, refl, sym, ap, ◌∙◌, Option, Some, None}
+use Rattle.std.specs.Prelude.{is_none, is_some, nat_lt}
+use Rattle.std.proofs.lemmas.Bool.Decides.{nat_tests}
 use Rattle.std.proofs.Math.ListN.{get_or-eq_default}
 use Rattle.bz_swap.specs.SwapMemory.{Working, idle, worker_of}
 use Rattle.bz_ring.specs.Calls.{open_call}
@@ -8,7 +10,8 @@ use Rattle.bz_queue.specs.Inside.Acted.{HasActed}
 use Rattle.bz_queue.specs.Inside.Going.{WentOn}
 use Rattle.bz_queue.specs.Inside.Kept.{IsKept, view_of}
 use Rattle.bz_queue.specs.Inside.Serving.{IsSlot}
-use Rattle.bz_queue.specs.QueueView.{QueueView, GoesOn, Steps}
+use Rattle.bz_queue.specs.QueueView.{QueueView, GoesOn, Steps, IsApplied, is_short}
+use Rattle.bz_queue.specs.declared.answers.QEvent.TheVariants as event
 use Rattle.bz_queue.specs.declared.answers.QApplied.{QApplied}
 use Rattle.bz_queue.specs.declared.answers.QApplied.TheVariants.{Stepped}
 use Rattle.bz_queue.specs.declared.open.Numbers.{Numbers}
@@ -52,3 +55,26 @@ free-none p w (Some x) is h = absurd (cc is)
 -- a worker past the last place has no call
 pub none-past : (p : Parts) (w : ℕ) → IsKept p → length p.workers.items ≤ w → open_call w p.journal.past ≡ None
 none-past p w k past = free-none p w (get_or p.workers.items w None) (get_or-eq_default p.workers.items None past) (k.slots w)
+
+-- where no refusal applies, what follows a step is what it is answered
+is-there : (slot : Option OpenCall) (p : Parts) (w : ℕ) → slot ≢ None → IsSlot p.numbers.ring p.access p.journal.past p.owners.items p.numbers.workers w slot → is_none (open_call w p.journal.past) ≡ false
+is-there None p w some h = absurd (some refl)
+is-there (Some x) p w some h = rw h.opened.is_open refl
+
+-- what stands at a place is there, whatever stands for a place that is none
+none-here : (x y : Option OpenCall) → is_some x ≡ true → x ≡ y → y ≢ None
+none-here None y some is none = cc some
+none-here (Some z) y some is none = cc (is, none)
+
+here-some : (slots : List (Option OpenCall)) (w : ℕ) (x : Option OpenCall) → w < length slots → is_some x ≡ true → x ≡ get_or slots w x → get_or slots w None ≢ None
+here-some [] w x within some is = absurd (omega arith)
+here-some (y ∷ slots) zero x within some is = none-here x y some is
+here-some (y ∷ slots) (suc w) x within some is = here-some slots w x (omega arith) some is
+
+pub step-applied : (p q : Parts) (w : ℕ) (answer : QApplied) (x : Option OpenCall) → IsKept p → w ≤ p.numbers.workers → length p.journal.past + 3 ≤ p.journal.most → is_some x ≡ true → x ≡ get_or p.workers.items w x
+    → Steps (view_of p) w answer (view_of q) → IsApplied (view_of p) (event.Step w) answer (view_of q)
+step-applied p q w answer x k worker room some is steps =
+    let within : w < length p.workers.items = omega (arith, k.tabled.places, k.tabled.numbers.workers.at_most) in
+    let there : nat_lt p.numbers.workers w ≡ false = grind (arith, nat_tests) in
+    let long : is_short p.journal ≡ false = grind (arith, nat_tests) in
+    rw (there, long, is-there (get_or p.workers.items w None) p w (here-some p.workers.items w x within some is) (k.slots w)) steps

@@ -12,7 +12,7 @@ use Rattle.bz_ring.specs.Calls.{Open, open_call, begun_calls, count_begins}
 use Rattle.bz_ring.specs.Content.{size_of}
 use Rattle.bz_ring.specs.Fresh.{fresh_words}
 use Rattle.bz_ring.specs.Journal.{QLog, with_mark}
-use Rattle.bz_queue.specs.Acts.{mark_of}
+use Rattle.bz_marked.specs.Marks.{mark_of}
 use Rattle.bz_queue.specs.declared.answers.QApplied.{QApplied}
 use Rattle.bz_queue.specs.declared.answers.QApplied.TheVariants as applied
 use Rattle.bz_queue.specs.declared.answers.QBegun.{QBegun}

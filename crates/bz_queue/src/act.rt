@@ -7,7 +7,6 @@ ghost use Rattle.bz_ring.specs.declared.marks.QMark.TheVariants.{Memory};
 ghost use Rattle.bz_mark.specs.declared.marks.Mark.TheVariants.{Evict};
 ghost use Rattle.bz_swap.specs.SwapMemory.{Idle, doing_of};
 ghost use Rattle.bz_swap.specs.declared.phase.Phase.TheVariants.{Recovering};
-ghost use Rattle.bz_queue.specs.Acts.{mark_of as mark_in};
 ghost use Rattle.bz_queue.specs.Inside.Acted.{IsActed, IsEvicted, IsStriking, HasActed, HasEnded};
 ghost use Rattle.bz_queue.specs.Inside.Kept.{IsKept, view_of};
 ghost use Rattle.bz_queue.specs.Inside.Serving.{with_moment};
@@ -17,26 +16,9 @@ ghost use Rattle.bz_queue.specs.declared.answers.QApplied.TheVariants.{Evicted};
 use crate::parts::Parts;
 use crate::serving::OpenCall;
 use bz_mark::Mark;
+use bz_marked::mark_of;
 use bz_ring::QMark;
-use bz_swap::{Act, Done, Progress};
-
-// The mark of an act.
-fn mark_of(w: u8, act: Act) -> Mark
-    ensures { result ≡ mark_in w act }
-{
-    match act {
-        Act::Load { a, v } => Mark::Load { w, a, v },
-        Act::Store { a, v } => Mark::Store { w, a, v },
-        Act::Cas { a, old, new, found } => Mark::Cas {
-            w,
-            a,
-            old,
-            new,
-            found,
-        },
-        Act::Flush { line } => Mark::Flush { w, line },
-    }
-}
+use bz_swap::{Done, Progress};
 
 // The call with its moment, if one is open.
 fn with_effect(slot: Option<OpenCall>, moment: u32) -> Option<OpenCall>

@@ -24,6 +24,7 @@ abbrev pub memory_with : SwapStatus → SwapStatus → SwapStatus → SwapMemory
 memory_with a b c = record {
   cached = words_with a b c;
   durable = words_with a b c;
+  past = record { count = 0; since = []; asks = [] };
   swaps = 3;
   phase = Running;
   begun = [] ∷ [] ∷ [] ∷ [];

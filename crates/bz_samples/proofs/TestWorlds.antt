@@ -2,22 +2,19 @@
 use Rattle.std.specs.Prelude.{◌≡◌, ◌≢◌, ℕ, ◌+◌, ◌*◌, ◌^◌, ◌<◌, ◌≤◌, ◌||◌, Bool, true, false, List, [], ◌∷◌, ◌++◌, length, take, get_or, slice_index, slice_set, Option, ◌==◌}
 use Rattle.std.proofs.Common.{arith, refl, ap, sym, ◌∙◌, inl, inr}
 use Rattle.std.proofs.lemmas.Bool.{cases_eq, cases_lt}
-use Rattle.std.proofs.lemmas.List.{places, get_or_past, get_or-set_same, get_or-set_other, length-set, take_more}
+use Rattle.std.proofs.lemmas.List.{get_or_past, get_or-set_same, get_or-set_other, length-set, take_more}
 use Rattle.bz_word.specs.declared.entry.Entry.{Entry}
 use Rattle.bz_layout.specs.Addresses.{swap_address}
-use Rattle.bz_cells.specs.FromPm.Words.{Words}
-use Rattle.bz_cells.specs.FromPm.Acts.{with_range, with_line}
-use Rattle.bz_acts.specs.Rule.{after_act}
 use Rattle.bz_acts.specs.declared.acted.Act.{Act}
-use Rattle.bz_acts.specs.declared.acted.Act.TheVariants.{Load, Store, Cas, Flush}
 use Rattle.bz_machine.specs.declared.done.Done.{Done}
 use Rattle.bz_machine.specs.declared.done.Done.TheVariants.{Busy, Read, Swapped, Stored, Flushed}
 use Rattle.bz_swap.specs.declared.phase.Phase.{Phase}
 use Rattle.bz_swap.specs.declared.phase.Phase.TheVariants.{Opened, Running, Recovering}
-use Rattle.bz_swap.specs.SwapMemory.{SwapMemory, Doing, Idle, Swapping, Storing, Flushing, Working, idle, memory_words, worker_of, doing_of, is_target, is_among, is_named}
+use Rattle.bz_swap.specs.SwapMemory.{SwapMemory, Doing, Idle, Swapping, Storing, Flushing, Working, idle, worker_of, doing_of, is_target, is_among, is_named}
 use Rattle.bz_swap.specs.Starts.{started, swapping}
 use Rattle.bz_swap.specs.Steps.{IsOneAct, StepsIn, doing_after}
 use Rattle.bz_swap.specs.Power.{MayRenew}
+use Rattle.bz_swap.proofs.Proved.{sizes_stay}
 
 -- no worker is about to store
 abbrev pub IsCalm : SwapMemory → Type 0
@@ -52,22 +49,6 @@ read m words descriptors workers marks (numbered, few, some, room, cached, durab
 
 pub spell : (m : SwapMemory) (words descriptors workers : ℕ) (marks : List Bool) → descriptors ≤ 2 ^ 16 → workers ≤ 65 → IsTestWorld m words descriptors workers marks → Spelled m words descriptors workers marks
 spell m words descriptors workers marks numbered few t = (numbered, few, t.sized.some, t.sized.room, t.sized.cached, t.sized.durable, t.sized.count, t.sized.swaps, t.sized.size, t.sized.marked, t.calm)
-
--- what an act leaves of the sizes
-
-length-range : (at n : ℕ) (from to : List ℕ) → length from ≡ length to → length (with_range at n from to) ≡ length to
-unfolding with_range
-length-range at n from to same = grind (arith, places)
-
-length-line : (line : ℕ) (from to : List ℕ) → length from ≡ length to → length (with_line line from to) ≡ length to
-unfolding with_line
-length-line line from to same = length-range (line * 8) 8 from to same
-
-act-length : (m : Words) (act : Act) → length m.cached ≡ length m.durable → length (after_act m act).durable ≡ length m.durable
-act-length m (Load a v) same = refl
-act-length m (Store a v) same = refl
-act-length m (Cas a old new found) same = refl
-act-length m (Flush line) same = length-line line m.cached m.durable same
 
 -- calm
 
@@ -192,7 +173,7 @@ one-sized : (old new : SwapMemory) (words descriptors workers : ℕ) (marks : Li
     → IsSized old words descriptors workers marks → IsSized new words descriptors workers marks
 one-sized old new words descriptors workers marks w act done one t = record {
   cached = one.others.size ∙ t.cached;
-  durable = ap (λ (m : Words). length m.durable) one.act.after ∙ act-length (memory_words old) act (t.cached ∙ sym t.durable) ∙ t.durable;
+  durable = sym (sizes_stay.step old new w act done one one.may.state.memory).same ∙ one.others.size ∙ t.cached;
   count = one.others.count ∙ t.count;
   swaps = one.others.swaps ∙ t.swaps;
   some = t.some;

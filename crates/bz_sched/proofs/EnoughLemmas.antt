@@ -153,6 +153,8 @@ act-steps w (act.Load a v) past = refl
 act-steps w (act.Store a v) past = refl
 act-steps w (act.Cas a old new found) past = refl
 act-steps w (act.Flush line) past = refl
+act-steps w (act.Ask line) past = refl
+act-steps w act.Fence past = refl
 
 before-on : (w : ℕ) (m : Mark) (past : List Mark) → stepper (m ∷ past) ≡ Some w → before_run w (m ∷ past) ≡ before_run w past
 before-on w m past is =
@@ -164,6 +166,8 @@ act-calls v w past (act.Load a x) = refl
 act-calls v w past (act.Store a x) = refl
 act-calls v w past (act.Cas a old new found) = refl
 act-calls v w past (act.Flush line) = refl
+act-calls v w past (act.Ask line) = refl
+act-calls v w past act.Fence = refl
 
 -- an act, and what follows it at once
 record Moves (w : ℕ) (past struck : List Mark) : Type 0 where
@@ -180,6 +184,8 @@ act-counts w (act.Load a v) past = (refl, refl, refl)
 act-counts w (act.Store a v) past = (refl, refl, refl)
 act-counts w (act.Cas a old new found) past = (refl, refl, refl)
 act-counts w (act.Flush line) past = (refl, refl, refl)
+act-counts w (act.Ask line) past = (refl, refl, refl)
+act-counts w act.Fence past = (refl, refl, refl)
 
 none-changes : (b : Bool) (f : Open → Open) (o : Option Open) → o ≡ None → (if b then option_map f o else o) ≡ None
 none-changes true f o none = ap (option_map f) none

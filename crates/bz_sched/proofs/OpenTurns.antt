@@ -75,6 +75,8 @@ act_opens (act.Load a x) w v past = refl
 act_opens (act.Store a x) w v past = refl
 act_opens (act.Cas a old new found) w v past = refl
 act_opens (act.Flush line) w v past = refl
+act_opens (act.Ask line) w v past = refl
+act_opens act.Fence w v past = refl
 
 still_open : (w : ℕ) (old new : WorldView) → is_some (open_call w old.log.past) ≡ true → Steps old w applied.Stepped new → is_some (open_call w new.log.past) ≡ true
 still_open w old new is_open s =

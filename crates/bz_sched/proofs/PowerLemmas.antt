@@ -15,6 +15,8 @@ act_power at_start (act.Load a v) w past = refl
 act_power at_start (act.Store a v) w past = refl
 act_power at_start (act.Cas a old new found) w past = refl
 act_power at_start (act.Flush line) w past = refl
+act_power at_start (act.Ask line) w past = refl
+act_power at_start act.Fence w past = refl
 
 pub struck_power : (at_start : Power) (first : Mark) (past struck : List Mark) → IsStruck (first ∷ past) struck → power_of at_start struck ≡ power_of at_start (first ∷ past)
 struck_power at_start first past struck (inl same) = ap (power_of at_start) same
@@ -29,6 +31,8 @@ act_flushes (act.Load a v) w past = refl
 act_flushes (act.Store a v) w past = refl
 act_flushes (act.Cas a old new found) w past = refl
 act_flushes (act.Flush line) w past = refl
+act_flushes (act.Ask line) w past = refl
+act_flushes act.Fence w past = refl
 
 pub struck_flushes : (first : Mark) (past struck : List Mark) → IsStruck (first ∷ past) struck → flushes_of struck ≡ flushes_of (first ∷ past)
 struck_flushes first past struck (inl same) = ap flushes_of same

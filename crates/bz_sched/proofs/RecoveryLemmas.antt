@@ -104,6 +104,8 @@ act_own (act.Load a x) = refl
 act_own (act.Store a x) = refl
 act_own (act.Cas a old new found) = refl
 act_own (act.Flush line) = refl
+act_own (act.Ask line) = refl
+act_own act.Fence = refl
 
 -- it goes on, or has ended
 abbrev pub EitherWay : Applied → Type 0

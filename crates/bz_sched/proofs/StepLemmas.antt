@@ -46,6 +46,8 @@ act_own (act.Load a x) w = refl
 act_own (act.Store a x) w = refl
 act_own (act.Cas a old new found) w = refl
 act_own (act.Flush line) w = refl
+act_own (act.Ask line) w = refl
+act_own act.Fence w = refl
 
 -- what a step of a worker that has an open call answers
 abbrev by_step : Bool → Bool → Bool → Option Applied

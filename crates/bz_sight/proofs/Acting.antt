@@ -1,15 +1,14 @@
 -- Steps and evictions, told by what they do to the words.
-use Rattle.std.proofs.Common.{◌≡◌, ◌≢◌, ℕ, ◌+◌, ◌*◌, ◌/◌, ◌≤◌, ◌⊎◌, ◌==◌, if◌then◌else◌, Bool, true, false, List, length, slice_index, slice_set, arith, refl, sym, ap, subst, ◌∙◌, inl, inr, Option, Some, None}
-use Rattle.std.proofs.lemmas.Bool.{cases_eq, cases_lt}
-use Rattle.std.proofs.lemmas.Grind.{common_steps}
-use Rattle.std.proofs.lemmas.List.{get_or-set_same, get_or-set_other, get_or_past, length-set, take_all, drop_all, append-nil}
+use Rattle.std.proofs.Common.{◌≡◌, ◌≢◌, ℕ, ◌⊎◌, false, List, length, slice_index, slice_set, arith, refl, sym, ap, subst, ◌∙◌, inl, inr, Option, Some, None}
+use Rattle.std.proofs.lemmas.Bool.{cases_eq}
+use Rattle.std.proofs.lemmas.List.{get_or-set_same, get_or-set_other, length-set}
 use Rattle.bz_layout.specs.declared.config.Config.{Config}
-use Rattle.bz_pm.specs.Acts.{with_range, with_line, flushed, stored}
-use Rattle.bz_pm.proofs.Lemmas.{flush}
-use Rattle.bz_pm.specs.Words.{Words, IsMemory}
-use Rattle.bz_acts.specs.Rule.{IsActOf, after_act}
+use Rattle.bz_pm.specs.After.{after_store}
+use Rattle.bz_pm.specs.State.{State}
+use Rattle.bz_cells.proofs.Pasts.{past_of}
+use Rattle.bz_acts.specs.Rule.{after_act}
 use Rattle.bz_acts.specs.declared.acted.Act.{Act}
-use Rattle.bz_acts.specs.declared.acted.Act.TheVariants.{Load, Store, Cas, Flush}
+use Rattle.bz_acts.specs.declared.acted.Act.TheVariants.{Store, Flush}
 use Rattle.bz_cells.specs.Store.{IsOutside}
 use Rattle.bz_machine.specs.declared.done.Done.{Done}
 use Rattle.bz_machine.specs.declared.done.Done.TheVariants.{Busy, Read, Swapped, Stored, Flushed}
@@ -17,43 +16,16 @@ use Rattle.bz_swap.specs.Effects.{NoneTakesEffect, TakesEffect}
 use Rattle.bz_swap.specs.Evictions.{IsEviction, EvictsIn}
 use Rattle.bz_swap.specs.Held.{Holds, IsHeld}
 use Rattle.bz_swap.specs.Steps.{IsStep, IsAnswer}
-use Rattle.bz_swap.specs.SwapMemory.{SwapMemory, Doing, Idle, Reading, Swapping, Loading, Storing, Flushing, doing_of, is_named, memory_words}
+use Rattle.bz_swap.specs.SwapMemory.{SwapMemory, Doing, Idle, Reading, Swapping, Loading, Storing, Flushing, doing_of, is_named, memory_state}
 use Rattle.bz_swap.specs.Writes.{StoresPrivate, StoresOwn}
 use Rattle.bz_swap.specs.declared.phase.Phase.{Phase}
 use Rattle.bz_swap.specs.declared.phase.Phase.TheVariants.{Opened, Running, Recovering}
-use Rattle.bz_swap.proofs.Proved.{effects_stay_inside, plain_fields_stay}
+use Rattle.bz_swap.proofs.Proved.{effects_stay_inside, plain_fields_stay, settled_words_stay}
 use Rattle.bz_task.specs.Instant.{Instant}
 use Rattle.bz_sight.specs.Acts.{QuietStepsPass, StepsLeaveCaches, StoringStepsStore, FlushingStepsFlush, EffectStepsTakePlace, EvictionsAreSeen}
 use Rattle.bz_sight.specs.Passing.{SameRest}
 use Rattle.bz_sight.specs.Sight.{IsSeen, IsHidden}
 use Rattle.bz_sight.proofs.Passings.{held}
-
--- a flush past the last line changes nothing
-past-line : (line : ℕ) (from to : List ℕ) (b : ℕ) → length from ≤ line * 8 → length to ≤ line * 8 → slice_index (with_line line from to) b ≡ slice_index to b
-unfolding with_line with_range
-past-line line from to b none past = rw (take_all (line * 8) to past, drop_all (line * 8) from none, drop_all (line * 8 + 8) to (omega (arith, past)), append-nil, append-nil) refl
-
--- after every act a durable word is the old one or the one in the caches
-flush-either : (m : Words) (line b : ℕ) → IsMemory m → (slice_index (flushed m line).durable b ≡ slice_index m.durable b) ⊎ (slice_index (flushed m line).durable b ≡ slice_index m.cached b)
-flush-either m line b i = elim (cases_lt (line * 8) (length m.cached)) [
-  | inl within ↦ (let w = (flush m line i within).durable b in by-test (b / 8 == line) w)
-  | inr past ↦ inl (past-line line m.cached m.durable b past (omega (arith, past, i.same)))
-]
-  where
-    by-test : (t : Bool) → slice_index (flushed m line).durable b ≡ (if t then slice_index m.cached b else slice_index m.durable b)
-        → (slice_index (flushed m line).durable b ≡ slice_index m.durable b) ⊎ (slice_index (flushed m line).durable b ≡ slice_index m.cached b)
-    by-test true w = inr w
-    by-test false w = inl w
-
-act-either : (m : Words) (made : Act) (b : ℕ) → IsMemory m → (slice_index (after_act m made).durable b ≡ slice_index m.durable b) ⊎ (slice_index (after_act m made).durable b ≡ slice_index m.cached b)
-act-either m (Load a v) b i = inl refl
-act-either m (Store a v) b i = inl refl
-act-either m (Cas a before after found) b i = inl refl
-act-either m (Flush line) b i = flush-either m line b i
-
-step-either : (old new : SwapMemory) (made : Act) → IsMemory (memory_words old) → IsActOf (memory_words old) made (memory_words new) → (b : ℕ) → (slice_index new.durable b ≡ slice_index old.durable b) ⊎ (slice_index new.durable b ≡ slice_index old.cached b)
-step-either old new made i act b =
-    subst (λ (n : Words). (slice_index n.durable b ≡ slice_index old.durable b) ⊎ (slice_index n.durable b ≡ slice_index old.cached b)) (sym act.after) (act-either (memory_words old) made b i)
 
 -- what no step changes
 same-rest : (c : Config) (x : Instant) (old new : SwapMemory) (w : ℕ) (made : Act) (done : Done) (told : Option ℕ) → IsSeen c old x → IsStep old w made done told new → Holds new → SameRest old new
@@ -105,7 +77,7 @@ pub storing : StoringStepsStore
 storing c x old new w made done told a v seen step doing within =
     let told-so : (made ≡ Store a v) × (done ≡ Stored) = storing-answer new a v made done (subst (λ d. IsAnswer new d made done) doing step.one.answer) in
     let before : IsHeld old = held old seen.phase seen.holds in
-    let after : memory_words new ≡ stored (memory_words old) a v = step.one.act.after ∙ ap (after_act (memory_words old)) told-so.0 in
+    let after : memory_state new ≡ after_store (memory_state old) a v = step.one.act.after ∙ ap (after_act w (memory_state old)) told-so.0 in
     record {
       act = told-so.0;
       answer = told-so.1;
@@ -113,9 +85,10 @@ storing c x old new w made done told a v seen step doing within =
       stores = record {
         outside = (private told-so.0 (step.writes.stores a v told-so.0)).0;
         private = (private told-so.0 (step.writes.stores a v told-so.0)).1;
-        cached = ap (λ (n : Words). slice_index n.cached a) after ∙ get_or-set_same old.cached a v 0 within;
-        others = λ b ne. ap (λ (n : Words). slice_index n.cached b) after ∙ set-other old.cached a v b ne;
-        durable = λ b. ap (λ (n : Words). slice_index n.durable b) after;
+        cached = ap (λ (n : State). slice_index n.words.cached a) after ∙ get_or-set_same old.cached a v 0 within;
+        others = λ b ne. ap (λ (n : State). slice_index n.words.cached b) after ∙ set-other old.cached a v b ne;
+        durable = λ b. ap (λ (n : State). slice_index n.words.durable b) after;
+        past = ap (λ (n : State). past_of n) after;
       };
     }
   where
@@ -126,13 +99,11 @@ storing c x old new w made done told a v seen step doing within =
 pub flushing : FlushingStepsFlush
 flushing c x old new w made done told line seen step doing within =
     let told-so : (made ≡ Flush line) × (done ≡ Flushed) = flushing-answer new line made done (subst (λ d. IsAnswer new d made done) doing step.one.answer) in
-    let before : IsHeld old = held old seen.phase seen.holds in
-    let after : memory_words new ≡ flushed (memory_words old) line = step.one.act.after ∙ ap (after_act (memory_words old)) told-so.0 in
     record {
       act = told-so.0;
       answer = told-so.1;
       quiet = no-effect done told step.later (λ e. absurd (let f : Flushed ≡ Busy = sym told-so.1 ∙ e in cc));
-      copies = λ b e. (let t : (b / 8 == line) ≡ true = grind (arith, common_steps) in ap (λ (n : Words). slice_index n.durable b) after ∙ ((flush (memory_words old) line before.memory within).durable b ∙ rw t refl));
+      settles = λ b e. settled_words_stay.flush old new w line done told b (subst (λ act. IsStep old w act done told new) told-so.0 step) e;
     }
 
 pub quiet-step : QuietStepsPass
@@ -143,7 +114,7 @@ quiet-step c x old new w made done seen step holds hidden =
       holds = holds;
       fields = plain_fields_stay.step old new w made done None before.memory step seen.fields;
       quiet = step.effect;
-      durable = step-either old new made before.memory step.one.act;
+      settled = λ a cached settled. settled_words_stay.step old new w made done None a step cached settled;
       cached = λ a o private. elim (cases-storing (doing_of old w)) [
         | inl s ↦ elim (cases_eq a s.0) [
           | inl e ↦ inr (subst (λ b. IsHidden c x b) (sym e) (hidden s.0 s.1.0 s.1.1))
@@ -166,6 +137,7 @@ effect-step c x old new w made done s seen step holds =
       effect = step.effect;
       durable = (effects_stay_inside.step old new w made done s before.memory step).outside;
       cached = λ a o private. step.untouched a o private (λ v f. not-storing a v f);
+      settled = λ a cached settled. settled_words_stay.step old new w made done (Some s) a step cached settled;
     }
   where
     not-storing : (a v : ℕ) → doing_of old w ≡ Storing a v → ⊥
@@ -180,15 +152,6 @@ module _ (old new : SwapMemory) (a : ℕ) (told : Option ℕ) (e : IsEviction ol
 
   durable-set : new.durable ≡ slice_set old.durable a (slice_index old.cached a)
   durable-set = ap (λ m. m.durable) e.is
-
-  evict-either : (b : ℕ) → (slice_index new.durable b ≡ slice_index old.durable b) ⊎ (slice_index new.durable b ≡ slice_index old.cached b)
-  evict-either b = elim (cases_eq b a) [
-    | inl here ↦ elim (cases_lt a (length old.durable)) [
-      | inl within ↦ inr (ap (λ ws. slice_index ws b) durable-set ∙ (ap (slice_index (slice_set old.durable a (slice_index old.cached a))) here ∙ (get_or-set_same old.durable a (slice_index old.cached a) 0 within ∙ ap (slice_index old.cached) (sym here))))
-      | inr past ↦ inl (ap (λ ws. slice_index ws b) durable-set ∙ (get_or_past (slice_set old.durable a (slice_index old.cached a)) b 0 (omega (arith, length-set old.durable a (slice_index old.cached a), past, here)) ∙ sym (get_or_past old.durable b 0 (omega (arith, past, here)))))
-    ]
-    | inr there ↦ inl (ap (λ ws. slice_index ws b) durable-set ∙ set-other old.durable a (slice_index old.cached a) b there)
-  ]
 
   evict-same : SameRest old new
   evict-same = record {
@@ -221,7 +184,7 @@ evictions = record {
     holds = holds;
     fields = plain_fields_stay.eviction old new a None e seen.fields;
     quiet = evict-quiet old new seen.phase e.effect;
-    durable = evict-either old new a None e;
+    settled = λ b cached settled. settled_words_stay.eviction old new a None b e settled;
     cached = λ b o private. inl (ap (λ ws. slice_index ws b) (cached-same old new a None e));
   };
   leaves = λ old new a told e. λ b o private. ap (λ ws. slice_index ws b) (cached-same old new a told e);
@@ -232,5 +195,6 @@ evictions = record {
     effect = evict-effect old new s seen.phase e.effect;
     durable = (effects_stay_inside.eviction old new a s e).outside;
     cached = λ b o private. ap (λ ws. slice_index ws b) (cached-same old new a (Some s) e);
+    settled = λ b cached settled. settled_words_stay.eviction old new a (Some s) b e settled;
   };
 }

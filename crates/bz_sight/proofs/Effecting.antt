@@ -9,7 +9,6 @@ use Rattle.bz_cells.specs.Store.{IsOutside, is_outside}
 use Rattle.bz_swap.specs.Held.{IsHeld}
 use Rattle.bz_swap.specs.SwapMemory.{SwapMemory, value_at, is_named, is_among, is_settled_at, is_target, entries_of}
 use Rattle.bz_swap.specs.Starts.{IsAddress}
-use Rattle.bz_swap.proofs.SettledWords.{settled-alike}
 use Rattle.bz_word.specs.declared.entry.Entry.{Entry}
 use Rattle.bz_content.specs.Lawful.{is_fixed, is_in_descriptor, is_lawful}
 use Rattle.bz_content.specs.Resolving.{resolve}
@@ -205,7 +204,7 @@ module _ (c : Config) (x : Instant) (old new : SwapMemory) (s : ℕ) (seen : IsS
 
   -- a private word stays settled
   settled-after : (a : ℕ) → IsOutside old.swaps a → is_named old a ≡ false → x.settled a ≡ true → is_settled_at new a ≡ true
-  settled-after a o e h = settled-alike old new a (t.cached a o e) (t.durable a o) ∙ (ap (λ f. f a) (sym seen.settled) ∙ h)
+  settled-after a o e h = t.settled a (t.cached a o e) (ap (λ f. f a) (sym seen.settled) ∙ h)
 
   swaps-to : x.effects + 1 < 2 ^ 32 → SwapsTo c (entries_of old s) x y
   swaps-to few = record {
@@ -227,7 +226,7 @@ module _ (c : Config) (x : Instant) (old new : SwapMemory) (s : ℕ) (seen : IsS
     phase = λ e. seen.phase (sym t.same.phase ∙ e);
     holds = t.holds;
     fields = t.fields;
-    fixed = λ a fix. let place : a < 16 = (fixed-place a fix).0 in fixed-cached a fix place;
+    fixed = λ a fix. let place : a < 16 = (fixed-place a fix).0 in fixed-settled a fix place;
     image = refl;
     value = refl;
     settled = refl;
@@ -253,8 +252,8 @@ module _ (c : Config) (x : Instant) (old new : SwapMemory) (s : ℕ) (seen : IsS
           go true e = absurd (none (seen.targets a e))
           go false e = e
 
-      fixed-cached : (a : ℕ) → is_fixed a ≡ true → a < 16 → slice_index new.cached a ≡ slice_index new.durable a
-      fixed-cached a fix l = t.cached a (inl l) (fixed-private a fix) ∙ (seen.fixed a fix ∙ sym (t.durable a (inl l)))
+      fixed-settled : (a : ℕ) → is_fixed a ≡ true → a < 16 → is_settled_at new a ≡ true
+      fixed-settled a fix l = t.settled a (t.cached a (inl l) (fixed-private a fix)) (seen.fixed a fix)
 
   own-value : (v : Scene) → IsScene v → v.past.config ≡ c → here v ≡ x → (a : ℕ) → IsMine v a → answer_at new a ≡ (here v).value a
   own-value v good same at a mine =

@@ -7,13 +7,13 @@ use Rattle.std.proofs.lemmas.Bool.{cases_lt}
 use Rattle.bz_layout.specs.Addresses.{swap_address, node_address}
 use Rattle.bz_layout.specs.declared.config.Config.{Config}
 use Rattle.bz_cells.specs.Store.{IsOutside, is_outside}
-use Rattle.bz_swap.specs.SwapMemory.{SwapMemory, is_named, is_among}
-use Rattle.bz_swap.proofs.SettledWords.{settled-same, same-settled, settled-alike}
+use Rattle.bz_swap.specs.SwapMemory.{SwapMemory, is_named, is_among, is_settled_at}
+use Rattle.bz_swap.proofs.SettledWords.{settled-same, settled-alike}
 use Rattle.bz_task.specs.Instant.{Instant, IsDurableAt}
 use Rattle.bz_task.specs.Scene.{Scene, IsMine, IsFlushed, IsScene, here}
 use Rattle.bz_task.specs.Targets.{IsTargetAt}
 use Rattle.bz_task.proofs.Proved.{own_words_are_no_targets}
-use Rattle.bz_sight.specs.Passing.{Passes, AllStay, ActsLeaveAll, StoresAreSeen, FlushesAreSeen}
+use Rattle.bz_sight.specs.Passing.{Passes, ActsLeaveAll, StoresAreSeen, FlushesAreSeen}
 use Rattle.bz_sight.specs.Sight.{IsSeen, answer_at, next_instant}
 use Rattle.bz_sight.proofs.Passings.{answer-named, answer-private}
 
@@ -69,15 +69,15 @@ module _ (c : Config) (x : Instant) (old new : SwapMemory) (seen : IsSeen c old 
   value-stays : (a : ℕ) → (IsOutside old.swaps a → is_named old a ≡ false → slice_index new.cached a ≡ slice_index old.cached a) → (next_instant new x).value a ≡ x.value a
   value-stays a stay = answer-stays a stay ∙ ap (λ f. f a) (sym seen.value)
 
--- an own word that is copied to the memory itself is durable, and settled
-copied : (c : Config) (x : Instant) (old new : SwapMemory) (v : Scene) → IsSeen c old x → Passes c x old new → AllStay old new → IsScene v → v.past.config ≡ c → here v ≡ x →
-    (a : ℕ) → IsMine v a → slice_index new.durable a ≡ slice_index old.cached a → IsDurableAt (next_instant new x) a
-copied c x old new v seen p all good same at a mine copy =
+-- an own word that is settled is durable
+kept : (c : Config) (x : Instant) (old new : SwapMemory) (v : Scene) → IsSeen c old x → Passes c x old new → IsScene v → v.past.config ≡ c → here v ≡ x →
+    (a : ℕ) → IsMine v a → is_settled_at new a ≡ true → IsDurableAt (next_instant new x) a
+kept c x old new v seen p good same at a mine settled =
     let private : is_named old a ≡ false = own-private c x old v seen good same at a mine in
     let o : IsOutside old.swaps a = own-outside c old v seen.swaps good same a mine in
     record {
-      image = copy ∙ (sym (all a o private) ∙ sym (answer-private new a (outside-new c x old new seen p a o) (named-same c x old new seen p a ∙ private)));
-      settled = same-settled new a (all a o private ∙ sym copy);
+      image = sym (settled-same new a settled) ∙ sym (answer-private new a (outside-new c x old new seen p a o) (named-same c x old new seen p a ∙ private));
+      settled = settled;
     }
 
 pub leaves-all : ActsLeaveAll
@@ -85,23 +85,22 @@ leaves-all c x old new v seen p all good same at = record {
   value = λ a. value-stays c x old new seen p a (all a) ∙ ap (λ z. z.value a) (sym at);
   reached = λ k. ap (λ z. z.reached k) (sym at);
   effects = ap (λ z. z.effects) (sym at);
-  flushed = λ a mine f. copied c x old new v seen p all good same at a mine (durable a f);
+  flushed = λ a mine f. kept c x old new v seen p good same at a mine (settled a mine f);
 }
   where
-    durable : (a : ℕ) → IsFlushed v a → slice_index new.durable a ≡ slice_index old.cached a
-    durable a f =
-        let settled : slice_index old.cached a ≡ slice_index old.durable a = settled-same old a (ap (λ g. g a) (sym seen.settled) ∙ (ap (λ z. z.settled a) (sym at) ∙ f.settled)) in
-        elim (p.durable a) [ inl stays ↦ stays ∙ sym settled | inr copy ↦ copy ]
+    settled : (a : ℕ) → IsMine v a → IsFlushed v a → is_settled_at new a ≡ true
+    settled a mine f =
+        p.settled a (all a (own-outside c old v seen.swaps good same a mine) (own-private c x old v seen good same at a mine)) (ap (λ g. g a) (sym seen.settled) ∙ (ap (λ z. z.settled a) (sym at) ∙ f.settled))
 
 pub stores-seen : StoresAreSeen
 stores-seen c x old new a v seen p s = record {
   value = answer-private new a (outside-new c x old new seen p a s.outside) (named-same c x old new seen p a ∙ s.private) ∙ s.cached;
   others = λ b ne. value-stays c x old new seen p b (λ o e. s.others b ne);
   image = λ b. s.durable b ∙ ap (λ f. f b) (sym seen.image);
-  settled = λ b ne. settled-alike old new b (s.others b ne) (s.durable b) ∙ ap (λ f. f b) (sym seen.settled);
+  settled = λ b ne. settled-alike old new b s.past (s.others b ne) (s.durable b) ∙ ap (λ f. f b) (sym seen.settled);
   reached = λ k. refl;
   effects = refl;
 }
 
 pub flushes-seen : FlushesAreSeen
-flushes-seen c x old new line v seen p all good same at copies a in-line mine = copied c x old new v seen p all good same at a mine (copies a in-line)
+flushes-seen c x old new line v seen p all good same at settles a in-line mine = kept c x old new v seen p good same at a mine (settles a in-line)

@@ -14,9 +14,8 @@ use Rattle.bz_swap.specs.Held.{Holds}
 use Rattle.bz_swap.specs.PlainFields.{ArePlainFields}
 use Rattle.bz_swap.specs.Power.{AreRecovered, opened}
 use Rattle.bz_swap.specs.SwapMemory.{SwapMemory}
-use Rattle.bz_swap.proofs.SettledWords.{same-settled}
 use Rattle.bz_swap.specs.declared.phase.Phase.TheVariants.{Opened}
-use Rattle.bz_swap.proofs.Proved.{plain_fields_stay}
+use Rattle.bz_swap.proofs.Proved.{plain_fields_stay, settled_words_stay}
 use Rattle.bz_task.proofs.Proved.{settled_memories_are_good}
 use Rattle.bz_sight.specs.Opening.{FreshMemoryIsSeen, fresh_image, fresh_instant}
 use Rattle.bz_sight.specs.Sight.{IsSeen, answer_at}
@@ -76,10 +75,10 @@ module _ (c : Config) (config : IsConfig c) where
     phase = λ e. cc;
     holds = holds;
     fields = plain_fields_stay.opening Opened (fresh_words c) c.swaps c.workers plain-fields;
-    fixed = λ a e. refl;
+    fixed = λ a e. settled_words_stay.opening Opened (fresh_words c) c.swaps c.workers a;
     image = refl;
     value = λ t a. answers a t;
-    settled = λ t a. sym (same-settled first a refl) t;
+    settled = λ t a. sym (settled_words_stay.opening Opened (fresh_words c) c.swaps c.workers a) t;
     good = settled_memories_are_good c (fresh_image c) (fresh_memory_is_empty c config).0;
     targets = λ a e. absurd (true≢false (sym e));
     shown = λ a r e. refl;

@@ -12,7 +12,8 @@ use Rattle.bz_machine.specs.declared.status.SwapStatus.{SwapStatus}
 use Rattle.bz_machine.specs.declared.status.SwapStatus.TheVariants.{Free, Undecided, Deciding, Decided}
 use Rattle.bz_machine.specs.declared.status.Verdict.TheVariants.{Succeeded, Failed}
 use Rattle.bz_swap.specs.PlainFields.{HavePlainFields}
-use Rattle.bz_swap.specs.SwapMemory.{SwapMemory, value_at, is_named, is_among}
+use Rattle.bz_swap.specs.SwapMemory.{SwapMemory, value_at, is_named, is_among, is_settled_at}
+use Rattle.bz_swap.proofs.SettledWords.{settled-same}
 use Rattle.bz_content.specs.Image.{node}
 use Rattle.bz_content.specs.Lawful.{is_fixed, is_in_descriptor, is_lawful, is_word, is_value, LAST_STATUS}
 use Rattle.bz_content.specs.Resolving.{resolve}
@@ -32,13 +33,13 @@ use Rattle.bz_task.specs.Instant.{Instant, words, durable, page_at, form_at, is_
 use Rattle.bz_task.specs.Laws.{IsLeafInTree}
 use Rattle.bz_task.specs.Requests.{IsMetaPlace, IsPointerPlace}
 use Rattle.bz_task.specs.Resting.{Rests, HoldsTheSame}
-use Rattle.bz_task.specs.Shown.{IsShown, IsOfRecord}
+use Rattle.bz_task.specs.Shown.{IsShown, IsRead, IsOfRecord}
 use Rattle.bz_task.specs.Steps.{IsQuiet}
 use Rattle.bz_task.specs.Targets.{IsTargetAt}
 use Rattle.bz_task.proofs.Proved.{headers_say_the_level, leaves_are_in_trees, resting_memories_are_good, targets_stay}
 use Rattle.bz_sight.specs.Passing.{Passes, ActsPass}
 use Rattle.bz_sight.specs.Sight.{IsSeen, IsHidden, answer_at, next_instant}
-use Rattle.bz_sight.proofs.ReadWords.{read-before, read-settled}
+use Rattle.bz_sight.proofs.ReadWords.{read-before, read-settled, read-durable}
 use Rattle.bz_sight.proofs.SwapMemories.{leaves-values}
 
 -- outside a recovery time the memory is held
@@ -174,22 +175,15 @@ module _ (c : Config) (x : Instant) (old new : SwapMemory) (seen : IsSeen c old 
       go true e = answer-named new a (outside-new a o) (named-same a ∙ e) ∙ (p.quiet.values a e ∙ sym (answer-named old a o e))
       go false e = answer-private new a (outside-new a o) (named-same a ∙ e) ∙ (elim (p.cached a o e) [ inl same ↦ same | inr h ↦ absurd (seen-by h) ] ∙ sym (answer-private old a o e))
 
-  -- a private word of which a read answers what the image has stands in the caches as there, and stays
-  settled-private : (a : ℕ) → IsOutside old.swaps a → is_named old a ≡ false → resolve (slice_index old.durable) a ≡ answer_at old a → slice_index new.durable a ≡ slice_index old.durable a
-  settled-private a o e h =
-      let stands : resolve (slice_index old.durable) a ≡ slice_index old.durable a = left-before.values a o ∙ (before.private a o e).1 in
-      let answer : answer_at old a ≡ slice_index old.cached a = answer-private old a o e in
-      elim (p.durable a) [ inl same ↦ same | inr copied ↦ copied ∙ (sym answer ∙ (sym h ∙ stands)) ]
-
-  -- it resolves as before
-  settled : (a : ℕ) → IsOutside old.swaps a → resolve (slice_index old.durable) a ≡ answer_at old a → resolve (slice_index new.durable) a ≡ resolve (slice_index old.durable) a
-  settled a o h = go (is_named old a) refl
+  -- a word that is read resolves as before
+  settled : (a : ℕ) → IsOutside old.swaps a → IsRead c x a → resolve (slice_index new.durable) a ≡ resolve (slice_index old.durable) a
+  settled a o r = go (is_named old a) refl
     where
       go : (t : Bool) → is_named old a ≡ t → resolve (slice_index new.durable) a ≡ resolve (slice_index old.durable) a
       go true e = left-after.values a (outside-new a o) ∙ (p.quiet.values a e ∙ sym (left-before.values a o))
       go false e =
           left-after.values a (outside-new a o) ∙ ((after.private a (outside-new a o) (named-same a ∙ e)).1
-          ∙ (settled-private a o e h ∙ (sym (before.private a o e).1 ∙ sym (left-before.values a o))))
+          ∙ (read-durable c x old new a seen p r e ∙ (sym (before.private a o e).1 ∙ sym (left-before.values a o))))
 
   in-slots : (k i : ℕ) → IsOutside old.swaps (node_address c k + i)
   in-slots k i = inr (subst (λ n. swap_address n ≤ node_address c k + i) (sym seen.swaps) (omega arith))
@@ -210,20 +204,18 @@ module _ (c : Config) (x : Instant) (old new : SwapMemory) (seen : IsSeen c old 
   image-old : resolve x.image ≡ resolve (slice_index old.durable)
   image-old = ap resolve seen.image
 
-  -- of a word that readers read the image has what a read answers
-  settled-shown : (k i : ℕ) → x.reached k ≡ true → i < NODE_WORDS → IsShown (words c x k) i → resolve (slice_index old.durable) (node_address c k + i) ≡ answer_at old (node_address c k + i)
-  settled-shown k i e l h =
-      ap (λ f. f (node_address c k + i)) (sym image-old) ∙ (sym (node-at c (resolve x.image) k i l) ∙ (seen.good.shown k i e h ∙ (node-at c x.value k i l ∙ ap (λ f. f (node_address c k + i)) seen.value)))
+  -- a shown word is one that readers read
+  shown-read : (k i : ℕ) → x.reached k ≡ true → i < NODE_WORDS → IsShown (words c x k) i → IsRead c x (node_address c k + i)
+  shown-read k i e l h = inr (inr (record { slot = k; place = i; address = refl; within = l; reached = e; shown = h }))
 
   resolved-same : (k i : ℕ) → x.reached k ≡ true → IsShown (words c x k) i → durable c y k i ≡ durable c x k i
   resolved-same k i e h = elim (cases_lt i NODE_WORDS) [
-    | inl l ↦ node-at c (resolve y.image) k i l ∙ (settled (node_address c k + i) (in-slots k i) (settled-shown k i e l h) ∙ (ap (λ f. f (node_address c k + i)) (sym image-old) ∙ sym (node-at c (resolve x.image) k i l)))
+    | inl l ↦ node-at c (resolve y.image) k i l ∙ (settled (node_address c k + i) (in-slots k i) (shown-read k i e l h) ∙ (ap (λ f. f (node_address c k + i)) (sym image-old) ∙ sym (node-at c (resolve x.image) k i l)))
     | inr l ↦ node-past c (resolve y.image) k i l ∙ sym (node-past c (resolve x.image) k i l)
   ]
 
-  root-settled : (a : ℕ) → a < SUPERBLOCK_WORDS → resolve x.image a ≡ x.value a → resolve y.image a ≡ resolve x.image a
-  root-settled a l h =
-      settled a (at-top a l) (ap (λ f. f a) (sym image-old) ∙ (h ∙ ap (λ f. f a) seen.value)) ∙ ap (λ f. f a) (sym image-old)
+  root-settled : (a : ℕ) → a < SUPERBLOCK_WORDS → IsRead c x a → resolve y.image a ≡ resolve x.image a
+  root-settled a l r = settled a (at-top a l) r ∙ ap (λ f. f a) (sym image-old)
 
   -- the place of an address that a swap named is its place in its slot
   named-place : (k i : ℕ) → i < NODE_WORDS → is_named old (node_address c k + i) ≡ true → (i ≡ STATUS_AT) ⊎ (IsMetaPlace (page_at c x k) i ⊎ IsPointerPlace (page_at c x k) i)
@@ -240,7 +232,7 @@ module _ (c : Config) (x : Instant) (old new : SwapMemory) (seen : IsSeen c old 
   -- a word of a node that is read and that no swap may name stands as it stood
   raw-same : (k i : ℕ) → x.reached k ≡ true → IsShown (words c x k) i → (i < NODE_WORDS → (i ≡ STATUS_AT) ⊎ (IsMetaPlace (page_at c x k) i ⊎ IsPointerPlace (page_at c x k) i) → ⊥) → node c y.image k i ≡ node c x.image k i
   raw-same k i e h none = elim (cases_lt i NODE_WORDS) [
-    | inl l ↦ node-at c y.image k i l ∙ (settled-private (node_address c k + i) (in-slots k i) (unnamed l) (settled-shown k i e l h) ∙ (ap (λ f. f (node_address c k + i)) (sym seen.image) ∙ sym (node-at c x.image k i l)))
+    | inl l ↦ node-at c y.image k i l ∙ (read-durable c x old new (node_address c k + i) seen p (shown-read k i e l h) (unnamed l) ∙ (ap (λ f. f (node_address c k + i)) (sym seen.image) ∙ sym (node-at c x.image k i l)))
     | inr l ↦ node-past c y.image k i l ∙ sym (node-past c x.image k i l)
   ]
     where
@@ -292,9 +284,6 @@ module _ (c : Config) (x : Instant) (old new : SwapMemory) (seen : IsSeen c old 
       none l (inr (inr q)) = other q.child q.counted q.place
 
   -- the fixed words of the superblock
-  fixed-same : (a : ℕ) → is_fixed a ≡ true → slice_index new.durable a ≡ slice_index old.durable a
-  fixed-same a fix = elim (p.durable a) [ inl same ↦ same | inr copied ↦ copied ∙ seen.fixed a fix ]
-
   fixed-private : (a : ℕ) → is_fixed a ≡ true → is_named old a ≡ false
   fixed-private a fix = go (is_named old a) refl
     where
@@ -310,13 +299,19 @@ module _ (c : Config) (x : Instant) (old new : SwapMemory) (seen : IsSeen c old 
       go true e = absurd (none (seen.targets a e))
       go false e = e
 
-  fixed-after : (a : ℕ) → is_fixed a ≡ true → slice_index new.cached a ≡ slice_index new.durable a
-  fixed-after a fix =
+  fixed-cached : (a : ℕ) → is_fixed a ≡ true → slice_index new.cached a ≡ slice_index old.cached a
+  fixed-cached a fix =
       let place : (a < SUPERBLOCK_WORDS) × ((a ≢ ROOT_AT) × (a ≢ ROOT_STATUS_AT)) = fixed-place a fix in
       elim (p.cached a (at-top a place.0) (fixed-private a fix)) [
-        | inl same ↦ same ∙ (seen.fixed a fix ∙ sym (fixed-same a fix))
+        | inl same ↦ same
         | inr h ↦ absurd (omega (arith, h.in_slots, place.0))
       ]
+
+  fixed-after : (a : ℕ) → is_fixed a ≡ true → is_settled_at new a ≡ true
+  fixed-after a fix = p.settled a (fixed-cached a fix) (seen.fixed a fix)
+
+  fixed-same : (a : ℕ) → is_fixed a ≡ true → slice_index new.durable a ≡ slice_index old.durable a
+  fixed-same a fix = sym (settled-same new a (fixed-after a fix)) ∙ (fixed-cached a fix ∙ settled-same old a (seen.fixed a fix))
 
   lawful-after : (a : ℕ) → a < size_of c → is_lawful c y.image a ≡ true
   lawful-after a l = descriptor (is_in_descriptor c a) refl (is_fixed a) refl
@@ -345,8 +340,8 @@ module _ (c : Config) (x : Instant) (old new : SwapMemory) (seen : IsSeen c old 
     quiet = quiet-for-readers;
     lawful = lawful-after;
     fixed = λ a fix. fixed-same a fix ∙ ap (λ f. f a) (sym seen.image);
-    root = root-settled ROOT_AT (omega arith) seen.good.root;
-    root_status = root-settled ROOT_STATUS_AT (omega arith) seen.good.root_status;
+    root = root-settled ROOT_AT (omega arith) (inl refl);
+    root_status = root-settled ROOT_STATUS_AT (omega arith) (inr (inl refl));
     resolved = resolved-same;
     records = record-same;
     separators = separators-same;

@@ -4,7 +4,7 @@ use Rattle.bz_layout.specs.Addresses.{swap_address}
 use Rattle.bz_layout.specs.declared.config.Config.{Config}
 use Rattle.bz_cells.specs.Store.{IsOutside}
 use Rattle.bz_swap.specs.SwapMemory.{SwapMemory, is_named, is_settled_at}
-use Rattle.bz_swap.proofs.SettledWords.{settled-same, same-settled}
+use Rattle.bz_swap.proofs.SettledWords.{settled-same}
 use Rattle.bz_task.specs.Instant.{Instant, words}
 use Rattle.bz_task.specs.Requests.{IsNodeTarget}
 use Rattle.bz_task.specs.Shown.{IsShown, IsRead}
@@ -54,15 +54,18 @@ read-before c x y a q (inr (inr w)) =
       shown = (same_records_show_the_same (words c x w.slot) (words c y w.slot) (words-records (words c x w.slot) (words c y w.slot) (q.nodes w.slot was)) w.place).1 w.shown;
     }))
 
--- and where no swap has named it, it is settled still
-pub read-settled : (c : Config) (x : Instant) (old new : SwapMemory) (a : ℕ) → IsSeen c old x → Passes c x old new → IsRead c x a → is_named old a ≡ false → is_settled_at new a ≡ true
-read-settled c x old new a seen p r private = same-settled new a (elim (p.durable a) [
-  | inl same ↦ cached ∙ (settled ∙ sym same)
-  | inr copied ↦ cached ∙ sym copied
-])
-  where
-    settled : slice_index old.cached a ≡ slice_index old.durable a
-    settled = settled-same old a (ap (λ f. f a) (sym seen.settled) ∙ seen.shown a r private)
+-- where no swap has named it, it is settled, and stays in the caches
+read-settles : (c : Config) (x : Instant) (old : SwapMemory) (a : ℕ) → IsSeen c old x → IsRead c x a → is_named old a ≡ false → is_settled_at old a ≡ true
+read-settles c x old a seen r private = ap (λ f. f a) (sym seen.settled) ∙ seen.shown a r private
 
-    cached : slice_index new.cached a ≡ slice_index old.cached a
-    cached = elim (p.cached a (read-outside c old.swaps x a seen.swaps r) private) [ inl same ↦ same | inr h ↦ absurd (hidden-unread c x a h r) ]
+read-cached : (c : Config) (x : Instant) (old new : SwapMemory) (a : ℕ) → IsSeen c old x → Passes c x old new → IsRead c x a → is_named old a ≡ false → slice_index new.cached a ≡ slice_index old.cached a
+read-cached c x old new a seen p r private = elim (p.cached a (read-outside c old.swaps x a seen.swaps r) private) [ inl same ↦ same | inr h ↦ absurd (hidden-unread c x a h r) ]
+
+-- and it is settled still
+pub read-settled : (c : Config) (x : Instant) (old new : SwapMemory) (a : ℕ) → IsSeen c old x → Passes c x old new → IsRead c x a → is_named old a ≡ false → is_settled_at new a ≡ true
+read-settled c x old new a seen p r private = p.settled a (read-cached c x old new a seen p r private) (read-settles c x old a seen r private)
+
+-- so its durable word stays too
+pub read-durable : (c : Config) (x : Instant) (old new : SwapMemory) (a : ℕ) → IsSeen c old x → Passes c x old new → IsRead c x a → is_named old a ≡ false → slice_index new.durable a ≡ slice_index old.durable a
+read-durable c x old new a seen p r private =
+    sym (settled-same new a (read-settled c x old new a seen p r private)) ∙ (read-cached c x old new a seen p r private ∙ settled-same old a (read-settles c x old a seen r private))

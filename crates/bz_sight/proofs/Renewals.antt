@@ -12,8 +12,7 @@ use Rattle.bz_content.proofs.Proved.{plain_words_stand_for_themselves}
 use Rattle.bz_shape.specs.Walk.{form}
 use Rattle.bz_swap.specs.Power.{renewed}
 use Rattle.bz_swap.specs.SwapMemory.{SwapMemory}
-use Rattle.bz_swap.proofs.SettledWords.{same-settled}
-use Rattle.bz_swap.proofs.Proved.{plain_fields_stay}
+use Rattle.bz_swap.proofs.Proved.{plain_fields_stay, settled_words_stay}
 use Rattle.bz_task.specs.Good.{IsGood}
 use Rattle.bz_task.specs.Instant.{Instant, words, durable}
 use Rattle.bz_task.specs.Settled.{settled}
@@ -64,13 +63,13 @@ module _ (c : Config) (m : SwapMemory) (h : IsRenewable c m) where
     phase = λ e. cc;
     holds = h.holds;
     fields = plain_fields_stay.renewal m h.fields;
-    fixed = λ a fix. h.may_renew.same a (inl (fixed-place a fix).0);
+    fixed = λ a fix. settled_words_stay.renewal m a (h.may_renew.same a (inl (fixed-place a fix).0));
     image = refl;
     value = refl;
     settled = refl;
     good = good;
     targets = λ a e. absurd (true≢false (sym e));
-    shown = λ a r e. same-settled (renewed m) a (h.may_renew.same a (read-outside c m.swaps y a h.swaps r));
+    shown = λ a r e. settled_words_stay.renewal m a (h.may_renew.same a (read-outside c m.swaps y a h.swaps r));
   }
 
 pub renewed-seen : RenewedMemoriesAreSeen

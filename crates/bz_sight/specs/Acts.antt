@@ -1,5 +1,5 @@
 -- What the steps and evictions of a swap memory are to those who see it.
-use Rattle.std.specs.Prelude.{◌≡◌, ◌≢◌, ℕ, ◌*◌, ◌<◌, length, slice_index, Option, Some, None}
+use Rattle.std.specs.Prelude.{◌≡◌, ◌≢◌, ℕ, ◌*◌, ◌<◌, true, length, Option, Some, None}
 use Rattle.bz_layout.specs.Addresses.{line_of}
 use Rattle.bz_layout.specs.declared.config.Config.{Config}
 use Rattle.bz_acts.specs.declared.acted.Act.{Act}
@@ -9,7 +9,7 @@ use Rattle.bz_machine.specs.declared.done.Done.TheVariants.{Stored, Flushed}
 use Rattle.bz_swap.specs.Evictions.{IsEviction}
 use Rattle.bz_swap.specs.Held.{Holds}
 use Rattle.bz_swap.specs.Steps.{IsStep}
-use Rattle.bz_swap.specs.SwapMemory.{SwapMemory, Storing, Flushing, doing_of}
+use Rattle.bz_swap.specs.SwapMemory.{SwapMemory, Storing, Flushing, doing_of, is_settled_at}
 use Rattle.bz_task.specs.Instant.{Instant}
 use Rattle.bz_sight.specs.Effects.{TakesPlace}
 use Rattle.bz_sight.specs.Passing.{Passes, AllStay, StoresAt}
@@ -43,7 +43,7 @@ pub record IsFlushing (old new : SwapMemory) (made : Act) (done : Done) (told : 
   pub act : made ≡ Flush line
   pub answer : done ≡ Flushed
   pub quiet : told ≡ None
-  pub copies : (a : ℕ) → line_of a ≡ line → slice_index new.durable a ≡ slice_index old.cached a
+  pub settles : (a : ℕ) → line_of a ≡ line → is_settled_at new a ≡ true
 
 abbrev pub FlushingStepsFlush : Type 0
 FlushingStepsFlush =

@@ -1,5 +1,5 @@
 -- Acts and evictions by which a swap takes effect.
-use Rattle.std.specs.Prelude.{◌≡◌, ℕ, ◌+◌, ◌^◌, ◌&&◌, ◌||◌, ◌<◌, nat_lt, false, slice_index}
+use Rattle.std.specs.Prelude.{◌≡◌, ℕ, ◌+◌, ◌^◌, ◌&&◌, ◌||◌, ◌<◌, nat_lt, true, false, slice_index}
 use Rattle.bz_layout.specs.declared.config.Config.{Config}
 use Rattle.bz_shape.specs.Walk.{form}
 use Rattle.bz_cells.specs.Store.{IsOutside}
@@ -17,7 +17,7 @@ use Rattle.bz_sight.specs.Passing.{SameRest}
 use Rattle.bz_sight.specs.Sight.{IsSeen, answer_at}
 
 -- swap s takes effect in its descriptor; no word outside the descriptors changes in the memory itself, and no private one in
--- the caches
+-- the caches; a settled word that stays there stays settled
 pub record TakesPlace (old new : SwapMemory) (s : ℕ) : Type 0 where
   pub same : SameRest old new
   pub holds : Holds new
@@ -25,6 +25,7 @@ pub record TakesPlace (old new : SwapMemory) (s : ℕ) : Type 0 where
   pub effect : TakesEffect old new s
   pub durable : (a : ℕ) → IsOutside old.swaps a → slice_index new.durable a ≡ slice_index old.durable a
   pub cached : (a : ℕ) → IsOutside old.swaps a → is_named old a ≡ false → slice_index new.cached a ≡ slice_index old.cached a
+  pub settled : (a : ℕ) → slice_index new.cached a ≡ slice_index old.cached a → is_settled_at old a ≡ true → is_settled_at new a ≡ true
 
 -- the memory after it: what is in the tree now has been reached
 abbrev pub effect_instant : Config → SwapMemory → Instant → Instant

@@ -1,12 +1,12 @@
 -- Acts and evictions by which no swap takes effect.
-use Rattle.std.specs.Prelude.{◌≡◌, ◌≢◌, ℕ, ◌⊎◌, false, length, slice_index}
+use Rattle.std.specs.Prelude.{◌≡◌, ◌≢◌, ℕ, ◌⊎◌, true, false, length, slice_index}
 use Rattle.bz_layout.specs.Addresses.{line_of}
 use Rattle.bz_layout.specs.declared.config.Config.{Config}
 use Rattle.bz_cells.specs.Store.{IsOutside}
 use Rattle.bz_swap.specs.Effects.{NoneTakesEffect}
 use Rattle.bz_swap.specs.Held.{Holds}
 use Rattle.bz_swap.specs.PlainFields.{HavePlainFields}
-use Rattle.bz_swap.specs.SwapMemory.{SwapMemory, is_named}
+use Rattle.bz_swap.specs.SwapMemory.{SwapMemory, is_named, is_settled_at}
 use Rattle.bz_task.specs.Instant.{Instant, IsDurableAt}
 use Rattle.bz_task.specs.Others.{LeavesAll, StoresTo}
 use Rattle.bz_task.specs.Resting.{HoldsTheSame, Rests}
@@ -20,14 +20,14 @@ pub record SameRest (old new : SwapMemory) : Type 0 where
   pub begun : new.begun ≡ old.begun
   pub size : length new.durable ≡ length old.durable
 
--- no swap takes effect, each durable word is the old one or becomes the one in the caches, and of the private words there at
--- most hidden ones become others
+-- no swap takes effect, a settled word that stays in the caches stays settled, and of the private words there at most hidden
+-- ones become others
 pub record Passes (c : Config) (x : Instant) (old new : SwapMemory) : Type 0 where
   pub same : SameRest old new
   pub holds : Holds new
   pub fields : HavePlainFields new
   pub quiet : NoneTakesEffect old new
-  pub durable : (a : ℕ) → (slice_index new.durable a ≡ slice_index old.durable a) ⊎ (slice_index new.durable a ≡ slice_index old.cached a)
+  pub settled : (a : ℕ) → slice_index new.cached a ≡ slice_index old.cached a → is_settled_at old a ≡ true → is_settled_at new a ≡ true
   pub cached : (a : ℕ) → IsOutside old.swaps a → is_named old a ≡ false → (slice_index new.cached a ≡ slice_index old.cached a) ⊎ IsHidden c x a
 
 -- for readers nothing changed
@@ -56,6 +56,7 @@ pub record StoresAt (old new : SwapMemory) (a v : ℕ) : Type 0 where
   pub cached : slice_index new.cached a ≡ v
   pub others : (b : ℕ) → b ≢ a → slice_index new.cached b ≡ slice_index old.cached b
   pub durable : (b : ℕ) → slice_index new.durable b ≡ slice_index old.durable b
+  pub past : new.past ≡ old.past
 
 abbrev pub StoresAreSeen : Type 0
 StoresAreSeen = (c : Config) (x : Instant) (old new : SwapMemory) (a v : ℕ) → IsSeen c old x → Passes c x old new → StoresAt old new a v → StoresTo a v x (next_instant new x)
@@ -64,5 +65,5 @@ StoresAreSeen = (c : Config) (x : Instant) (old new : SwapMemory) (a v : ℕ) �
 abbrev pub FlushesAreSeen : Type 0
 FlushesAreSeen =
     (c : Config) (x : Instant) (old new : SwapMemory) (line : ℕ) (v : Scene) → IsSeen c old x → Passes c x old new → AllStay old new → IsScene v → v.past.config ≡ c → here v ≡ x →
-    ((a : ℕ) → line_of a ≡ line → slice_index new.durable a ≡ slice_index old.cached a) →
+    ((a : ℕ) → line_of a ≡ line → is_settled_at new a ≡ true) →
     (a : ℕ) → line_of a ≡ line → IsMine v a → IsDurableAt (next_instant new x) a

@@ -27,8 +27,8 @@ pub record IsSeen (c : Config) (m : SwapMemory) (x : Instant) : Type 0 where
   pub phase : m.phase ≢ Recovering
   pub holds : Holds m
   pub fields : HavePlainFields m
-  -- what no swap and no store may change in the superblock stands in the caches as in the memory itself
-  pub fixed : (a : ℕ) → is_fixed a ≡ true → slice_index m.cached a ≡ slice_index m.durable a
+  -- what no swap and no store may change in the superblock is settled
+  pub fixed : (a : ℕ) → is_fixed a ≡ true → is_settled_at m a ≡ true
   pub image : x.image ≡ slice_index m.durable
   pub value : x.value ≡ answer_at m
   pub settled : x.settled ≡ is_settled_at m

@@ -77,6 +77,7 @@ lives-on c old new log story mark filled g stores = record {
   seen = subst (IsSeen c new) (sym (now-is story.at (length log.past) y)) passed.seen;
   history = history-on c story.at story.from (length log.past) y g.living.history passed.same.good step;
   words = g.marked;
+  past = g.past;
   images = images-on log.start log.past mark story.at story.from y g.living.images (ap (λ w. slice_index w.durable) g.marked);
   effects = subst (λ z. story.from + z.effects ≤ suc (length log.past)) (sym (now-is story.at (length log.past) y)) (omega (arith, g.living.effects));
   reserved = λ w a o. subst (λ z. IsInBlock c z a) (sym (now-is story.at (length log.past) y)) (step-block c (story.at (length log.past)) y a step (g.living.reserved w a o));

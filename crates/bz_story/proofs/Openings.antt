@@ -9,6 +9,7 @@ use Rattle.bz_sight.proofs.Proved.{fresh_memory_is_seen}
 use Rattle.bz_sound.specs.Memory.Moments.{image_at}
 use Rattle.bz_swap.specs.Power.{IsOpened}
 use Rattle.bz_swap.specs.SwapMemory.{SwapMemory, memory_words}
+use Rattle.bz_marked.proofs.Pasts.{opened-past}
 use Rattle.bz_story.specs.Opening.{FreshStoriesLive}
 
 -- the words of a memory as it was opened, whatever its phase
@@ -27,6 +28,7 @@ fresh-lives c m limits fresh = record {
   seen = (fresh_memory_is_seen c m fresh).seen;
   history = record { good = λ i from to. (fresh_memory_is_seen c m fresh).seen.good; step = λ i from to. absurd (omega (arith, from, to)) };
   words = opened-words m (fresh_words c) c.swaps c.workers fresh.opened;
+  past = opened-past m (fresh_words c) c.swaps c.workers fresh.opened fresh.config.workers_in_range.at_most;
   images = images c;
   effects = omega arith;
   reserved = λ w a e. absurd (true≢false (sym e));

@@ -1,10 +1,9 @@
 -- The marks from a power cut to the end of the recovery: memory and journal agree after each of them, and what the durable words
 -- decode to stays; then a new life begins.
-use Rattle.std.proofs.Common.{◌≡◌, ◌↔◌, ℕ, suc, ◌+◌, ◌≤◌, ◌&&◌, Bool, false, List, ◌∷◌, Contains, length, slice_index, Some, None, arith, refl, sym, ap, subst, ◌∙◌, inl}
-use Rattle.std.specs.Prelude.{nat_lt, ◌==◌, if◌then◌else◌, slice_set}
+use Rattle.std.proofs.Common.{◌≡◌, ◌↔◌, ℕ, suc, ◌+◌, ◌≤◌, ◌&&◌, Bool, false, List, [], ◌∷◌, Contains, length, slice_index, Option, Some, None, arith, refl, sym, ap, subst, ◌∙◌, inl}
+use Rattle.std.specs.Prelude.{nat_lt, get_or}
 use Rattle.std.specs.FinMap.{get}
 use Rattle.std.proofs.lemmas.Bool.{true≢false}
-use Rattle.bz_acts.specs.Rule.{FoundRightly, after_act}
 use Rattle.bz_acts.specs.declared.acted.Act.{Act}
 use Rattle.bz_acts.specs.declared.acted.Act.TheVariants as act
 use Rattle.bz_call.specs.Map.{Map}
@@ -12,14 +11,14 @@ use Rattle.bz_content.specs.Content.{image_fault, content_in}
 use Rattle.bz_layout.specs.declared.config.Config.{Config}
 use Rattle.bz_mark.specs.Log.{Log, with_mark}
 use Rattle.bz_mark.proofs.MomentLaws.{at_moment-now}
-use Rattle.bz_mark.specs.WordsAfter.{state_after, state_after_marks, words_after_marks}
+use Rattle.bz_mark.specs.WordsAfter.{state_after_marks, words_after_marks}
 use Rattle.bz_mark.specs.declared.marks.Mark.{Mark}
 use Rattle.bz_mark.specs.declared.marks.Mark.TheVariants.{Evict, Ready}
 use Rattle.bz_pm.specs.Acts.{evicted, after_cut as words_after_cut}
-use Rattle.bz_pm.specs.State.{State}
+use Rattle.bz_cells.specs.Store.{Past}
 use Rattle.bz_pm.specs.Words.{Words}
 use Rattle.bz_recover.specs.Contents.{SaysTheSame}
-use Rattle.bz_recover.specs.Duties.{acts_left}
+use Rattle.bz_recover.specs.Duties.{acts_left, asks_of}
 use Rattle.bz_recover.specs.Walking.{IsTreeOf, AreReached}
 use Rattle.bz_recover.specs.declared.recover.Recover.{Recover}
 use Rattle.bz_recover.proofs.Proved.{recoveries_know}
@@ -34,12 +33,17 @@ use Rattle.bz_sound.specs.Power.Times.{image_at_on}
 use Rattle.bz_swap.specs.Power.{renewed}
 use Rattle.bz_swap.specs.Steps.{IsRawStep, StepsIn}
 use Rattle.bz_swap.specs.SwapMemory.{SwapMemory, memory_words}
+use Rattle.bz_task.specs.declared.todo.Todo.{Todo}
+use Rattle.bz_task.specs.declared.todo.Todo.TheVariants as todo
 use Rattle.bz_story.specs.Living.{IsLiving}
+use Rattle.bz_marked.specs.Marks.{mark_of}
+use Rattle.bz_marked.specs.Past.{SamePast, IsClean}
+use Rattle.bz_marked.proofs.Pasts.{IsPlainAct, act-words, act-past, act-clean, evict-past, evict-clean, cut-past, cut-clean, renewed-past, opened-past, opened-clean}
 use Rattle.bz_story.proofs.Powering.{image-now, begins, cuts-leave}
 use Rattle.bz_story.specs.Recovering.{IsRecovering, Turn, Asked, Made, words_in}
-use Rattle.bz_story.specs.RecoveryLaws.{Recovers, StaysRecovering, IsRevived}
+use Rattle.bz_story.specs.RecoveryLaws.{IsAsked, Recovers, StaysRecovering, IsRevived}
 use Rattle.bz_mark.specs.Counts.{acts_by}
-use Rattle.bz_story.specs.Reviving.{to_come, IsRecoveringIn, CutsAreMarked, ImagesOpenJournals, PowerOnIsMarked, TurnsMakeNoMark, mark_of, StillDecodes, ActsAreMarked, EvictionsAreMarked, renewed_story, RecoveriesGiveLife, WalksEnd}
+use Rattle.bz_story.specs.Reviving.{to_come, IsRecoveringIn, CutsAreMarked, ImagesOpenJournals, PowerOnIsMarked, TurnsMakeNoMark, StillDecodes, ActsAreMarked, EvictionsAreMarked, renewed_story, RecoveriesGiveLife, WalksEnd}
 use Rattle.bz_story.proofs.Booting.{images-off}
 use Rattle.bz_story.proofs.Recoveries.{acts-recover, evictions-leave}
 use Rattle.bz_story.proofs.Revivals.{revives}
@@ -65,6 +69,8 @@ act-quiet start past (act.Load a v) = record { calls = λ w. refl; map = λ firs
 act-quiet start past (act.Store a v) = record { calls = λ w. refl; map = λ first. refl; on = refl; taken = λ swap. refl; stored = λ c slot. refl }
 act-quiet start past (act.Cas a old new found) = record { calls = λ w. refl; map = λ first. refl; on = refl; taken = λ swap. refl; stored = λ c slot. refl }
 act-quiet start past (act.Flush line) = record { calls = λ w. refl; map = λ first. refl; on = refl; taken = λ swap. refl; stored = λ c slot. refl }
+act-quiet start past (act.Ask line) = record { calls = λ w. refl; map = λ first. refl; on = refl; taken = λ swap. refl; stored = λ c slot. refl }
+act-quiet start past act.Fence = record { calls = λ w. refl; map = λ first. refl; on = refl; taken = λ swap. refl; stored = λ c slot. refl }
 
 evict-quiet : (start : List ℕ) (past : List Mark) (a : ℕ) → IsQuietMark start past (Evict a)
 evict-quiet start past a = record { calls = λ w. refl; map = λ first. refl; on = refl; taken = λ swap. refl; stored = λ c slot. refl }
@@ -75,16 +81,18 @@ act-counted past (act.Load a v) = refl
 act-counted past (act.Store a v) = refl
 act-counted past (act.Cas a old new found) = refl
 act-counted past (act.Flush line) = refl
+act-counted past (act.Ask line) = refl
+act-counted past act.Fence = refl
 
 one-made : (acts left was : ℕ) → left ≡ was → acts + 1 + left ≡ acts + suc was
 one-made acts left was same = omega (arith, same)
 
--- the words after an act
-act-words : (m : State) (made : Act) → FoundRightly m.words made → (state_after m (mark_of 0 made)).words ≡ after_act m.words made
-act-words m (act.Load a v) found = refl
-act-words m (act.Store a v) found = refl
-act-words m (act.Cas a old new seen) found = ap (λ (x : ℕ). let after : Words = record { cached = if x == old then slice_set m.words.cached a new else m.words.cached; durable = m.words.durable } in after) found
-act-words m (act.Flush line) found = refl
+-- a recovery asks for a load, a store or a flush
+plain-act : (asks : Option Todo) (made : Act) → IsAsked asks made → IsPlainAct made
+plain-act (Some (todo.Load a)) made is = rw is.1 tt
+plain-act (Some (todo.Store a x)) made is = rw is tt
+plain-act (Some (todo.Flush line)) made is = rw is tt
+plain-act other made is = absurd is
 
 -- the durable words before and after such a mark, which hold the same
 record Keeps (c : Config) (old new : SwapMemory) (log : Log) (mark : Mark) : Type 0 where
@@ -92,6 +100,8 @@ record Keeps (c : Config) (old new : SwapMemory) (log : Log) (mark : Mark) : Typ
   before : memory_words old ≡ words_after_marks log.start log.past
   after : memory_words new ≡ words_after_marks log.start (mark ∷ log.past)
   same : SaysTheSame c (slice_index old.durable) (slice_index new.durable)
+  past : SamePast new (state_after_marks log.start (mark ∷ log.past))
+  clean : IsClean new.past
 
 still-decodes : (c : Config) (old new : SwapMemory) (log : Log) (mark : Mark) → Keeps c old new log mark → StillDecodes c log mark
 still-decodes c old new log mark k d = record {
@@ -108,6 +118,8 @@ marked : (c : Config) (v : ℕ → ℕ) (old new : SwapMemory) (log : Log) (mark
 marked c v old new log mark turn next t r k recovering spent = record {
   recovering = recovering;
   words = k.after;
+  past = k.past;
+  clean = k.clean;
   calls = λ w. k.quiet.calls w ∙ r.calls w;
   same = subst (λ x. SaysTheSame c x (slice_index new.durable)) (sym k.quiet.on) (says-as c (image_at_on log.start log.past) (slice_index old.durable) (slice_index new.durable) r.same k.same);
   untaken = λ swap. k.quiet.taken swap ∙ r.untaken swap;
@@ -120,22 +132,28 @@ cuts-marked = record {
   living = λ c m log story l workers. record {
     off = cuts-leave.seen c (story.at (length log.past)) m l.seen workers;
     words = ap words_after_cut l.words;
+    past = cut-past m (state_after_marks log.start log.past) l.past;
+    clean = cut-clean m;
     calls = λ w. refl;
   };
   recovering = λ c v m log turn t r. record {
     off = cuts-leave.recovering c v m turn t r.recovering;
     words = ap words_after_cut r.words;
+    past = cut-past m (state_after_marks log.start log.past) r.past;
+    clean = cut-clean m;
     calls = λ w. refl;
   };
 }
 
 pub images-open : ImagesOpenJournals
-images-open c m image limits config size none is = record { off = images-off c m image config size none is; words = ap memory_words is.is; calls = λ w. refl }
+images-open c m image limits config size none is = record { off = images-off c m image config size none is; words = ap memory_words is.is; past = opened-past m image c.swaps c.workers is config.workers_in_range.at_most; clean = opened-clean m image c.swaps c.workers is; calls = λ w. refl }
 
 pub on-marked : PowerOnIsMarked
 on-marked c v m log t off is-new = record {
   recovering = (begins c v m t off.off is-new).recovering;
   words = off.words;
+  past = off.past;
+  clean = off.clean;
   calls = off.calls;
   same = subst (λ (w : Words). SaysTheSame c (slice_index w.durable) (slice_index m.durable)) off.words (record { well_formed = off.off.memory.form; inside = λ k. refl; content = λ key. refl });
   untaken = λ swap. refl;
@@ -144,9 +162,11 @@ on-marked c v m log t off is-new = record {
 }
 
 pub turns : TurnsMakeNoMark
-turns c v m n log turn next t u r words recovering fewer = record {
+turns c v m n log turn next t u r words past recovering fewer = record {
   recovering = recovering;
   words = words ∙ r.words;
+  past = record { count = ap (λ (p : Past). p.count) past ∙ r.past.count; since = ap (λ (p : Past). p.since) past ∙ r.past.since; asks = λ w. ap (λ (p : Past). get_or p.asks w []) past ∙ r.past.asks w; workers = rw past r.past.workers };
+  clean = rw past r.clean;
   calls = r.calls;
   same = subst (λ (w : Words). SaysTheSame c (image_at_on log.start log.past) (slice_index w.durable)) (sym words) r.same;
   untaken = r.untaken;
@@ -161,11 +181,10 @@ acts-marked c v old new log t made answer told r s =
     let k : Keeps c old new log (mark_of 0 made) = record {
       quiet = act-quiet log.start log.past made;
       before = r.words;
-      after =
-          raw.one.act.after
-          ∙ (ap (λ (ws : Words). after_act ws made) r.words
-          ∙ sym (act-words (state_after_marks log.start log.past) made (subst (λ (ws : Words). FoundRightly ws made) r.words raw.one.act.found)));
+      after = act-words old new (state_after_marks log.start log.past) 0 made answer raw.one r.words r.past;
       same = done.same;
+      past = act-past old new (state_after_marks log.start log.past) 0 made answer raw.one r.words r.past;
+      clean = act-clean old new 0 made answer raw.one (plain-act (asks_of t) made done.asked) r.clean;
     } in
     record {
       recovers = done;
@@ -182,6 +201,8 @@ evictions-marked c v old new log turn t a told r within h =
       before = r.words;
       after = words ∙ ap (λ w. evicted w a) r.words;
       same = stays.same;
+      past = evict-past old new (state_after_marks log.start log.past) a told h r.past;
+      clean = evict-clean old new a told h r.clean;
     } in
     record {
       stays = stays;
@@ -206,6 +227,7 @@ lives c v m log t r seen = record {
   seen = seen;
   history = record { good = λ i from to. seen.good; step = λ i from to. absurd (omega (arith, from, to)) };
   words = r.words;
+  past = renewed-past m (state_after_marks log.start log.past) r.clean r.past;
   images = first-image log.start log.past m r.words;
   effects = omega arith;
   reserved = λ w a e. absurd (true≢false (sym e));

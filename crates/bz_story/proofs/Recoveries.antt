@@ -10,6 +10,7 @@ use Rattle.bz_layout.specs.declared.sizes.TheConstants.{LINE_WORDS}
 use Rattle.bz_machine.specs.declared.done.Done.{Done}
 use Rattle.bz_machine.specs.declared.done.Done.TheVariants as done
 use Rattle.bz_pm.specs.Acts.{stored, flushed, evicted}
+use Rattle.bz_pm.specs.State.{State}
 use Rattle.bz_pm.specs.Words.{Words, IsMemory}
 use Rattle.bz_recover.specs.Contents.{ResolvesSome, SaysTheSame}
 use Rattle.bz_recover.specs.Duties.{config_of, asks_of, acts_left, Knows, hears_in, tells_in}
@@ -19,7 +20,7 @@ use Rattle.bz_recover.proofs.Proved.{acts_are_these, acts_left_stay, recoveries_
 use Rattle.bz_swap.specs.Evictions.{EvictsIn}
 use Rattle.bz_swap.specs.PlainFields.{WritesPlain}
 use Rattle.bz_swap.specs.Steps.{IsAnswer, IsRawStep, StepsIn, doing_after}
-use Rattle.bz_swap.specs.SwapMemory.{SwapMemory, Idle, Swapping, Working, memory_words, doing_of}
+use Rattle.bz_swap.specs.SwapMemory.{SwapMemory, Idle, Swapping, Working, memory_words, memory_state, doing_of}
 use Rattle.bz_swap.specs.declared.phase.Phase.{Phase}
 use Rattle.bz_swap.specs.declared.phase.Phase.TheVariants.{Opened, Running, Recovering}
 use Rattle.bz_swap.proofs.Proved.{plain_fields_stay, sizes_stay}
@@ -63,8 +64,8 @@ module _ (c : Config) (v : ℕ → ℕ) (old new : SwapMemory) (t : Recover) (ma
   not-running e = let bad : Recovering ≡ Running = sym r.phase ∙ (sym s.one.others.phase ∙ e) in absurd cc
 
   -- the words after an act
-  after : (a : Act) → made ≡ a → memory_words new ≡ after_act (memory_words old) a
-  after a is = s.one.act.after ∙ ap (after_act (memory_words old)) is
+  after : (a : Act) → made ≡ a → memory_words new ≡ (after_act 0 (memory_state old) a).words
+  after a is = ap (λ (z : State). z.words) (s.one.act.after ∙ ap (after_act 0 (memory_state old)) is)
 
   unchanged : (w : Words) → memory_words new ≡ w → w.durable ≡ old.durable → SaysTheSame c (slice_index old.durable) (slice_index new.durable)
   unchanged w words same = subst (λ d. SaysTheSame c (slice_index old.durable) (slice_index d)) (sym (ap (λ (z : Words). z.durable) words ∙ same)) (holds-itself c (slice_index old.durable) r.memory.form)

@@ -251,6 +251,7 @@ module _ (c : Config) (old new : SwapMemory) (log : Log) (story : Story) (mark :
     seen = subst (IsSeen c new) (sym (now-is story.at (length log.past) (effect_instant c new (story.at (length log.past))))) (took.seen g.good.good (inr g.good.step) shows);
     history = history-on c story.at story.from (length log.past) (effect_instant c new (story.at (length log.past))) g.living.history g.good.good (inr g.good.step);
     words = g.marked;
+    past = g.past;
     images = images-on log.start log.past mark story.at story.from (effect_instant c new (story.at (length log.past))) g.living.images (ap (λ z. slice_index z.durable) g.marked);
     effects = subst (λ z. story.from + z.effects ≤ suc (length log.past)) (sym (now-is story.at (length log.past) (effect_instant c new (story.at (length log.past))))) (omega (arith, g.living.effects));
     reserved = λ v a o. subst (λ z. IsInBlock c z a) (sym (now-is story.at (length log.past) (effect_instant c new (story.at (length log.past))))) (block-of v a (reserved-of v a o));

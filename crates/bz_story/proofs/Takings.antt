@@ -32,6 +32,7 @@ taken-living c m log story w old new l may = record {
   seen = l.seen;
   history = l.history;
   words = l.words;
+  past = l.past;
   images = l.images;
   effects = l.effects;
   reserved = l.reserved;

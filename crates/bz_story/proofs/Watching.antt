@@ -1,5 +1,5 @@
 -- What a mark by which no swap takes effect is to each worker.
-use Rattle.std.proofs.Common.{◌≡◌, ◌≢◌, ℕ, zero, suc, ◌+◌, ◌≤◌, ◌||◌, ◌==◌, Bool, true, false, List, ◌∷◌, length, slice_index, arith, refl, sym, ap, subst, ◌∙◌, inl, inr}
+use Rattle.std.proofs.Common.{◌≡◌, ◌≢◌, ℕ, zero, suc, ◌+◌, ◌≤◌, ◌||◌, ◌==◌, Bool, true, false, List, ◌∷◌, length, arith, refl, sym, ap, subst, ◌∙◌, inl, inr}
 use Rattle.std.proofs.lemmas.Bool.Decides.{nat_tests}
 use Rattle.bz_layout.specs.Addresses.{node_address, line_of}
 use Rattle.bz_layout.specs.declared.config.Config.{Config}
@@ -11,7 +11,7 @@ use Rattle.bz_sight.specs.Sight.{next_instant}
 use Rattle.bz_sight.specs.Starts.{Sees}
 use Rattle.bz_sight.proofs.Proved.{acts_leave_all, acts_pass, flushes_are_seen, stores_are_seen}
 use Rattle.bz_sound.specs.Calls.{Open}
-use Rattle.bz_swap.specs.SwapMemory.{SwapMemory}
+use Rattle.bz_swap.specs.SwapMemory.{SwapMemory, is_settled_at}
 use Rattle.bz_task.specs.Instant.{Instant, IsDurableAt, words}
 use Rattle.bz_task.specs.Others.{AreApart, Watches, LeavesAll, StoresTo}
 use Rattle.bz_task.specs.OwnActs.{Stores, Flushes}
@@ -109,7 +109,7 @@ module _ (c : Config) (old new : SwapMemory) (log : Log) (story : Story) (mark :
   own-stays filled w since opened = mine-stays (scene c log.past story w since opened) (scene c (mark ∷ log.past) (goes_on log story new filled) w since opened) refl (subst (IsQuiet c (story.at (length log.past))) (sym (later-here filled w since opened)) passed.rests.quiet) (λ a. refl) (λ k. refl)
 
   -- a flush of one's own
-  flushes : AllStay old new → (w line since : ℕ) (opened : Open) → HasBegun log story since → ((a : ℕ) → line_of a ≡ line → slice_index new.durable a ≡ slice_index old.cached a)
+  flushes : AllStay old new → (w line since : ℕ) (opened : Open) → HasBegun log story since → ((a : ℕ) → line_of a ≡ line → is_settled_at new a ≡ true)
       → Flushes line (scene c log.past story w since opened) (scene c (mark ∷ log.past) (goes_on log story new story.filled) w since opened)
   flushes all w line since opened begun copies = record {
     continues = continues c log.past mark story (goes_on log story new story.filled) w since opened opened (before story.filled);

@@ -1,10 +1,10 @@
 -- How a living memory goes on from mark to mark, and what each mark is to each worker.
-use Rattle.std.specs.Prelude.{◌≡◌, ◌≢◌, ℕ, ◌+◌, ◌^◌, ◌<◌, ◌≤◌, ◌==◌, ◌&&◌, ◌||◌, if◌then◌else◌, Bool, true, false, List, ◌∷◌, length, slice_index}
+use Rattle.std.specs.Prelude.{◌≡◌, ◌≢◌, ℕ, ◌+◌, ◌^◌, ◌<◌, ◌≤◌, ◌==◌, ◌&&◌, ◌||◌, if◌then◌else◌, Bool, true, false, List, ◌∷◌, length}
 use Rattle.bz_layout.specs.Addresses.{slot_of, line_of}
 use Rattle.bz_layout.specs.Slots.{FreeSlots}
 use Rattle.bz_layout.specs.declared.config.Config.{Config}
 use Rattle.bz_mark.specs.Log.{Log, with_mark}
-use Rattle.bz_mark.specs.WordsAfter.{words_after_marks}
+use Rattle.bz_mark.specs.WordsAfter.{state_after_marks, words_after_marks}
 use Rattle.bz_mark.specs.declared.marks.Mark.{Mark}
 use Rattle.bz_sight.specs.Effects.{TakesPlace, effect_instant}
 use Rattle.bz_sight.specs.Passing.{Passes, AllStay, StoresAt}
@@ -16,12 +16,13 @@ use Rattle.bz_mark.specs.Times.{LeavesPower}
 use Rattle.bz_mark.specs.Times.{since_on}
 use Rattle.bz_word.specs.declared.entry.Entry.{Entry}
 use Rattle.bz_swap.specs.EntryLists.{IsEntryList}
-use Rattle.bz_swap.specs.SwapMemory.{SwapMemory, memory_words, entries_of}
+use Rattle.bz_swap.specs.SwapMemory.{SwapMemory, memory_words, entries_of, is_settled_at}
 use Rattle.bz_task.specs.OwnActs.{Stores, Flushes, is_gained, gained}
 use Rattle.bz_task.specs.Requests.{IsOwnStore}
 use Rattle.bz_task.specs.Scene.{IsLawful}
 use Rattle.bz_task.specs.Swaps.{Change, IsGoodSwap, Takes, reserves}
 use Rattle.bz_story.specs.Living.{IsLiving}
+use Rattle.bz_marked.specs.Past.{SamePast}
 use Rattle.bz_story.specs.Story.{Story, scene, and_then}
 
 -- a look-up that began in this life of the memory, at this moment
@@ -54,6 +55,7 @@ pub record GoesOn (c : Config) (old new : SwapMemory) (log : Log) (story : Story
   pub living : IsLiving c old log story
   pub passes : Passes c (story.at (length log.past)) old new
   pub marked : IsMarked new log mark
+  pub past : SamePast new (state_after_marks log.start (mark ∷ log.past))
   pub powered : LeavesPower log.past mark
 
 abbrev pub LivesGoOn : Type 0
@@ -89,7 +91,7 @@ pub record StoresAreTold : Type 0 where
 abbrev pub FlushesAreTold : Type 0
 FlushesAreTold =
     (c : Config) (old new : SwapMemory) (log : Log) (story : Story) (mark : Mark) (w line since : ℕ) (opened : Open) → GoesOn c old new log story mark → AllStay old new → HasBegun log story since →
-    ((a : ℕ) → line_of a ≡ line → slice_index new.durable a ≡ slice_index old.cached a) →
+    ((a : ℕ) → line_of a ≡ line → is_settled_at new a ≡ true) →
     Flushes line (scene c log.past story w since opened) (scene c (mark ∷ log.past) (goes_on log story new story.filled) w since opened)
 
 -- the story after the effect of a swap of worker w
@@ -107,6 +109,7 @@ pub record Strikes (c : Config) (old new : SwapMemory) (log : Log) (story : Stor
   pub living : IsLiving c old log story
   pub takes : TakesPlace old new s
   pub marked : IsMarked new log mark
+  pub past : SamePast new (state_after_marks log.start (mark ∷ log.past))
   pub powered : LeavesPower log.past mark
   pub begun : HasBegun log story since
   pub list : IsEntryList (entries_of old s)

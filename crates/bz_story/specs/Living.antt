@@ -4,7 +4,7 @@ use Rattle.bz_layout.specs.Addresses.{node_address}
 use Rattle.bz_layout.specs.declared.config.Config.{Config}
 use Rattle.bz_layout.specs.declared.sizes.TheConstants.{NODE_WORDS}
 use Rattle.bz_mark.specs.Log.{Log}
-use Rattle.bz_mark.specs.WordsAfter.{words_after_marks}
+use Rattle.bz_mark.specs.WordsAfter.{state_after_marks, words_after_marks}
 use Rattle.bz_sight.specs.Sight.{IsSeen}
 use Rattle.bz_sound.specs.Calls.{Open, open_call}
 use Rattle.bz_sound.specs.Memory.Moments.{image_at}
@@ -14,6 +14,7 @@ use Rattle.bz_sound.specs.Power.Times.{image_at_on}
 use Rattle.bz_swap.specs.SwapMemory.{SwapMemory, memory_words}
 use Rattle.bz_task.specs.Instant.{Instant, page_at}
 use Rattle.bz_task.specs.Steps.{IsHistory}
+use Rattle.bz_marked.specs.Past.{SamePast}
 use Rattle.bz_story.specs.Story.{Story}
 
 -- a word of the block of a node that was reached
@@ -34,6 +35,7 @@ pub record IsLiving (c : Config) (m : SwapMemory) (log : Log) (story : Story) : 
   pub history : IsHistory c story.at story.from (length log.past)
   -- the journal's words are the memory's, and the images of these moments the story's
   pub words : memory_words m ≡ words_after_marks log.start log.past
+  pub past : SamePast m (state_after_marks log.start log.past)
   pub images : (i : ℕ) → story.from ≤ i → i ≤ length log.past → (story.at i).image ≡ image_at log.start i log.past
   -- each effect of this life has a mark of its own
   pub effects : story.from + (story.at (length log.past)).effects ≤ length log.past

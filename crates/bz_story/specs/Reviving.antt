@@ -11,9 +11,9 @@ use Rattle.bz_layout.specs.declared.config.Config.{Config}
 use Rattle.bz_machine.specs.declared.done.Done.{Done}
 use Rattle.bz_mark.specs.Counts.{acts_by}
 use Rattle.bz_mark.specs.Log.{Log, Limits, with_mark}
-use Rattle.bz_mark.specs.WordsAfter.{words_after_marks}
+use Rattle.bz_mark.specs.WordsAfter.{state_after_marks, words_after_marks}
 use Rattle.bz_mark.specs.declared.marks.Mark.{Mark}
-use Rattle.bz_mark.specs.declared.marks.Mark.TheVariants.{Load, Store, Cas, Flush, Evict, Cut, On, Ready}
+use Rattle.bz_mark.specs.declared.marks.Mark.TheVariants.{Load, Store, Cas, Flush, Evict, Cut, On, Ready, Ask, Fence}
 use Rattle.bz_recover.specs.Contents.{SaysTheSame}
 use Rattle.bz_recover.specs.Duties.{asks_of, acts_left, WalksIn}
 use Rattle.bz_recover.specs.Places.{MOST_ACTS}
@@ -32,6 +32,8 @@ use Rattle.bz_swap.specs.Power.{IsOpened, after_cut, renewed}
 use Rattle.bz_swap.specs.Steps.{StepsIn}
 use Rattle.bz_swap.specs.SwapMemory.{SwapMemory, memory_words}
 use Rattle.bz_task.specs.declared.todo.Todo.TheVariants.{Finish}
+use Rattle.bz_marked.specs.Marks.{mark_of}
+use Rattle.bz_marked.specs.Past.{SamePast, IsClean}
 use Rattle.bz_story.specs.Living.{IsLiving}
 use Rattle.bz_story.specs.Recovering.{IsOff, Turn, Asked, Started, Made, IsRecovering, IsNew, words_in}
 use Rattle.bz_story.specs.RecoveryLaws.{IsRevived, Recovers, StaysRecovering}
@@ -46,6 +48,8 @@ to_come turn n = suc n
 pub record IsOffIn (c : Config) (values : ℕ → ℕ) (m : SwapMemory) (log : Log) : Type 0 where
   pub off : IsOff c values m
   pub words : memory_words m ≡ words_after_marks log.start log.past
+  pub past : SamePast m (state_after_marks log.start log.past)
+  pub clean : IsClean m.past
   pub calls : (w : ℕ) → open_call w log.past ≡ None
 
 -- a recovery goes on: so it is too, and the durable words hold what they held when the power came on; since then no descriptor was
@@ -53,6 +57,8 @@ pub record IsOffIn (c : Config) (values : ℕ → ℕ) (m : SwapMemory) (log : L
 pub record IsRecoveringIn (c : Config) (values : ℕ → ℕ) (m : SwapMemory) (log : Log) (turn : Turn) (t : Recover) : Type 0 where
   pub recovering : IsRecovering c values m turn t
   pub words : memory_words m ≡ words_after_marks log.start log.past
+  pub past : SamePast m (state_after_marks log.start log.past)
+  pub clean : IsClean m.past
   pub calls : (w : ℕ) → open_call w log.past ≡ None
   pub same : SaysTheSame c (image_at_on log.start log.past) (slice_index m.durable)
   pub untaken : (swap : ℕ) → is_taken swap (since_on log.past) ≡ false
@@ -81,16 +87,9 @@ PowerOnIsMarked = (c : Config) (values : ℕ → ℕ) (m : SwapMemory) (log : Lo
 -- what a recovery is told, and what worker 0 starts, makes no mark, where no more acts are left than before
 abbrev pub TurnsMakeNoMark : Type 0
 TurnsMakeNoMark =
-    (c : Config) (values : ℕ → ℕ) (m n : SwapMemory) (log : Log) (turn next : Turn) (t u : Recover) → IsRecoveringIn c values m log turn t → memory_words n ≡ memory_words m → IsRecovering c values n next u →
+    (c : Config) (values : ℕ → ℕ) (m n : SwapMemory) (log : Log) (turn next : Turn) (t u : Recover) → IsRecoveringIn c values m log turn t → memory_words n ≡ memory_words m → n.past ≡ m.past → IsRecovering c values n next u →
     to_come next (acts_left u (words_in n)) ≤ to_come turn (acts_left t (words_in m)) →
     IsRecoveringIn c values n log next u
-
--- the mark of an act
-abbrev pub mark_of : ℕ → Act → Mark
-mark_of w (act.Load a v) = Load w a v
-mark_of w (act.Store a v) = Store w a v
-mark_of w (act.Cas a old new found) = Cas w a old new found
-mark_of w (act.Flush line) = Flush w line
 
 -- where the durable words decoded to the map they still do
 abbrev pub StillDecodes : Config → Log → Mark → Type 0

@@ -3,7 +3,7 @@ use Rattle.std.specs.Prelude.{◌≡◌, ◌≢◌, ◌⊎◌, ◌==◌, ℕ, �
 use Rattle.std.proofs.Common.{arith, refl, ap, sym, subst, ◌∙◌, inl, inr}
 use Rattle.std.proofs.lemmas.Grind.{common_steps}
 use Rattle.std.proofs.lemmas.List.{get_or-set_same}
-use Rattle.bz_cells.specs.FromPm.Words.{Words}
+use Rattle.bz_cells.specs.FromPm.State.{State}
 use Rattle.bz_acts.specs.Rule.{IsWithin, after_act}
 use Rattle.bz_acts.specs.declared.acted.Act.{Act}
 use Rattle.bz_machine.specs.declared.done.Done.{Done}
@@ -14,13 +14,13 @@ use Rattle.bz_swap.specs.Effects.{EffectIs}
 use Rattle.bz_swap.specs.Evictions.{IsEviction, EvictsIn}
 use Rattle.bz_swap.specs.Held.{IsHeld}
 use Rattle.bz_swap.specs.Steps.{IsStep, IsAnswer}
-use Rattle.bz_swap.specs.SwapMemory.{SwapMemory, Doing, Idle, Reading, Swapping, Loading, Storing, Flushing, memory_words, doing_of}
+use Rattle.bz_swap.specs.SwapMemory.{SwapMemory, Doing, Idle, Reading, Swapping, Loading, Storing, Flushing, memory_state, doing_of}
 use Rattle.bz_swap.specs.Writes.{StoresPrivate, StoresOwn}
 use Rattle.bz_swap.specs.declared.phase.Phase.{Phase}
 use Rattle.bz_swap.specs.declared.phase.Phase.TheVariants.{Opened, Running, Recovering}
 use Rattle.bz_swap.proofs.AtomicAnswers.{notes, answers}
 use Rattle.bz_swap.proofs.AtomicStarts.{start-values, swap-values, cut-value, renewal-values}
-use Rattle.bz_swap.proofs.AtomicSteps.{IsFrame, others-kept, left-kept, same-named, quiet-happens, effect-happens, durable-act, durable-evicted}
+use Rattle.bz_swap.proofs.AtomicSteps.{IsLeft, IsFrame, others-kept, left-kept, same-named, quiet-happens, effect-happens, durable-act, durable-evicted}
 use Rattle.bz_swap.proofs.AtomicValues.{value-private}
 
 -- what a step leaves as it was
@@ -34,7 +34,7 @@ step-frame old new w made done told event working held holds step stores = recor
   swaps = step.one.others.swaps;
   begun = step.one.others.begun;
   cached = λ a out private other. step.untouched a out private (λ v. stores a v other);
-  durable = λ a. durable-act (memory_words old) (memory_words new) made a held.memory step.one.act.after;
+  durable = λ a. durable-act old new w made a step.one.may step.one.act.after;
 }
 
 -- a private store
@@ -49,7 +49,7 @@ stored-at old new w a v made Stored step doing is = (by_store (step.writes.store
     within = subst (IsWithin (length old.cached)) is step.one.within
 
     written : slice_index new.cached a ≡ v
-    written = ap (λ (m : Words). slice_index m.cached a) (step.one.act.after ∙ ap (after_act (memory_words old)) is) ∙ get_or-set_same old.cached a v 0 within
+    written = ap (λ (m : State). slice_index m.words.cached a) (step.one.act.after ∙ ap (after_act w (memory_state old)) is) ∙ get_or-set_same old.cached a v 0 within
 stored-at old new w a v made done step doing is = absurd is
 
 store-happens : (old new : SwapMemory) (w a v : ℕ) (made : Act) (done : Done) → old.phase ≢ Recovering → IsHeld old → IsHeld new → IsStep old w made done None new → doing_of old w ≡ Storing a v → Happens old (PrivateStore a v) new
@@ -92,7 +92,7 @@ step-atomic : (old new : SwapMemory) (w : ℕ) (made : Act) (done : Done) (told 
 step-atomic old new w made done told working held holds step = record {
   happens = step-happens old new w made done told (doing_of old w) refl working held holds step;
   notes = notes old new step.misses;
-  answer = answers old new made (doing_of old w) done (λ is. working (sym step.one.others.phase ∙ is)) held holds step.one.act step.one.within step.one.answer;
+  answer = answers old new w made (doing_of old w) done (λ is. working (sym step.one.others.phase ∙ is)) held holds step.one.act step.one.within step.one.answer;
 }
 
 -- an eviction
@@ -105,7 +105,10 @@ eviction-frame old new e told event working held holds h = record {
   swaps = ap (λ (m : SwapMemory). m.swaps) h.is;
   begun = ap (λ (m : SwapMemory). m.begun) h.is;
   cached = λ a out private other. ap (λ (m : SwapMemory). slice_index m.cached a) h.is;
-  durable = λ a. subst (λ (m : SwapMemory). (slice_index m.durable a ≡ slice_index old.durable a) ⊎ (slice_index m.durable a ≡ slice_index m.cached a)) (sym h.is) (durable-evicted old e a);
+  durable = λ a. subst (λ (m : SwapMemory). IsLeft old m a) (sym h.is) (elim (durable-evicted old e a) [
+    | inl same ↦ inl same
+    | inr saved ↦ inr (inl saved)
+  ]);
 }
 
 tells : (phase : Phase) (old new : SwapMemory) (told : Option ℕ) → phase ≢ Recovering → EvictsIn phase old told new → EffectIs old new told

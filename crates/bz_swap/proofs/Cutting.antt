@@ -1,11 +1,11 @@
 -- A power cut, and workers that are all idle.
 use Rattle.std.specs.Prelude.{◌≡◌, ℕ, zero, suc, ◌∷◌, length, map, get_or, replicate}
-use Rattle.std.proofs.Common.{refl, ap, sym, ◌∙◌}
+use Rattle.std.proofs.Common.{arith, refl, ap, sym, ◌∙◌}
 use Rattle.std.proofs.lemmas.List.{length-replicate, length-map}
 use Rattle.bz_machine.specs.declared.place.Place.TheVariants as place
 use Rattle.bz_machine.specs.declared.worker.Operation.TheVariants as operation
-use Rattle.bz_cells.specs.FromPm.Acts.{after_cut as words_after_cut}
-use Rattle.bz_cells.specs.Store.{Store, HasRoom, store_words, with_words}
+use Rattle.bz_cells.specs.FromPm.After.{after_power_cut}
+use Rattle.bz_cells.specs.Store.{Store, HasRoom, store_state, with_state}
 use Rattle.bz_swap.specs.declared.phase.Phase.TheVariants.{Recovering}
 use Rattle.bz_swap.specs.Power.{after_cut}
 use Rattle.bz_swap.specs.SwapMemory.{idle}
@@ -16,7 +16,7 @@ use Rattle.bz_swap.proofs.Doings.{working-idle}
 
 -- the parts after a cut
 abbrev pub cut_parts : Parts → Parts
-cut_parts p = record { store = with_words p.store (words_after_cut (store_words p.store)); workers = replicate (length p.workers) idle_worker; phase = Recovering; steps = p.steps; allowance = record p.allowance { all = 0 } }
+cut_parts p = record { store = with_state p.store (after_power_cut (store_state p.store)); workers = replicate (length p.workers) idle_worker; phase = Recovering; steps = p.steps; allowance = record p.allowance { all = 0 } }
 
 each-idle : (n w : ℕ) → get_or (replicate n idle_worker) w idle_worker ≡ idle_worker
 each-idle zero w = refl
@@ -46,6 +46,7 @@ cut-kept p k room = record {
   few = rw (length-replicate (length p.workers) idle_worker) k.few;
   some = rw (length-replicate (length p.workers) idle_worker) k.some;
   allowed = sym (allowed-none (replicate (length p.workers) idle_worker) (λ w. rw (each-idle (length p.workers) w) idle-place));
+  counted = omega arith;
   kept = record {
     recoverer = rw (each-idle (length p.workers) 0) (recovers-idle (cut_parts p).store);
     others = λ w some. rw (each-idle (length p.workers) w) idle-place;

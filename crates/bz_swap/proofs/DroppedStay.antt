@@ -1,24 +1,25 @@
 -- A swap without effect at a power cut has none later, where a recovery frees descriptors only.
-use Rattle.std.specs.Prelude.{◌≡◌, ◌==◌, if◌then◌else◌, nat_lt, ℕ, ◌<◌, Bool, true, false, List, slice_index, slice_set}
+use Rattle.std.specs.Prelude.{◌≡◌, nat_lt, ℕ, ◌<◌, true, false, List, length, replicate, slice_index, slice_set}
 use Rattle.std.specs.declared.option.Option.{Option}
 use Rattle.std.proofs.Common.{arith, refl, sym, subst, inl, inr}
 use Rattle.std.proofs.lemmas.Bool.{cases_lt}
 use Rattle.std.proofs.lemmas.Grind.{common_steps}
 use Rattle.bz_layout.specs.Addresses.{swap_address}
-use Rattle.bz_cells.specs.FromPm.Words.{Words, IsMemory}
-use Rattle.bz_acts.specs.Rule.{after_act}
+use Rattle.bz_cells.specs.FromPm.State.{State}
+use Rattle.bz_cells.specs.FromPm.Words.{IsMemory}
 use Rattle.bz_acts.specs.declared.acted.Act.{Act}
-use Rattle.bz_acts.specs.declared.acted.Act.TheVariants.{Load, Store, Cas, Flush}
+use Rattle.bz_acts.specs.declared.acted.Act.TheVariants.{Load, Store, Cas, Flush, Ask, Fence}
 use Rattle.bz_cells.specs.Store.{status_at, status_of}
 use Rattle.bz_machine.specs.declared.done.Done.{Done}
 use Rattle.bz_machine.specs.Machine.{is_succeeded}
 use Rattle.bz_swap.specs.Evictions.{IsEviction}
 use Rattle.bz_swap.specs.Settled.{IsDropped, FreesStatuses, DroppedStay}
 use Rattle.bz_swap.specs.Steps.{IsRawStep}
-use Rattle.bz_swap.specs.SwapMemory.{SwapMemory, memory_words}
+use Rattle.bz_swap.specs.SwapMemory.{SwapMemory, memory_words, memory_state}
 use Rattle.bz_swap.proofs.SettledStay.{start-settled, cut-settled}
 use Rattle.bz_swap.proofs.StillDone.{step-before}
-use Rattle.bz_swap.proofs.WordActs.{set-keeps, flushed-keeps}
+use Rattle.bz_swap.proofs.AllWords.{AllAre, WritesSo, all-after, none-asked}
+use Rattle.bz_swap.proofs.WordActs.{set-keeps}
 
 -- the word is no success that is durable as it stands
 abbrev IsNone : ℕ → Type 0
@@ -39,22 +40,14 @@ stays-none swaps s old new is keeps = elim (cases_lt s swaps) [
   | inr past ↦ (let test : nat_lt s swaps ≡ false = grind (arith, common_steps, past) in rw test refl)
 ]
 
--- the words after an act that writes free alone into statuses
-cached-none : (swaps s : ℕ) (m : Words) (made : Act) → s < swaps → FreesStatuses swaps made → IsNone (slice_index m.cached (swap_address s)) → IsNone (slice_index (after_act m made).cached (swap_address s))
-cached-none swaps s m (Load a v) below frees none = none
-cached-none swaps s m (Store a v) below frees none = set-keeps IsNone m.cached a v (swap_address s) (λ here. subst IsNone (sym (frees s below (sym here))) none-free) none
-cached-none swaps s m (Cas a before after found) below frees none = by_test (slice_index m.cached a == before)
-  where
-    by_test : (t : Bool) → IsNone (slice_index (if t then slice_set m.cached a after else m.cached) (swap_address s))
-    by_test true = set-keeps IsNone m.cached a after (swap_address s) (λ here. subst IsNone (sym (frees s below (sym here))) none-free) none
-    by_test false = none
-cached-none swaps s m (Flush line) below frees none = none
-
-durable-none : (s : ℕ) (m : Words) (made : Act) → IsMemory m → IsNone (slice_index m.cached (swap_address s)) → IsNone (slice_index m.durable (swap_address s)) → IsNone (slice_index (after_act m made).durable (swap_address s))
-durable-none s m (Load a v) i cached durable = durable
-durable-none s m (Store a v) i cached durable = durable
-durable-none s m (Cas a before after found) i cached durable = durable
-durable-none s m (Flush line) i cached durable = flushed-keeps IsNone m line (swap_address s) i cached durable
+-- an act that writes free alone into statuses writes no success there
+frees-so : (swaps s : ℕ) (made : Act) → s < swaps → FreesStatuses swaps made → WritesSo IsNone (swap_address s) made
+frees-so swaps s (Load a v) below frees = tt
+frees-so swaps s (Store a v) below frees = λ here. subst IsNone (sym (frees s below (sym here))) none-free
+frees-so swaps s (Cas a before after found) below frees = λ here. subst IsNone (sym (frees s below (sym here))) none-free
+frees-so swaps s (Flush line) below frees = tt
+frees-so swaps s (Ask line) below frees = tt
+frees-so swaps s Fence below frees = tt
 
 dropped-recovery : (old new : SwapMemory) (w : ℕ) (made : Act) (done : Done) (told : Option ℕ) (s : ℕ) → IsMemory (memory_words old) → IsRawStep old w made done told new → FreesStatuses old.swaps made
     → IsDropped old s → IsDropped new s
@@ -63,14 +56,17 @@ dropped-recovery old new w made done told s i step frees dropped = record {
     begun = omega (arith, dropped.settled.begun, step.one.others.taken);
     undone = λ v doing. dropped.settled.undone v (step-before old new w made done v s step.one doing);
   };
-  effect = subst (λ n. is_succeeded (status_at n new.durable s) ≡ false) (sym step.one.others.swaps)
-      (subst (λ (m : Words). is_succeeded (status_at old.swaps m.durable s) ≡ false) (sym step.one.act.after)
-      (stays-none old.swaps s old.durable (after_act (memory_words old) made).durable dropped.effect
-      (λ below durable. durable-none s (memory_words old) made i (none-word old.swaps s old.cached below dropped.cached) durable)));
-  cached = subst (λ n. is_succeeded (status_at n new.cached s) ≡ false) (sym step.one.others.swaps)
-      (subst (λ (m : Words). is_succeeded (status_at old.swaps m.cached s) ≡ false) (sym step.one.act.after)
-      (stays-none old.swaps s old.cached (after_act (memory_words old) made).cached dropped.cached (λ below none. cached-none old.swaps s (memory_words old) made below frees none)));
+  effect = subst (λ n. is_succeeded (status_at n new.durable s) ≡ false) (sym step.one.others.swaps) (stays-none old.swaps s old.durable new.durable dropped.effect (λ below none. (all below).durable));
+  cached = subst (λ n. is_succeeded (status_at n new.cached s) ≡ false) (sym step.one.others.swaps) (stays-none old.swaps s old.cached new.cached dropped.cached (λ below none. (all below).cached));
+  asked = λ v q lt is. (all (omega (arith, lt, step.one.others.swaps))).asked v q is;
 }
+  where
+    all : s < old.swaps → AllAre IsNone (memory_state new) (swap_address s)
+    all below = subst (λ (m : State). AllAre IsNone m (swap_address s)) (sym step.one.act.after) (all-after IsNone old w (swap_address s) made step.one.may step.one.within (frees-so old.swaps s made below frees) (record {
+      cached = none-word old.swaps s old.cached below dropped.cached;
+      durable = none-word old.swaps s old.durable below dropped.effect;
+      asked = λ v q is. dropped.asked v q below is;
+    }))
 
 dropped-eviction : (old new : SwapMemory) (a : ℕ) (told : Option ℕ) (s : ℕ) → IsEviction old a told new → IsDropped old s → IsDropped new s
 dropped-eviction old new a told s h dropped = subst (λ m. IsDropped m s) (sym h.is) (record {
@@ -79,12 +75,13 @@ dropped-eviction old new a told s h dropped = subst (λ m. IsDropped m s) (sym h
       (λ below durable. set-keeps IsNone old.durable a (slice_index old.cached a) (swap_address s)
       (λ here. subst (λ b. IsNone (slice_index old.cached b)) here (none-word old.swaps s old.cached below dropped.cached)) durable);
   cached = dropped.cached;
+  asked = dropped.asked;
 })
 
 pub dropped_stay : DroppedStay
 dropped_stay = record {
-  cut = λ m s begun none. record { settled = cut-settled m s begun; effect = none; cached = none };
+  cut = λ m s begun none. record { settled = cut-settled m s begun; effect = none; cached = none; asked = λ w q lt is. absurd (none-asked (length m.past.asks) 0 (replicate (length m.past.since) 0) (swap_address s) w q is) };
   recovery = dropped-recovery;
   eviction = λ old new a told s phase h dropped. dropped-eviction old new a told s h dropped;
-  start = λ m w doing s another dropped. record { settled = start-settled m w doing s another dropped.settled; effect = dropped.effect; cached = dropped.cached };
+  start = λ m w doing s another dropped. record { settled = start-settled m w doing s another dropped.settled; effect = dropped.effect; cached = dropped.cached; asked = dropped.asked };
 }

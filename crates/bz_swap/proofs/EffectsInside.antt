@@ -1,15 +1,13 @@
 -- A swap takes effect in its descriptor alone.
-use Rattle.std.specs.Prelude.{◌≡◌, ◌≢◌, ◌⊎◌, nat_lt, ℕ, ◌/◌, ◌<◌, true, false, slice_index, Some}
-use Rattle.std.proofs.Common.{arith, refl, ap, sym, ◌∙◌, inl, inr}
+use Rattle.std.specs.Prelude.{◌≡◌, ◌≢◌, ◌⊎◌, nat_lt, ℕ, ◌<◌, true, false, slice_index, Some}
+use Rattle.std.proofs.Common.{arith, refl, ap, sym, subst, ◌∙◌, inl, inr}
 use Rattle.std.proofs.lemmas.Bool.{cases_eq, cases_lt, true≢false}
 use Rattle.std.proofs.lemmas.Grind.{common_steps}
 use Rattle.bz_layout.specs.Addresses.{swap_address}
 use Rattle.bz_machine.specs.declared.done.Done.{Done}
 use Rattle.bz_machine.specs.Machine.{is_succeeded}
-use Rattle.bz_cells.specs.FromPm.Words.{Words, IsMemory}
-use Rattle.bz_acts.specs.Rule.{after_act}
+use Rattle.bz_cells.specs.FromPm.Words.{IsMemory}
 use Rattle.bz_acts.specs.declared.acted.Act.{Act}
-use Rattle.bz_acts.specs.declared.acted.Act.TheVariants.{Load, Store, Cas, Flush}
 use Rattle.bz_cells.specs.Store.{IsOutside, status_of}
 use Rattle.bz_swap.specs.declared.phase.Phase.{Phase}
 use Rattle.bz_swap.specs.declared.phase.Phase.TheVariants.{Opened, Running, Recovering}
@@ -18,16 +16,12 @@ use Rattle.bz_swap.specs.Effects.{TakesEffect}
 use Rattle.bz_swap.specs.Evictions.{IsEviction, EvictsIn}
 use Rattle.bz_swap.specs.Steps.{IsStep}
 use Rattle.bz_swap.specs.SwapMemory.{SwapMemory, memory_words, has_effect}
-use Rattle.bz_swap.proofs.WordActs.{set-other, flushed-other}
+use Rattle.bz_swap.proofs.WordActs.{set-other, set-keeps}
 
--- a word outside the descriptors is no status, nor in the line of one
+-- a word outside the descriptors is no status
 outside-status : (swaps a s : ℕ) → IsOutside swaps a → s < swaps → a ≢ swap_address s
 outside-status swaps a s (inl below) lt = omega arith
 outside-status swaps a s (inr above) lt = omega arith
-
-outside-line : (swaps a s : ℕ) → IsOutside swaps a → s < swaps → a / 8 ≢ swap_address s / 8
-outside-line swaps a s (inl below) lt = omega arith
-outside-line swaps a s (inr above) lt = omega arith
 
 -- the swap is one of the memory
 effect-number : (new : SwapMemory) (s : ℕ) → has_effect new s ≡ true → s < new.swaps
@@ -35,6 +29,11 @@ effect-number new s done = elim (cases_lt s new.swaps) [
   | inl below ↦ below
   | inr past ↦ (let none : nat_lt s new.swaps ≡ false = grind (arith, common_steps) in absurd (true≢false (sym done ∙ rw none refl)))
 ]
+
+-- the word of a success is not 0
+success-some : (x : ℕ) → is_succeeded (status_of x) ≡ true → x ≡ 0 → ⊥
+unfolding status_of
+success-some x done zero = (let never : is_succeeded (status_of 0) ≡ true = subst (λ y. is_succeeded (status_of y) ≡ true) zero done in true≢false (sym never))
 
 -- where its durable status stays, it takes no effect
 no-effect : (old new : SwapMemory) (s : ℕ) → new.swaps ≡ old.swaps → TakesEffect old new s → slice_index new.durable (swap_address s) ≡ slice_index old.durable (swap_address s) → ⊥
@@ -47,28 +46,13 @@ no-effect old new s swaps t same =
     true≢false (sym succeeds ∙ ap (λ x. is_succeeded (status_of x)) same ∙ not)
 
 -- an act that gives a swap its effect
-effect-act : (old new : SwapMemory) (s : ℕ) (made : Act) → IsMemory (memory_words old) → new.swaps ≡ old.swaps → memory_words new ≡ after_act (memory_words old) made → TakesEffect old new s → EffectsByFlush old new made s
-effect-act old new s (Load a v) i swaps after t = absurd (no-effect old new s swaps t (ap (λ (m : Words). slice_index m.durable (swap_address s)) after))
-effect-act old new s (Store a v) i swaps after t = absurd (no-effect old new s swaps t (ap (λ (m : Words). slice_index m.durable (swap_address s)) after))
-effect-act old new s (Cas a before now found) i swaps after t = absurd (no-effect old new s swaps t (ap (λ (m : Words). slice_index m.durable (swap_address s)) after))
-effect-act old new s (Flush line) i swaps after t = by_line (cases_eq line (swap_address s / 8))
-  where
-    number : s < old.swaps
-    number = rw swaps at (effect-number new s t.done)
-
-    elsewhere : (b : ℕ) → b / 8 ≢ line → slice_index new.durable b ≡ slice_index old.durable b
-    elsewhere b other = ap (λ (m : Words). slice_index m.durable b) after ∙ flushed-other (memory_words old) line b i other
-
-    by_line : (line ≡ swap_address s / 8) ⊎ (line ≢ swap_address s / 8) → EffectsByFlush old new (Flush line) s
-    by_line (inl here) = record {
-      number = number;
-      act = ap Flush here;
-      outside = λ a out. elsewhere a (λ is. outside-line old.swaps a s out number (is ∙ here));
-    }
-    by_line (inr other) = absurd (no-effect old new s swaps t (elsewhere (swap_address s) (λ is. other (sym is))))
-
 effect-step : (old new : SwapMemory) (w : ℕ) (made : Act) (done : Done) (s : ℕ) → IsMemory (memory_words old) → IsStep old w made done (Some s) new → EffectsByFlush old new made s
-effect-step old new w made done s i step = effect-act old new s made i step.one.others.swaps step.one.act.after step.effect
+effect-step old new w made done s i step = record {
+  number = rw step.one.others.swaps at (effect-number new s step.effect.done);
+  act = (step.inside s refl).0;
+  outside = (step.inside s refl).1;
+  taken = (step.inside s refl).2;
+}
 
 -- an eviction that does
 takes-effect : (phase : Phase) (old new : SwapMemory) (s : ℕ) → EvictsIn phase old (Some s) new → TakesEffect old new s
@@ -91,11 +75,22 @@ effect-eviction old new a s h = by_address (cases_eq a (swap_address s))
     elsewhere : (b : ℕ) → b ≢ a → slice_index new.durable b ≡ slice_index old.durable b
     elsewhere b other = ap (λ (m : SwapMemory). slice_index m.durable b) h.is ∙ set-other old.durable a (slice_index old.cached a) b other
 
+    copied : (slice_index new.durable (swap_address s) ≡ slice_index old.cached (swap_address s)) ⊎ (slice_index new.durable (swap_address s) ≡ slice_index old.durable (swap_address s))
+    copied = subst (λ (m : SwapMemory). (slice_index m.durable (swap_address s) ≡ slice_index old.cached (swap_address s)) ⊎ (slice_index m.durable (swap_address s) ≡ slice_index old.durable (swap_address s))) (sym h.is)
+        (set-keeps (λ x. (x ≡ slice_index old.cached (swap_address s)) ⊎ (x ≡ slice_index old.durable (swap_address s))) old.durable a (slice_index old.cached a) (swap_address s) (λ at. inl (ap (slice_index old.cached) (sym at))) (inr refl))
+
+    succeeded : is_succeeded (status_of (slice_index new.durable (swap_address s))) ≡ true
+    succeeded = (let after : nat_lt s new.swaps ≡ true = grind (arith, common_steps, number, swaps) in rw after at t.done)
+
     by_address : (a ≡ swap_address s) ⊎ (a ≢ swap_address s) → EffectsByEviction old new a s
     by_address (inl here) = record {
       number = number;
       address = here;
       outside = λ b out. elsewhere b (λ is. outside-status old.swaps b s out number (is ∙ here));
+      taken = elim copied [
+        | inl cached ↦ (λ zero. success-some (slice_index new.durable (swap_address s)) succeeded (cached ∙ (ap (λ (m : SwapMemory). slice_index m.cached (swap_address s)) (sym h.is) ∙ zero)))
+        | inr same ↦ absurd (no-effect old new s swaps t same)
+      ];
     }
     by_address (inr other) = absurd (no-effect old new s swaps t (elsewhere (swap_address s) (λ is. other (sym is))))
 

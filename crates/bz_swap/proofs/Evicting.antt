@@ -2,7 +2,7 @@
 use Rattle.std.specs.Prelude.{◌≡◌, ◌≢◌, ℕ, length}
 use Rattle.std.proofs.Common.{refl, sym, subst}
 use Rattle.std.specs.declared.option.Option.{Option}
-use Rattle.bz_cells.specs.FromPm.Acts.{evicted}
+use Rattle.bz_cells.specs.FromPm.After.{after_eviction as eviction_of}
 use Rattle.bz_machine.specs.declared.worker.Worker.{Worker}
 use Rattle.bz_machine.specs.Machine.{Entries}
 use Rattle.bz_machine.specs.Budgets.{IsBounded, IsAmong}
@@ -10,7 +10,7 @@ use Rattle.bz_machine.specs.Lawful.{AreInRange, MayHold}
 use Rattle.bz_machine.specs.State.{State, IsState, MayHappen, happens}
 use Rattle.bz_machine.specs.Workers.{local_of}
 use Rattle.bz_machine.proofs.EventLaws.{keeps_state, keeps_range, stays_bounded}
-use Rattle.bz_cells.specs.Store.{Store, Beside, typed, store_words, with_words}
+use Rattle.bz_cells.specs.Store.{Store, Beside, typed, store_state, with_state}
 use Rattle.bz_acts.specs.Ready.{LiesOutside}
 use Rattle.bz_swap.specs.declared.phase.Phase.{Phase}
 use Rattle.bz_swap.specs.declared.phase.Phase.TheVariants.{Opened, Running, Recovering}
@@ -19,13 +19,14 @@ use Rattle.bz_swap.specs.declared.role.WordRole.TheVariants.{Outside, Status, Fi
 use Rattle.bz_swap.specs.Inside.Evicted.{IsEvicted, event_of, memory_after}
 use Rattle.bz_swap.specs.Inside.Parts.{Parts, worker_at}
 use Rattle.bz_swap.specs.Inside.Kept.{IsRunning, IsWorker, IsEnough, IsKept, KeptIn, state_of}
+use Rattle.bz_swap.proofs.Asking.{same-place}
 use Rattle.bz_swap.proofs.StepLies.{worker-shape}
 use Rattle.bz_swap.proofs.Stepping.{running}
 use Rattle.bz_swap.proofs.StepsLeft.{enough-evicted}
 
 -- the parts with the word at an address durable
 abbrev pub evicted_store : Store → ℕ → Store
-evicted_store st a = with_words st (evicted (store_words st) a)
+evicted_store st a = with_state st (eviction_of (store_state st) a)
 
 abbrev pub after_eviction : Parts → ℕ → Parts
 after_eviction p a = record p { store = evicted_store p.store a }
@@ -86,6 +87,7 @@ eviction-running p r a told h =
         workers = λ w. worker-kept p.store a (worker_at p w) (r.workers w);
         tags = r.tags;
         recoverer = r.recoverer;
+        asked = λ w. (let h = r.asked w in record { few = h.few; alone = same-place p.store.past (evicted_store p.store a).past w (worker_at p w).current (worker_at p w).place refl h.alone });
       };
       entries = refl;
       beside = refl;
@@ -105,5 +107,6 @@ eviction-kept p k a told phase h = record {
   few = k.few;
   some = k.some;
   allowed = k.allowed;
+  counted = k.counted;
   kept = kept-still p.phase p a phase k.kept (eviction-running p (running p.phase p phase k.kept) a told h).running;
 }

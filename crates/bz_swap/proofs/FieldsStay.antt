@@ -1,21 +1,23 @@
 -- The words of the descriptors after their statuses stay plain.
-use Rattle.std.specs.Prelude.{◌≡◌, ◌≢◌, ◌⊎◌, ◌==◌, if◌then◌else◌, ℕ, ◌^◌, ◌<◌, Bool, true, false, slice_index, slice_set}
+use Rattle.std.specs.Prelude.{◌≡◌, ◌≢◌, ◌⊎◌, ℕ, ◌+◌, ◌^◌, ◌<◌, length, replicate, slice_index}
 use Rattle.std.proofs.Common.{arith, refl, sym, subst, ◌∙◌, inl, inr}
 use Rattle.std.specs.declared.option.Option.{Option}
 use Rattle.bz_layout.specs.Addresses.{swap_address}
-use Rattle.bz_cells.specs.FromPm.Words.{Words, IsMemory}
-use Rattle.bz_acts.specs.Rule.{after_act}
+use Rattle.bz_cells.specs.FromPm.State.{State}
+use Rattle.bz_cells.specs.FromPm.Words.{IsMemory}
+use Rattle.bz_acts.specs.Rule.{IsWithin, after_act}
 use Rattle.bz_acts.specs.declared.acted.Act.{Act}
-use Rattle.bz_acts.specs.declared.acted.Act.TheVariants.{Load, Store, Cas, Flush}
+use Rattle.bz_acts.specs.declared.acted.Act.TheVariants.{Load, Store, Cas, Flush, Ask, Fence}
 use Rattle.bz_cells.specs.Store.{IsOutside, field_address, field_count, status_word}
 use Rattle.bz_machine.specs.declared.done.Done.{Done}
 use Rattle.bz_machine.specs.declared.status.SwapStatus.TheVariants.{Undecided}
 use Rattle.bz_swap.specs.Evictions.{IsEviction}
-use Rattle.bz_swap.specs.PlainFields.{ArePlainFields, HavePlainFields, WritesPlain, PlainFieldsStay}
-use Rattle.bz_swap.specs.Steps.{IsStep, IsRawStep}
-use Rattle.bz_swap.specs.SwapMemory.{SwapMemory, memory_words}
+use Rattle.bz_swap.specs.PlainFields.{HavePlainFields, WritesPlain, PlainFieldsStay}
+use Rattle.bz_swap.specs.Steps.{MayAct, IsStep, IsRawStep}
+use Rattle.bz_swap.specs.SwapMemory.{SwapMemory, memory_words, memory_state}
 use Rattle.bz_swap.specs.Writes.{StoresPrivate, StoresField, StoresOwn, ChangesStatus, WritesLawfully}
-use Rattle.bz_swap.proofs.WordActs.{set-below, set-other, flushed-below}
+use Rattle.bz_swap.proofs.AllWords.{AllAre, WritesSo, all-after, none-asked}
+use Rattle.bz_swap.proofs.WordActs.{set-below}
 
 -- such a word is no word outside the descriptors, and no status
 field-inside : (swaps a s k : ℕ) → IsOutside swaps a → s < swaps → k < field_count → field_address s k ≢ a
@@ -25,29 +27,12 @@ field-inside swaps a s k (inr above) lt less = omega arith
 field-status : (s k t : ℕ) → k < field_count → field_address s k ≢ swap_address t
 field-status s k t less = omega arith
 
--- what an act may write: a plain value at such a word, and nothing there by a compare-and-swap
+-- what an act may write at such a word: a plain value
+abbrev IsPlain : ℕ → Type 0
+IsPlain x = x < 2 ^ 61
+
 abbrev MayWrite : ℕ → Act → Type 0
-MayWrite swaps (Load a v) = Unit {0}
-MayWrite swaps (Store a v) = (s k : ℕ) → s < swaps → k < field_count → field_address s k ≡ a → v < 2 ^ 61
-MayWrite swaps (Cas a before after found) = (s k : ℕ) → s < swaps → k < field_count → field_address s k ≢ a
-MayWrite swaps (Flush line) = Unit {0}
-
--- the words after an act that writes no more
-cached-after : (swaps : ℕ) (m : Words) (made : Act) → MayWrite swaps made → ArePlainFields swaps m.cached → ArePlainFields swaps (after_act m made).cached
-cached-after swaps m (Load a v) may plain = plain
-cached-after swaps m (Store a v) may plain = λ s k lt less. set-below m.cached a v (field_address s k) (2 ^ 61) (may s k lt less) (plain s k lt less)
-cached-after swaps m (Cas a before after found) may plain = λ s k lt less. by_test (slice_index m.cached a == before) s k lt less
-  where
-    by_test : (t : Bool) (s k : ℕ) → s < swaps → k < field_count → slice_index (if t then slice_set m.cached a after else m.cached) (field_address s k) < 2 ^ 61
-    by_test true s k lt less = rw (set-other m.cached a after (field_address s k) (may s k lt less)) (plain s k lt less)
-    by_test false s k lt less = plain s k lt less
-cached-after swaps m (Flush line) may plain = plain
-
-durable-after : (swaps : ℕ) (m : Words) (made : Act) → IsMemory m → ArePlainFields swaps m.cached → ArePlainFields swaps m.durable → ArePlainFields swaps (after_act m made).durable
-durable-after swaps m (Load a v) i cached durable = durable
-durable-after swaps m (Store a v) i cached durable = durable
-durable-after swaps m (Cas a before after found) i cached durable = durable
-durable-after swaps m (Flush line) i cached durable = λ s k lt less. flushed-below m line (field_address s k) (2 ^ 61) i (cached s k lt less) (durable s k lt less)
+MayWrite swaps made = (s k : ℕ) → s < swaps → k < field_count → WritesSo IsPlain (field_address s k) made
 
 -- a step writes no more
 may-store : (old : SwapMemory) (w a v : ℕ) → StoresPrivate old w a v ⊎ StoresOwn old w a v → MayWrite old.swaps (Store a v)
@@ -58,61 +43,64 @@ may-store old w a v (inr own) = by_word own.word
     by_word (inl status) = λ s k lt less here. absurd (field-status s k own.swap less (here ∙ status.0))
     by_word (inr field) = λ s k lt less here. field.value
 
-may-swap : (old : SwapMemory) (a before after found : ℕ) → IsOutside old.swaps a ⊎ ChangesStatus old a before after → MayWrite old.swaps (Cas a before after found)
+may-swap : (old : SwapMemory) (a before after found : ℕ) → IsOutside old.swaps a ⊎ ChangesStatus old a before after → (s k : ℕ) → s < old.swaps → k < field_count → field_address s k ≢ a
 may-swap old a before after found (inl out) = λ s k lt less. field-inside old.swaps a s k out lt less
 may-swap old a before after found (inr change) = λ s k lt less here. field-status s k change.swap less (here ∙ change.address)
 
 may-write : (old : SwapMemory) (w : ℕ) (made : Act) → WritesLawfully old w made → MayWrite old.swaps made
-may-write old w (Load a v) writes = tt
+may-write old w (Load a v) writes = λ s k lt less. tt
 may-write old w (Store a v) writes = may-store old w a v (writes.stores a v refl)
-may-write old w (Cas a before after found) writes = may-swap old a before after found (writes.swaps a before after found refl)
-may-write old w (Flush line) writes = tt
+may-write old w (Cas a before after found) writes = λ s k lt less here. absurd (may-swap old a before after found (writes.swaps a before after found refl) s k lt less here)
+may-write old w (Flush line) writes = λ s k lt less. tt
+may-write old w (Ask line) writes = λ s k lt less. tt
+may-write old w Fence writes = λ s k lt less. tt
 
 -- the words after an act that writes no more
-fields-after : (old new : SwapMemory) (made : Act) → IsMemory (memory_words old) → new.swaps ≡ old.swaps → memory_words new ≡ after_act (memory_words old) made
-    → ArePlainFields old.swaps (after_act (memory_words old) made).cached → HavePlainFields old → HavePlainFields new
-fields-after old new made i swaps after cached plain =
-    let durable = durable-after old.swaps (memory_words old) made i plain.cached plain.durable in
+fields-after : (old new : SwapMemory) (w : ℕ) (made : Act) → MayAct old w → IsWithin (length old.cached) made → new.swaps ≡ old.swaps → memory_state new ≡ after_act w (memory_state old) made
+    → MayWrite old.swaps made → HavePlainFields old → HavePlainFields new
+fields-after old new w made may within swaps after writes plain =
+    let all = λ (s k : ℕ) (lt : s < new.swaps) (less : k < field_count).
+    (let below : s < old.swaps = omega (arith, lt, swaps) in
+    subst (λ (m : State). AllAre IsPlain m (field_address s k)) (sym after) (all-after IsPlain old w (field_address s k) made may within (writes s k below less)
+    (record { cached = plain.cached s k below less; durable = plain.durable s k below less; asked = λ v q is. plain.asked s k v q below less is }))) in
     record {
-      cached = subst (λ n. ArePlainFields n new.cached) (sym swaps) (subst (λ (m : Words). ArePlainFields old.swaps m.cached) (sym after) cached);
-      durable = subst (λ n. ArePlainFields n new.durable) (sym swaps) (subst (λ (m : Words). ArePlainFields old.swaps m.durable) (sym after) durable);
+      cached = λ s k lt less. (all s k lt less).cached;
+      durable = λ s k lt less. (all s k lt less).durable;
+      asked = λ s k v q lt less is. (all s k lt less).asked v q is;
     }
 
 fields-step : (old new : SwapMemory) (w : ℕ) (made : Act) (done : Done) (told : Option ℕ) → IsMemory (memory_words old) → IsStep old w made done told new → HavePlainFields old → HavePlainFields new
-fields-step old new w made done told i step plain =
-    fields-after old new made i step.one.others.swaps step.one.act.after (cached-after old.swaps (memory_words old) made (may-write old w made step.writes) plain.cached) plain
+fields-step old new w made done told i step plain = fields-after old new w made step.one.may step.one.within step.one.others.swaps step.one.act.after (may-write old w made step.writes) plain
 
--- the words after an act of a recovery that writes plain ones
-plain-after : (swaps : ℕ) (m : Words) (made : Act) → WritesPlain made → ArePlainFields swaps m.cached → ArePlainFields swaps (after_act m made).cached
-plain-after swaps m (Load a v) writes plain = plain
-plain-after swaps m (Store a v) writes plain = λ s k lt less. set-below m.cached a v (field_address s k) (2 ^ 61) (λ here. writes) (plain s k lt less)
-plain-after swaps m (Cas a before after found) writes plain = λ s k lt less. by_test (slice_index m.cached a == before) s k lt less
-  where
-    by_test : (t : Bool) (s k : ℕ) → s < swaps → k < field_count → slice_index (if t then slice_set m.cached a after else m.cached) (field_address s k) < 2 ^ 61
-    by_test true s k lt less = set-below m.cached a after (field_address s k) (2 ^ 61) (λ here. writes) (plain s k lt less)
-    by_test false s k lt less = plain s k lt less
-plain-after swaps m (Flush line) writes plain = plain
+-- an act of a recovery writes plain words
+plain-writes : (swaps : ℕ) (made : Act) → WritesPlain made → MayWrite swaps made
+plain-writes swaps (Load a v) writes = λ s k lt less. tt
+plain-writes swaps (Store a v) writes = λ s k lt less here. writes
+plain-writes swaps (Cas a before after found) writes = λ s k lt less here. writes
+plain-writes swaps (Flush line) writes = λ s k lt less. tt
+plain-writes swaps (Ask line) writes = λ s k lt less. tt
+plain-writes swaps Fence writes = λ s k lt less. tt
 
 fields-recovery : (old new : SwapMemory) (w : ℕ) (made : Act) (done : Done) (told : Option ℕ) → IsMemory (memory_words old) → IsRawStep old w made done told new → WritesPlain made
     → HavePlainFields old → HavePlainFields new
-fields-recovery old new w made done told i step writes plain =
-    fields-after old new made i step.one.others.swaps step.one.act.after (plain-after old.swaps (memory_words old) made writes plain.cached) plain
+fields-recovery old new w made done told i step writes plain = fields-after old new w made step.one.may step.one.within step.one.others.swaps step.one.act.after (plain-writes old.swaps made writes) plain
 
 fields-eviction : (old new : SwapMemory) (a : ℕ) (told : Option ℕ) → IsEviction old a told new → HavePlainFields old → HavePlainFields new
 fields-eviction old new a told h plain = subst HavePlainFields (sym h.is) (record {
   cached = plain.cached;
   durable = λ s k lt less. set-below old.durable a (slice_index old.cached a) (field_address s k) (2 ^ 61)
       (λ here. subst (λ b. slice_index old.cached b < 2 ^ 61) here (plain.cached s k lt less)) (plain.durable s k lt less);
+  asked = plain.asked;
 })
 
 pub plain_fields_stay : PlainFieldsStay
 plain_fields_stay = record {
-  opening = λ phase start swaps workers plain. record { cached = plain; durable = plain };
+  opening = λ phase start swaps workers plain. record { cached = plain; durable = plain; asked = λ s k w q lt less is. absurd (none-asked (workers + 1) 0 (replicate (length start) 0) (field_address s k) w q is) };
   step = fields-step;
   recovery = fields-recovery;
   eviction = fields-eviction;
-  start = λ m w doing plain. record { cached = plain.cached; durable = plain.durable };
-  swap = λ m w entries plain. record { cached = plain.cached; durable = plain.durable };
-  cut = λ m plain. record { cached = plain.durable; durable = plain.durable };
-  renewal = λ m plain. record { cached = plain.cached; durable = plain.durable };
+  start = λ m w doing plain. record { cached = plain.cached; durable = plain.durable; asked = plain.asked };
+  swap = λ m w entries plain. record { cached = plain.cached; durable = plain.durable; asked = plain.asked };
+  cut = λ m plain. record { cached = plain.durable; durable = plain.durable; asked = λ s k w q lt less is. absurd (none-asked (length m.past.asks) 0 (replicate (length m.past.since) 0) (field_address s k) w q is) };
+  renewal = λ m plain. record { cached = plain.cached; durable = plain.durable; asked = λ s k w q lt less is. absurd (none-asked (length m.past.asks) 0 (replicate (length m.past.since) 0) (field_address s k) w q is) };
 }

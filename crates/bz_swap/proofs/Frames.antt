@@ -9,10 +9,10 @@ use Rattle.bz_machine.specs.declared.status.SwapStatus.TheVariants.{Free, Undeci
 use Rattle.bz_machine.specs.declared.status.Verdict.{Verdict}
 use Rattle.bz_machine.specs.declared.status.Verdict.TheVariants.{Succeeded, Failed}
 use Rattle.bz_machine.specs.declared.place.Place.{Place}
-use Rattle.bz_machine.specs.declared.place.Place.TheVariants.{Idle, Prepare, Learn, Help, ReadWord, FlushRead, ClearRead, LoadWord, StoreWord, FlushLine}
-use Rattle.bz_machine.specs.declared.place.PrepareStep.TheVariants.{WriteWord, WriteStatus, FlushHead, FlushTail}
+use Rattle.bz_machine.specs.declared.place.Place.TheVariants.{Idle, Prepare, Learn, Help, ReadWord, AskRead, FenceRead, ClearRead, LoadWord, StoreWord, FlushLine}
+use Rattle.bz_machine.specs.declared.place.PrepareStep.TheVariants.{WriteWord, WriteStatus, AskHead, AskTail, FenceDescriptor}
 use Rattle.bz_machine.specs.declared.place.HelpStep.{HelpStep}
-use Rattle.bz_machine.specs.declared.place.HelpStep.TheVariants.{Look, InstallTag, LookUnderTag, InstallPointer, RemoveTag, FlushDirty, ClearDirty, FlushTarget, Decide, FlushStatus, ClearStatus, PutFinal, FlushFinal, ClearFinal, SweepTag}
+use Rattle.bz_machine.specs.declared.place.HelpStep.TheVariants.{Look, InstallTag, LookUnderTag, InstallPointer, RemoveTag, AskDirty, FenceDirty, ClearDirty, AskTarget, FenceTargets, Decide, AskStatus, FenceStatus, ClearStatus, PutFinal, AskFinal, FenceFinal, ClearFinal, SweepTag}
 use Rattle.bz_machine.specs.declared.place.Next.{Next}
 use Rattle.bz_machine.specs.declared.place.Next.TheVariants.{Step, Meet, Complete}
 use Rattle.bz_machine.specs.declared.done.Done.TheVariants.{Busy}
@@ -102,14 +102,18 @@ frame-help x m w s (InstallTag i) = frame-install x m w s i (m.cached (x.target 
 frame-help x m w s (LookUnderTag i v q) = frame-same m
 frame-help x m w s (InstallPointer i v q) = frame-untag x m s i v q _ _ _ (m.cached (x.target i))
 frame-help x m w s (RemoveTag i v q) = frame-untag x m s i v q _ _ _ (m.cached (x.target i))
-frame-help x m w s (FlushDirty i v) = frame-of m _ refl refl refl refl refl refl
+frame-help x m w s (AskDirty i v) = frame-of m _ refl refl refl refl refl refl
+frame-help x m w s (FenceDirty i v) = frame-of m _ refl refl refl refl refl refl
 frame-help x m w s (ClearDirty i v) = frame-cleared m (x.target i) v (m.cached (x.target i))
-frame-help x m w s (FlushTarget i) = frame-of m _ refl refl refl refl refl refl
+frame-help x m w s (AskTarget i) = frame-of m _ refl refl refl refl refl refl
+frame-help x m w s FenceTargets = frame-of m _ refl refl refl refl refl refl
 frame-help x m w s (Decide d) = frame-decide m s d (m.status s)
-frame-help x m w s (FlushStatus d) = frame-of m _ refl refl refl refl refl refl
+frame-help x m w s (AskStatus d) = frame-of m _ refl refl refl refl refl refl
+frame-help x m w s (FenceStatus d) = frame-of m _ refl refl refl refl refl refl
 frame-help x m w s (ClearStatus d) = frame-status m s d (m.status s)
 frame-help x m w s (PutFinal i d) = frame-final x m s i d (m.cached (x.target i))
-frame-help x m w s (FlushFinal i d) = frame-of m _ refl refl refl refl refl refl
+frame-help x m w s (AskFinal i d) = frame-of m _ refl refl refl refl refl refl
+frame-help x m w s (FenceFinal i d) = frame-of m _ refl refl refl refl refl refl
 frame-help x m w s (ClearFinal i d) = frame-cleared m (x.target i) _ (m.cached (x.target i))
 frame-help x m w s (SweepTag i d v q) = frame-untag x m s i v q _ _ _ (m.cached (x.target i))
 
@@ -157,8 +161,8 @@ frame-read m l a (Dirty v) = framed m _ (frame-same m)
 frame-read m l a (Swap t) = framed m _ (frame-same m)
 frame-read m l a (Tag t i w q) = framed m _ (frame-same m)
 
-frame-published : (m : Memory) (s : ℕ) → Frame m (with_published m s)
-frame-published m s = record { taken = refl; owner = λ t. refl; named = λ b. refl; published = λ t h. unset t (t == s) h; answer = λ t. refl; tags = λ v. omega arith }
+frame-published : (m : Memory) (w s : ℕ) → Frame m (with_published m w s)
+frame-published m w s = record { taken = refl; owner = λ t. refl; named = λ b. refl; published = λ t h. unset t (t == s) h; answer = λ t. refl; tags = λ v. omega arith }
   where
     unset : (t : ℕ) (b : Bool) → (if b then true else m.published t) ≡ false → m.published t ≡ false
     unset t true h = absurd cc
@@ -168,12 +172,14 @@ pub frame-act : (m : Memory) (w : ℕ) (l : Local) (at : Place) → ActFrame m (
 frame-act m w l Idle = framed m _ (frame-same m)
 frame-act m w l (Prepare (WriteWord k)) = framed m _ (frame-of m _ refl refl refl refl refl refl)
 frame-act m w l (Prepare WriteStatus) = framed m _ (frame-of m _ refl refl refl refl refl refl)
-frame-act m w l (Prepare FlushHead) = framed m _ (frame-of m _ refl refl refl refl refl refl)
-frame-act m w l (Prepare FlushTail) = framed m _ (frame-published m l.current)
+frame-act m w l (Prepare AskHead) = framed m _ (frame-of m _ refl refl refl refl refl refl)
+frame-act m w l (Prepare AskTail) = framed m _ (frame-of m _ refl refl refl refl refl refl)
+frame-act m w l (Prepare FenceDescriptor) = framed m _ (frame-published m w l.current)
 frame-act m w l (Learn k) = framed m _ (frame-same m)
 frame-act m w l (Help step) = frame-after m _ l _ (frame-help (entries_in l.list) m w l.current step)
 frame-act m w l (ReadWord a) = frame-read m l a (m.cached a)
-frame-act m w l (FlushRead a v) = framed m _ (frame-of m _ refl refl refl refl refl refl)
+frame-act m w l (AskRead a v) = framed m _ (frame-of m _ refl refl refl refl refl refl)
+frame-act m w l (FenceRead a v) = framed m _ (frame-of m _ refl refl refl refl refl refl)
 frame-act m w l (ClearRead a v) = framed m _ (frame-cleared m a v (m.cached a))
 frame-act m w l (LoadWord a) = framed m _ (frame-same m)
 frame-act m w l (StoreWord a v) = framed m _ (frame-of m _ refl refl refl refl refl refl)

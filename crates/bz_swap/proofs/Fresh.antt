@@ -1,6 +1,7 @@
 -- Parts of which nothing was asked yet, on words that need no recovery, are the machine's state at power on.
-use Rattle.std.specs.Prelude.{◌≡◌, ℕ, ◌≤◌, suc, false, List, [], ◌∷◌, map, length, get_or, slice_index, replicate, None}
-use Rattle.std.proofs.Common.{arith, refl, ap, ◌∙◌, inl, inr}
+use Rattle.std.specs.Prelude.{◌≡◌, if◌then◌else◌, nat_lt, ℕ, ◌/◌, ◌%◌, ◌≤◌, suc, Bool, true, false, List, [], ◌∷◌, map, length, get_or, slice_index, replicate, None, Some}
+use Rattle.std.specs.declared.option.Option.{Option}
+use Rattle.std.proofs.Common.{arith, refl, ap, sym, ◌∙◌, inl, inr}
 use Rattle.std.proofs.lemmas.Bool.{cases_lt}
 use Rattle.std.proofs.lemmas.List.{get_or-replicate, get_or_past, length-replicate}
 use Rattle.bz_machine.specs.declared.place.Place.TheVariants as place
@@ -12,11 +13,15 @@ use Rattle.bz_machine.specs.Sizes.{most_workers}
 use Rattle.bz_machine.specs.State.{IsRenewable, idle, power_on}
 use Rattle.bz_machine.specs.Workers.{local_of}
 use Rattle.bz_machine.proofs.EventLaws.{begins_as_state, begins_in_range, begins_bounded}
-use Rattle.bz_cells.specs.Store.{Store, Beside, HasRoom, IsOutside, typed}
+use Rattle.bz_cells.specs.Store.{Store, Past, Beside, HasRoom, IsOutside, AreAsked, typed, is_outside, status_of, field_address, field_count, saved_word, word_pending, pending_as, kind_pending, status_pending, field_pending}
+use Rattle.bz_word.specs.Kinds.{kind}
+use Rattle.bz_layout.specs.Addresses.{swap_address}
+use Rattle.bz_machine.specs.Pending.{no_asks}
+use Rattle.bz_cells.specs.FromPm.State.{ask_for}
 use Rattle.bz_swap.specs.Power.{AreRecovered}
 use Rattle.bz_swap.specs.SwapMemory.{idle as seen_idle}
 use Rattle.bz_swap.specs.Inside.Parts.{Parts, idle_worker, worker_at, working}
-use Rattle.bz_swap.specs.Inside.Kept.{IsRunning, IsUntouched, IsWorker, state_of}
+use Rattle.bz_swap.specs.Inside.Kept.{IsRunning, IsUntouched, IsWorker, AsksFew, state_of}
 use Rattle.bz_swap.proofs.Allowing.{allowed-none}
 use Rattle.bz_swap.proofs.StepsLeft.{enough-idle}
 use Rattle.bz_swap.proofs.Recovered.{fitting, fitting-plain, fitting-kind, same-kinds, free-status, recovered-words}
@@ -30,6 +35,9 @@ pub record IsFresh (p : Parts) : Type 0 where
   pub tags : (w : ℕ) → slice_index p.store.next_tags w ≡ 0
   pub missed : (s : ℕ) → get_or p.store.missed s false ≡ false
   pub taken : p.store.taken ≡ 0
+  pub count : p.store.past.count ≡ 0
+  pub since : (a : ℕ) → slice_index p.store.past.since a ≡ 0
+  pub asks : (w : ℕ) → get_or p.store.past.asks w [] ≡ []
   pub workers : (w : ℕ) → worker_at p w ≡ idle_worker
   pub few : length p.workers ≤ most_workers
 
@@ -44,6 +52,32 @@ all-same n i x = elim (cases_lt i n) [
 fresh_beside : Beside
 fresh_beside = record { owner = λ s. 0; named = λ a. false; published = λ s. false; answer = λ s. None }
 
+-- nothing is kept of what was asked before
+fresh-word : (past : Past) (a : ℕ) → slice_index past.since a ≡ 0 → ((w : ℕ) → get_or past.asks w [] ≡ []) → word_pending past a ≡ no_asks
+fresh-word past a since asks = λ i. record { since = since i; asked = λ w. ap (λ qs. saved_word (ask_for qs (a / 8)) (a % 8)) (asks w) i }
+
+fresh-kind : (swaps : ℕ) (past : Past) → ((a : ℕ) → slice_index past.since a ≡ 0) → ((w : ℕ) → get_or past.asks w [] ≡ []) → (a : ℕ) → kind_pending swaps (word_pending past) a ≡ no_asks
+fresh-kind swaps past since asks a = by_test (is_outside swaps a)
+  where
+    by_test : (t : Bool) → (if t then pending_as kind (word_pending past a) else no_asks) ≡ no_asks
+    by_test true = ap (pending_as kind) (fresh-word past a (since a) asks)
+    by_test false = refl
+
+fresh-status : (swaps : ℕ) (past : Past) → ((a : ℕ) → slice_index past.since a ≡ 0) → ((w : ℕ) → get_or past.asks w [] ≡ []) → (s : ℕ) → status_pending swaps (word_pending past) s ≡ no_asks
+fresh-status swaps past since asks s = by_test (nat_lt s swaps)
+  where
+    by_test : (t : Bool) → (if t then pending_as status_of (word_pending past (swap_address s)) else no_asks) ≡ no_asks
+    by_test true = ap (pending_as status_of) (fresh-word past (swap_address s) (since (swap_address s)) asks)
+    by_test false = refl
+
+fresh-field : (swaps : ℕ) (past : Past) → ((a : ℕ) → slice_index past.since a ≡ 0) → ((w : ℕ) → get_or past.asks w [] ≡ []) → (s k : ℕ) → field_pending swaps (word_pending past) s k ≡ no_asks
+fresh-field swaps past since asks s k = by_test (nat_lt s swaps) (nat_lt k field_count)
+  where
+    by_test : (t u : Bool) → (if t then if u then word_pending past (field_address s k) else no_asks else no_asks) ≡ no_asks
+    by_test true true = fresh-word past (field_address s k) (since (field_address s k)) asks
+    by_test true false = refl
+    by_test false u = refl
+
 idle-local : local_of idle_worker ≡ idle
 unfolding idle_worker
 idle-local = λ i. record { operation = operation.Nothing; place = place.Idle; current = 0; back = None; list = λ k. all-same 13 k 0 i }
@@ -52,7 +86,15 @@ fresh-path : (p : Parts) → IsFresh p → state_of p no_entries fresh_beside �
 unfolding fresh_beside
 fresh-path p f = λ i. record {
   entries = no_entries;
-  memory = record (typed p.store fresh_beside) { next_tag = λ w. f.tags w i; missed = λ s. f.missed s i; taken = f.taken i };
+  memory = record (typed p.store fresh_beside) {
+    now = f.count i;
+    pending = λ a. fresh-kind p.store.swaps p.store.past f.since f.asks a i;
+    status_pending = λ s. fresh-status p.store.swaps p.store.past f.since f.asks s i;
+    words_pending = λ s k. fresh-field p.store.swaps p.store.past f.since f.asks s k i;
+    next_tag = λ w. f.tags w i;
+    missed = λ s. f.missed s i;
+    taken = f.taken i;
+  };
   local = λ w. (ap local_of (f.workers w) ∙ idle-local) i;
 }
 
@@ -79,6 +121,23 @@ idle-operation = refl
 pub fresh-place : (p : Parts) (w : ℕ) → worker_at p w ≡ idle_worker → (worker_at p w).place ≡ place.Idle
 fresh-place p w is = ap (λ (l : Worker). l.place) is ∙ idle-place
 
+-- no ask was made
+no-ask : (past : Past) (w line : ℕ) → get_or past.asks w [] ≡ [] → ask_for (get_or past.asks w []) line ≡ None
+no-ask past w line none = ap (λ qs. ask_for qs line) none
+
+some-none : {A : Type 0} (o : Option A) (q : A) → o ≡ None → o ≡ Some q → ⊥
+some-none o q none some = (let bad : None ≡ Some q = sym none ∙ some in absurd cc)
+
+fresh-asked : (swaps : ℕ) (past : Past) → ((w : ℕ) → get_or past.asks w [] ≡ []) → AreAsked swaps past.asks
+fresh-asked swaps past asks = record {
+  kinds = λ a w q out is. absurd (some-none _ q (no-ask past w (a / 8) (asks w)) is);
+  statuses = λ s w q lt is. absurd (some-none _ q (no-ask past w (swap_address s / 8) (asks w)) is);
+}
+
+fresh-few : (past : Past) (w : ℕ) → get_or past.asks w [] ≡ [] → AsksFew past w idle_worker
+unfolding idle_worker
+fresh-few past w none = record { few = rw none (omega arith); alone = tt }
+
 pub fresh-running : (p : Parts) → IsFresh p → IsRunning p
 unfolding fresh_beside
 fresh-running p f =
@@ -88,7 +147,7 @@ fresh-running p f =
     record {
       entries = no_entries;
       beside = fresh_beside;
-      words = record { has_room = f.room; cached = recovered-words p.store.swaps p.store.cached f.cached; durable = recovered-words p.store.swaps p.store.durable f.durable };
+      words = record { has_room = f.room; cached = recovered-words p.store.swaps p.store.cached f.cached; durable = recovered-words p.store.swaps p.store.durable f.durable; asked = fresh-asked p.store.swaps p.store.past f.asks };
       state = rw path (begins_as_state m (fresh-renewable p f));
       range = rw path (begins_in_range m (λ a. (fitting-kind _ (fitting p.store.swaps p.store.cached a f.cached), fitting-kind _ (fitting p.store.swaps p.store.durable a f.durable))));
       bounded = bounded;
@@ -100,6 +159,7 @@ fresh-running p f =
       workers = λ w. rw (f.workers w) (idle-is_worker p.store);
       tags = λ w. omega (arith, f.tags w);
       recoverer = fresh-place p 0 (f.workers 0);
+      asked = λ w. rw (f.workers w) (fresh-few p.store.past w (f.asks w));
     }
 
 pub fresh-untouched : (p : Parts) → IsFresh p → IsUntouched p

@@ -6,8 +6,8 @@ use Rattle.bz_word.specs.declared.kind.WordKind.{WordKind}
 use Rattle.bz_word.specs.declared.kind.WordKind.TheVariants.{Value, Dirty, Swap, Tag}
 use Rattle.bz_machine.specs.declared.status.Verdict.{Verdict}
 use Rattle.bz_machine.specs.declared.place.Place.{Place}
-use Rattle.bz_machine.specs.declared.place.Place.TheVariants.{Idle, Prepare, Learn, Help, ReadWord, FlushRead, ClearRead, LoadWord, StoreWord, FlushLine}
-use Rattle.bz_machine.specs.declared.place.PrepareStep.TheVariants.{WriteWord, WriteStatus, FlushHead, FlushTail}
+use Rattle.bz_machine.specs.declared.place.Place.TheVariants.{Idle, Prepare, Learn, Help, ReadWord, AskRead, FenceRead, ClearRead, LoadWord, StoreWord, FlushLine}
+use Rattle.bz_machine.specs.declared.place.PrepareStep.TheVariants.{WriteWord, WriteStatus, AskHead, AskTail, FenceDescriptor}
 use Rattle.bz_machine.specs.declared.place.HelpStep.TheVariants.{Look}
 use Rattle.bz_machine.specs.declared.place.Next.{Next}
 use Rattle.bz_machine.specs.declared.place.Next.TheVariants.{Step, Meet, Complete}
@@ -27,7 +27,8 @@ IsGoing (Prepare step) = Unit {0}
 IsGoing (Learn k) = Unit {0}
 IsGoing (Help step) = Unit {0}
 IsGoing (ReadWord a) = Unit {0}
-IsGoing (FlushRead a v) = Unit {0}
+IsGoing (AskRead a v) = Unit {0}
+IsGoing (FenceRead a v) = Unit {0}
 IsGoing (ClearRead a v) = Unit {0}
 IsGoing (LoadWord a) = ⊥
 IsGoing (StoreWord a v) = ⊥
@@ -40,7 +41,8 @@ ReadsAt (Prepare step) = ⊥
 ReadsAt (Learn k) = ⊥
 ReadsAt (Help step) = ⊥
 ReadsAt (ReadWord a) = Unit {0}
-ReadsAt (FlushRead a v) = ⊥
+ReadsAt (AskRead a v) = ⊥
+ReadsAt (FenceRead a v) = ⊥
 ReadsAt (ClearRead a v) = ⊥
 ReadsAt (LoadWord a) = Unit {0}
 ReadsAt (StoreWord a v) = ⊥
@@ -96,15 +98,17 @@ pub leads-act : (m : Memory) (w : ℕ) (l : Local) (at : Place) → (at ≡ Idle
 leads-act m w l Idle some busy = absurd (some refl)
 leads-act m w l (Prepare (WriteWord k)) some busy = inl (record { from = tt; place = tt; operation = refl; busy = refl })
 leads-act m w l (Prepare WriteStatus) some busy = inl (record { from = tt; place = tt; operation = refl; busy = refl })
-leads-act m w l (Prepare FlushHead) some busy = inl (record { from = tt; place = tt; operation = refl; busy = refl })
-leads-act m w l (Prepare FlushTail) some busy = inl (record { from = tt; place = tt; operation = refl; busy = refl })
+leads-act m w l (Prepare AskHead) some busy = inl (record { from = tt; place = tt; operation = refl; busy = refl })
+leads-act m w l (Prepare AskTail) some busy = inl (record { from = tt; place = tt; operation = refl; busy = refl })
+leads-act m w l (Prepare FenceDescriptor) some busy = inl (record { from = tt; place = tt; operation = refl; busy = refl })
 leads-act m w l (Learn k) some busy =
     inl (record { from = tt; place = going-if (k == 3 * put l.list k (m.words l.current k) 0) (Help Look) (Learn (k + 1)) tt tt; operation = refl; busy = refl })
 leads-act m w l (Help step) some busy =
     let after = help_act (entries_in l.list) m w l.current step in
     leads-help after.memory l after.next (busy tt) (Help step) tt
 leads-act m w l (ReadWord a) some busy = leads-read m l a (m.cached a)
-leads-act m w l (FlushRead a v) some busy = inl (record { from = tt; place = tt; operation = refl; busy = refl })
+leads-act m w l (AskRead a v) some busy = inl (record { from = tt; place = tt; operation = refl; busy = refl })
+leads-act m w l (FenceRead a v) some busy = inl (record { from = tt; place = tt; operation = refl; busy = refl })
 leads-act m w l (ClearRead a v) some busy = inl (record { from = tt; place = tt; operation = refl; busy = refl })
 leads-act m w l (LoadWord a) some busy = inr (record { place = refl; operation = refl; done = λ h. absurd cc; told = λ g. absurd g; read = λ v h. tt })
 leads-act m w l (StoreWord a v) some busy = inr (record { place = refl; operation = refl; done = λ h. absurd cc; told = λ g. absurd g; read = λ v h. absurd cc })

@@ -1,4 +1,6 @@
 pub mod Allowing
+pub mod AllWords
+pub mod Asking
 pub mod Alone
 pub mod AtomicAnswers
 pub mod AtomicCalls
@@ -20,6 +22,7 @@ pub mod Frames
 pub mod Fresh
 pub mod Going
 pub mod HeldWords
+pub mod Insides
 pub mod Listed
 pub mod LoneRuns
 pub mod MaySwaps
@@ -40,6 +43,7 @@ pub mod SeenSteps
 pub mod SeenSwaps
 pub mod SeenVerdicts
 pub mod SeenWrites
+pub mod SettledKept
 pub mod SettledStay
 pub mod SettledWords
 pub mod Shown

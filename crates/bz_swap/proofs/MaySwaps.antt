@@ -1,13 +1,14 @@
 -- What callers know of a swap's entries is what the machine asks of a swap that begins.
-use Rattle.std.specs.Prelude.{◌≡◌, ◌≢◌, if◌then◌else◌, ℕ, ◌+◌, ◌*◌, ◌<◌, Bool, true, false, List}
+use Rattle.std.specs.Prelude.{◌≡◌, ◌≢◌, ℕ, ◌+◌, ◌*◌, ◌<◌, Bool, true, false, List}
 use Rattle.std.proofs.Common.{arith, refl, ap, sym, subst, ◌∙◌}
-use Rattle.bz_word.specs.Kinds.{kind}
-use Rattle.bz_word.specs.declared.kind.WordKind.TheVariants.{Value}
+use Rattle.bz_word.specs.declared.kind.WordKind.{WordKind}
 use Rattle.bz_word.specs.declared.entry.Entry.{Entry}
 use Rattle.bz_machine.specs.declared.place.Place.TheVariants as place
+use Rattle.bz_machine.specs.Machine.{MayLast}
 use Rattle.bz_machine.specs.Ranges.{AreValues}
 use Rattle.bz_machine.specs.State as machine
-use Rattle.bz_cells.specs.Store.{is_outside, kind_at}
+use Rattle.bz_cells.specs.Store.{kind_at, typed}
+use Rattle.bz_cells.proofs.SettledWords.{settled-lasts}
 use Rattle.bz_acts.specs.Ready.{LiesOutside}
 use Rattle.bz_swap.specs.declared.phase.Phase.TheVariants.{Recovering}
 use Rattle.bz_swap.specs.Starts.{IsEntry, MaySwap}
@@ -15,18 +16,16 @@ use Rattle.bz_swap.specs.SwapMemory.{Storing, doing_of, is_target}
 use Rattle.bz_swap.specs.Inside.Parts.{Parts, worker_at, doing_at, seen}
 use Rattle.bz_swap.specs.Inside.Kept.{IsRunning, state_of}
 use Rattle.bz_swap.proofs.Doings.{worker-seen}
-use Rattle.bz_swap.proofs.SettledWords.{settled-same}
 use Rattle.bz_swap.proofs.Shown.{shows}
 use Rattle.bz_swap.proofs.SwapLists.{Lists, Targeted, entries_from, count-listed, apart-from, told-from, each-from, target-from}
-use Rattle.bz_machine.proofs.Lasting.{lasts-alone}
 
--- nobody asks for lines, so what may last is durable; a private target's word is settled: the same in the caches and in the memory itself
+-- a private target's word is settled: what may last there is the word in the caches
 flushed-target : (p : Parts) (r : IsRunning p) (words : ℕ → ℕ) (a : ℕ) → p.phase ≢ Recovering → Targeted (IsEntry (seen p)) words a → r.beside.named a ≡ false
-    → kind_at p.store.swaps p.store.cached a ≡ kind_at p.store.swaps p.store.durable a
-flushed-target p r words a phase t private =
+    → (y : WordKind) → MayLast (typed p.store r.beside) a y → y ≡ kind_at p.store.swaps p.store.cached a
+flushed-target p r words a phase t private y lasts =
     let own : IsEntry (seen p) (record { target = a; expected = words (2 + 3 * t.entry); new = words (3 + 3 * t.entry) }) =
     subst (λ b. IsEntry (seen p) (record { target = b; expected = words (2 + 3 * t.entry); new = words (3 + 3 * t.entry) })) t.target t.holds in
-    ap (λ v. if is_outside p.store.swaps a then kind v else Value 0) (settled-same (seen p) a (own.settled ((shows p r phase).named a ∙ private)))
+    settled-lasts p.store r.beside a own.address.outside (own.settled ((shows p r phase).named a ∙ private)) y lasts
 
 -- no private store of a target waits to be made
 stored-target : (p : Parts) (words : ℕ → ℕ) (a w v : ℕ) → Targeted (IsEntry (seen p)) words a → (worker_at p w).place ≡ place.StoreWord a v → ⊥
@@ -45,7 +44,8 @@ may-begin p r w words entries may h = record {
   some = omega (arith, count-listed words entries h, h.some);
   apart = apart-from words entries h;
   told = told-from words entries h;
-  flushed = λ a y is private lasts. lasts-alone _ y lasts ∙ sym (flushed-target p r words a may.work.phase (target-from (IsEntry (seen p)) words entries a h may.each is) private);
+  few = omega (arith, count-listed words entries h, h.few);
+  flushed = λ a y is private lasts. flushed-target p r words a may.work.phase (target-from (IsEntry (seen p)) words entries a h may.each is) private y lasts;
   not_stored = λ u a v at. not-target p words entries a u v _ (target-from (IsEntry (seen p)) words entries a h may.each) at refl;
 }
 

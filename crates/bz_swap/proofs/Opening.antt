@@ -23,7 +23,7 @@ none-begun Recovering st workers none = refl
 -- the parts after an opening
 abbrev pub opened_parts : Phase → List ℕ → ℕ → ℕ → Parts
 opened_parts phase start swaps workers = record {
-  store = record { cached = start; durable = start; swaps = swaps; next_tags = replicate (workers + 1) 0; missed = replicate swaps false; taken = 0 };
+  store = record { cached = start; durable = start; past = record { count = 0; since = replicate (length start) 0; asks = replicate (workers + 1) [] }; swaps = swaps; next_tags = replicate (workers + 1) 0; missed = replicate swaps false; taken = 0 };
   workers = replicate (workers + 1) idle_worker;
   phase = phase;
   steps = 0;
@@ -40,6 +40,9 @@ opened-kept_in Opened start swaps workers few room recovered not = fresh-untouch
   tags = λ w. all-same (workers + 1) w 0;
   missed = λ s. all-same swaps s false;
   taken = refl;
+  count = refl;
+  since = λ a. all-same (length start) a 0;
+  asks = λ w. all-same (workers + 1) w [];
   workers = λ w. all-same (workers + 1) w idle_worker;
   few = rw length-replicate (omega (arith, few));
 })
@@ -65,6 +68,7 @@ opened-kept phase start swaps workers some few room recovered not =
       few = omega (arith, count, few);
       some = omega (arith, count);
       allowed = sym (allowed-none (replicate (workers + 1) idle_worker) (λ w. fresh-place (opened_parts phase start swaps workers) w (all-same (workers + 1) w idle_worker)));
+      counted = omega arith;
       kept = opened-kept_in phase start swaps workers few room recovered not;
     }
 

@@ -6,6 +6,7 @@ use Rattle.bz_swap.proofs.EffectsInside.{effects_stay_inside as effects_stay_ins
 use Rattle.bz_swap.proofs.FieldsStay.{plain_fields_stay as plain_fields_stay-holds}
 use Rattle.bz_swap.proofs.LoneRuns.{lone_steps_are_allowed as lone_steps_are_allowed-holds, lone_steps_are_allowed_by_kind as lone_steps_are_allowed_by_kind-holds}
 use Rattle.bz_swap.proofs.OwnedStay.{owned_stay as owned_stay-holds}
+use Rattle.bz_swap.proofs.SettledKept.{settled_words_stay as settled_words_stay-holds}
 use Rattle.bz_swap.proofs.SettledStay.{effects_stay as effects_stay-holds, settled_stay as settled_stay-holds}
 use Rattle.bz_swap.proofs.TakenStay.{taken_statuses_stay as taken_statuses_stay-holds}
 use Rattle.bz_swap.proofs.WordSizes.{sizes_stay as sizes_stay-holds}
@@ -14,6 +15,7 @@ use Rattle.bz_swap.specs.EffectPlaces.{EffectsStayInside}
 use Rattle.bz_swap.specs.LoneRuns.{LoneStepsAreAllowed, LoneStepsAreAllowedByKind}
 use Rattle.bz_swap.specs.PlainFields.{PlainFieldsStay}
 use Rattle.bz_swap.specs.Settled.{DroppedStay, EffectsStay, OwnedStay, SettledStay}
+use Rattle.bz_swap.specs.SettledWords.{SettledWordsStay}
 use Rattle.bz_swap.specs.Sizes.{SizesStay}
 use Rattle.bz_swap.specs.TakenStatuses.{BegunStayTaken, TakenStatusesStay}
 
@@ -44,6 +46,10 @@ begun_stay_taken = begun_stay_taken-holds
 -- a swap that no worker does any more has had its effect or never will, whatever happens up to the next act of a recovery
 pub settled_stay : SettledStay
 settled_stay = settled_stay-holds
+
+-- a settled word stays settled, unless a private store changes it
+pub settled_words_stay : SettledWordsStay
+settled_words_stay = settled_words_stay-holds
 
 -- an effect is for good, and is told once
 pub effects_stay : EffectsStay

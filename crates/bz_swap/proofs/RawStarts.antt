@@ -61,6 +61,7 @@ raw-begun p k at l d may is lies busy shows some =
         few = rw (length-set p.workers 0 (placed l at)) k.few;
         some = rw (length-set p.workers 0 (placed l at)) k.some;
         allowed = ap (λ n. n + for_worker) k.allowed ∙ sym (allowed-begun p.workers 0 (placed l at) k.some (resting-place p k 0 may.idle) busy);
+        counted = k.counted;
         kept = record {
           recoverer = rw here lies;
           others = λ w some. rw (there w (omega (arith, some))) (others w some);

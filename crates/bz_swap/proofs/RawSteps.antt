@@ -1,5 +1,5 @@
 -- A step of worker 0 in a recovery time.
-use Rattle.std.specs.Prelude.{◌≡◌, ◌≢◌, ℕ, ◌<◌, ◌≤◌, ◌==◌, if◌then◌else◌, Bool, true, false, List, length, slice_index, slice_set, None}
+use Rattle.std.specs.Prelude.{◌≡◌, ◌≢◌, ℕ, ◌^◌, ◌<◌, ◌≤◌, ◌==◌, if◌then◌else◌, Bool, true, false, List, length, slice_index, slice_set, None}
 use Rattle.std.proofs.Common.{arith, refl, ap, sym, subst, ◌∙◌, inl, inr}
 use Rattle.std.proofs.lemmas.Bool.{cases_eq, cases_lt}
 use Rattle.std.proofs.lemmas.List.{length-set}
@@ -10,11 +10,11 @@ use Rattle.bz_machine.specs.declared.worker.Operation.TheVariants as operation
 use Rattle.bz_machine.specs.declared.worker.Worker.{Worker}
 use Rattle.bz_machine.specs.Allowed.{for_worker}
 use Rattle.bz_machine.specs.Flushes.{is_flush}
-use Rattle.bz_cells.specs.Store.{Store, store_words}
+use Rattle.bz_cells.specs.Store.{Store, store_state}
 use Rattle.bz_acts.specs.Rule.{IsWithin, after_act, is_flush_act}
 use Rattle.bz_acts.specs.declared.acted.Act.{Act}
-use Rattle.bz_acts.specs.declared.acted.Act.TheVariants.{Load, Store as StoreAct, Cas, Flush}
-use Rattle.bz_cells.specs.FromPm.Words.{Words}
+use Rattle.bz_acts.specs.declared.acted.Act.TheVariants.{Load, Store as StoreAct, Cas, Flush, Ask, Fence}
+use Rattle.bz_cells.specs.FromPm.State.{State}
 use Rattle.bz_acts.specs.declared.acted.Acted.{Acted}
 use Rattle.bz_swap.specs.declared.phase.Phase.{Phase}
 use Rattle.bz_swap.specs.declared.phase.Phase.TheVariants.{Opened, Running, Recovering}
@@ -60,7 +60,8 @@ asked-answer m (place.Prepare step) o acted is = absurd is
 asked-answer m (place.Learn k) o acted is = absurd is
 asked-answer m (place.Help step) o acted is = absurd is
 asked-answer m (place.ReadWord a) o acted is = absurd is
-asked-answer m (place.FlushRead a v) o acted is = absurd is
+asked-answer m (place.AskRead a v) o acted is = absurd is
+asked-answer m (place.FenceRead a v) o acted is = absurd is
 asked-answer m (place.ClearRead a v) o acted is = absurd is
 
 asked-flush : (at : Place) (acted : Acted) → IsAsked at acted → is_flush_act acted.act ≡ is_flush at
@@ -72,7 +73,8 @@ asked-flush (place.Prepare step) acted is = absurd is
 asked-flush (place.Learn k) acted is = absurd is
 asked-flush (place.Help step) acted is = absurd is
 asked-flush (place.ReadWord a) acted is = absurd is
-asked-flush (place.FlushRead a v) acted is = absurd is
+asked-flush (place.AskRead a v) acted is = absurd is
+asked-flush (place.FenceRead a v) acted is = absurd is
 asked-flush (place.ClearRead a v) acted is = absurd is
 
 asked-idle : (at : Place) (o : Operation) (acted : Acted) → IsAsked at acted → Idle ≡ doing_after (doing_at at o) acted.done
@@ -84,7 +86,8 @@ asked-idle (place.Prepare step) o acted is = absurd is
 asked-idle (place.Learn k) o acted is = absurd is
 asked-idle (place.Help step) o acted is = absurd is
 asked-idle (place.ReadWord a) o acted is = absurd is
-asked-idle (place.FlushRead a v) o acted is = absurd is
+asked-idle (place.AskRead a v) o acted is = absurd is
+asked-idle (place.FenceRead a v) o acted is = absurd is
 asked-idle (place.ClearRead a v) o acted is = absurd is
 
 -- the act is one on a word or line of the memory
@@ -97,8 +100,23 @@ asked-within st (place.Prepare step) acted lies is = absurd is
 asked-within st (place.Learn k) acted lies is = absurd is
 asked-within st (place.Help step) acted lies is = absurd is
 asked-within st (place.ReadWord a) acted lies is = absurd is
-asked-within st (place.FlushRead a v) acted lies is = absurd is
+asked-within st (place.AskRead a v) acted lies is = absurd is
+asked-within st (place.FenceRead a v) acted lies is = absurd is
 asked-within st (place.ClearRead a v) acted lies is = absurd is
+
+-- no ask is counted
+count-act : (m : State) (w : ℕ) (at : Place) (acted : Acted) → IsAsked at acted → (after_act w m acted.act).count ≡ m.count
+count-act m w (place.LoadWord a) acted is = ap (λ (made : Act). (after_act w m made).count) is.1.0
+count-act m w (place.StoreWord a v) acted is = ap (λ (made : Act). (after_act w m made).count) is.0
+count-act m w (place.FlushLine line) acted is = ap (λ (made : Act). (after_act w m made).count) is.0
+count-act m w place.Idle acted is = absurd is
+count-act m w (place.Prepare step) acted is = absurd is
+count-act m w (place.Learn k) acted is = absurd is
+count-act m w (place.Help step) acted is = absurd is
+count-act m w (place.ReadWord a) acted is = absurd is
+count-act m w (place.AskRead a v) acted is = absurd is
+count-act m w (place.FenceRead a v) acted is = absurd is
+count-act m w (place.ClearRead a v) acted is = absurd is
 
 -- what is kept after the step
 pub raw-kept : (p : Parts) (k : IsKept p) (w : ℕ) (store : Store) (l : Worker) (acted : Acted) → p.phase ≡ Recovering → w < length (seen p).workers → doing_of (seen p) w ≢ Idle → l ≡ worker_at p w
@@ -109,8 +127,9 @@ raw-kept p k w store l acted phase within busy is made =
     let idle : (placed l place.Idle).operation ≡ operation.Nothing = ap (λ u. u.operation) is ∙ r.rest w in
     record {
       room = made.room;
-      swaps = rw made.after k.swaps;
-      workers = length-set p.workers w _ ∙ k.workers ∙ ap (λ (u : Store). length u.next_tags) (sym made.after);
+      swaps = rw (made.after w) k.swaps;
+      workers = length-set p.workers w _ ∙ k.workers ∙ ap (λ (u : Store). length u.next_tags) (sym (made.after w));
+      counted = (let same : store.past.count ≡ p.store.past.count = ap (λ (u : Store). u.past.count) (made.after w) ∙ count-act (store_state p.store) w l.place acted made.asked in omega (arith, k.counted, same));
       few = rw (length-set p.workers w (placed l place.Idle)) k.few;
       some = rw (length-set p.workers w (placed l place.Idle)) k.some;
       allowed = ap (λ n. all_after n place.Idle) k.allowed ∙ sym (allowed-stepped p.workers w (placed l place.Idle) inside (busy-place p w busy));
@@ -130,11 +149,13 @@ length-if true xs a v = length-set xs a v
 length-if false xs a v = refl
 
 -- an act leaves as many words
-length-act : (m : Words) (made : Act) → length (after_act m made).cached ≡ length m.cached
-length-act m (Load a v) = refl
-length-act m (StoreAct a v) = length-set m.cached a v
-length-act m (Cas a o v found) = length-if (slice_index m.cached a == o) m.cached a v
-length-act m (Flush line) = refl
+length-act : (m : State) (w : ℕ) (made : Act) → length (after_act w m made).words.cached ≡ length m.words.cached
+length-act m w (Load a v) = refl
+length-act m w (StoreAct a v) = length-set m.words.cached a v
+length-act m w (Cas a o v found) = length-if (slice_index m.words.cached a == o) m.words.cached a v
+length-act m w (Flush line) = refl
+length-act m w (Ask line) = refl
+length-act m w Fence = refl
 
 none-begun : (phase : Phase) (p : Parts) → phase ≡ Recovering → (st : Store) (q : Parts) → begun_seen phase st q.workers ≡ begun_seen phase p.store p.workers
 none-begun Recovering p is st q = refl
@@ -150,31 +171,32 @@ raw-left p k w phase within busy =
     let all : for_worker ≤ p.allowance.all = rw k.allowed (allowed-some p.workers w within at) in
     omega (arith, least 1 p.allowance.runner p.allowance.left p.allowance.all w (omega (arith, all)) (λ _. omega (arith, left)))
 
-pub raw-seen : (p : Parts) (k : IsKept p) (w : ℕ) (store : Store) (l : Worker) (acted : Acted) → p.phase ≡ Recovering → w < length (seen p).workers → doing_of (seen p) w ≢ Idle → l ≡ worker_at p w
+pub raw-seen : (p : Parts) (k : IsKept p) (w : ℕ) (store : Store) (l : Worker) (acted : Acted) → p.phase ≡ Recovering → w < length (seen p).workers → doing_of (seen p) w ≢ Idle → p.steps < 2 ^ 36 → l ≡ worker_at p w
     → IsRawAct p.store l.place acted store → IsRawStep (seen p) w acted.act acted.done None (seen (after_step p w store (placed l place.Idle)))
-raw-seen p k w store l acted phase within busy is made =
+raw-seen p k w store l acted phase within busy steps is made =
     let q : Parts = after_step p w store (placed l place.Idle) in
     let was : worker_of (seen p) w ≡ working l = worker-seen p w ∙ ap working (sym is) in
     let now : worker_of (seen q) w ≡ working (placed l place.Idle) = worker-seen q w ∙ ap working (same-worker p w store (placed l place.Idle) (workers-within p w within)) in
     record {
       one = record {
-        act = record { found = made.found; after = ap store_words made.after };
+        may = record { state = k.room.state; fit = k.room.fit; worker = omega (arith, workers-within p w within, k.workers, k.room.workers); counted = omega (arith, k.counted, steps) };
+        act = record { found = made.found; after = ap store_state (made.after w) };
         within = asked-within p.store l.place acted (recovers-at p k w l phase busy is).0 made.asked;
         flush = asked-flush l.place acted made.asked ∙ ap (λ (u : Working). u.flush_next) (sym was);
         doing = ap (λ (u : Working). u.doing) now ∙ asked-idle l.place l.operation acted made.asked ∙ ap (λ (u : Working). doing_after u.doing acted.done) (sym was);
         steps = refl;
         others = record {
-          size = ap (λ (u : Store). length u.cached) made.after ∙ length-act (store_words p.store) acted.act;
+          size = ap (λ (u : Store). length u.cached) (made.after w) ∙ length-act (store_state p.store) w acted.act;
           count = counted p w store (placed l place.Idle);
-          swaps = ap (λ (u : Store). u.swaps) made.after;
+          swaps = ap (λ (u : Store). u.swaps) (made.after w);
           phase = refl;
           begun = none-begun p.phase p phase store q;
-          taken = ap (λ (u : Store). u.taken) made.after;
+          taken = ap (λ (u : Store). u.taken) (made.after w);
           workers = λ v ne. worker-seen q v ∙ ap working (other-worker p w v store (placed l place.Idle) ne) ∙ sym (worker-seen p v);
         };
         answer = subst (λ d. IsAnswer (seen q) d acted.act acted.done) (ap (λ (u : Working). u.doing) (sym was)) (asked-answer (seen q) l.place l.operation acted made.asked);
         spent = left-spent p w store (placed l place.Idle) (left-seen p k w) (raw-left p k w phase (workers-within p w within) busy);
       };
       effect = refl;
-      missed = ap (λ (u : Store). u.missed) made.after;
+      missed = ap (λ (u : Store). u.missed) (made.after w);
     }

@@ -1,11 +1,12 @@
 -- A renewal: the parts after it, and what callers see of them.
-use Rattle.std.specs.Prelude.{◌≡◌, ℕ, zero, suc, false, map, length, replicate}
+use Rattle.std.specs.Prelude.{◌≡◌, ℕ, zero, suc, false, [], map, length, replicate}
 use Rattle.std.proofs.Common.{arith, refl, ap, sym, ◌∙◌}
 use Rattle.std.proofs.lemmas.List.{length-replicate}
 use Rattle.bz_machine.specs.declared.place.Place.{Place}
 use Rattle.bz_machine.specs.declared.place.Place.TheVariants as place
 use Rattle.bz_machine.specs.declared.worker.Operation.{Operation}
-use Rattle.bz_cells.specs.Store.{Store, HasRoom}
+use Rattle.bz_cells.specs.Store.{Store, renewed_store}
+use Rattle.bz_cells.proofs.Rooms.{room-renew}
 use Rattle.bz_swap.specs.declared.phase.Phase.{Phase}
 use Rattle.bz_swap.specs.declared.phase.Phase.TheVariants.{Opened, Running, Recovering}
 use Rattle.bz_swap.specs.SwapMemory.{Idle, idle, doing_of}
@@ -26,7 +27,8 @@ recoverer-place st (place.Prepare step) o at is = absurd at
 recoverer-place st (place.Learn k) o at is = absurd at
 recoverer-place st (place.Help step) o at is = absurd at
 recoverer-place st (place.ReadWord a) o at is = absurd at
-recoverer-place st (place.FlushRead a v) o at is = absurd at
+recoverer-place st (place.AskRead a v) o at is = absurd at
+recoverer-place st (place.FenceRead a v) o at is = absurd at
 recoverer-place st (place.ClearRead a v) o at is = absurd at
 
 place-in : (phase : Phase) (p : Parts) (w : ℕ) → KeptIn phase p → doing_at (worker_at p w).place (worker_at p w).operation ≡ Idle → (worker_at p w).place ≡ place.Idle
@@ -39,24 +41,21 @@ pub resting-place : (p : Parts) (k : IsKept p) (w : ℕ) → doing_of (seen p) w
 resting-place p k w is = place-in p.phase p w k.kept (sym (ap (λ u. u.doing) (worker-seen p w)) ∙ is)
 
 -- the parts after a renewal
-abbrev pub clear_store : Store → Store
-clear_store st = record st { next_tags = replicate (length st.next_tags) 0; missed = replicate (length st.missed) false; taken = 0 }
-
 abbrev pub renewed_parts : Parts → Parts
-renewed_parts p = record { store = clear_store p.store; workers = replicate (length p.workers) idle_worker; phase = Running; steps = 0; allowance = record p.allowance { all = 0 } }
-
-clear-room : (st : Store) → HasRoom st → HasRoom (clear_store st)
-clear-room st r = record { memory = r.memory; room = r.room; numbered = r.numbered; noted = length-replicate (length st.missed) false ∙ r.noted; taken = omega arith }
+renewed_parts p = record { store = renewed_store p.store; workers = replicate (length p.workers) idle_worker; phase = Running; steps = 0; allowance = record p.allowance { all = 0 } }
 
 pub renewed-fresh : (p : Parts) → IsKept p → MayRenew (seen p) → IsFresh (renewed_parts p)
 renewed-fresh p k may = record {
-  room = clear-room p.store k.room;
+  room = room-renew p.store k.room;
   same = may.same;
   cached = may.cached;
   durable = may.durable;
   tags = λ w. all-same (length p.store.next_tags) w 0;
   missed = λ s. all-same (length p.store.missed) s false;
   taken = refl;
+  count = refl;
+  since = λ a. all-same (length p.store.past.since) a 0;
+  asks = λ w. all-same (length p.store.past.asks) w [];
   workers = λ w. all-same (length p.workers) w idle_worker;
   few = rw length-replicate k.few;
 }
@@ -65,12 +64,13 @@ pub renewed-kept : (p : Parts) → IsKept p → MayRenew (seen p) → IsKept (re
 renewed-kept p k may =
     let count : length (replicate (length p.workers) idle_worker) ≡ length p.workers = length-replicate (length p.workers) idle_worker in
     record {
-      room = clear-room p.store k.room;
+      room = room-renew p.store k.room;
       swaps = k.swaps;
       workers = count ∙ k.workers ∙ sym (length-replicate (length p.store.next_tags) 0);
       few = rw count k.few;
       some = rw count k.some;
       allowed = sym (allowed-none (replicate (length p.workers) idle_worker) (λ w. fresh-place (renewed_parts p) w (all-same (length p.workers) w idle_worker)));
+      counted = omega arith;
       kept = fresh-running (renewed_parts p) (renewed-fresh p k may);
     }
 

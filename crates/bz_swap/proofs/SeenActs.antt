@@ -13,17 +13,15 @@ use Rattle.bz_machine.specs.declared.worker.Operation.TheVariants as operation
 use Rattle.bz_machine.specs.declared.worker.Worker.{Worker}
 use Rattle.bz_machine.specs.declared.done.Done.{Done}
 use Rattle.bz_machine.specs.declared.done.Done.TheVariants.{Busy, Read, Stored, Flushed}
-use Rattle.bz_machine.specs.Flushes.{is_flush}
 use Rattle.bz_machine.specs.Knows.{AtPlace}
 use Rattle.bz_machine.specs.Machine.{Memory}
 use Rattle.bz_machine.specs.State.{Act as Acting}
 use Rattle.bz_machine.specs.Steps.{Local, Stepped, act, read_act}
 use Rattle.bz_machine.specs.Workers.{local_of}
 use Rattle.bz_machine.proofs.EventLaws.{acts_atomically}
-use Rattle.bz_cells.specs.Store.{Store, IsOutside, kind_at, typed, store_words}
+use Rattle.bz_cells.specs.Store.{Store, IsOutside, kind_at, typed, store_state}
 use Rattle.bz_acts.specs.Made.{made}
-use Rattle.bz_acts.specs.Rule.{IsActOf, IsToldAt, IsWithin, is_flush_act}
-use Rattle.bz_acts.specs.Writes.{WritesAt}
+use Rattle.bz_acts.specs.Rule.{IsActOf, IsToldAt}
 use Rattle.bz_acts.specs.declared.acted.Act.{Act}
 use Rattle.bz_acts.specs.declared.acted.Act.TheVariants.{Load}
 use Rattle.bz_swap.specs.declared.phase.Phase.TheVariants.{Recovering}
@@ -40,20 +38,13 @@ use Rattle.bz_swap.proofs.SeenAnswers.{answer-shown}
 use Rattle.bz_swap.proofs.SeenSteps.{after-shows, step-effect, told-path, told_effect}
 use Rattle.bz_swap.proofs.SeenVerdicts.{decided-seen}
 use Rattle.bz_swap.proofs.SeenWrites.{writes-seen}
+use Rattle.bz_swap.proofs.Insides.{may-act, inside-step}
 use Rattle.bz_swap.proofs.Shown.{shows, begun-running, misses-shown}
 use Rattle.bz_swap.proofs.Untouched.{kept-act}
-use Rattle.bz_swap.proofs.Stepped.{Acts, MayStep, after_step, same-worker, other-worker}
+use Rattle.bz_swap.proofs.Stepped.{IsMadeAct, Acts, MayStep, after_step, same-worker, other-worker}
 use Rattle.bz_swap.proofs.StepRuns.{step-running}
 use Rattle.bz_swap.proofs.StepsLeft.{step-left}
 use Rattle.bz_swap.proofs.StepLies.{busy-going}
-
--- the act that was made
-pub record IsMadeAct (p : Parts) (w : ℕ) (store : Store) (told : Act) : Type 0 where
-  pub rule : IsActOf (store_words p.store) told (store_words store)
-  pub within : IsWithin (length p.store.cached) told
-  pub flush : is_flush_act told ≡ is_flush (worker_at p w).place
-  pub is_told : IsToldAt (worker_at p w).place told
-  pub writes : WritesAt p.store.swaps (worker_at p w) (worker_at p w).place told
 
 -- where a worker's act leads
 pub leads-made : (p : Parts) (r : IsRunning p) (w : ℕ) → MayStep p w → Leads (local_of (worker_at p w)) (worker_at p w).place (made p.store r.beside (worker_at p w) w)
@@ -81,7 +72,7 @@ read-found m l a v (Tag t i w q) is = absurd cc
 
 -- a read answers at a load of its address that found the plain word
 read-load : (p : Parts) (r : IsRunning p) (w : ℕ) (store : Store) (told : Act) (x : Place) (a v : ℕ) → ReadsAt x → AtPlace r.entries (typed p.store r.beside) w (local_of (worker_at p w)) x
-    → PlaceLies p.store x → IsToldAt x told → IsActOf (store_words p.store) told (store_words store) → (act (typed p.store r.beside) w (local_of (worker_at p w)) x).done ≡ Read v
+    → PlaceLies p.store x → IsToldAt x told → IsActOf (store_state p.store) w told (store_state store) → (act (typed p.store r.beside) w (local_of (worker_at p w)) x).done ≡ Read v
     → (worker_at p w).operation ≡ operation.Reading a → (told ≡ Load a v) × (v < 2 ^ 61)
 read-load p r w store told place.Idle a v reads at lies is rule done o = absurd reads
 read-load p r w store told (place.Prepare step) a v reads at lies is rule done o = absurd reads
@@ -94,7 +85,8 @@ read-load p r w store told (place.ReadWord b) a v reads at lies is rule done o =
     let raw : v ≡ slice_index p.store.cached b = (let same = plain.1 in cc) in
     let loaded : is.0 ≡ slice_index p.store.cached b = (rw is.1 at rule).found in
     (is.1 ∙ (λ k. Load (here k) ((loaded ∙ sym raw) k)), omega (arith, raw, plain.0))
-read-load p r w store told (place.FlushRead b u) a v reads at lies is rule done o = absurd reads
+read-load p r w store told (place.AskRead b u) a v reads at lies is rule done o = absurd reads
+read-load p r w store told (place.FenceRead b u) a v reads at lies is rule done o = absurd reads
 read-load p r w store told (place.ClearRead b u) a v reads at lies is rule done o = absurd reads
 read-load p r w store told (place.LoadWord b) a v reads at lies is rule done o = absurd at
 read-load p r w store told (place.StoreWord b u) a v reads at lies is rule done o = absurd reads
@@ -133,7 +125,8 @@ answer-at p r w n done told (place.Prepare step) at some going is d = going tt
 answer-at p r w n done told (place.Learn k) at some going is d = going tt
 answer-at p r w n done told (place.Help step) at some going is d = going tt
 answer-at p r w n done told (place.ReadWord a) at some going is d = going tt
-answer-at p r w n done told (place.FlushRead a v) at some going is d = going tt
+answer-at p r w n done told (place.AskRead a v) at some going is d = going tt
+answer-at p r w n done told (place.FenceRead a v) at some going is d = going tt
 answer-at p r w n done told (place.ClearRead a v) at some going is d = going tt
 answer-at p r w n done told (place.LoadWord a) at some going is d = absurd at
 answer-at p r w n done told (place.StoreWord a v) at some going is d = rw d is
@@ -170,6 +163,7 @@ step-seen p r w store l done told may phase a made_act =
     let atomic = acts_atomically (state_of p r.entries r.beside) (Acting w) tt r.state in
     record {
       one = record {
+        may = may-act p r w may;
         act = made_act.rule;
         within = made_act.within;
         flush = made_act.flush ∙ ap (λ (u : Working). u.flush_next) (sym was);
@@ -199,6 +193,7 @@ step-seen p r w store l done told may phase a made_act =
         | inl busy ↦ inl (a.is_done ∙ busy)
         | inr none ↦ inr (told-path p r w store l done a ∙ none)
       ];
+      inside = λ s is. inside-step p r w store l done told may a made_act s is;
       writes = writes-seen p r w told phase made_act.writes;
       decided = λ s won own ends. decided-seen p r w store l done may a s won own ends;
     }

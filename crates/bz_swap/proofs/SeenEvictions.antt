@@ -1,5 +1,5 @@
 -- An eviction, as callers see it.
-use Rattle.std.specs.Prelude.{◌≡◌, ◌≢◌, ◌&&◌, if◌then◌else◌, not, ℕ, Bool, true, false, List, [], ◌∷◌, slice_index, None, Some}
+use Rattle.std.specs.Prelude.{◌≡◌, ◌≢◌, ◌&&◌, if◌then◌else◌, not, ℕ, Bool, true, false, List, [], ◌∷◌, slice_index, slice_set, None, Some}
 use Rattle.std.specs.declared.option.Option.{Option}
 use Rattle.std.proofs.Common.{refl, ap, sym, subst, ◌∙◌}
 use Rattle.bz_cells.specs.FromPm.Acts.{evicted}
@@ -37,7 +37,7 @@ begun-kept Running st a workers = λ i. listed (λ s. entry_list (entries_in (wo
 begun-kept Recovering st a workers = refl
 
 -- one word is durable, and nothing else changed
-pub eviction-seen : (p : Parts) (a : ℕ) → seen (after_eviction p a) ≡ record (seen p) { durable = (evicted (words_seen (seen p)) a).durable }
+pub eviction-seen : (p : Parts) (a : ℕ) → seen (after_eviction p a) ≡ record (seen p) { durable = (evicted (words_seen (seen p)) a).durable; past = record p.store.past { since = slice_set p.store.past.since a p.store.past.count } }
 eviction-seen p a = λ i. record (seen (after_eviction p a)) { begun = begun-kept p.phase p.store a p.workers i }
 
 -- the swap whose effect an eviction can tell
@@ -106,5 +106,6 @@ pub is-eviction : (p : Parts) (k : IsKept p) (a : ℕ) (told : Option ℕ) → p
     → IsEviction (seen p) a told (seen (after_eviction p a))
 is-eviction p k a told phase h = record {
   is = eviction-seen p a;
+  state = k.room.state;
   effect = evicts-in p.phase (seen p) (seen (after_eviction p a)) told phase (eviction-effect p (running p.phase p phase k.kept) a told phase h);
 }

@@ -65,6 +65,7 @@ swap-begun p k w words entries h =
       few = rw same k.few;
       some = rw same k.some;
       allowed = ap (λ n. n + for_worker) k.allowed ∙ sym (allowed-begun p.workers w (swapper p.store.taken words) (workers-within p w h.may.work.within) (idle-at p r w h.may.work.idle) (λ idle. (let bad = idle in absurd cc)));
+      counted = k.counted;
       kept = after.running;
     } in
     record { kept = kept; is = swap-seen p r w words entries h; holds = step-holds (with_swap p w words) kept }

@@ -6,9 +6,9 @@ use Rattle.bz_layout.specs.Addresses.{swap_address}
 use Rattle.bz_machine.specs.declared.place.Place.{Place}
 use Rattle.bz_machine.specs.declared.place.Place.TheVariants as place
 use Rattle.bz_machine.specs.declared.place.PrepareStep.{PrepareStep}
-use Rattle.bz_machine.specs.declared.place.PrepareStep.TheVariants.{WriteWord, WriteStatus, FlushHead, FlushTail}
+use Rattle.bz_machine.specs.declared.place.PrepareStep.TheVariants.{WriteWord, WriteStatus, AskHead, AskTail, FenceDescriptor}
 use Rattle.bz_machine.specs.declared.place.HelpStep.{HelpStep}
-use Rattle.bz_machine.specs.declared.place.HelpStep.TheVariants.{Decide, ClearStatus}
+use Rattle.bz_machine.specs.declared.place.HelpStep.TheVariants.{Decide, ClearStatus, AskDirty, FenceDirty, AskTarget, FenceTargets, AskStatus, FenceStatus, AskFinal, FenceFinal}
 use Rattle.bz_machine.specs.declared.status.SwapStatus.TheVariants.{Undecided, Deciding, Decided}
 use Rattle.bz_machine.specs.declared.status.Verdict.{Verdict}
 use Rattle.bz_machine.specs.declared.status.Verdict.TheVariants.{Succeeded, Failed}
@@ -20,7 +20,7 @@ use Rattle.bz_machine.specs.Workers.{local_of}
 use Rattle.bz_cells.specs.Store.{IsOutside, status_word, typed}
 use Rattle.bz_acts.specs.Writes.{StaysOutside, PreparesBy, HelpsBy, WritesAt}
 use Rattle.bz_acts.specs.declared.acted.Act.{Act}
-use Rattle.bz_acts.specs.declared.acted.Act.TheVariants.{Load, Store, Cas, Flush}
+use Rattle.bz_acts.specs.declared.acted.Act.TheVariants.{Load, Store, Cas, Flush, Ask, Fence}
 use Rattle.bz_swap.specs.declared.phase.Phase.TheVariants.{Recovering}
 use Rattle.bz_swap.specs.Writes.{StoresPrivate, StoresField, StoresOwn, ChangesStatus, WritesLawfully}
 use Rattle.bz_swap.specs.SwapMemory.{SwapMemory, Working, doing_of}
@@ -40,6 +40,21 @@ outside-writes old w (Cas a before after found) h = record {
   swaps = λ b x y z is. (let here : a ≡ b = cc in inl (subst (IsOutside old.swaps) here h));
 }
 outside-writes old w (Flush line) h = record { stores = λ b u is. absurd cc; swaps = λ b x y z is. absurd cc }
+outside-writes old w (Ask line) h = absurd h
+outside-writes old w Fence h = absurd h
+
+-- an ask, and a fence
+ask-writes : (old : SwapMemory) (w line : ℕ) (made : Act) → made ≡ Ask line → WritesLawfully old w made
+ask-writes old w line made told = record {
+  stores = λ b u is. (let bad : Ask line ≡ Store b u = sym told ∙ is in absurd cc);
+  swaps = λ b x y z is. (let bad : Ask line ≡ Cas b x y z = sym told ∙ is in absurd cc);
+}
+
+fence-writes : (old : SwapMemory) (w : ℕ) (made : Act) → made ≡ Fence → WritesLawfully old w made
+fence-writes old w made told = record {
+  stores = λ b u is. (let bad : Fence ≡ Store b u = sym told ∙ is in absurd cc);
+  swaps = λ b x y z is. (let bad : Fence ≡ Cas b x y z = sym told ∙ is in absurd cc);
+}
 
 -- a store
 store-writes : (old : SwapMemory) (w a v : ℕ) (made : Act) → made ≡ Store a v → StoresPrivate old w a v ⊎ StoresOwn old w a v → WritesLawfully old w made
@@ -114,8 +129,9 @@ prepare-writes p r w told (WriteWord k) at doing made =
       value = subst (λ v. v < 2 ^ 61) (sym (at.2 k at.3.0)) (spelled-below p r s k at.3.0);
     }))))
 prepare-writes p r w told WriteStatus at doing made = store-writes (seen p) w _ _ told made (inr (own p r w _ _ at.0 at.1 doing (inl (refl, refl))))
-prepare-writes p r w told FlushHead at doing made = outside-writes (seen p) w told made
-prepare-writes p r w told FlushTail at doing made = outside-writes (seen p) w told made
+prepare-writes p r w told AskHead at doing made = ask-writes (seen p) w _ told made
+prepare-writes p r w told AskTail at doing made = ask-writes (seen p) w _ told made
+prepare-writes p r w told FenceDescriptor at doing made = fence-writes (seen p) w told made
 
 -- the status of a published swap
 not_free : (d : Verdict) → (status_word (Deciding d) ≢ 0) × (status_word (Decided d) ≢ 0)
@@ -141,6 +157,14 @@ help-writes p r w s told (ClearStatus d) begun made = status-writes (seen p) w _
   change = inr (refl, refl);
   taken = not_free d;
 })
+help-writes p r w s told (AskStatus d) begun made = ask-writes (seen p) w _ told made
+help-writes p r w s told (AskDirty i v) begun made = ask-writes (seen p) w made.0 told made.1
+help-writes p r w s told (AskTarget i) begun made = ask-writes (seen p) w made.0 told made.1
+help-writes p r w s told (AskFinal i d) begun made = ask-writes (seen p) w made.0 told made.1
+help-writes p r w s told (FenceStatus d) begun made = fence-writes (seen p) w told made
+help-writes p r w s told (FenceDirty i v) begun made = fence-writes (seen p) w told made
+help-writes p r w s told FenceTargets begun made = fence-writes (seen p) w told made
+help-writes p r w s told (FenceFinal i d) begun made = fence-writes (seen p) w told made
 help-writes p r w s told other begun made = outside-writes (seen p) w told made
 
 -- any place
@@ -151,6 +175,8 @@ writes-at p r w told (place.Help step) phase at range lies doing made =
     help-writes p r w (worker_at p w).current told step (published-begun p r (worker_at p w).current at.0) made
 writes-at p r w told (place.StoreWord a v) phase at range lies doing made =
     store-writes (seen p) w a v told made (inl (record { doing = doing; outside = lies.outside; private = (shows p r phase).named a ∙ at; value = range }))
+writes-at p r w told (place.AskRead a v) phase at range lies doing made = ask-writes (seen p) w _ told made
+writes-at p r w told (place.FenceRead a v) phase at range lies doing made = fence-writes (seen p) w told made
 writes-at p r w told other phase at range lies doing made = outside-writes (seen p) w told made
 
 pub writes-seen : (p : Parts) (r : IsRunning p) (w : ℕ) (told : Act) → p.phase ≢ Recovering → WritesAt p.store.swaps (worker_at p w) (worker_at p w).place told → WritesLawfully (seen p) w told

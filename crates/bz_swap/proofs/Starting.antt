@@ -21,6 +21,7 @@ use Rattle.bz_swap.specs.SwapMemory.{Doing}
 use Rattle.bz_swap.specs.Inside.Parts.{Parts, idle_worker, worker_at, working, listed, entry_list, begun_seen, seen}
 use Rattle.bz_swap.specs.Inside.Allowances.{after_start}
 use Rattle.bz_swap.specs.Inside.Kept.{IsRunning, IsWorker, IsOwned, IsPrepared, IsKept, state_of, allowed_at}
+use Rattle.bz_swap.proofs.Asking.{empty-few}
 use Rattle.bz_swap.proofs.Alone.{left-running}
 use Rattle.bz_swap.proofs.Allowing.{allowed-begun}
 use Rattle.bz_swap.proofs.Begun.{begun_is}
@@ -88,6 +89,10 @@ start-running p r w l v more h =
         ];
         tags = r.tags;
         recoverer = rw (there p w 0 l more (omega (arith, h.some))) r.recoverer;
+        asked = λ u. elim (cases_eq u w) [
+          | inl e ↦ rw (e, here p w l more h.within) (empty-few p.store.past w l (rw h.idle at (r.asked w).few))
+          | inr ne ↦ rw (there p w u l more ne) (r.asked u)
+        ];
       };
       entries = refl;
     }
@@ -140,6 +145,7 @@ is-started p k phase w l v d h is =
       few = rw (length-set p.workers w l) k.few;
       some = rw (length-set p.workers w l) k.some;
       allowed = ap (λ n. n + for_worker) k.allowed ∙ sym (allowed-begun p.workers w l h.within h.idle h.busy);
+      counted = k.counted;
       kept = after.running;
     } in
     record { kept = kept; is = start-seen p r w l v d phase h is; holds = step-holds (with_worker p w l (allowed_by_kind d)) kept }

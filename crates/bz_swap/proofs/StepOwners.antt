@@ -5,7 +5,7 @@ use Rattle.std.proofs.lemmas.Bool.{cases_eq, true≢false}
 use Rattle.std.proofs.lemmas.List.{length-set}
 use Rattle.bz_machine.specs.declared.place.Place.TheVariants as place
 use Rattle.bz_machine.specs.declared.place.PrepareStep.{PrepareStep}
-use Rattle.bz_machine.specs.declared.place.PrepareStep.TheVariants.{WriteWord, WriteStatus, FlushHead, FlushTail}
+use Rattle.bz_machine.specs.declared.place.PrepareStep.TheVariants.{WriteWord, WriteStatus, AskHead, AskTail, FenceDescriptor}
 use Rattle.bz_machine.specs.declared.worker.Operation.{Operation}
 use Rattle.bz_machine.specs.declared.worker.Operation.TheVariants as operation
 use Rattle.bz_machine.specs.declared.worker.Worker.{Worker}
@@ -80,9 +80,10 @@ stepped-owned p r w store l done may a leads s begun none =
 pub prepare-stays : (m : Memory) (w : ℕ) (l : Local) (step : PrepareStep) → (act m w l (place.Prepare step)).memory.published l.current ≡ false
     → (next : PrepareStep) × (((act m w l (place.Prepare step)).local.place ≡ place.Prepare next) × ((act m w l (place.Prepare step)).local.current ≡ l.current))
 prepare-stays m w l (WriteWord k) unset = (_, (refl, refl))
-prepare-stays m w l WriteStatus unset = (FlushHead, (refl, refl))
-prepare-stays m w l FlushHead unset = (FlushTail, (refl, refl))
-prepare-stays m w l FlushTail unset = absurd (true≢false (sym (put-here m.published l.current true l.current refl) ∙ unset))
+prepare-stays m w l WriteStatus unset = (AskHead, (refl, refl))
+prepare-stays m w l AskHead unset = (AskTail, (refl, refl))
+prepare-stays m w l AskTail unset = (FenceDescriptor, (refl, refl))
+prepare-stays m w l FenceDescriptor unset = absurd (true≢false (sym (put-here m.published l.current true l.current refl) ∙ unset))
 
 pub own-prepares : (p : Parts) (b : Beside) (w : ℕ) (store : Store) (l : Worker) (done : Done) (s : ℕ) (step : PrepareStep) → Acts p b w store l done
     → (worker_at p w).place ≡ place.Prepare step → (worker_at p w).current ≡ s → (made p.store b (worker_at p w) w).memory.published s ≡ false

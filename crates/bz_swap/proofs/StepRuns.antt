@@ -15,6 +15,7 @@ use Rattle.bz_cells.specs.Store.{Store, typed}
 use Rattle.bz_acts.specs.Made.{made, beside_in}
 use Rattle.bz_swap.specs.Inside.Parts.{Parts, worker_at}
 use Rattle.bz_swap.specs.Inside.Kept.{IsRunning, state_of}
+use Rattle.bz_swap.proofs.Asking.{own-asked, other-asked}
 use Rattle.bz_swap.proofs.Frames.{frame-act}
 use Rattle.bz_swap.proofs.Going.{Leads, leads-act}
 use Rattle.bz_swap.proofs.Stepped.{Acts, MayStep, after_step, same-worker, other-worker, state-path}
@@ -60,6 +61,10 @@ step-running p r w store l done may a =
         ];
         tags = λ v. omega (arith, tags v, f.tags v, r.tags v);
         recoverer = rw (other-worker p w 0 store l (omega (arith, may.some))) r.recoverer;
+        asked = λ v. elim (cases_eq v w) [
+          | inl e ↦ rw (e, same-worker p w store l may.within) (own-asked p r w store l done may a)
+          | inr ne ↦ rw (other-worker p w v store l ne) (other-asked p r w store l done may a v (worker_at p v) ne (r.asked v))
+        ];
       };
       entries = refl;
       beside = refl;

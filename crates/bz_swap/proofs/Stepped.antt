@@ -1,5 +1,5 @@
 -- A step of a worker: what was made, and the machine's state after it.
-use Rattle.std.specs.Prelude.{◌≡◌, ◌≢◌, ◌==◌, ℕ, ◌+◌, ◌^◌, ◌<◌, ◌≤◌, true, false, length, slice_set}
+use Rattle.std.specs.Prelude.{◌≡◌, ◌≢◌, ◌==◌, ℕ, ◌+◌, ◌-◌, ◌^◌, ◌<◌, ◌≤◌, true, false, length, slice_set}
 use Rattle.std.proofs.Common.{arith, refl, ap, sym, ◌∙◌, inl, inr}
 use Rattle.std.proofs.lemmas.Bool.{cases_eq}
 use Rattle.std.proofs.lemmas.List.{get_or-set_same, get_or-set_other}
@@ -12,11 +12,23 @@ use Rattle.bz_machine.specs.Changes.{put}
 use Rattle.bz_machine.specs.Sizes.{most_workers}
 use Rattle.bz_machine.specs.State.{Act, happens}
 use Rattle.bz_machine.specs.Workers.{local_of}
-use Rattle.bz_cells.specs.Store.{Store, Beside, IsStore, SameShape, typed}
+use Rattle.bz_machine.specs.Flushes.{is_flush}
+use Rattle.bz_cells.specs.Store.{Store, Beside, IsStore, SameShape, typed, store_state}
+use Rattle.bz_acts.specs.declared.acted.Act.{Act as MemoryAct}
+use Rattle.bz_acts.specs.Rule.{IsActOf, IsToldAt, IsWithin, is_flush_act}
+use Rattle.bz_acts.specs.Writes.{WritesAt}
 use Rattle.bz_acts.specs.Made.{made, beside_in}
 use Rattle.bz_swap.specs.Inside.Allowances.{after_step as allowance_after}
 use Rattle.bz_swap.specs.Inside.Parts.{Parts, idle_worker, worker_at}
 use Rattle.bz_swap.specs.Inside.Kept.{state_of, allowed_at}
+
+-- the memory act that was made
+pub record IsMadeAct (p : Parts) (w : ℕ) (store : Store) (told : MemoryAct) : Type 0 where
+  pub rule : IsActOf (store_state p.store) w told (store_state store)
+  pub within : IsWithin (length p.store.cached) told
+  pub flush : is_flush_act told ≡ is_flush (worker_at p w).place
+  pub is_told : IsToldAt (worker_at p w).place told
+  pub writes : WritesAt p.store.swaps (worker_at p w) (worker_at p w).place told
 
 -- the act of worker w was made: the words and the worker after it
 pub record Acts (p : Parts) (b : Beside) (w : ℕ) (store : Store) (l : Worker) (done : Done) : Type 0 where
@@ -25,6 +37,8 @@ pub record Acts (p : Parts) (b : Beside) (w : ℕ) (store : Store) (l : Worker) 
   pub memory : typed store (beside_in (made p.store b (worker_at p w) w).memory) ≡ (made p.store b (worker_at p w) w).memory
   pub words : IsStore store
   pub shape : SameShape p.store store
+  pub told : MemoryAct
+  pub by : IsMadeAct p w store told
 
 -- the worker may step
 pub record MayStep (p : Parts) (w : ℕ) : Type 0 where
@@ -34,6 +48,8 @@ pub record MayStep (p : Parts) (w : ℕ) : Type 0 where
   pub busy : (worker_at p w).place ≢ place.Idle
   pub steps : p.steps < 2 ^ 36
   pub allowed : p.allowance.all ≡ allowed_at p.workers
+  pub numbered : length p.workers ≡ length p.store.next_tags
+  pub counted : p.store.past.count < 2 ^ 64 - 1
 
 abbrev pub after_step : Parts → ℕ → Store → Worker → Parts
 after_step p w store l = record { store = store; workers = slice_set p.workers w l; phase = p.phase; steps = p.steps + 1; allowance = allowance_after p.allowance w l.place }

@@ -13,7 +13,7 @@ use Rattle.bz_acts.specs.Made.{made, beside_in}
 use Rattle.bz_acts.specs.Ready.{IsReady}
 use Rattle.bz_acts.specs.Rule.{IsActOf, IsToldAt, IsWithin, is_flush_act}
 use Rattle.bz_acts.specs.Writes.{WritesAt}
-use Rattle.bz_cells.specs.Store.{Store, Beside, IsStore, SameShape, typed, store_words}
+use Rattle.bz_cells.specs.Store.{Store, Beside, IsStore, SameShape, typed, store_state}
 use Rattle.bz_swap.specs.declared.phase.Phase.{Phase}
 use Rattle.bz_swap.specs.declared.phase.Phase.TheVariants.{Opened, Running, Recovering}
 use Rattle.bz_swap.specs.Held.{Holds}
@@ -25,8 +25,8 @@ use Rattle.bz_swap.proofs.Allowing.{allowed-stepped}
 use Rattle.bz_swap.proofs.Doings.{worker-seen, place-idle}
 use Rattle.bz_swap.proofs.HeldWords.{held, holds}
 use Rattle.bz_swap.proofs.Readies.{ready}
-use Rattle.bz_swap.proofs.SeenActs.{IsMadeAct}
-use Rattle.bz_swap.proofs.Stepped.{Acts, MayStep, after_step}
+use Rattle.bz_swap.proofs.Asking.{one-counted}
+use Rattle.bz_swap.proofs.Stepped.{IsMadeAct, Acts, MayStep, after_step}
 use Rattle.bz_swap.proofs.StepRuns.{step-running}
 
 -- outside a recovery time the parts are the machine's state
@@ -49,7 +49,7 @@ pub may-step : (p : Parts) (k : IsKept p) (w : ℕ) → p.phase ≢ Recovering �
 may-step p k w phase within busy steps =
     let r = running p.phase p phase k.kept in
     let at = busy-place p w busy in
-    record { some = positive r at (cases_lt 0 w); within = workers-within p w within; few = k.few; busy = at; steps = steps; allowed = k.allowed }
+    record { some = positive r at (cases_lt 0 w); within = workers-within p w within; few = k.few; busy = at; steps = steps; allowed = k.allowed; numbered = k.workers; counted = omega (arith, k.counted, steps) }
   where
     positive : IsRunning p → (worker_at p w).place ≢ place.Idle → (0 < w) ⊎ (w ≤ 0) → 0 < w
     positive r at (inl some) = some
@@ -73,6 +73,7 @@ step-kept p k w store l done phase may a =
       few = rw (length-set p.workers w l) k.few;
       some = rw (length-set p.workers w l) k.some;
       allowed = ap (λ n. all_after n l.place) k.allowed ∙ sym (allowed-stepped p.workers w l may.within may.busy);
+      counted = (let one = one-counted p r w store l done may a in omega (arith, one, k.counted));
       kept = kept-stepped p.phase p _ w phase k.kept may.busy on.running;
     }
 
@@ -82,17 +83,19 @@ step-holds p k = holds p.phase p (λ phase. held p (running p.phase p phase k.ke
 -- the act was made by the worker that the code read
 pub acts-read : (p : Parts) (b : Beside) (w : ℕ) (old : Worker) (store : Store) (l : Worker) (done : Done) → old ≡ worker_at p w
     → local_of l ≡ (made p.store b old w).local → done ≡ (made p.store b old w).done
-    → typed store (beside_in (made p.store b old w).memory) ≡ (made p.store b old w).memory → IsStore store → SameShape p.store store → Acts p b w store l done
-acts-read p b w old store l done is local is_done memory words shape = record {
+    → typed store (beside_in (made p.store b old w).memory) ≡ (made p.store b old w).memory → IsStore store → SameShape p.store store → (told : Act) → IsMadeAct p w store told → Acts p b w store l done
+acts-read p b w old store l done is local is_done memory words shape told by = record {
   local = subst (λ u. local_of l ≡ (made p.store b u w).local) is local;
   is_done = subst (λ u. done ≡ (made p.store b u w).done) is is_done;
   memory = subst (λ u. typed store (beside_in (made p.store b u w).memory) ≡ (made p.store b u w).memory) is memory;
   words = words;
   shape = shape;
+  told = told;
+  by = by;
 }
 
 pub made-read : (p : Parts) (w : ℕ) (old : Worker) (store : Store) (told : Act) → old ≡ worker_at p w
-    → IsActOf (store_words p.store) told (store_words store) → IsWithin (length p.store.cached) told → is_flush_act told ≡ is_flush old.place → IsToldAt old.place told → WritesAt p.store.swaps old old.place told
+    → IsActOf (store_state p.store) w told (store_state store) → IsWithin (length p.store.cached) told → is_flush_act told ≡ is_flush old.place → IsToldAt old.place told → WritesAt p.store.swaps old old.place told
     → IsMadeAct p w store told
 made-read p w old store told is rule within flush is_told writes = record {
   rule = rule;

@@ -17,7 +17,8 @@ use Rattle.bz_machine.proofs.SwapStarts.{swaps_add_allowed}
 use Rattle.bz_acts.specs.Ready.{LiesOutside}
 use Rattle.bz_swap.specs.SwapMemory.{is_target, is_among}
 use Rattle.bz_swap.specs.Inside.Parts.{Parts, worker_at, listed, entry_list}
-use Rattle.bz_swap.specs.Inside.Kept.{IsRunning, IsWorker, IsOwned, IsPrepared, state_of}
+use Rattle.bz_swap.specs.Inside.Kept.{AsksFew, IsRunning, IsWorker, IsOwned, IsPrepared, state_of}
+use Rattle.bz_swap.proofs.Asking.{empty-few}
 use Rattle.bz_swap.proofs.Listed.{begun-more, among-more}
 use Rattle.bz_swap.proofs.MaySwaps.{lies-from}
 use Rattle.bz_swap.proofs.Stepped.{put-here, put-there}
@@ -98,6 +99,14 @@ workers-begun p r w words entries h u = elim (cases_eq u w) [
   | inr ne ↦ rw (there p w u words ne) (worker-taken p.store (worker_at p u) (r.workers u))
 ]
 
+-- the worker has asked for nothing yet
+asked-begun : (p : Parts) (r : IsRunning p) (w : ℕ) (words : DescriptorWords) (entries : List Entry) → Begins p w words entries
+    → (u : ℕ) → AsksFew p.store.past u (worker_at (with_swap p w words) u)
+asked-begun p r w words entries h u = elim (cases_eq u w) [
+  | inl e ↦ rw (e, here p w words (workers-within p w h.may.work.within)) (empty-few p.store.past w (swapper p.store.taken words) (rw (idle-at p r w h.may.work.idle) at (r.asked w).few))
+  | inr ne ↦ rw (there p w u words ne) (r.asked u)
+]
+
 -- the swap has few entries, whose targets rise
 among-begun : (p : Parts) (w : ℕ) (words : DescriptorWords) (entries : List Entry) → Begins p w words entries → IsAmong (length p.workers) (event p w words entries)
 among-begun p w words entries h =
@@ -135,6 +144,7 @@ swap-running p r w words entries h =
         workers = workers-begun p r w words entries h;
         tags = r.tags;
         recoverer = rw (there p w 0 words (omega (arith, h.may.work.some))) r.recoverer;
+        asked = asked-begun p r w words entries h;
       };
       entries = refl;
     }

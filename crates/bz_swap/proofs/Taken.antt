@@ -11,10 +11,10 @@ abbrev pub one_taken : Store → Store
 one_taken st = record st { taken = st.taken + 1 }
 
 pub room-taken : (st : Store) → HasRoom st → st.taken < st.swaps → HasRoom (one_taken st)
-room-taken st h left = record { memory = h.memory; room = h.room; numbered = h.numbered; noted = h.noted; taken = omega (arith, left) }
+room-taken st h left = record { memory = h.memory; state = h.state; fit = h.fit; workers = h.workers; room = h.room; numbered = h.numbered; noted = h.noted; taken = omega (arith, left) }
 
 pub store-taken : (st : Store) → IsStore st → st.taken < st.swaps → IsStore (one_taken st)
-store-taken st h left = record { has_room = room-taken st h.has_room left; cached = h.cached; durable = h.durable }
+store-taken st h left = record { has_room = room-taken st h.has_room left; cached = h.cached; durable = h.durable; asked = h.asked }
 
 pub lies-taken : (st : Store) (a : ℕ) → LiesOutside st a → LiesOutside (one_taken st) a
 lies-taken st a h = record { outside = h.outside; within = h.within }

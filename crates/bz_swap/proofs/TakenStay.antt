@@ -5,13 +5,13 @@ use Rattle.std.proofs.lemmas.Bool.{cases_eq, cases_lt}
 use Rattle.std.proofs.lemmas.Grind.{common_steps}
 use Rattle.std.proofs.lemmas.List.{get_or-set_same, get_or_past}
 use Rattle.bz_layout.specs.Addresses.{swap_address}
-use Rattle.bz_cells.specs.FromPm.Words.{Words}
+use Rattle.bz_cells.specs.FromPm.State.{State}
 use Rattle.bz_acts.specs.Rule.{after_act}
 use Rattle.bz_acts.specs.declared.acted.Act.{Act}
-use Rattle.bz_acts.specs.declared.acted.Act.TheVariants.{Load, Store, Cas, Flush}
+use Rattle.bz_acts.specs.declared.acted.Act.TheVariants.{Load, Store, Cas, Flush, Ask, Fence}
 use Rattle.bz_cells.specs.Store.{IsOutside, status_word}
 use Rattle.bz_machine.specs.declared.status.SwapStatus.TheVariants.{Undecided}
-use Rattle.bz_swap.specs.SwapMemory.{SwapMemory, memory_words}
+use Rattle.bz_swap.specs.SwapMemory.{SwapMemory, memory_state}
 use Rattle.bz_swap.specs.TakenStatuses.{IsTaken, IsTaking, TakenStatusesStay}
 use Rattle.bz_swap.specs.Writes.{StoresPrivate, StoresField, StoresOwn, ChangesStatus, WritesLawfully}
 use Rattle.bz_swap.proofs.WordActs.{set-other}
@@ -36,6 +36,8 @@ MayTake old w (Load a v) s = Unit {0}
 MayTake old w (Store a v) s = swap_address s ≡ a → (v ≢ 0) × IsTaking old w s (Store a v)
 MayTake old w (Cas a before after found) s = swap_address s ≡ a → (before ≢ 0) × (after ≢ 0)
 MayTake old w (Flush line) s = Unit {0}
+MayTake old w (Ask line) s = Unit {0}
+MayTake old w Fence s = Unit {0}
 
 store-takes : (old : SwapMemory) (w a v s : ℕ) → s < old.swaps → StoresPrivate old w a v ⊎ StoresOwn old w a v → MayTake old w (Store a v) s
 store-takes old w a v s lt (inl private) here = absurd (status-inside old.swaps a s private.outside lt here)
@@ -56,9 +58,11 @@ may-take old w (Load a v) s lt writes = tt
 may-take old w (Store a v) s lt writes = store-takes old w a v s lt (writes.stores a v refl)
 may-take old w (Cas a before after found) s lt writes = cas-takes old w a before after found s lt (writes.swaps a before after found refl)
 may-take old w (Flush line) s lt writes = tt
+may-take old w (Ask line) s lt writes = tt
+may-take old w Fence s lt writes = tt
 
 -- the status after such an act
-stays-after : (old : SwapMemory) (w : ℕ) (made : Act) (s : ℕ) → MayTake old w made s → IsTaken old s → slice_index (after_act (memory_words old) made).cached (swap_address s) ≢ 0
+stays-after : (old : SwapMemory) (w : ℕ) (made : Act) (s : ℕ) → MayTake old w made s → IsTaken old s → slice_index (after_act w (memory_state old) made).words.cached (swap_address s) ≢ 0
 stays-after old w (Load a v) s may taken = taken
 stays-after old w (Store a v) s may taken = set-some old.cached a v (swap_address s) (λ here. (may here).0) taken
 stays-after old w (Cas a before after found) s may taken = by_test (slice_index old.cached a == before)
@@ -67,10 +71,12 @@ stays-after old w (Cas a before after found) s may taken = by_test (slice_index 
     by_test true = set-some old.cached a after (swap_address s) (λ here. (may here).1) taken
     by_test false = taken
 stays-after old w (Flush line) s may taken = taken
+stays-after old w (Ask line) s may taken = taken
+stays-after old w Fence s may taken = taken
 
 -- and how it came to be, where it was free
 begins-by : (old : SwapMemory) (w : ℕ) (made : Act) (s : ℕ) → MayTake old w made s → slice_index old.cached (swap_address s) ≡ 0
-    → slice_index (after_act (memory_words old) made).cached (swap_address s) ≢ 0 → IsTaking old w s made
+    → slice_index (after_act w (memory_state old) made).words.cached (swap_address s) ≢ 0 → IsTaking old w s made
 begins-by old w (Load a v) s may free now = absurd (now free)
 begins-by old w (Store a v) s may free now = elim (cases_eq (swap_address s) a) [
   | inl here ↦ (may here).1
@@ -92,11 +98,13 @@ begins-by old w (Cas a before after found) s may free now = elim (cases_eq (swap
     elsewhere true there = set-other old.cached a after (swap_address s) there ∙ free
     elsewhere false there = free
 begins-by old w (Flush line) s may free now = absurd (now free)
+begins-by old w (Ask line) s may free now = absurd (now free)
+begins-by old w Fence s may free now = absurd (now free)
 
 pub taken_statuses_stay : TakenStatusesStay
 taken_statuses_stay = record {
   stays = λ old new w made done told s step lt taken is.
-      stays-after old w made s (may-take old w made s lt step.writes) taken (ap (λ (m : Words). slice_index m.cached (swap_address s)) (sym step.one.act.after) ∙ is);
+      stays-after old w made s (may-take old w made s lt step.writes) taken (ap (λ (m : State). slice_index m.words.cached (swap_address s)) (sym step.one.act.after) ∙ is);
   begins = λ old new w made done told s step lt free now.
-      begins-by old w made s (may-take old w made s lt step.writes) free (λ is. now (ap (λ (m : Words). slice_index m.cached (swap_address s)) step.one.act.after ∙ is));
+      begins-by old w made s (may-take old w made s lt step.writes) free (λ is. now (ap (λ (m : State). slice_index m.words.cached (swap_address s)) step.one.act.after ∙ is));
 }

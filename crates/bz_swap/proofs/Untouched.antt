@@ -9,10 +9,10 @@ use Rattle.bz_machine.specs.declared.status.SwapStatus.TheVariants.{Free, Undeci
 use Rattle.bz_machine.specs.declared.status.Verdict.{Verdict}
 use Rattle.bz_machine.specs.declared.status.Verdict.TheVariants.{Succeeded, Failed}
 use Rattle.bz_machine.specs.declared.place.Place.{Place}
-use Rattle.bz_machine.specs.declared.place.Place.TheVariants.{Idle, Prepare, Learn, Help, ReadWord, FlushRead, ClearRead, LoadWord, StoreWord, FlushLine}
-use Rattle.bz_machine.specs.declared.place.PrepareStep.TheVariants.{WriteWord, WriteStatus, FlushHead, FlushTail}
+use Rattle.bz_machine.specs.declared.place.Place.TheVariants.{Idle, Prepare, Learn, Help, ReadWord, AskRead, FenceRead, ClearRead, LoadWord, StoreWord, FlushLine}
+use Rattle.bz_machine.specs.declared.place.PrepareStep.TheVariants.{WriteWord, WriteStatus, AskHead, AskTail, FenceDescriptor}
 use Rattle.bz_machine.specs.declared.place.HelpStep.{HelpStep}
-use Rattle.bz_machine.specs.declared.place.HelpStep.TheVariants.{Look, InstallTag, LookUnderTag, InstallPointer, RemoveTag, FlushDirty, ClearDirty, FlushTarget, Decide, FlushStatus, ClearStatus, PutFinal, FlushFinal, ClearFinal, SweepTag}
+use Rattle.bz_machine.specs.declared.place.HelpStep.TheVariants.{Look, InstallTag, LookUnderTag, InstallPointer, RemoveTag, AskDirty, FenceDirty, ClearDirty, AskTarget, FenceTargets, Decide, AskStatus, FenceStatus, ClearStatus, PutFinal, AskFinal, FenceFinal, ClearFinal, SweepTag}
 use Rattle.bz_machine.specs.declared.place.Next.{Next}
 use Rattle.bz_machine.specs.declared.place.Next.TheVariants.{Step, Meet, Complete}
 use Rattle.bz_machine.specs.Agrees.{agree-spell}
@@ -87,14 +87,18 @@ kept-help e m w s x (InstallTag i) a ne f = kept-install x m w s i (m.cached (x.
 kept-help e m w s x (LookUnderTag i v q) a ne f = refl
 kept-help e m w s x (InstallPointer i v q) a ne f = kept-untag x m s i v q _ _ _ (m.cached (x.target i)) a (ne i f.0)
 kept-help e m w s x (RemoveTag i v q) a ne f = kept-untag x m s i v q _ _ _ (m.cached (x.target i)) a (ne i f)
-kept-help e m w s x (FlushDirty i v) a ne f = refl
+kept-help e m w s x (AskDirty i v) a ne f = refl
+kept-help e m w s x (FenceDirty i v) a ne f = refl
 kept-help e m w s x (ClearDirty i v) a ne f = kept-cleared m (x.target i) v (m.cached (x.target i)) a (ne i f.0)
-kept-help e m w s x (FlushTarget i) a ne f = refl
+kept-help e m w s x (AskTarget i) a ne f = refl
+kept-help e m w s x FenceTargets a ne f = refl
 kept-help e m w s x (Decide d) a ne f = kept-decide m s d (m.status s) a
-kept-help e m w s x (FlushStatus d) a ne f = refl
+kept-help e m w s x (AskStatus d) a ne f = refl
+kept-help e m w s x (FenceStatus d) a ne f = refl
 kept-help e m w s x (ClearStatus d) a ne f = kept-status m s d (m.status s) a
 kept-help e m w s x (PutFinal i d) a ne f = kept-final x m s i d (m.cached (x.target i)) a (ne i f.0)
-kept-help e m w s x (FlushFinal i d) a ne f = refl
+kept-help e m w s x (AskFinal i d) a ne f = refl
+kept-help e m w s x (FenceFinal i d) a ne f = refl
 kept-help e m w s x (ClearFinal i d) a ne f = kept-cleared m (x.target i) _ (m.cached (x.target i)) a (ne i f.0)
 kept-help e m w s x (SweepTag i d v q) a ne f = kept-untag x m s i v q _ _ _ (m.cached (x.target i)) a (ne i f.0)
 
@@ -124,14 +128,16 @@ pub kept-act : (e : ℕ → Entries) (m : Memory) (w : ℕ) (l : Local) (at : Pl
 kept-act e m w l Idle sound known a private other = refl
 kept-act e m w l (Prepare (WriteWord k)) sound known a private other = refl
 kept-act e m w l (Prepare WriteStatus) sound known a private other = refl
-kept-act e m w l (Prepare FlushHead) sound known a private other = refl
-kept-act e m w l (Prepare FlushTail) sound known a private other = refl
+kept-act e m w l (Prepare AskHead) sound known a private other = refl
+kept-act e m w l (Prepare AskTail) sound known a private other = refl
+kept-act e m w l (Prepare FenceDescriptor) sound known a private other = refl
 kept-act e m w l (Learn k) sound known a private other = refl
 kept-act e m w l (Help step) sound known a private other =
     let after = help_act (entries_in l.list) m w l.current step in
     kept-after after.memory l after.next a ∙ kept-help e m w l.current (entries_in l.list) step a (no_target e m l.current l.list a sound known.2 private) known.3
 kept-act e m w l (ReadWord b) sound known a private other = kept-read m l b (m.cached b) a
-kept-act e m w l (FlushRead b v) sound known a private other = refl
+kept-act e m w l (AskRead b v) sound known a private other = refl
+kept-act e m w l (FenceRead b v) sound known a private other = refl
 kept-act e m w l (ClearRead b v) sound known a private other = elim (cases_eq a b) [
   | inl same ↦ kept-plain m b v (m.cached b) a (subst (λ c. IsPlain (m.cached c)) same (sound.private a private))
   | inr ne ↦ kept-cleared m b v (m.cached b) a ne

@@ -6,13 +6,16 @@ use Rattle.std.proofs.lemmas.Bool.{cases_lt}
 use Rattle.std.proofs.lemmas.List.{length-set}
 use Rattle.bz_cells.specs.FromPm.Acts.{flushed}
 use Rattle.bz_cells.proofs.FromPm.Lemmas.{flush}
+use Rattle.bz_cells.specs.FromPm.State.{State}
 use Rattle.bz_cells.specs.FromPm.Words.{Words, IsMemory}
+use Rattle.bz_cells.proofs.FromPm.Fences as memory
 use Rattle.bz_acts.specs.Rule.{after_act}
 use Rattle.bz_acts.specs.declared.acted.Act.{Act}
-use Rattle.bz_acts.specs.declared.acted.Act.TheVariants.{Load, Store, Cas, Flush}
+use Rattle.bz_acts.specs.declared.acted.Act.TheVariants.{Load, Store, Cas, Flush, Ask, Fence}
 use Rattle.bz_swap.specs.Evictions.{IsEviction}
 use Rattle.bz_swap.specs.Sizes.{SizesStay}
-use Rattle.bz_swap.specs.SwapMemory.{SwapMemory, memory_words}
+use Rattle.bz_swap.specs.Steps.{MayAct}
+use Rattle.bz_swap.specs.SwapMemory.{SwapMemory, memory_words, memory_state}
 use Rattle.bz_swap.proofs.WordActs.{past-line}
 
 resized : (m : Words) (cached durable : List ℕ) → IsMemory m → length cached ≡ length m.cached → length durable ≡ length m.durable → IsMemory (record { cached = cached; durable = durable })
@@ -28,11 +31,13 @@ flush-size m line i = elim (cases_lt (line * 8) (length m.cached)) [
   | inr past ↦ ap (λ (words : List ℕ). length words) (past-line line m.cached m.durable past (omega (arith, past, i.same)))
 ]
 
-act-size : (m : Words) (made : Act) → IsMemory m → IsMemory (after_act m made)
-act-size m (Load a v) i = i
-act-size m (Store a v) i = resized m (slice_set m.cached a v) m.durable i (length-set m.cached a v) refl
-act-size m (Cas a before after found) i = resized m _ m.durable i (set-size (slice_index m.cached a == before) m.cached a after) refl
-act-size m (Flush line) i = resized m m.cached (flushed m line).durable i refl (flush-size m line i)
+act-size : (m : SwapMemory) (w : ℕ) (made : Act) → MayAct m w → IsMemory (after_act w (memory_state m) made).words
+act-size m w (Load a v) may = may.state.memory
+act-size m w (Store a v) may = resized (memory_words m) (slice_set m.cached a v) m.durable may.state.memory (length-set m.cached a v) refl
+act-size m w (Cas a before after found) may = resized (memory_words m) _ m.durable may.state.memory (set-size (slice_index m.cached a == before) m.cached a after) refl
+act-size m w (Flush line) may = resized (memory_words m) m.cached (flushed (memory_words m) line).durable may.state.memory refl (flush-size (memory_words m) line may.state.memory)
+act-size m w (Ask line) may = may.state.memory
+act-size m w Fence may = (memory.fence (memory_state m) w may.state may.worker).state.memory
 
 eviction-size : (old new : SwapMemory) (a : ℕ) (told : Option ℕ) → IsEviction old a told new → IsMemory (memory_words old) → IsMemory (memory_words new)
 eviction-size old new a told h i = subst (λ (m : SwapMemory). IsMemory (memory_words m)) (sym h.is) (resized (memory_words old) old.cached _ i refl (length-set old.durable a (slice_index old.cached a)))
@@ -40,7 +45,7 @@ eviction-size old new a told h i = subst (λ (m : SwapMemory). IsMemory (memory_
 pub sizes_stay : SizesStay
 sizes_stay = record {
   opening = λ phase start swaps workers lines size. record { same = refl; lines = lines; size = size };
-  step = λ old new w made done step i. subst IsMemory (sym step.act.after) (act-size (memory_words old) made i);
+  step = λ old new w made done step i. subst (λ (m : State). IsMemory m.words) (sym step.act.after) (act-size old w made step.may);
   eviction = eviction-size;
   cut = λ m i. record { same = refl; lines = i.lines; size = i.size };
 }

@@ -1,16 +1,17 @@
 -- The atomic swap memory, on one page: what a caller must believe of `Access`. It has one value per address outside the
 -- descriptors. Outside a recovery time a value changes by the effect of a swap, whole, and by a private store.
-use Rattle.std.specs.Prelude.{◌≡◌, ◌⊎◌, ◌||◌, ◌==◌, if◌then◌else◌, ℕ, Bool, true, false, All, Option, None, Some, slice_index}
+use Rattle.std.specs.Prelude.{◌≡◌, ◌⊎◌, ◌||◌, ◌==◌, if◌then◌else◌, ℕ, ◌<◌, Bool, true, false, All, Option, None, Some, slice_index}
 use Rattle.bz_word.specs.declared.entry.Entry.{Entry}
 use Rattle.bz_layout.specs.Addresses.{line_of}
 use Rattle.bz_acts.specs.Rule.{IsActOf}
 use Rattle.bz_acts.specs.declared.acted.Act.{Act}
-use Rattle.bz_cells.specs.Store.{IsOutside}
+use Rattle.bz_cells.specs.Store.{IsOutside, word_pending}
+use Rattle.bz_machine.specs.Pending.{Saved}
 use Rattle.bz_machine.specs.declared.done.Done.{Done}
 use Rattle.bz_machine.specs.declared.done.Done.TheVariants.{Busy, Read, Swapped, Stored, Flushed}
 use Rattle.bz_swap.specs.declared.phase.Phase.{Phase}
 use Rattle.bz_swap.specs.declared.phase.Phase.TheVariants.{Opened, Running, Recovering}
-use Rattle.bz_swap.specs.SwapMemory.{SwapMemory, Doing, Reading, memory_words, Swapping, Loading, Storing, Flushing, value_at, has_effect, is_missed, entries_of, is_target, is_named}
+use Rattle.bz_swap.specs.SwapMemory.{SwapMemory, Doing, Reading, memory_state, Swapping, Loading, Storing, Flushing, value_at, has_effect, is_missed, entries_of, is_target, is_named}
 
 -- the value of an address: of a private word, which no swap has named since the last renewal, the cached word; of a named
 -- one, and of every one in a recovery time, what the durable words stand for, which a power cut leaves (`value_at`)
@@ -47,12 +48,17 @@ effect_after m Quiet t = has_effect m t
 effect_after m (Effect s) t = (s == t) || has_effect m t
 effect_after m (PrivateStore a v) t = has_effect m t
 
--- the event, and nothing else; what a power cut would leave of a word is what it was or the word's value
+-- a worker has asked for this value of the word since the durable one was put there
+abbrev pub WasAsked : SwapMemory → ℕ → ℕ → Type 0
+WasAsked m a v = (w : ℕ) × (q : Saved ℕ) × ((word_pending m.past a).asked w ≡ Some q) × (slice_index m.past.since a < q.moment) × (v ≡ q.value)
+
+-- the event, and nothing else; what a power cut would leave of a word is what it was, the word's value, or a value that a
+-- worker had asked for
 pub record Happens (old : SwapMemory) (event : Event) (new : SwapMemory) : Type 0 where
   pub changed : Changes old event new
   pub others : (a : ℕ) → IsOutside old.swaps a → changes old event a ≡ false → value_of new a ≡ value_of old a
   pub effects : (t : ℕ) → has_effect new t ≡ effect_after old event t
-  pub left : (a : ℕ) → IsOutside old.swaps a → (value_at new a ≡ value_at old a) ⊎ (value_at new a ≡ value_of new a)
+  pub left : (a : ℕ) → IsOutside old.swaps a → (value_at new a ≡ value_at old a) ⊎ (value_at new a ≡ value_of new a) ⊎ WasAsked old a (value_at new a)
 
 -- a miss is noted of a swap without effect one of whose targets holds another value than expected, and the note stays
 pub record NotesRightly (old new : SwapMemory) : Type 0 where
@@ -88,7 +94,7 @@ pub record IsAtomicStep (old : SwapMemory) (doing : Doing) (done : Done) (told :
   pub answer : Answers new doing done
 
 -- in a recovery time worker 0 alone loads, stores and flushes words as they are, by the memory's own rule
-pub record IsRecoveryStep (old : SwapMemory) (made : Act) (told : Option ℕ) (new : SwapMemory) : Type 0 where
-  pub rule : IsActOf (memory_words old) made (memory_words new)
+pub record IsRecoveryStep (old : SwapMemory) (w : ℕ) (made : Act) (told : Option ℕ) (new : SwapMemory) : Type 0 where
+  pub rule : IsActOf (memory_state old) w made (memory_state new)
   pub effect : told ≡ None
   pub notes : new.missed ≡ old.missed

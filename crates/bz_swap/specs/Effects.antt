@@ -1,6 +1,7 @@
 -- What an act or an eviction may do to the values of a swap memory: nothing, or the effect of one whole swap.
-use Rattle.std.specs.Prelude.{◌≡◌, ◌≢◌, ℕ, true, false, List, All, Option, Some, None}
+use Rattle.std.specs.Prelude.{◌≡◌, ◌≢◌, ℕ, true, false, List, slice_index, All, Option, Some, None}
 use Rattle.bz_word.specs.declared.entry.Entry.{Entry}
+use Rattle.bz_cells.specs.Store.{IsOutside}
 use Rattle.bz_swap.specs.SwapMemory.{SwapMemory, Swapping, value_at, has_effect, is_missed, entries_of, is_target, is_named, doing_of}
 
 -- swap s takes effect, whole: it is a worker's operation and had no effect; its targets held the expected values and
@@ -19,6 +20,10 @@ pub record TakesEffect (old new : SwapMemory) (s : ℕ) : Type 0 where
 pub record NoneTakesEffect (old new : SwapMemory) : Type 0 where
   pub values : (a : ℕ) → is_named old a ≡ true → value_at new a ≡ value_at old a
   pub swaps : (s : ℕ) → has_effect new s ≡ has_effect old s
+
+-- no durable word outside the descriptors changes
+abbrev pub KeepsDurableOutside : SwapMemory → SwapMemory → Type 0
+KeepsDurableOutside old new = (a : ℕ) → IsOutside old.swaps a → slice_index new.durable a ≡ slice_index old.durable a
 
 -- the swap that is told takes effect; where none is told, none does
 abbrev pub EffectIs : SwapMemory → SwapMemory → Option ℕ → Type 0

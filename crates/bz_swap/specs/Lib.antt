@@ -14,6 +14,7 @@ pub mod PlainFields
 pub mod Power
 pub mod Resolve
 pub mod Settled
+pub mod SettledWords
 pub mod Sizes
 pub mod Starts
 pub mod Steps

@@ -1,11 +1,12 @@
 -- The words of the descriptors after their statuses stay plain.
-use Rattle.std.specs.Prelude.{ℕ, ◌^◌, ◌<◌, List, slice_index}
+use Rattle.std.specs.Prelude.{◌≡◌, ℕ, ◌^◌, ◌<◌, List, slice_index, Some}
 use Rattle.std.specs.declared.option.Option.{Option}
 use Rattle.bz_word.specs.declared.entry.Entry.{Entry}
 use Rattle.bz_cells.specs.FromPm.Words.{IsMemory}
 use Rattle.bz_acts.specs.declared.acted.Act.{Act}
-use Rattle.bz_acts.specs.declared.acted.Act.TheVariants.{Load, Store, Cas, Flush}
-use Rattle.bz_cells.specs.Store.{field_address, field_count}
+use Rattle.bz_acts.specs.declared.acted.Act.TheVariants.{Load, Store, Cas, Flush, Ask, Fence}
+use Rattle.bz_cells.specs.Store.{field_address, field_count, word_pending}
+use Rattle.bz_machine.specs.Pending.{Saved}
 use Rattle.bz_machine.specs.declared.done.Done.{Done}
 use Rattle.bz_swap.specs.declared.phase.Phase.{Phase}
 use Rattle.bz_swap.specs.Evictions.{IsEviction}
@@ -18,10 +19,11 @@ use Rattle.bz_swap.specs.SwapMemory.{SwapMemory, Doing, memory_words}
 abbrev pub ArePlainFields : ℕ → List ℕ → Type 0
 ArePlainFields swaps words = (s k : ℕ) → s < swaps → k < field_count → slice_index words (field_address s k) < 2 ^ 61
 
--- in the caches and in the memory itself
+-- in the caches, in the memory itself, and as a worker asked for them
 pub record HavePlainFields (m : SwapMemory) : Type 0 where
   pub cached : ArePlainFields m.swaps m.cached
   pub durable : ArePlainFields m.swaps m.durable
+  pub asked : (s k w : ℕ) (q : Saved ℕ) → s < m.swaps → k < field_count → (word_pending m.past (field_address s k)).asked w ≡ Some q → q.value < 2 ^ 61
 
 -- what an act writes is plain
 abbrev pub WritesPlain : Act → Type 0
@@ -29,6 +31,8 @@ WritesPlain (Load a v) = Unit {0}
 WritesPlain (Store a v) = v < 2 ^ 61
 WritesPlain (Cas a before after found) = after < 2 ^ 61
 WritesPlain (Flush line) = Unit {0}
+WritesPlain (Ask line) = Unit {0}
+WritesPlain Fence = Unit {0}
 
 -- from an opening on, whatever happens, where a recovery writes plain words
 pub record PlainFieldsStay : Type 0 where

@@ -25,6 +25,7 @@ opened phase start swaps workers = record {
   cached = start;
   durable = start;
   swaps = swaps;
+  past = record { count = 0; since = replicate (length start) 0; asks = replicate (workers + 1) [] };
   phase = phase;
   begun = [];
   missed = replicate swaps false;
@@ -44,8 +45,21 @@ pub record IsOpened (m : SwapMemory) (start : List ℕ) (swaps workers : ℕ) : 
 
 -- a power cut: the durable words are all that is left, nothing goes on, and a recovery time begins
 abbrev pub after_cut : SwapMemory → SwapMemory
-after_cut m = record m { cached = m.durable; phase = Recovering; begun = []; workers = replicate (length m.workers) idle }
+after_cut m = record m {
+  cached = m.durable;
+  past = record { count = 0; since = replicate (length m.past.since) 0; asks = replicate (length m.past.asks) [] };
+  phase = Recovering;
+  begun = [];
+  workers = replicate (length m.workers) idle;
+}
 
--- a renewal: all descriptors are given back
+-- a renewal: all descriptors are given back, and asks are counted anew, since no worker waits for a fence
 abbrev pub renewed : SwapMemory → SwapMemory
-renewed m = record m { phase = Running; begun = []; missed = replicate (length m.missed) false; taken = 0; steps = 0 }
+renewed m = record m {
+  past = record { count = 0; since = replicate (length m.past.since) 0; asks = replicate (length m.past.asks) [] };
+  phase = Running;
+  begun = [];
+  missed = replicate (length m.missed) false;
+  taken = 0;
+  steps = 0;
+}

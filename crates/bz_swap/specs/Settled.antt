@@ -5,12 +5,13 @@ use Rattle.bz_word.specs.declared.entry.Entry.{Entry}
 use Rattle.bz_layout.specs.Addresses.{swap_address}
 use Rattle.bz_cells.specs.FromPm.Words.{IsMemory}
 use Rattle.bz_acts.specs.declared.acted.Act.{Act}
-use Rattle.bz_acts.specs.declared.acted.Act.TheVariants.{Load, Store, Cas, Flush}
-use Rattle.bz_cells.specs.Store.{status_at, status_word}
+use Rattle.bz_acts.specs.declared.acted.Act.TheVariants.{Load, Store, Cas, Flush, Ask, Fence}
+use Rattle.bz_cells.specs.Store.{status_of, status_at, status_word, word_pending}
 use Rattle.bz_machine.specs.declared.done.Done.{Done}
 use Rattle.bz_machine.specs.declared.done.Done.TheVariants.{Swapped}
 use Rattle.bz_machine.specs.declared.status.SwapStatus.TheVariants.{Free}
 use Rattle.bz_machine.specs.Machine.{is_succeeded}
+use Rattle.bz_machine.specs.Pending.{Saved}
 use Rattle.bz_swap.specs.declared.phase.Phase.{Phase}
 use Rattle.bz_swap.specs.declared.phase.Phase.TheVariants.{Running, Recovering}
 use Rattle.bz_swap.specs.Evictions.{IsEviction}
@@ -42,11 +43,13 @@ pub record EffectsStay : Type 0 where
   pub step : (old new : SwapMemory) (w : ℕ) (made : Act) (done : Done) (told : Option ℕ) (s : ℕ) → IsStep old w made done told new → has_effect old s ≡ true → (has_effect new s ≡ true) × (told ≢ Some s)
   pub eviction : (old new : SwapMemory) (a : ℕ) (told : Option ℕ) (s : ℕ) → old.phase ≢ Recovering → IsEviction old a told new → has_effect old s ≡ true → (has_effect new s ≡ true) × (told ≢ Some s)
 
--- in a recovery time: swap s is settled without effect, and no success stands in the caches that could become durable
+-- in a recovery time: swap s is settled without effect, and no success stands in the caches, or was asked for, that could
+-- become durable
 pub record IsDropped (m : SwapMemory) (s : ℕ) : Type 0 where
   pub settled : IsSettled m s
   pub effect : has_effect m s ≡ false
   pub cached : is_succeeded (status_at m.swaps m.cached s) ≡ false
+  pub asked : (w : ℕ) (q : Saved ℕ) → s < m.swaps → (word_pending m.past (swap_address s)).asked w ≡ Some q → is_succeeded (status_of q.value) ≡ false
 
 -- what an act writes into a status is free
 abbrev pub FreesStatuses : ℕ → Act → Type 0
@@ -54,6 +57,8 @@ FreesStatuses swaps (Load a v) = Unit {0}
 FreesStatuses swaps (Store a v) = (s : ℕ) → s < swaps → a ≡ swap_address s → v ≡ status_word Free
 FreesStatuses swaps (Cas a before after found) = (s : ℕ) → s < swaps → a ≡ swap_address s → after ≡ status_word Free
 FreesStatuses swaps (Flush line) = Unit {0}
+FreesStatuses swaps (Ask line) = Unit {0}
+FreesStatuses swaps Fence = Unit {0}
 
 -- a swap without effect at a power cut has none up to the next renewal, where a recovery writes free into statuses alone
 pub record DroppedStay : Type 0 where

@@ -1,16 +1,19 @@
 -- What one step of a worker does.
-use Rattle.std.specs.Prelude.{◌≡◌, ◌≢◌, ◌⊎◌, ℕ, ◌+◌, ◌^◌, ◌<◌, Bool, true, false, length, slice_index, Option, None}
+use Rattle.std.specs.Prelude.{◌≡◌, ◌≢◌, ◌⊎◌, ℕ, ◌+◌, ◌-◌, ◌^◌, ◌<◌, Bool, true, false, length, slice_index, Option, None, Some}
+use Rattle.bz_layout.specs.Addresses.{swap_address}
 use Rattle.bz_acts.specs.Rule.{IsActOf, IsWithin, is_flush_act}
 use Rattle.bz_acts.specs.declared.acted.Act.{Act}
-use Rattle.bz_acts.specs.declared.acted.Act.TheVariants.{Load, Store, Flush}
+use Rattle.bz_acts.specs.declared.acted.Act.TheVariants.{Load, Store, Flush, Fence}
+use Rattle.bz_cells.specs.FromPm.State.{IsState}
+use Rattle.bz_cells.specs.FromPm.Words.{HoldsWords}
 use Rattle.bz_cells.specs.Store.{IsOutside}
 use Rattle.bz_machine.specs.declared.done.Done.{Done}
 use Rattle.bz_machine.specs.declared.done.Done.TheVariants.{Busy, Read, Swapped, Stored, Flushed}
 use Rattle.bz_swap.specs.declared.phase.Phase.{Phase}
 use Rattle.bz_swap.specs.declared.phase.Phase.TheVariants.{Opened, Running, Recovering}
 use Rattle.bz_swap.specs.Alone.{left_to}
-use Rattle.bz_swap.specs.SwapMemory.{SwapMemory, Doing, Idle, Reading, Swapping, Loading, Storing, Flushing, memory_words, value_at, has_effect, is_missed, is_named, worker_of, doing_of}
-use Rattle.bz_swap.specs.Effects.{EffectIs, NotesMisses}
+use Rattle.bz_swap.specs.SwapMemory.{SwapMemory, Doing, Idle, Reading, Swapping, Loading, Storing, Flushing, memory_words, memory_state, value_at, has_effect, is_missed, is_named, worker_of, doing_of}
+use Rattle.bz_swap.specs.Effects.{EffectIs, NotesMisses, KeepsDurableOutside}
 use Rattle.bz_swap.specs.Writes.{WritesLawfully, IsDecided}
 
 -- a read answers at a load that found the plain word, which is the value of the address
@@ -47,9 +50,17 @@ pub record KeepsOthers (old new : SwapMemory) (w : ℕ) : Type 0 where
   pub taken : new.taken ≡ old.taken
   pub workers : (v : ℕ) → v ≢ w → worker_of new v ≡ worker_of old v
 
+-- worker w may act: the memory is one whose past is one, w is a worker of it, and one ask more can be counted
+pub record MayAct (m : SwapMemory) (w : ℕ) : Type 0 where
+  pub state : IsState (memory_state m)
+  pub fit : HoldsWords (memory_words m)
+  pub worker : w < length m.past.asks
+  pub counted : m.past.count < 2 ^ 64 - 1
+
 -- one step of worker w: exactly one memory act, on a word or line of the memory, by the memory's own rule
 pub record IsOneAct (old : SwapMemory) (w : ℕ) (made : Act) (done : Done) (new : SwapMemory) : Type 0 where
-  pub act : IsActOf (memory_words old) made (memory_words new)
+  pub may : MayAct old w
+  pub act : IsActOf (memory_state old) w made (memory_state new)
   pub within : IsWithin (length old.cached) made
   pub flush : is_flush_act made ≡ (worker_of old w).flush_next
   pub doing : doing_of new w ≡ doing_after (doing_of old w) done
@@ -60,7 +71,8 @@ pub record IsOneAct (old : SwapMemory) (w : ℕ) (made : Act) (done : Done) (new
   pub spent : left_to new w < left_to old w
 
 -- and outside a recovery time: the effect that is told; misses; a private word changes in the caches only by the
--- private store at it; an act that gives a swap its effect answers nothing; what is written into descriptors; a swap that
+-- private store at it; an act that gives a swap its effect answers nothing, and is a fence that leaves the durable words
+-- outside the descriptors, and the swap's status is not free; what is written into descriptors; a swap that
 -- is answered is decided so
 pub record IsStep (old : SwapMemory) (w : ℕ) (made : Act) (done : Done) (told : Option ℕ) (new : SwapMemory) : Type 0 where
   pub one : IsOneAct old w made done new
@@ -68,6 +80,7 @@ pub record IsStep (old : SwapMemory) (w : ℕ) (made : Act) (done : Done) (told 
   pub misses : NotesMisses old new
   pub untouched : (a : ℕ) → IsOutside old.swaps a → is_named old a ≡ false → ((v : ℕ) → doing_of old w ≢ Storing a v) → slice_index new.cached a ≡ slice_index old.cached a
   pub later : (done ≡ Busy) ⊎ (told ≡ None)
+  pub inside : (s : ℕ) → told ≡ Some s → (made ≡ Fence) × KeepsDurableOutside old new × (slice_index new.cached (swap_address s) ≢ 0)
   pub writes : WritesLawfully old w made
   pub decided : (s : ℕ) (won : Bool) → doing_of old w ≡ Swapping s → done ≡ Swapped won → IsDecided new s won
 

@@ -1,10 +1,11 @@
 -- The atomic swap memory, as callers see it: the words, the swaps begun since the last renewal, and what each worker is
 -- doing.
-use Rattle.std.specs.Prelude.{◌||◌, ◌==◌, ℕ, Bool, false, List, [], ◌∷◌, get_or, slice_index}
+use Rattle.std.specs.Prelude.{◌||◌, ◌==◌, ℕ, Bool, false, List, [], ◌∷◌, get_or}
 use Rattle.bz_word.specs.declared.entry.Entry.{Entry}
 use Rattle.bz_cells.specs.FromPm.Words.{Words}
+use Rattle.bz_cells.specs.FromPm.State.{State}
 use Rattle.bz_machine.specs.Machine.{is_succeeded}
-use Rattle.bz_cells.specs.Store.{status_at}
+use Rattle.bz_cells.specs.Store.{Past, is_settled, status_at}
 use Rattle.bz_swap.specs.Resolve.{resolve}
 use Rattle.bz_swap.specs.declared.phase.Phase.{Phase}
 
@@ -17,7 +18,7 @@ pub data Doing : Type 0 where
   Storing : (a v : ℕ) → Doing
   Flushing : (line : ℕ) → Doing
 
--- a worker's operation, and whether its next act is a flush
+-- a worker's operation, and whether its next act is a flush or a fence
 pub record Working : Type 0 where
   pub doing : Doing
   pub flush_next : Bool
@@ -27,6 +28,8 @@ pub record SwapMemory : Type 0 where
   pub cached : List ℕ
   pub durable : List ℕ
   pub swaps : ℕ
+  -- how many asks were made since the last cut, from which of them on each durable word dates, and what each worker asked for
+  pub past : Past
   pub phase : Phase
   -- the entries of each swap begun since the last renewal or cut, by its number
   pub begun : List (List Entry)
@@ -42,6 +45,9 @@ pub record SwapMemory : Type 0 where
 
 abbrev pub memory_words : SwapMemory → Words
 memory_words m = record { cached = m.cached; durable = m.durable }
+
+abbrev pub memory_state : SwapMemory → State
+memory_state m = record { words = memory_words m; count = m.past.count; since = m.past.since; asks = m.past.asks }
 
 -- the value of an address outside the descriptors
 abbrev pub value_at : SwapMemory → ℕ → ℕ
@@ -72,9 +78,10 @@ is_among (entries ∷ begun) a = is_target entries a || is_among begun a
 abbrev pub is_named : SwapMemory → ℕ → Bool
 is_named m a = is_among m.begun a
 
--- no private store stands unflushed at an address: the word in the caches is the one in the memory itself
+-- no private store stands unflushed at an address: the word in the caches is the one in the memory itself, and what was asked
+-- for after that and is not fenced is the same
 abbrev pub is_settled_at : SwapMemory → ℕ → Bool
-is_settled_at m a = slice_index m.cached a == slice_index m.durable a
+is_settled_at m a = is_settled m.cached m.durable m.past a
 
 -- a worker that was never asked for anything
 abbrev pub idle : Working

@@ -6,6 +6,7 @@ ghost use Rattle.bz_swap.specs.LayoutSizes.{SizesAreOfLayout};
 ghost use Rattle.bz_swap.specs.LoneRuns.{LoneStepsAreAllowed, LoneStepsAreAllowedByKind};
 ghost use Rattle.bz_swap.specs.PlainFields.{PlainFieldsStay};
 ghost use Rattle.bz_swap.specs.Settled.{SettledStay, EffectsStay, DroppedStay, OwnedStay};
+ghost use Rattle.bz_swap.specs.SettledWords.{SettledWordsStay};
 ghost use Rattle.bz_swap.specs.TakenStatuses.{TakenStatusesStay, BegunStayTaken};
 
 /// What the calls of `Access` do are the events of the atomic swap memory.
@@ -39,6 +40,11 @@ pub fn begun_stay_taken()
 /// recovery.
 pub fn settled_stay()
     ensures { SettledStay }
+{}
+
+/// A settled word stays settled, unless a private store changes it; a private flush settles the words of its line.
+pub fn settled_words_stay()
+    ensures { SettledWordsStay }
 {}
 
 /// An effect is for good, and is told once.

@@ -22,6 +22,14 @@ record Front (words k : ℕ) (past : List Mark) (pages : Pages) : Type 0 where
   pub long : length marks ≡ k
   pub text : text_back pages past ≡ text_back lists marks ++ behind
 
+-- one line more behind, and a line more before
+line_behind : (longer whole part behind line : List ℕ) → longer ≡ whole ++ line → whole ≡ part ++ behind → longer ≡ part ++ (behind ++ line)
+line_behind longer whole part behind line is text = is ∙ ap (λ (t : List ℕ). t ++ line) text ∙ append_assoc part behind line
+
+line_before : (all first line whole part behind : List ℕ) → all ≡ line ++ whole → first ≡ line ++ part → whole ≡ part ++ behind → all ≡ first ++ behind
+line_before all first line whole part behind is begins text =
+    is ∙ ap (λ (t : List ℕ). line ++ t) text ∙ sym (append_assoc line part behind) ∙ ap (λ (t : List ℕ). t ++ behind) (sym begins)
+
 front : (words k : ℕ) (past : List Mark) (pages : Pages) → AreTold words past pages → k ≤ length past → Front words k past pages
 front words k _ _ none few = record { marks = []; lists = []; behind = []; told = none; long = omega (arith, few); text = sym (append-nil (text_back [] [])) }
 front words k _ _ (more {past} {pages} {mark} {pairs} told next) few = elim (cases_Bool (nat_le k (length past))) [
@@ -35,7 +43,7 @@ front words k _ _ (more {past} {pages} {mark} {pairs} told next) few = elim (cas
         behind = f.behind ++ line;
         told = f.told;
         long = f.long;
-        text = one_line_more words past pages mark pairs told ∙ ap (λ (t : List ℕ). t ++ line) f.text ∙ append_assoc (text_back f.lists f.marks) f.behind line;
+        text = line_behind (text_back (pages_with pages mark pairs) (mark ∷ past)) (text_back pages past) (text_back f.lists f.marks) f.behind line (one_line_more words past pages mark pairs told) f.text;
       }
   | inr beyond ↦
       let great : length past < k = grind (arith, nat_tests) in
@@ -60,10 +68,9 @@ record Begun (c : Config) (k : ℕ) (bytes rest : List ℕ) : Type 0 where
 begun : (c : Config) (log : Log) (k : ℕ) (bytes rest : List ℕ) → HasLines c log → bytes ≡ text_of (lines_of c log) ++ rest → k ≤ length log.past → Begun c k bytes rest
 begun c log k bytes rest h is few =
     let f = front (words_of c) k log.past log.pages h.marks few in
-    let head : List ℕ = with_end (head_line c log.start) in
     let it : Log = record { start = log.start; past = f.marks; pages = f.lists; limits = log.limits } in
     let whole : text_of (lines_of c log) ≡ text_of (lines_of c it) ++ f.behind =
-    whole_text c log ∙ ap (λ (t : List ℕ). head ++ t) f.text ∙ sym (append_assoc head (text_back f.lists f.marks) f.behind) ∙ ap (λ (t : List ℕ). t ++ f.behind) (sym (whole_text c it)) in
+    line_before (text_of (lines_of c log)) (text_of (lines_of c it)) (with_end (head_line c log.start)) (text_back log.pages log.past) (text_back f.lists f.marks) f.behind (whole_text c log) (whole_text c it) f.text in
     record {
       log = it;
       lines = record { start = h.start; marks = f.told };
@@ -72,13 +79,17 @@ begun c log k bytes rest h is few =
       text = is ∙ ap (λ (t : List ℕ). t ++ rest) whole ∙ append_assoc (text_of (lines_of c it)) f.behind rest;
     }
 
+-- a text twice, and what stands behind it
+two_texts : (bytes t all all' line line' rest rest' : List ℕ) → all ≡ line ++ rest → all' ≡ line' ++ rest' → bytes ≡ all → bytes ≡ all' ++ t → line ++ (rest ++ []) ≡ line' ++ (rest' ++ t)
+two_texts bytes t all all' line line' rest rest' first second is is' =
+    ap (λ (x : List ℕ). line ++ x) (append-nil rest) ∙ sym first ∙ sym is ∙ is' ∙ ap (λ (x : List ℕ). x ++ t) second ∙ append_assoc line' rest' t
+
 -- nothing is left behind the lines of a journal with as many marks
 none_left : (c c' : Config) (log log' : Log) (bytes t : List ℕ) → HasLines c log → HasLines c' log' → bytes ≡ text_of (lines_of c log) → bytes ≡ text_of (lines_of c' log') ++ t → length log.past ≡ length log'.past → [] ≡ t
 none_left c c' log log' bytes t h h' is is' long =
-    let head : List ℕ = with_end (head_line c log.start) in
-    let head' : List ℕ = with_end (head_line c' log'.start) in
-    let e : head ++ (text_back log.pages log.past ++ []) ≡ head' ++ (text_back log'.pages log'.past ++ t) =
-    ap (λ (x : List ℕ). head ++ x) (append-nil (text_back log.pages log.past)) ∙ sym (whole_text c log) ∙ sym is ∙ is' ∙ ap (λ (x : List ℕ). x ++ t) (whole_text c' log') ∙ append_assoc head' (text_back log'.pages log'.past) t in
+    let e : with_end (head_line c log.start) ++ (text_back log.pages log.past ++ []) ≡ with_end (head_line c' log'.start) ++ (text_back log'.pages log'.past ++ t) =
+    two_texts bytes t (text_of (lines_of c log)) (text_of (lines_of c' log')) (with_end (head_line c log.start)) (with_end (head_line c' log'.start)) (text_back log.pages log.past) (text_back log'.pages log'.past)
+    (whole_text c log) (whole_text c' log') is is' in
     let heads = head_once c c' log.start log'.start (text_back log.pages log.past ++ []) (text_back log'.pages log'.past ++ t) h.start h'.start e in
     let small = words_small c h.start.config in
     let counted : words_of c ≡ (words_of c - 1) + 1 = omega arith in

@@ -3,7 +3,7 @@ use Rattle.std.proofs.Common.{◌≡◌, ◌⊎◌, ℕ, ◌/◌, ◌<◌, ◌�
 use Rattle.std.specs.Prelude.{get_or}
 use Rattle.std.proofs.lemmas.Bool.{cases_eq}
 use Rattle.bz_acts.specs.declared.acted.Act.{Act}
-use Rattle.bz_acts.specs.declared.acted.Act.TheVariants.{Store, Flush}
+use Rattle.bz_acts.specs.declared.acted.Act.TheVariants.{Store, Fence}
 use Rattle.bz_machine.specs.declared.done.Done.{Done}
 use Rattle.bz_machine.specs.declared.done.Done.TheVariants.{Busy}
 use Rattle.bz_layout.specs.Addresses.{swap_address}
@@ -23,7 +23,7 @@ use Rattle.bz_world.specs.declared.parts.Parts.{Parts}
 use Rattle.bz_world.specs.declared.serving.OpenCall.{OpenCall}
 use Rattle.bz_world.proofs.Owners.{pending-begun}
 use Rattle.bz_world.proofs.Paid.{act-steps, who-steps}
-use Rattle.bz_world.proofs.Marking.{act-marked, act-no_fence, act-follows}
+use Rattle.bz_world.proofs.Marking.{act-marked, act-kept, act-follows}
 use Rattle.bz_world.proofs.Powered.{may-act}
 use Rattle.bz_world.proofs.Quiet.{some-worker, call-is-open}
 use Rattle.bz_world.proofs.Stepped.{act-tabled, act-taken, held}
@@ -41,10 +41,11 @@ act-strikes place inside taken begun wins rivals old new w s x made done k is-wo
   takes = place old.config (k.story.at (length old.journal.past)) old.access new.access w made done s k.living.seen a.step a.held;
   work = record { doing = doing; taken = a.step.one.others.taken; size = a.step.one.others.size };
   tabled = act-tabled old new w made done (Some s) k.tabled a room;
-  taken = act-taken taken begun old new w made done (Some s) k.taken (held old.access k.living.seen.phase k.living.seen.holds) k.living.seen.swaps a (some-worker old k w x is-worker) (pending-begun old k) (λ d v is from. absurd (let never : Store d v ≡ Flush (swap_address s / 8) = sym is ∙ flushed.act in cc never));
-  marked = act-marked w old.access new.access old.journal made k.living.words a.step.one.act;
+  taken = act-taken taken begun old new w made done (Some s) k.taken (held old.access k.living.seen.phase k.living.seen.holds) k.living.seen.swaps a (some-worker old k w x is-worker) (pending-begun old k) (λ d v is from. absurd (let never : Store d v ≡ Fence = sym is ∙ flushed.act in cc never));
+  marked = act-marked w old.access new.access old.journal made done k.living.words k.living.past a.step.one;
+  past = act-kept w old.access new.access old.journal made done k.living.words k.living.past a.step.one;
   flush = subst (λ (z : Act). IsAfterFlush (mark_of w z ∷ old.journal.past)) (sym flushed.act) tt;
-  no_fence = λ v. act-no_fence w v made;
+  decided = flushed.taken;
   follows = act-follows _ (map_at_start old.config old.journal.start) old.journal.past w made (may-act old.at_start old.journal.past w (some-worker old k w x is-worker) (call-is-open old k w x is-worker));
   unnoted = λ t well. wins.unnoted old.access new.access w made done (Some s) t a.step well;
   stepped = λ v steps. subst (λ u. StepsAt old.access new.access u s) (sym (who-steps v w (stepper (mark_of w made ∷ old.journal.past)) (act-steps w made old.journal.past) steps))

@@ -20,7 +20,7 @@ use Rattle.bz_sound.specs.Calls.{Open}
 use Rattle.bz_story.specs.Laws.{HasBegun, goes_on}
 use Rattle.bz_story.specs.Living.{IsLiving}
 use Rattle.bz_story.specs.Story.{Story, scene, loaded, is_load_of}
-use Rattle.bz_swap.specs.SwapMemory.{SwapMemory, Reading, Swapping, Storing, Flushing, doing_of, has_effect, memory_words, value_at, is_named}
+use Rattle.bz_swap.specs.SwapMemory.{SwapMemory, Reading, Swapping, Storing, Flushing, doing_of, has_effect, memory_state, value_at, is_named}
 use Rattle.bz_swap.specs.Steps.{AnswersRead, IsStep}
 use Rattle.bz_acts.specs.Rule.{IsActOf}
 use Rattle.bz_cells.specs.Store.{is_outside}
@@ -163,8 +163,8 @@ module _ (b : StepLaws) (old new : Parts) (w : ℕ) (x : OpenCall) (made : Act) 
 
     cached-is : slice_index new.access.cached c ≡ v
     cached-is =
-        let act : IsActOf (memory_words old.access) (Load c v) (memory_words new.access) = subst (λ (z : Act). IsActOf (memory_words old.access) z (memory_words new.access)) found.load a.step.one.act in
-        ap (λ z. slice_index z.cached c) act.after ∙ sym act.found
+        let act : IsActOf (memory_state old.access) w (Load c v) (memory_state new.access) = subst (λ (z : Act). IsActOf (memory_state old.access) w z (memory_state new.access)) found.load a.step.one.act in
+        ap (λ z. slice_index z.words.cached c) act.after ∙ sym act.found
 
     holds-by : (named : Bool) → is_named new.access c ≡ named → (if named then value_at new.access c else slice_index new.access.cached c) ≡ v
     holds-by true e = found.value e
@@ -229,7 +229,7 @@ module _ (b : StepLaws) (old new : Parts) (w : ℕ) (x : OpenCall) (made : Act) 
     is-flushing = b.flushing old.config (k.story.at (length old.journal.past)) old.access new.access w made answer None line k.living.seen a.step flushes within
 
     flushed : Flushes line before later
-    flushed = b.flushes old.config old.access new.access old.journal k.story (mark_of w made) w line its.call_open.look.since its.opened (goes b old new w x made answer k is-worker a) all-stay (begun-in k.living its.call_open) is-flushing.copies
+    flushed = b.flushes old.config old.access new.access old.journal k.story (mark_of w made) w line its.call_open.look.since its.opened (goes b old new w x made answer k is-worker a) all-stay (begun-in k.living its.call_open) is-flushing.settles
 
     took : facts_of x.task Took later
     took = its.tasked.laws.acts.flushed before later line (sym its.tasked.config) (subst (λ z. facts_of x.task z before) (ap (stage_in old.access) flushes) its.facts) (sees b old new w x made answer k is-worker a w x its).scene later-seen.scene (its.asks ∙ ap Some asked) flushed

@@ -133,10 +133,11 @@ module _ (p : Parts) (k : IsAwake p) (w : ℕ) (call : Call) (may : MayBegin p w
         holds = k.living.seen.holds;
         fields = k.living.seen.fields;
         quiet = record { values = λ a n. refl; swaps = λ t. refl };
-        durable = λ a. inl refl;
+        settled = λ a cached settled. settled;
         cached = λ a o n. inl refl;
       };
       marked = k.living.words;
+      past = record { count = k.living.past.count; since = k.living.past.since; asks = k.living.past.asks; workers = k.living.past.workers };
       powered = tt;
     }
 

@@ -51,6 +51,8 @@ act-map w (act.Load a v) past start = refl
 act-map w (act.Store a v) past start = refl
 act-map w (act.Cas a old new found) past start = refl
 act-map w (act.Flush line) past start = refl
+act-map w (act.Ask line) past start = refl
+act-map w act.Fence past start = refl
 
 pub flush-map : (mark : Mark) (past : List Mark) → IsAfterFlush (mark ∷ past) → (start : Map) → map_after start (mark ∷ past) ≡ map_after start past
 flush-map (Flush w line) past flush start = refl

@@ -119,10 +119,11 @@ module _ (b : EndLaws) (p : Parts) (w : ℕ) (on : MustGoOn p w) where
         holds = was.living.seen.holds;
         fields = was.living.seen.fields;
         quiet = record { values = λ a n. refl; swaps = λ t. refl };
-        durable = λ a. inl refl;
+        settled = λ a cached settled. settled;
         cached = λ a o n. inl refl;
       };
       marked = was.living.words;
+      past = record { count = was.living.past.count; since = was.living.past.since; asks = was.living.past.asks; workers = was.living.past.workers };
       powered = tt;
     }
 

@@ -4,7 +4,7 @@ use Rattle.std.specs.Prelude.{get_or}
 use Rattle.bz_content.specs.Content.{image_fault, content_in}
 use Rattle.bz_mark.specs.Log.{with_mark}
 use Rattle.bz_mark.proofs.MomentLaws.{at_moment-now}
-use Rattle.bz_mark.specs.WordsAfter.{words_after_marks}
+use Rattle.bz_mark.specs.WordsAfter.{state_after_marks, words_after_marks}
 use Rattle.bz_mark.specs.declared.marks.Mark.TheVariants.{Evict}
 use Rattle.bz_layout.specs.Addresses.{swap_address}
 use Rattle.bz_pm.specs.Acts.{evicted}
@@ -14,10 +14,12 @@ use Rattle.bz_sight.specs.Passing.{Passes, Passed}
 use Rattle.bz_sight.specs.Sight.{next_instant}
 use Rattle.bz_sound.specs.Memory.Moments.{image_after}
 use Rattle.bz_sound.specs.Power.Sound.{IsSound}
+use Rattle.bz_marked.proofs.Pasts.{evict-past}
 use Rattle.bz_story.specs.Laws.{GoesOn, goes_on}
 use Rattle.bz_story.specs.Living.{IsLiving}
 use Rattle.bz_story.specs.Story.{scene, Story}
 use Rattle.bz_swap.specs.Effects.{NoneTakesEffect, EffectIs}
+use Rattle.bz_swap.specs.EffectPlaces.{EffectsStayInside}
 use Rattle.bz_swap.specs.Evictions.{EvictsIn}
 use Rattle.bz_swap.specs.SwapMemory.{SwapMemory, doing_of, memory_words}
 use Rattle.bz_swap.specs.declared.phase.Phase.{Phase}
@@ -79,8 +81,8 @@ module _ (old new : Parts) (a : ℕ) (told : Option ℕ) (k : IsAwake old) (e : 
   })
 
 -- it gives a swap its effect
-pub evict-strikes : EvictionsAreSeen → BegunLaws → OwnSwapsWin → (old new : Parts) (a s : ℕ) → IsAwake old → IsEvicted old a (Some s) new → length old.journal.past < old.config.marks → IsStriking new s
-evict-strikes sees begun wins old new a s k e room = record {
+pub evict-strikes : EvictionsAreSeen → EffectsStayInside → BegunLaws → OwnSwapsWin → (old new : Parts) (a s : ℕ) → IsAwake old → IsEvicted old a (Some s) new → length old.journal.past < old.config.marks → IsStriking new s
+evict-strikes sees inside begun wins old new a s k e room = record {
   before = old;
   mark = Evict a;
   kept = k;
@@ -89,8 +91,9 @@ evict-strikes sees begun wins old new a s k e room = record {
   tabled = evict-tabled old new a (Some s) k e room;
   taken = evict-taken old new a (Some s) k e begun;
   marked = evict-marked old new a (Some s) k e;
+  past = evict-past old.access new.access (state_after_marks old.journal.start old.journal.past) a (Some s) e.eviction k.living.past;
   flush = tt;
-  no_fence = λ w is. cc;
+  decided = (inside.eviction old.access new.access a s e.eviction).taken;
   follows = is-not-off old k.tabled k.on;
   unnoted = λ t well. wins.evicted old.access new.access a (Some s) t e.eviction ∙ well.unnoted;
   stepped = λ w steps. absurd (cc steps);
@@ -106,7 +109,7 @@ module _ (b : StepLaws) (sees : EvictionsAreSeen) (old new : Parts) (a : ℕ) (k
   passed = b.pass old.config (k.story.at (length old.journal.past)) old.access new.access k.living.seen passes
 
   goes : GoesOn old.config old.access new.access old.journal k.story (Evict a)
-  goes = record { living = k.living; passes = passes; marked = evict-marked old new a None k e; powered = tt }
+  goes = record { living = k.living; passes = passes; marked = evict-marked old new a None k e; past = evict-past old.access new.access (state_after_marks old.journal.start old.journal.past) a None e.eviction k.living.past; powered = tt }
 
   abbrev after : Story
   after = goes_on old.journal k.story new.access k.story.filled

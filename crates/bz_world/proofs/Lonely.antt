@@ -38,6 +38,8 @@ lonely-act v w past (act.Load a x) l = l
 lonely-act v w past (act.Store a x) l = l
 lonely-act v w past (act.Cas a old new found) l = l
 lonely-act v w past (act.Flush line) l = l
+lonely-act v w past (act.Ask line) l = l
+lonely-act v w past act.Fence l = l
 
 -- it is one more of its worker
 pub acts-act : (w : ℕ) (past : List Mark) (made : Act) → acts_since w (mark_of w made ∷ past) ≡ acts_since w past + 1
@@ -45,6 +47,8 @@ acts-act w past (act.Load a x) = let t : (w == w) ≡ true = grind (arith, nat_t
 acts-act w past (act.Store a x) = let t : (w == w) ≡ true = grind (arith, nat_tests) in rw t refl
 acts-act w past (act.Cas a old new found) = let t : (w == w) ≡ true = grind (arith, nat_tests) in rw t refl
 acts-act w past (act.Flush line) = let t : (w == w) ≡ true = grind (arith, nat_tests) in rw t refl
+acts-act w past (act.Ask line) = let t : (w == w) ≡ true = grind (arith, nat_tests) in rw t refl
+acts-act w past act.Fence = let t : (w == w) ≡ true = grind (arith, nat_tests) in rw t refl
 
 -- none were made at the begin
 pub acts-begin : (w n : ℕ) (past : List Mark) (called : _) → acts_since w (mark.Begin w n called ∷ past) ≡ 0

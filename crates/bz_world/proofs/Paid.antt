@@ -3,7 +3,7 @@ use Rattle.std.proofs.Common.{◌≡◌, ◌≢◌, ◌⊎◌, ℕ, zero, suc, �
 use Rattle.std.proofs.lemmas.Bool.{cases_eq, true≢false}
 use Rattle.std.proofs.lemmas.Bool.Decides.{nat_tests}
 use Rattle.bz_acts.specs.declared.acted.Act.{Act}
-use Rattle.bz_acts.specs.declared.acted.Act.TheVariants.{Load, Store, Cas, Flush}
+use Rattle.bz_acts.specs.declared.acted.Act.TheVariants.{Load, Store, Cas, Flush, Ask, Fence}
 use Rattle.bz_below.specs.Facts.{below_acts}
 use Rattle.bz_lone.specs.FromCosts.Laws.{AskedSwapsAreCounted}
 use Rattle.bz_lone.specs.FromCosts.Lone.{one_mark}
@@ -52,6 +52,8 @@ act-steps w (Load a v) past = refl
 act-steps w (Store a v) past = refl
 act-steps w (Cas a old new found) past = refl
 act-steps w (Flush line) past = refl
+act-steps w (Ask line) past = refl
+act-steps w Fence past = refl
 
 -- and nobody else
 pub one-steps : (v w : ℕ) → v ≢ w → (o : Option ℕ) → o ≡ Some w → o ≡ Some v → ⊥

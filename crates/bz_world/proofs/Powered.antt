@@ -36,6 +36,8 @@ leaves-power w past (act.Load a v) = tt
 leaves-power w past (act.Store a v) = tt
 leaves-power w past (act.Cas a old new found) = tt
 leaves-power w past (act.Flush line) = tt
+leaves-power w past (act.Ask line) = tt
+leaves-power w past act.Fence = tt
 
 pub flush-leaves : (mark : Mark) (past : List Mark) → IsAfterFlush (mark ∷ past) → LeavesPower past mark
 flush-leaves (Flush w line) past f = tt

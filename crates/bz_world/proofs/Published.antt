@@ -164,10 +164,11 @@ module _ (b : StrikeLaws) (p : Parts) (s : ℕ) (h : IsStriking p s) (publishes 
       holds = seen-now.holds;
       fields = seen-now.fields;
       quiet = record { values = λ a n. refl; swaps = λ t. refl };
-      durable = λ a. inl refl;
+      settled = λ a cached settled. settled;
       cached = λ a o n. inl refl;
     };
     marked = h.marked;
+    past = record { count = h.past.count; since = h.past.since; asks = h.past.asks; workers = h.past.workers };
     powered = tt;
   }
 

@@ -45,7 +45,7 @@ use Rattle.bz_world.proofs.Paid.{act-steps, act-runs, one-steps, who-steps, paid
 use Rattle.bz_world.proofs.PaidSteps.{StepsFurther, quiet-in}
 use Rattle.bz_world.proofs.Powered.{begun-in, looks-on, free-on, leaves-power, may-act}
 use Rattle.bz_world.proofs.Owners.{pending-begun}
-use Rattle.bz_world.proofs.Marking.{act-marked, act-calls}
+use Rattle.bz_world.proofs.Marking.{act-marked, act-kept, act-calls}
 use Rattle.bz_world.specs.Inside.Laws.{StepLaws}
 use Rattle.bz_world.specs.Leaves.{LeavesFollow}
 use Rattle.bz_world.proofs.Stepped.{act-tabled, act-taken, act-sound, held}
@@ -116,7 +116,7 @@ module _ (b : StepLaws) (old new : Parts) (w : ℕ) (x : OpenCall) (made : Act) 
   passed = b.pass old.config (k.story.at (length old.journal.past)) old.access new.access k.living.seen passes
 
   pub goes : GoesOn old.config old.access new.access old.journal k.story (mark_of w made)
-  goes = record { living = k.living; passes = passes; marked = act-marked w old.access new.access old.journal made k.living.words a.step.one.act; powered = leaves-power w old.journal.past made }
+  goes = record { living = k.living; passes = passes; marked = act-marked w old.access new.access old.journal made done k.living.words k.living.past a.step.one; past = act-kept w old.access new.access old.journal made done k.living.words k.living.past a.step.one; powered = leaves-power w old.journal.past made }
 
   pub sound : IsSound old.config old.at_start (with_mark old.journal (mark_of w made))
   sound = act-sound b.journal old new k.story w made done None k.living k.sound a (may-act old.at_start old.journal.past w (some-worker old k w x is-worker) (call-is-open old k w x is-worker)) passed

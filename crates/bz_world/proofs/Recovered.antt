@@ -48,7 +48,7 @@ asked-on go_on turns p seen next slots k on tells nodes learns = record {
     values = k.dark.values;
   };
   walks = learns k.dark.values (recovery.words_in p.access) k.memory.recovering.knows tells k.walks;
-  memory = turns p.config k.dark.values p.access p.access p.journal recovery.Made recovery.Asked p.recovery next k.memory refl (go_on p.config k.dark.values p.access p.recovery next seen k.memory.recovering on tells)
+  memory = turns p.config k.dark.values p.access p.access p.journal recovery.Made recovery.Asked p.recovery next k.memory refl refl (go_on p.config k.dark.values p.access p.recovery next seen k.memory.recovering on tells)
       (omega (arith, on.sooner k.dark.values (recovery.words_in p.access) k.memory.recovering.knows));
 }
 

@@ -41,25 +41,22 @@ pub record Laws : Type 0 where
   pub flush : FlushesFollow
   pub same : SameContentDecodes
 
--- the mark of an act
-same-mark : (made : Act) → reviving.mark_of 0 made ≡ mark_of 0 made
-same-mark (act.Load a v) = refl
-same-mark (act.Store a v) = refl
-same-mark (act.Cas a old new found) = refl
-same-mark (act.Flush line) = refl
-
 -- worker 0 may make any act, and its mark is one of recovery
 raw-follows : (p : Parts) (made : Act) → power_of p.at_start p.journal.past ≡ power.Recovering → MayFollow p.at_start (map_at_start p.config p.journal.start) p.journal.past (mark_of 0 made)
 raw-follows p (act.Load a v) h = h
 raw-follows p (act.Store a v) h = h
 raw-follows p (act.Cas a old new found) h = h
 raw-follows p (act.Flush line) h = h
+raw-follows p (act.Ask line) h = h
+raw-follows p act.Fence h = h
 
 raw-after : (past : List Mark) (made : Act) → IsAfterRecovering (mark_of 0 made ∷ past)
 raw-after past (act.Load a v) = refl
 raw-after past (act.Store a v) = refl
 raw-after past (act.Cas a old new found) = refl
 raw-after past (act.Flush line) = refl
+raw-after past (act.Ask line) = refl
+raw-after past act.Fence = refl
 
 module _ (b : Laws) (recovers : ActsAreMarked) (old new : Parts) (made : Act) (done : Done) (told : Option ℕ) (k : IsStarted old) (is : old.power ≡ power.Recovering) (room : length old.journal.past + 3 ≤ old.config.marks) (a : IsRawAct old made done told new) where
   abbrev dark : IsDark old
@@ -76,7 +73,7 @@ module _ (b : Laws) (recovers : ActsAreMarked) (old new : Parts) (made : Act) (d
   raw = marked-raw.recovers
 
   words : memory_words new.access ≡ words_after_marks old.journal.start (mark_of 0 made ∷ old.journal.past)
-  words = act-marked 0 old.access new.access old.journal made k.memory.words a.step.one.act
+  words = act-marked 0 old.access new.access old.journal made done k.memory.words k.memory.past a.step.one
 
   was : image_after old.journal.start old.journal.past ≡ slice_index old.access.durable
   was = ap (λ z. slice_index z.durable) (sym k.memory.words)
@@ -88,17 +85,21 @@ module _ (b : Laws) (recovers : ActsAreMarked) (old new : Parts) (made : Act) (d
   sound = by-act made refl
     where
       found-quietly : IsQuietAct (mark_of 0 made) → IsSound old.config old.at_start (with_mark old.journal (mark_of 0 made))
-      found-quietly q = b.quiet old.config old.at_start old.journal (mark_of 0 made) k.dark.sound q (raw-follows old made log-power) (act-found 0 old.access new.access old.journal made k.memory.words a.step.one.act a.step.one.within)
+      found-quietly q = b.quiet old.config old.at_start old.journal (mark_of 0 made) k.dark.sound q (raw-follows old made log-power) (act-found 0 old.access new.access old.journal made k.memory.words a.step.one.act.found a.step.one.within)
+
+      flushed-so : IsAfterFlush (mark_of 0 made ∷ old.journal.past) → IsSound old.config old.at_start (with_mark old.journal (mark_of 0 made))
+      flushed-so flushes =
+          b.flush old.config old.at_start old.journal (mark_of 0 made) k.dark.sound flushes (raw-follows old made log-power)
+          (b.same old.config old.at_start old.journal (mark_of 0 made) k.dark.sound flushes (subst (λ i. image_fault old.config i ≡ None) (sym becomes) raw.same.well_formed)
+          (λ key. ap (λ i. content_in old.config i key) becomes ∙ (raw.same.content key ∙ ap (λ i. content_in old.config i key) (sym was))))
 
       by-act : (x : Act) → made ≡ x → IsSound old.config old.at_start (with_mark old.journal (mark_of 0 made))
       by-act (act.Load d v) e = found-quietly (subst (λ (z : Act). IsQuietAct (mark_of 0 z)) (sym e) tt)
       by-act (act.Store d v) e = found-quietly (subst (λ (z : Act). IsQuietAct (mark_of 0 z)) (sym e) tt)
       by-act (act.Cas d o n f) e = found-quietly (subst (λ (z : Act). IsQuietAct (mark_of 0 z)) (sym e) tt)
-      by-act (act.Flush line) e =
-          let flushes : IsAfterFlush (mark_of 0 made ∷ old.journal.past) = subst (λ (z : Act). IsAfterFlush (mark_of 0 z ∷ old.journal.past)) (sym e) tt in
-          b.flush old.config old.at_start old.journal (mark_of 0 made) k.dark.sound flushes (raw-follows old made log-power)
-          (b.same old.config old.at_start old.journal (mark_of 0 made) k.dark.sound flushes (subst (λ i. image_fault old.config i ≡ None) (sym becomes) raw.same.well_formed)
-          (λ key. ap (λ i. content_in old.config i key) becomes ∙ (raw.same.content key ∙ ap (λ i. content_in old.config i key) (sym was))))
+      by-act (act.Ask line) e = found-quietly (subst (λ (z : Act). IsQuietAct (mark_of 0 z)) (sym e) tt)
+      by-act act.Fence e = flushed-so (subst (λ (z : Act). IsAfterFlush (mark_of 0 z ∷ old.journal.past)) (sym e) tt)
+      by-act (act.Flush line) e = flushed-so (subst (λ (z : Act). IsAfterFlush (mark_of 0 z ∷ old.journal.past)) (sym e) tt)
 
   tabled : IsTabled (record old { access = new.access; journal = with_mark old.journal (mark_of 0 made) })
   tabled = tabled-acted old 0 made done new.access a.step.one (omega (arith, room)) k.dark.tabled
@@ -115,7 +116,7 @@ module _ (b : Laws) (recovers : ActsAreMarked) (old new : Parts) (made : Act) (d
       values = k.dark.values;
     };
     walks = k.walks;
-    memory = subst (λ mark. reviving.IsRecoveringIn old.config k.dark.values new.access (with_mark old.journal mark) recovery.Made old.recovery) (same-mark made) marked-raw.marked;
+    memory = marked-raw.marked;
   }
 
   -- the same of the world with the act made
@@ -181,6 +182,6 @@ module _ (turns : TurnsMakeNoMark) (p : Parts) (k : IsRecovering p recovery.Aske
       values = k.dark.values;
     };
     walks = k.walks;
-    memory = turns p.config k.dark.values p.access (started p.access 0 doing) p.journal recovery.Asked recovery.Started p.recovery p.recovery k.memory refl memory
+    memory = turns p.config k.dark.values p.access (started p.access 0 doing) p.journal recovery.Asked recovery.Started p.recovery p.recovery k.memory refl refl memory
         (let same : acts_left p.recovery (recovery.words_in (started p.access 0 doing)) ≡ acts_left p.recovery (recovery.words_in p.access) = refl in omega (arith, same));
   }

@@ -38,6 +38,8 @@ act-power at_start (act.Load a v) w past = refl
 act-power at_start (act.Store a v) w past = refl
 act-power at_start (act.Cas a old new found) w past = refl
 act-power at_start (act.Flush line) w past = refl
+act-power at_start (act.Ask line) w past = refl
+act-power at_start act.Fence w past = refl
 
 -- what follows an act at once leaves the power and the calls that are open, and the worker steps still
 still-open : (b : Bool) (n : ℕ) (o : Option Open) → o ≢ None → (if b then option_map (with_effect n) o else o) ≢ None

@@ -3,7 +3,7 @@ use Rattle.std.proofs.Common.{◌≡◌, ◌≢◌, ℕ, ◌+◌, ◌<◌, ◌�
 use Rattle.std.proofs.lemmas.Bool.{cases_eq}
 use Rattle.std.proofs.lemmas.Bool.Decides.{nat_tests}
 use Rattle.bz_acts.specs.declared.acted.Act.{Act}
-use Rattle.bz_acts.specs.declared.acted.Act.TheVariants.{Load, Store, Cas, Flush}
+use Rattle.bz_acts.specs.declared.acted.Act.TheVariants.{Load, Store, Cas, Flush, Ask, Fence}
 use Rattle.bz_machine.specs.declared.done.Done.{Done}
 use Rattle.bz_layout.specs.Addresses.{swap_address}
 use Rattle.bz_mark.specs.Log.{with_mark}
@@ -52,6 +52,8 @@ shown-stays s w past (Load a v) h = h
 shown-stays s w past (Store a v) h = or-right (not (w == 0) && (a == swap_address s + 0 && v == 1)) (is_taken s past) h
 shown-stays s w past (Cas a old new found) h = h
 shown-stays s w past (Flush line) h = h
+shown-stays s w past (Ask line) h = h
+shown-stays s w past Fence h = h
 
 -- the store that takes it shows it
 taking-shown : (s w : ℕ) (past : List Mark) → 0 < w → is_taken s (mark_of w (Store (swap_address s) 1) ∷ past) ≡ true
@@ -113,14 +115,21 @@ act-sound b old new story w made done told living sound a opened passed = by-act
     was = sym (living.images (length old.journal.past) living.from (omega arith) ∙ ap (image_after old.journal.start) (at_moment-now old.journal.past))
 
     is : image_after old.journal.start (mark_of w made ∷ old.journal.past) ≡ (next_instant new.access (story.at (length old.journal.past))).image
-    is = ap (λ z. slice_index z.durable) (sym (act-marked w old.access new.access old.journal made living.words a.step.one.act))
+    is = ap (λ z. slice_index z.durable) (sym (act-marked w old.access new.access old.journal made done living.words living.past a.step.one))
 
-    by-act : (x : Act) → made ≡ x → IsSound old.config old.at_start (with_mark old.journal (mark_of w made))
-    by-act (Load d v) e = b.quiet old.config old.at_start old.journal (mark_of w made) sound (subst (λ (z : Act). IsQuietAct (mark_of w z)) (sym e) tt) (act-follows _ _ old.journal.past w made opened) (act-found w old.access new.access old.journal made living.words a.step.one.act a.step.one.within)
-    by-act (Store d v) e = b.quiet old.config old.at_start old.journal (mark_of w made) sound (subst (λ (z : Act). IsQuietAct (mark_of w z)) (sym e) tt) (act-follows _ _ old.journal.past w made opened) (act-found w old.access new.access old.journal made living.words a.step.one.act a.step.one.within)
-    by-act (Cas d o n f) e = b.quiet old.config old.at_start old.journal (mark_of w made) sound (subst (λ (z : Act). IsQuietAct (mark_of w z)) (sym e) tt) (act-follows _ _ old.journal.past w made opened) (act-found w old.access new.access old.journal made living.words a.step.one.act a.step.one.within)
-    by-act (Flush line) e =
-        let flushes : IsAfterFlush (mark_of w made ∷ old.journal.past) = subst (λ (z : Act). IsAfterFlush (mark_of w z ∷ old.journal.past)) (sym e) tt in
+    quietly : IsQuietAct (mark_of w made) → IsSound old.config old.at_start (with_mark old.journal (mark_of w made))
+    quietly q = b.quiet old.config old.at_start old.journal (mark_of w made) sound q (act-follows _ _ old.journal.past w made opened) (act-found w old.access new.access old.journal made living.words a.step.one.act.found a.step.one.within)
+
+    flushing : IsAfterFlush (mark_of w made ∷ old.journal.past) → IsSound old.config old.at_start (with_mark old.journal (mark_of w made))
+    flushing flushes =
         b.flush old.config old.at_start old.journal (mark_of w made) sound flushes (act-follows _ _ old.journal.past w made opened)
         (b.same old.config old.at_start old.journal (mark_of w made) sound flushes (subst (λ i. image_fault old.config i ≡ None) (sym is) passed.same.good.form)
         (λ key. ap (λ i. content_in old.config i key) is ∙ (passed.same.content key ∙ ap (λ i. content_in old.config i key) (sym was))))
+
+    by-act : (x : Act) → made ≡ x → IsSound old.config old.at_start (with_mark old.journal (mark_of w made))
+    by-act (Load d v) e = quietly (subst (λ (z : Act). IsQuietAct (mark_of w z)) (sym e) tt)
+    by-act (Store d v) e = quietly (subst (λ (z : Act). IsQuietAct (mark_of w z)) (sym e) tt)
+    by-act (Cas d o n f) e = quietly (subst (λ (z : Act). IsQuietAct (mark_of w z)) (sym e) tt)
+    by-act (Ask line) e = quietly (subst (λ (z : Act). IsQuietAct (mark_of w z)) (sym e) tt)
+    by-act (Flush line) e = flushing (subst (λ (z : Act). IsAfterFlush (mark_of w z ∷ old.journal.past)) (sym e) tt)
+    by-act Fence e = flushing (subst (λ (z : Act). IsAfterFlush (mark_of w z ∷ old.journal.past)) (sym e) tt)

@@ -126,6 +126,7 @@ module _ (b : StrikeLaws) (p : Parts) (s : ℕ) (h : IsStriking p s) where
     living = kept.living;
     takes = h.takes;
     marked = h.marked;
+    past = h.past;
     powered = flush-leaves h.mark old.journal.past h.flush;
     begun = begun-in kept.living its.call_open;
     list = owner.list;

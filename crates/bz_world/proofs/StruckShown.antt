@@ -2,19 +2,11 @@
 use Rattle.std.proofs.Common.{◌≡◌, ◌≢◌, ℕ, ◌+◌, ◌<◌, ◌≤◌, if◌then◌else◌, Bool, true, false, List, ◌∷◌, length, slice_index, arith, sym, ap, subst, ◌∙◌, inl, inr, Option, Some, None}
 use Rattle.std.specs.Prelude.{get_or, nat_lt}
 use Rattle.std.proofs.lemmas.Bool.{cases_eq, cases_lt, true≢false}
-use Rattle.std.proofs.lemmas.List.{get_or_past}
-use Rattle.bz_cells.specs.Store.{status_at, status_of}
 use Rattle.bz_layout.specs.Addresses.{swap_address}
 use Rattle.bz_layout.specs.declared.config.Config.{Config}
-use Rattle.bz_machine.specs.Machine.{is_succeeded}
-use Rattle.bz_machine.specs.declared.status.SwapStatus.TheVariants.{Free}
 use Rattle.bz_mark.specs.Log.{Log}
-use Rattle.bz_mark.specs.WordsAfter.{state_after_marks, words_after_marks}
 use Rattle.bz_mark.specs.declared.marks.Mark.{Mark}
-use Rattle.bz_mark.specs.declared.marks.Mark.TheVariants.{Fence, Effect}
-use Rattle.bz_mark.proofs.Steps.{levelled_or_left}
-use Rattle.bz_mark.proofs.WordLaws.{length-words_of}
-use Rattle.bz_pm.specs.Words.{Words}
+use Rattle.bz_mark.specs.declared.marks.Mark.TheVariants.{Effect}
 use Rattle.bz_running.specs.Duties.{asks_of, facts_of, view_of}
 use Rattle.bz_running.specs.Kinds as kinds
 use Rattle.bz_running.specs.Kinds.{kind_of}
@@ -25,7 +17,7 @@ use Rattle.bz_mark.specs.Counts.{count_taken}
 use Rattle.bz_sound.specs.Memory.Spent.{is_stored_into}
 use Rattle.bz_sound.specs.Power.Spent.{count_used}
 use Rattle.bz_mark.specs.Times.{since_on}
-use Rattle.bz_swap.specs.SwapMemory.{SwapMemory, Idle, Swapping, doing_of, has_effect, memory_words}
+use Rattle.bz_swap.specs.SwapMemory.{SwapMemory, Idle, Swapping, doing_of}
 use Rattle.bz_swap.specs.TakenStatuses.{IsTaken}
 use Rattle.bz_task.specs.Scene.{HasFilled, Scene, Waiting}
 use Rattle.bz_task.specs.declared.todo.Todo.TheVariants as todo
@@ -40,41 +32,6 @@ use Rattle.bz_world.proofs.Powered.{flush-leaves, free-on}
 use Rattle.bz_world.proofs.Striking.{after, before, flush-calls, its, kept, living, old, owner, w, waits, x}
 use Rattle.bz_world.proofs.StruckQuietly.{still-does}
 use Rattle.bz_world.proofs.ToldShown.{as-taken, none-lost}
-
--- the word of a status that says that a swap has succeeded is not 0
-succeeded-some : (z : ℕ) → is_succeeded (status_of z) ≡ true → z ≢ 0
-unfolding status_of
-succeeded-some z done zero = let never : is_succeeded (status_of 0) ≡ true = subst (λ (y : ℕ). is_succeeded (status_of y) ≡ true) zero done in true≢false (sym never)
-
-status-some : (swaps : ℕ) (words : List ℕ) (s : ℕ) → is_succeeded (status_at swaps words s) ≡ true → slice_index words (swap_address s) ≢ 0
-status-some swaps words s = by (nat_lt s swaps)
-  where
-    by : (t : Bool) → is_succeeded (if t then status_of (slice_index words (swap_address s)) else Free) ≡ true → slice_index words (swap_address s) ≢ 0
-    by true done = succeeded-some (slice_index words (swap_address s)) done
-    by false done = absurd (true≢false (sym done))
-
--- the mark by which a swap takes effect has made the cached word of its status the durable one, so that is not free
-module _ (was is : SwapMemory) (start : List ℕ) (past : List Mark) (mark : Mark) (s : ℕ) (before-it : memory_words was ≡ words_after_marks start past) (after-it : memory_words is ≡ words_after_marks start (mark ∷ past)) (swaps : is.swaps ≡ was.swaps) (no_fence : (w : ℕ) → mark ≢ Fence w) where
-  within : slice_index is.durable (swap_address s) ≢ 0 → swap_address s < length start
-  within some = elim (cases_lt (swap_address s) (length start)) [
-    | inl below ↦ below
-    | inr beyond ↦ absurd (some (let size : length is.durable ≡ length start = ap (λ (m : Words). length m.durable) after-it ∙ (length-words_of start (mark ∷ past)).durable in get_or_past is.durable (swap_address s) 0 (omega (arith, beyond, size))))
-  ]
-
-  same-effect : slice_index is.durable (swap_address s) ≡ slice_index was.durable (swap_address s) → has_effect is s ≡ has_effect was s
-  same-effect same = ap (λ (n : ℕ). is_succeeded (status_at n is.durable s)) swaps ∙ ap (λ (z : ℕ). is_succeeded (if nat_lt s was.swaps then status_of z else Free)) same
-
-  effect-takes : has_effect was s ≡ false → has_effect is s ≡ true → IsTaken is s
-  effect-takes none done free = elim (levelled_or_left start (state_after_marks start past) mark (swap_address s) (length-words_of start past) (within some) no_fence) [
-    | inl levels ↦ some (word ∙ (levels ∙ (ap (λ (m : Words). slice_index m.cached (swap_address s)) (sym after-it) ∙ free)))
-    | inr leaves ↦ true≢false (sym done ∙ (same-effect (word ∙ (leaves ∙ ap (λ (m : Words). slice_index m.durable (swap_address s)) (sym before-it))) ∙ none))
-  ]
-    where
-      some : slice_index is.durable (swap_address s) ≢ 0
-      some = status-some is.swaps is.durable s done
-
-      word : slice_index is.durable (swap_address s) ≡ slice_index (words_after_marks start (mark ∷ past)).durable (swap_address s)
-      word = ap (λ (m : Words). slice_index m.durable (swap_address s)) after-it
 
 -- a delete that asks for its swap has stored into each slot that its worker took
 delete-filled : (t : AnyTask) (entries : List Entry) (u : Scene) → kind_of t ≡ kinds.Delete → asks_of t ≡ Some (todo.Swap entries) → facts_of t Waiting u → HasFilled u
@@ -104,7 +61,7 @@ module _ (b : StrikeLaws) (p : Parts) (s : ℕ) (h : IsStriking p s) (lonely : I
 
   -- so the status of no descriptor that is taken is free
   its-taken : IsTaken p.access s
-  its-taken = effect-takes (old b p s h).access p.access log.start log.past h.mark s (kept b p s h).living.words h.marked h.takes.same.swaps h.no_fence h.takes.effect.before h.takes.effect.done
+  its-taken = h.decided
 
   all-begun : (t : ℕ) → t < p.access.taken → IsTaken p.access t
   all-begun t few = elim (h.taken.held t few) [

@@ -56,6 +56,8 @@ act-plain w (act.Load a v) = tt
 act-plain w (act.Store a v) = tt
 act-plain w (act.Cas a old new found) = tt
 act-plain w (act.Flush line) = tt
+act-plain w (act.Ask line) = tt
+act-plain w act.Fence = tt
 
 -- such a mark leaves the counts of the calls that began
 begun_calls-stays : (v : ℕ) (past : List Mark) (mark : Mark) → BeginsNone mark → begun_calls v (mark ∷ past) ≡ begun_calls v past

@@ -42,6 +42,8 @@ pub only-acts : (old : SwapMemory) (w : ℕ) (made : Act) (past : List Mark) →
 only-acts old w (act.Load a v) past lawful was s few seen = was s few seen
 only-acts old w (act.Cas a before after found) past lawful was s few seen = was s few seen
 only-acts old w (act.Flush line) past lawful was s few seen = was s few seen
+only-acts old w (act.Ask line) past lawful was s few seen = was s few seen
+only-acts old w act.Fence past lawful was s few seen = was s few seen
 only-acts old w (act.Store a v) past lawful was s few seen = by (not (w == 0) && (a == swap_address s + 0 && v == 1)) refl seen
   where
     at : (t : Bool) → t && (a == swap_address s + 0 && v == 1) ≡ true → a ≡ swap_address s
@@ -60,6 +62,8 @@ pub unstored-acts : (c : Config) (w : ℕ) (made : Act) (past : List Mark) (free
 unstored-acts c w (act.Load a v) past free avoids was k among = was k among
 unstored-acts c w (act.Cas a before after found) past free avoids was k among = was k among
 unstored-acts c w (act.Flush line) past free avoids was k among = was k among
+unstored-acts c w (act.Ask line) past free avoids was k among = was k among
+unstored-acts c w act.Fence past free avoids was k among = was k among
 unstored-acts c w (act.Store a v) past free avoids was k among = by (not (w == 0) && (nat_le (node_address c 0) a && slot_of c a == k)) refl
   where
     never : (t : Bool) → t && (nat_le (node_address c 0) a && slot_of c a == k) ≡ true → ⊥

@@ -61,6 +61,8 @@ act-plain w (act.Load a v) = tt
 act-plain w (act.Store a v) = tt
 act-plain w (act.Cas a old new found) = tt
 act-plain w (act.Flush line) = tt
+act-plain w (act.Ask line) = tt
+act-plain w act.Fence = tt
 
 -- a call that is open after a mark was open before it, from the same begin
 pub record WasOpen (w : ℕ) (past : List Mark) (opened : Open) : Type 0 where

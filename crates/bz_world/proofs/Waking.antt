@@ -71,7 +71,7 @@ module _ (b : Begins) (p : Parts) (k : IsOff p) (off : p.power ≡ power.Off) (r
       values = k.dark.values;
     };
     walks = learns k.dark.values (recovery.words_in p.access) begins.recovering.knows (subst (λ z. tells_in z Start (recovery.words_in p.access)) (sym new.asks) tt) nothing;
-    memory = b.turns p.config k.dark.values p.access p.access (with_mark p.journal On) recovery.Made recovery.Asked first next begins refl
+    memory = b.turns p.config k.dark.values p.access p.access (with_mark p.journal On) recovery.Made recovery.Asked first next begins refl refl
         (b.go_on p.config k.dark.values p.access first next Start begins.recovering on (subst (λ z. tells_in z Start (recovery.words_in p.access)) (sym new.asks) tt))
         (omega (arith, on.sooner k.dark.values (recovery.words_in p.access) begins.recovering.knows));
   }

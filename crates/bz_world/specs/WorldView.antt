@@ -4,7 +4,6 @@ use Rattle.std.specs.FinMap.{len}
 use Rattle.std.specs.List.{range_with_len}
 use Rattle.bz_acts.specs.Rule.{is_flush_act}
 use Rattle.bz_acts.specs.declared.acted.Act.{Act}
-use Rattle.bz_acts.specs.declared.acted.Act.TheVariants as act
 use Rattle.bz_lone.specs.FromAlone.Reads.{get_reads}
 use Rattle.bz_call.specs.Pages.{is_page}
 use Rattle.bz_call.specs.declared.calls.Call.{Call}
@@ -31,6 +30,7 @@ use Rattle.bz_sound.specs.Lonely.{IsLonely, acts_since}
 use Rattle.bz_sound.specs.Memory.Moments.{map_at_start, image_after, image_at}
 use Rattle.bz_sound.specs.Memory.Spent.{NeedsSlots, is_reached_in}
 use Rattle.bz_mark.specs.Times.{power_of, since_on}
+pub use Rattle.bz_marked.specs.Marks.{mark_of}
 use Rattle.bz_sound.specs.Power.Times.{image_at_on}
 use Rattle.bz_sound.specs.Replies.{Pages}
 use Rattle.bz_mark.specs.Counts.{acts_by}
@@ -237,13 +237,6 @@ abbrev pub on_refusal : WorldView → Option Applied
 on_refusal lab =
     if is_short lab.log then Some applied.Limit
     else on_by (power_in lab)
-
--- the mark of an act
-abbrev pub mark_of : ℕ → Act → Mark
-mark_of w (act.Load a v) = Load w a v
-mark_of w (act.Store a v) = Store w a v
-mark_of w (act.Cas a old new found) = Cas w a old new found
-mark_of w (act.Flush line) = Flush w line
 
 -- the worker that made the newest act, if nothing else came since but that act's effect
 abbrev pub stepper : List Mark → Option ℕ

@@ -8,32 +8,13 @@ ghost use Rattle.bz_swap.specs.declared.phase.Phase.TheVariants.{Recovering};
 ghost use Rattle.bz_sound.specs.Calls.{open_call};
 ghost use Rattle.bz_world.specs.Inside.Acted.{IsActed, MustTell, HasActed, seen_by};
 ghost use Rattle.bz_world.specs.Inside.Kept.{IsAwake};
-ghost use Rattle.bz_world.specs.WorldView.{mark_of as mark_in};
 
 use crate::laws::step_laws;
 use crate::mark_effect::mark_effect;
 use crate::parts::Parts;
-use bz_mark::Mark;
-use bz_swap::{Act, Done, Progress};
+use bz_marked::mark_of;
+use bz_swap::{Done, Progress};
 use bz_task::Seen;
-
-// The mark of an act.
-pub(crate) fn mark_of(w: u8, act: Act) -> Mark
-    ensures { result ≡ mark_in w act }
-{
-    match act {
-        Act::Load { a, v } => Mark::Load { w, a, v },
-        Act::Store { a, v } => Mark::Store { w, a, v },
-        Act::Cas { a, old, new, found } => Mark::Cas {
-            w,
-            a,
-            old,
-            new,
-            found,
-        },
-        Act::Flush { line } => Mark::Flush { w, line },
-    }
-}
 
 // Makes the next act of a worker.
 fn make_act(parts: &mut Parts, w: u8) -> Progress

@@ -13,12 +13,12 @@ ghost use Rattle.bz_world.specs.Inside.Kept.{IsAwake, IsRecovering, IsStarted, I
 ghost use Rattle.bz_world.specs.Inside.Powering.{IsRawAct, HasAsked, MustWake, Wakes};
 ghost use Rattle.bz_world.specs.WorldView.{step_by, StepsBy, Recovers, Evicts};
 
-use crate::act::mark_of;
 use crate::answers::Applied;
 use crate::laws::begun_laws;
 use crate::parts::Parts;
 use crate::step::make_eviction;
 use bz_mark::{Mark, Power};
+use bz_marked::mark_of;
 use bz_swap::{Done, Progress};
 use bz_task::{Seen, Todo};
 

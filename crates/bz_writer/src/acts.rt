@@ -1,10 +1,10 @@
 //! The store of one of the words of fresh nodes, and the flush of one of their lines, counted through.
 
-ghost use Rattle.std.specs.Prelude.{◌≡◌, ◌+◌, ◌*◌, ◌/◌, ◌%◌, ◌<◌, ◌≤◌, ℕ, List, slice_index};
+ghost use Rattle.std.specs.Prelude.{◌≡◌, ◌+◌, ◌*◌, ◌/◌, ◌%◌, ◌<◌, ℕ, List, slice_index};
 ghost use Rattle.bz_layout.specs.Config.{IsConfig};
 ghost use Rattle.bz_layout.specs.declared.sizes.TheConstants.{NODE_LINES};
 ghost use Rattle.bz_layout.specs.declared.thresholds.TheConstants.{SPLIT_SLOTS};
-ghost use Rattle.bz_renew.specs.Nodes.{HaveSlots, word_address, line_number};
+ghost use Rattle.bz_renew.specs.Nodes.{word_address, line_number};
 ghost use Rattle.bz_task.specs.declared.todo.Todo.TheVariants.{Store as Stores_at, Flush as Flushes_line};
 
 use bz_layout::{Config, LINE_WORDS, NODE_WORDS};

@@ -5,7 +5,8 @@ use Rattle.bz_acts.specs.declared.acted.Act.{Act}
 use Rattle.bz_machine.specs.declared.done.Done.{Done}
 use Rattle.bz_mark.specs.declared.marks.Mark.{Mark}
 use Rattle.bz_mark.specs.declared.marks.Mark.TheVariants.{Evict}
-use Rattle.bz_mark.specs.WordsAfter.{words_after_marks}
+use Rattle.bz_mark.specs.WordsAfter.{state_after_marks, words_after_marks}
+use Rattle.bz_marked.specs.Past.{SamePast}
 use Rattle.bz_rivals.specs.Notes.{AreNoted}
 use Rattle.bz_swap.specs.Effects.{TakesEffect}
 use Rattle.bz_swap.specs.Evictions.{IsEviction}
@@ -21,7 +22,8 @@ use Rattle.bz_ring.specs.Growth.{Happens}
 use Rattle.bz_ring.specs.Journal.{QLog, with_mark, memory_of}
 use Rattle.bz_change.specs.Laws.{IsCalm}
 use Rattle.bz_change.specs.Values.{IsSwapOf, IsChanged}
-use Rattle.bz_queue.specs.Acts.{mark_of, IsPlain}
+use Rattle.bz_marked.specs.Marks.{mark_of}
+use Rattle.bz_queue.specs.Acts.{IsPlain}
 use Rattle.bz_queue.specs.Inside.Going.{MustGoOn}
 use Rattle.bz_queue.specs.Inside.Kept.{AreShown, IsKept}
 use Rattle.bz_queue.specs.QueueView.{IsStruck}
@@ -43,6 +45,7 @@ pub record IsEvicted (old : Parts) (a : ℕ) (told : Option ℕ) (new : Parts) :
 -- an act or an eviction with this mark gave swap s its effect
 pub record Strikes (r : Ring) (old new : SwapMemory) (log : QLog) (memory : Mark) (s : ℕ) : Type 0 where
   pub words : memory_words new ≡ words_after_marks log.start (memory ∷ memory_of log.past)
+  pub past : SamePast new (state_after_marks log.start (memory ∷ memory_of log.past))
   pub calm : IsCalm new
   pub owned : AreOwned new
   pub noted : AreNoted new

@@ -2,7 +2,8 @@
 use Rattle.std.specs.Prelude.{◌≡◌, ◌<◌, ◌≤◌, ◌+◌, ℕ, true, false, List, map, length, slice_index, get_or, None}
 use Rattle.bz_mark.specs.Counts.{is_taken}
 use Rattle.bz_mark.specs.Times.{since_on}
-use Rattle.bz_mark.specs.WordsAfter.{words_after_marks}
+use Rattle.bz_mark.specs.WordsAfter.{state_after_marks, words_after_marks}
+use Rattle.bz_marked.specs.Past.{SamePast}
 use Rattle.bz_rivals.specs.Notes.{AreNoted}
 use Rattle.bz_swap.specs.Settled.{AreOwned}
 use Rattle.bz_swap.specs.TakenStatuses.{IsTaken, BegunAreTaken}
@@ -44,10 +45,11 @@ pub record AreShown (m : SwapMemory) (past : List QMark) : Type 0 where
   pub begun : BegunAreTaken m
   pub shown : (s : ℕ) → s < m.swaps → IsTaken m s → is_taken s (since_on (memory_of past)) ≡ true
 
--- the swap memory, outside a recovery time: its words are those that the marks make; and a word that no swap has named is the same
+-- the swap memory, outside a recovery time: its words, and what it keeps of the past, are those that the marks make; and a word that no swap has named is the same
 -- in the caches and in the memory itself, so that what readers see is what the durable words stand for
 pub record IsMemory (m : SwapMemory) (log : QLog) : Type 0 where
   pub words : memory_words m ≡ words_after_marks log.start (memory_of log.past)
+  pub past : SamePast m (state_after_marks log.start (memory_of log.past))
   pub calm : IsCalm m
   pub owned : AreOwned m
   pub noted : AreNoted m

@@ -81,11 +81,13 @@ fn is_step_ready(cells: &Cells, list: &DescriptorWords, w: u8, step: HelpStep) -
             ..
         } => { is_usable(list, entry) && is_tagger(worker, seq) }
         HelpStep::ClearDirty { entry, value } => is_usable(list, entry) && value < 1 << 61,
-        HelpStep::FlushDirty { entry, .. }
-        | HelpStep::FlushTarget(entry)
-        | HelpStep::PutFinal { entry, .. }
-        | HelpStep::FlushFinal { entry, .. }
-        | HelpStep::ClearFinal { entry, .. } => is_usable(list, entry),
+        HelpStep::AskDirty { entry, .. }
+        | HelpStep::AskTarget(entry)
+        | HelpStep::AskFinal { entry, .. } => is_usable(list, entry) && cells.may_ask(w),
+        HelpStep::AskStatus(_) => cells.may_ask(w),
+        HelpStep::PutFinal { entry, .. } | HelpStep::ClearFinal { entry, .. } => {
+            is_usable(list, entry)
+        }
         _ => true,
     }
 }
@@ -113,11 +115,13 @@ fn is_ready(cells: &Cells, worker: &Worker, w: u8) -> bool
     }
     match worker.place {
         Place::Prepare(PrepareStep::WriteWord(k)) => k <= 12,
+        Place::Prepare(PrepareStep::AskHead | PrepareStep::AskTail) => cells.may_ask(w),
         Place::Prepare(_) => true,
         Place::Learn(k) => may_learn(cells, worker, k),
         Place::Help(step) => is_step_ready(cells, &worker.list, w, step),
         Place::ReadWord(a) => lies(a as u64),
-        Place::FlushRead { address, .. } => lies(address as u64),
+        Place::AskRead { address, .. } => lies(address as u64) && cells.may_ask(w),
+        Place::FenceRead { .. } => true,
         Place::ClearRead { address, value } => lies(address as u64) && value < 1 << 61,
         _ => false,
     }
@@ -160,8 +164,8 @@ fn swapper(count: u64, second: u64) -> Worker {
 }
 
 #[test]
-fn a_swap_alone_takes_seven_acts_and_ten_an_entry(rt: HostRuntime) -> Result<(), Fail> {
-    for (count, acts) in [(1, 17), (2, 27), (3, 37), (4, 47)] {
+fn a_swap_alone_takes_ten_acts_and_eleven_an_entry(rt: HostRuntime) -> Result<(), Fail> {
+    for (count, acts) in [(1, 21), (2, 32), (3, 43), (4, 54)] {
         let mut cells = zeros(rt.alloc())?;
         let mut worker = swapper(count, 0);
         let ended = run(&mut cells, &mut worker, 1, 60);
@@ -199,17 +203,17 @@ fn a_read_through_a_pointer_helps(rt: HostRuntime) -> Result<(), Fail> {
         back: None,
         list: DescriptorWords { words: [0; 13] },
     };
-    same(&rt, run(&mut cells, &mut sleeper, 1, 10), None);
+    same(&rt, run(&mut cells, &mut sleeper, 1, 11), None);
     same(&rt, cells.load_word(NODE), WordKind::Swap(0));
     same(
         &rt,
         run(&mut cells, &mut reader, 2, 60),
-        Some((Done::Read(11), 15)),
+        Some((Done::Read(11), 18)),
     );
     same(
         &rt,
         run(&mut cells, &mut sleeper, 1, 60),
-        Some((Done::Swapped(true), 3)),
+        Some((Done::Swapped(true), 4)),
     );
     Ok(())
 }

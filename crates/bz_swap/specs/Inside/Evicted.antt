@@ -1,11 +1,11 @@
 -- The eviction of a word as an event of the machine.
 use Rattle.std.specs.Prelude.{◌≡◌, if◌then◌else◌, ◌==◌, ◌&&◌, not, ℕ, Some, None}
 use Rattle.std.specs.declared.option.Option.{Option}
-use Rattle.bz_cells.specs.FromPm.Acts.{evicted}
+use Rattle.bz_cells.specs.FromPm.After.{after_eviction}
 use Rattle.bz_machine.specs.Machine.{Memory, is_succeeded}
 use Rattle.bz_machine.specs.Changes.{with_copies, with_durable_status, with_durable_fields}
 use Rattle.bz_machine.specs.State.{Event, Evict, EvictStatus, EvictField}
-use Rattle.bz_cells.specs.Store.{Store, Beside, IsStore, SameShape, typed, store_words, with_words, status_at}
+use Rattle.bz_cells.specs.Store.{Store, Beside, IsStore, SameShape, typed, store_state, with_state, status_at}
 use Rattle.bz_swap.specs.declared.role.WordRole.{WordRole}
 use Rattle.bz_swap.specs.declared.role.WordRole.TheVariants.{Outside, Status, Field}
 
@@ -36,6 +36,6 @@ pub record IsEvicted (old : Store) (a : ℕ) (told : Option ℕ) (new : Store) :
   pub role : WordRole
   pub is_told : told ≡ told_of role old new
   pub changed : (b : Beside) → typed new b ≡ memory_after a role (typed old b)
-  pub words : new ≡ with_words old (evicted (store_words old) a)
+  pub words : new ≡ with_state old (after_eviction (store_state old) a)
   pub readable : IsStore new
   pub shape : SameShape old new

@@ -1,8 +1,12 @@
 -- What a swap memory keeps true of its parts: outside a recovery time they are the machine's state.
-use Rattle.std.specs.Prelude.{◌≡◌, ◌≢◌, ℕ, ◌*◌, ◌<◌, ◌≤◌, false, List, length, get_or, slice_index, None}
+use Rattle.std.specs.Prelude.{◌≡◌, ◌≢◌, ℕ, ◌*◌, ◌/◌, ◌<◌, ◌≤◌, false, List, [], length, get_or, slice_index, None}
+use Rattle.bz_layout.specs.Addresses.{swap_address}
 use Rattle.bz_machine.specs.declared.place.Place.{Place}
 use Rattle.bz_machine.specs.declared.place.Place.TheVariants as place
 use Rattle.bz_machine.specs.declared.place.PrepareStep.{PrepareStep}
+use Rattle.bz_machine.specs.declared.place.PrepareStep.TheVariants.{AskTail, FenceDescriptor}
+use Rattle.bz_machine.specs.declared.place.HelpStep.{HelpStep}
+use Rattle.bz_machine.specs.declared.place.HelpStep.TheVariants.{AskTarget, FenceTargets, FenceDirty, FenceStatus, FenceFinal}
 use Rattle.bz_machine.specs.declared.worker.Operation.{Operation}
 use Rattle.bz_machine.specs.declared.worker.Operation.TheVariants as operation
 use Rattle.bz_machine.specs.declared.worker.Worker.{Worker}
@@ -14,7 +18,8 @@ use Rattle.bz_machine.specs.Sizes.{most_workers}
 use Rattle.bz_machine.specs.State.{State, IsState}
 use Rattle.bz_machine.specs.Lawful.{AreInRange}
 use Rattle.bz_machine.specs.Workers.{local_of}
-use Rattle.bz_cells.specs.Store.{Store, Beside, HasRoom, IsStore, typed}
+use Rattle.bz_cells.specs.FromPm.State.{ask_for}
+use Rattle.bz_cells.specs.Store.{Store, Past, Beside, HasRoom, IsStore, typed}
 use Rattle.bz_acts.specs.Ready.{LiesOutside}
 use Rattle.bz_swap.specs.declared.allowance.Allowance.{Allowance}
 use Rattle.bz_swap.specs.declared.phase.Phase.{Phase}
@@ -67,7 +72,8 @@ OperationLies st (operation.Swapping s) = Unit {0}
 
 abbrev pub PlaceLies : Store → Place → Type 0
 PlaceLies st (place.ReadWord a) = LiesOutside st a
-PlaceLies st (place.FlushRead a v) = LiesOutside st a
+PlaceLies st (place.AskRead a v) = LiesOutside st a
+PlaceLies st (place.FenceRead a v) = LiesOutside st a
 PlaceLies st (place.ClearRead a v) = LiesOutside st a
 PlaceLies st (place.StoreWord a v) = LiesOutside st a
 PlaceLies st (place.FlushLine line) = LiesOutside st (line * 8)
@@ -78,6 +84,44 @@ pub record IsWorker (st : Store) (l : Worker) : Type 0 where
   pub rests : RestsAt l.place l.operation
   pub operation : OperationLies st l.operation
   pub place : PlaceLies st l.place
+
+-- how many lines a worker has asked for at its place, since its last fence: at most so many
+abbrev pub lines_preparing : PrepareStep → ℕ
+lines_preparing AskTail = 1
+lines_preparing FenceDescriptor = 2
+lines_preparing other = 0
+
+abbrev pub lines_helping : HelpStep → ℕ
+lines_helping (FenceDirty i v) = 1
+lines_helping (AskTarget i) = i
+lines_helping FenceTargets = 4
+lines_helping (FenceStatus d) = 1
+lines_helping (FenceFinal i d) = 1
+lines_helping other = 0
+
+abbrev pub lines_at : Place → ℕ
+lines_at (place.Prepare step) = lines_preparing step
+lines_at (place.Help step) = lines_helping step
+lines_at (place.FenceRead a v) = 1
+lines_at other = 0
+
+-- a line that a worker has asked for
+abbrev pub HasAsked : Past → ℕ → ℕ → Type 0
+HasAsked past w line = ask_for (get_or past.asks w []) line ≢ None
+
+-- where it has asked for a verdict on swap s, it has asked for no line but that of the status
+abbrev pub HelpAsks : Past → ℕ → ℕ → HelpStep → Type 0
+HelpAsks past w s (FenceStatus d) = (line : ℕ) → HasAsked past w line → line ≡ swap_address s / 8
+HelpAsks past w s other = Unit {0}
+
+abbrev pub PlaceAsks : Past → ℕ → ℕ → Place → Type 0
+PlaceAsks past w s (place.Help step) = HelpAsks past w s step
+PlaceAsks past w s other = Unit {0}
+
+-- what worker w has asked for
+pub record AsksFew (past : Past) (w : ℕ) (l : Worker) : Type 0 where
+  pub few : length (get_or past.asks w []) ≤ lines_at l.place
+  pub alone : PlaceAsks past w l.current l.place
 
 pub record IsRunning (p : Parts) : Type 0 where
   pub entries : ℕ → Entries
@@ -94,6 +138,7 @@ pub record IsRunning (p : Parts) : Type 0 where
   pub workers : (w : ℕ) → IsWorker p.store (worker_at p w)
   pub tags : (w : ℕ) → slice_index p.store.next_tags w ≤ p.steps
   pub recoverer : (worker_at p 0).place ≡ place.Idle
+  pub asked : (w : ℕ) → AsksFew p.store.past w (worker_at p w)
 
 -- where worker 0 can be in a recovery time
 abbrev pub RecoversAt : Store → Place → Type 0
@@ -127,4 +172,5 @@ pub record IsKept (p : Parts) : Type 0 where
   pub few : length p.workers ≤ most_workers
   pub some : 0 < length p.workers
   pub allowed : p.allowance.all ≡ allowed_at p.workers
+  pub counted : p.store.past.count ≤ p.steps
   pub kept : KeptIn p.phase p

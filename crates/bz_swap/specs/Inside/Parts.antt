@@ -71,7 +71,8 @@ doing_at (place.Prepare step) o = doing_operation o
 doing_at (place.Learn k) o = doing_operation o
 doing_at (place.Help step) o = doing_operation o
 doing_at (place.ReadWord a) o = doing_operation o
-doing_at (place.FlushRead a v) o = doing_operation o
+doing_at (place.AskRead a v) o = doing_operation o
+doing_at (place.FenceRead a v) o = doing_operation o
 doing_at (place.ClearRead a v) o = doing_operation o
 
 abbrev pub working : Worker → Working
@@ -87,6 +88,7 @@ abbrev pub seen : Parts → SwapMemory
 seen p = record {
   cached = p.store.cached;
   durable = p.store.durable;
+  past = p.store.past;
   swaps = p.store.swaps;
   phase = p.phase;
   begun = begun_seen p.phase p.store p.workers;

@@ -3,7 +3,7 @@ use Rattle.std.specs.Prelude.{◌≡◌, ℕ}
 use Rattle.bz_machine.specs.declared.place.Place.{Place}
 use Rattle.bz_machine.specs.declared.place.Place.TheVariants as place
 use Rattle.bz_machine.specs.declared.done.Done.TheVariants.{Read, Stored, Flushed}
-use Rattle.bz_cells.specs.Store.{Store, HasRoom, store_words, with_words}
+use Rattle.bz_cells.specs.Store.{Store, HasRoom, store_words, store_state, with_state}
 use Rattle.bz_acts.specs.Rule.{FoundRightly, after_act}
 use Rattle.bz_acts.specs.declared.acted.Act.TheVariants.{Load, Store as StoreAct, Flush}
 use Rattle.bz_acts.specs.declared.acted.Acted.{Acted}
@@ -19,5 +19,5 @@ IsAsked other acted = ⊥
 pub record IsRawAct (old : Store) (at : Place) (acted : Acted) (new : Store) : Type 0 where
   pub asked : IsAsked at acted
   pub found : FoundRightly (store_words old) acted.act
-  pub after : new ≡ with_words old (after_act (store_words old) acted.act)
+  pub after : (w : ℕ) → new ≡ with_state old (after_act w (store_state old) acted.act)
   pub room : HasRoom new

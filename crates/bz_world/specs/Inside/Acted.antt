@@ -6,8 +6,9 @@ use Rattle.bz_acts.specs.declared.acted.Act.{Act}
 use Rattle.bz_machine.specs.declared.done.Done.{Done}
 use Rattle.bz_machine.specs.declared.done.Done.TheVariants as done
 use Rattle.bz_mark.specs.Log.{with_mark}
+use Rattle.bz_mark.specs.WordsAfter.{state_after_marks}
 use Rattle.bz_mark.specs.declared.marks.Mark.{Mark}
-use Rattle.bz_mark.specs.declared.marks.Mark.TheVariants.{Fence, Evict}
+use Rattle.bz_mark.specs.declared.marks.Mark.TheVariants.{Evict}
 use Rattle.bz_lone.specs.FromCosts.Weights.{start_takes}
 use Rattle.bz_rivals.specs.Rivals.{rivals, foreign}
 use Rattle.bz_rivals.specs.Wins.{GoesWell}
@@ -21,12 +22,14 @@ use Rattle.bz_sound.specs.Power.Sound.{IsSound}
 use Rattle.bz_sound.specs.Power.Times.{image_at_on}
 use Rattle.bz_story.specs.Laws.{IsMarked}
 use Rattle.bz_story.specs.Living.{IsLiving}
+use Rattle.bz_marked.specs.Past.{SamePast}
 use Rattle.bz_story.specs.Story.{Story, scene}
 use Rattle.bz_swap.specs.Alone.{left_to}
 use Rattle.bz_swap.specs.Evictions.{IsEviction}
 use Rattle.bz_swap.specs.Held.{Holds}
 use Rattle.bz_swap.specs.Steps.{IsStep}
 use Rattle.bz_swap.specs.SwapMemory.{SwapMemory, Idle, is_missed, doing_of, worker_of}
+use Rattle.bz_swap.specs.TakenStatuses.{IsTaken}
 use Rattle.bz_task.specs.Requests.{Hears, Tells, effects_in}
 use Rattle.bz_task.specs.Scene.{Stage, Waiting}
 use Rattle.bz_task.specs.declared.todo.Seen.{Seen}
@@ -81,7 +84,9 @@ pub record IsStriking (p : Parts) (s : ℕ) : Type 0 where
   pub taken : AreTaken p
   pub marked : IsMarked p.access before.journal mark
   pub flush : IsAfterFlush (mark ∷ before.journal.past)
-  pub no_fence : (w : ℕ) → mark ≢ Fence w
+  pub past : SamePast p.access (state_after_marks before.journal.start (mark ∷ before.journal.past))
+  -- the swap's status is not free in the caches
+  pub decided : IsTaken p.access s
   pub follows : MayFollow before.at_start (map_at_start before.config before.journal.start) before.journal.past mark
   -- of a swap that went well no miss is noted
   pub unnoted : (t : ℕ) → GoesWell before.access t → is_missed p.access t ≡ false

@@ -1,5 +1,6 @@
 use Rattle.std.proofs.Common.{refl, sym}
 use Rattle.bz_cells.specs.Store.{typed}
+use Rattle.bz_acts.proofs.Found.{made-by}
 use Rattle.bz_acts.proofs.prepare.learn.Goals as goal
 
 pub returns : goal.returns
@@ -10,5 +11,5 @@ returns c = λ w. record {
   flush = c.load_field-word.ensures.flush;
   told = tt;
   writes = c.load_field-word.ensures.writes;
-  made = c.load_field-word.ensures.made;
+  made = made-by _ _ _ w c.load_field-word.ensures.made;
 }

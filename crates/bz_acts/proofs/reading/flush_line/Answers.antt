@@ -1,5 +1,6 @@
 use Rattle.std.proofs.Common.{◌≡◌, ◌*◌, ◌/◌, arith}
 use Rattle.bz_cells.specs.Store.{typed}
+use Rattle.bz_acts.proofs.Found.{made-by}
 use Rattle.bz_acts.proofs.reading.flush_line.Goals as goal
 
 pub returns : goal.returns
@@ -12,5 +13,5 @@ returns c = λ w.
       flush = c.flush_word.ensures.flush;
       told = rw same at c.flush_word.ensures.told;
       writes = c.flush_word.ensures.writes;
-      made = c.flush_word.ensures.made;
+      made = made-by _ _ _ w c.flush_word.ensures.made;
     }

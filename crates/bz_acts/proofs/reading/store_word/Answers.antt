@@ -1,4 +1,5 @@
 use Rattle.bz_cells.specs.Store.{typed}
+use Rattle.bz_acts.proofs.Found.{made-by}
 use Rattle.bz_acts.proofs.reading.store_word.Goals as goal
 
 pub returns : goal.returns
@@ -9,5 +10,5 @@ returns c = λ w. record {
   flush = c.store_value.ensures.flush;
   told = c.store_value.ensures.told;
   writes = c.store_value.ensures.told;
-  made = c.store_value.ensures.made;
+  made = made-by _ _ _ w c.store_value.ensures.made;
 }

@@ -2,6 +2,7 @@ use Rattle.std.proofs.Common.{◌≡◌, sym, slice_index}
 use Rattle.bz_machine.specs.Machine.{Entries, entries_in}
 use Rattle.bz_machine.specs.HelpActs.{passed}
 use Rattle.bz_cells.specs.Store.{typed}
+use Rattle.bz_acts.proofs.Found.{made-by}
 use Rattle.bz_acts.proofs.tags.install_pointer.Goals as goal
 
 pub returns : goal.returns
@@ -14,5 +15,5 @@ returns c = λ w.
       next = λ b. rw (← aim.target, ← to) (c.untag.ensures.next x (typed c.args.cells.now b));
       flush = c.untag.ensures.flush;
       writes = c.untag.ensures.writes;
-      made = c.untag.ensures.made;
+      made = made-by _ _ _ w c.untag.ensures.made;
     }

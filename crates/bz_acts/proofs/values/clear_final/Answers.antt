@@ -1,6 +1,7 @@
 use Rattle.std.proofs.Common.{◌≡◌, sym, slice_index}
 use Rattle.bz_machine.specs.Machine.{Entries, entries_in}
 use Rattle.bz_machine.specs.HelpActs.{final_value}
+use Rattle.bz_acts.proofs.Found.{made-by}
 use Rattle.bz_acts.proofs.values.clear_final.Goals as goal
 
 pub returns : goal.returns
@@ -13,5 +14,5 @@ returns c = λ w s.
       next = λ b. c.finished.ensures x (sym aim.count);
       flush = c.clear_value.ensures.flush;
       writes = c.clear_value.ensures.writes;
-      made = c.clear_value.ensures.made;
+      made = made-by _ _ _ w c.clear_value.ensures.made;
     }

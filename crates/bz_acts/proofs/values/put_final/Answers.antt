@@ -2,6 +2,7 @@ use Rattle.std.proofs.Common.{◌≡◌, sym, slice_index}
 use Rattle.bz_machine.specs.Machine.{Entries, entries_in}
 use Rattle.bz_machine.specs.HelpActs.{final_value}
 use Rattle.bz_cells.specs.Store.{typed}
+use Rattle.bz_acts.proofs.Found.{made-by}
 use Rattle.bz_acts.proofs.Exchanges.{put}
 use Rattle.bz_acts.proofs.values.put_final.Goals as goal
 
@@ -17,5 +18,5 @@ returns c = λ w.
       next = λ b. rw (← aim.target, ← found.found) (c.after_put_final.ensures x (typed c.args.cells.now b) (sym aim.count));
       flush = found.flush;
       writes = found.writes;
-      made = found.made;
+      made = made-by _ _ _ w found.made;
     }

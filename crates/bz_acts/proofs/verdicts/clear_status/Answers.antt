@@ -1,4 +1,5 @@
 use Rattle.std.proofs.Common.{refl}
+use Rattle.bz_acts.proofs.Found.{made-by}
 use Rattle.bz_acts.proofs.Exchanges.{cleared-status}
 use Rattle.bz_acts.proofs.verdicts.clear_status.Goals as goal
 
@@ -8,5 +9,5 @@ returns c = λ x w. record {
   next = λ b. refl;
   flush = c.cas_status-found.ensures.flush;
   writes = (_, c.cas_status-found.ensures.told);
-  made = c.cas_status-found.ensures.made;
+  made = made-by _ _ _ w c.cas_status-found.ensures.made;
 }

@@ -1,4 +1,5 @@
 use Rattle.bz_cells.specs.Store.{typed}
+use Rattle.bz_acts.proofs.Found.{made-by}
 use Rattle.bz_acts.proofs.Exchanges.{decided}
 use Rattle.bz_acts.proofs.verdicts.decide.Goals as goal
 
@@ -8,5 +9,5 @@ returns c = λ x w. record {
   next = λ b. rw (← c.cas_status-found.ensures.found) (c.after_decide.ensures (typed c.args.cells.now b) c.args.swap);
   flush = c.cas_status-found.ensures.flush;
   writes = (_, c.cas_status-found.ensures.told);
-  made = c.cas_status-found.ensures.made;
+  made = made-by _ _ _ w c.cas_status-found.ensures.made;
 }

@@ -7,13 +7,13 @@ pub settle-requires-clause-asks : goal.settle-requires-clause-asks
 settle-requires-clause-asks c =
     let worker = rw (← c.self.view_is) at c.requires in
     let asks = c.as_slice-asks.ensures ∙ get_or_read _ c.args.w _ worker c.index.ensures [] in
-    (c.self.inside.acts, rw (c.deref_mut.ensures.value, asks) (c.self.invariant.asks c.args.w))
+    (c.self.inside.count, rw (c.deref_mut.ensures.value, asks) (c.self.invariant.asks c.args.w))
 
 pub invariant_of-self : goal.invariant_of-self
 invariant_of-self c =
     let worker = rw (← c.self.view_is) at c.requires in
     let durable = with_items_is c.self.inside.durable c.settle.new.durable (omega (arith, c.settle.auto.durable, c.deref_mut.ensures.len)) in
     let since = with_items_is c.self.inside.since c.settle.new.since (omega (arith, c.settle.auto.since, c.deref_mut-2.ensures.len)) in
-    rw (durable, since, c.clear.ensures) (state-fenced _ c.args.w _ _ _ c.self.invariant worker (omega arith)
+    rw (durable, since, c.clear.ensures) (state-fenced (record { words = _; acts = 0; count = _; since = _; asks = _ }) c.args.w _ _ c.self.invariant worker
     (c.as_slice-asks.ensures ∙ get_or_read _ c.args.w _ worker c.index.ensures [])
     (rw (c.deref_mut.ensures.value, c.deref_mut-2.ensures.value) at c.settle.ensures))

@@ -24,7 +24,8 @@ invariant_of-self c =
     let r : IsRunning p = running p.phase p phase c.self.invariant.kept in
     let is = worker-read p c.args.w c.index.result.now may.within c.index.ensures in
     let told = c.act-acted.ensures in
-    let a = acts-read p r.beside c.args.w c.index.result.now c.act-acted.new.cells c.act-acted.new.worker c.act-acted.result.done is (told.local r.beside) (told.done r.beside) (told.memory r.beside) told.typed told.shape in
+    let m = made-read p c.args.w c.index.result.now c.act-acted.new.cells c.act-acted.result.act is told.words told.within told.flush told.told told.writes in
+    let a = acts-read p r.beside c.args.w c.index.result.now c.act-acted.new.cells c.act-acted.new.worker c.act-acted.result.done is (told.local r.beside) (told.done r.beside) (told.memory r.beside) told.typed told.shape c.act-acted.result.act m in
     rw c.stepped-self-inside.ensures (step-kept p c.self.invariant c.args.w c.act-acted.new.cells c.act-acted.new.worker c.act-acted.result.done phase may a)
 
 pub returns-clause-step : goal.returns-clause-step
@@ -35,8 +36,8 @@ returns-clause-step c =
     let r : IsRunning p = running p.phase p phase c.self.invariant.kept in
     let is = worker-read p c.args.w c.index.result.now may.within c.index.ensures in
     let told = c.act-acted.ensures in
-    let a = acts-read p r.beside c.args.w c.index.result.now c.act-acted.new.cells c.act-acted.new.worker c.act-acted.result.done is (told.local r.beside) (told.done r.beside) (told.memory r.beside) told.typed told.shape in
     let m = made-read p c.args.w c.index.result.now c.act-acted.new.cells c.act-acted.result.act is told.words told.within told.flush told.told told.writes in
+    let a = acts-read p r.beside c.args.w c.index.result.now c.act-acted.new.cells c.act-acted.new.worker c.act-acted.result.done is (told.local r.beside) (told.done r.beside) (told.memory r.beside) told.typed told.shape c.act-acted.result.act m in
     rw (c.stepped-self-inside.ensures, c.told_effect.ensures, c.has_effect-had_effect.ensures, c.has_effect-has_effect.ensures, ← c.self.view_is) (subst (λ (u : Worker). IsStep (seen p) c.args.w c.act-acted.result.act c.act-acted.result.done (told_effect p.store c.act-acted.new.cells u.current) (seen (after_step p c.args.w c.act-acted.new.cells c.act-acted.new.worker))) (sym is)
     (step-seen p r c.args.w c.act-acted.new.cells c.act-acted.new.worker c.act-acted.result.done c.act-acted.result.act may phase a m))
 
@@ -48,5 +49,6 @@ returns-clause-held c =
     let r : IsRunning p = running p.phase p phase c.self.invariant.kept in
     let is = worker-read p c.args.w c.index.result.now may.within c.index.ensures in
     let told = c.act-acted.ensures in
-    let a = acts-read p r.beside c.args.w c.index.result.now c.act-acted.new.cells c.act-acted.new.worker c.act-acted.result.done is (told.local r.beside) (told.done r.beside) (told.memory r.beside) told.typed told.shape in
+    let m = made-read p c.args.w c.index.result.now c.act-acted.new.cells c.act-acted.result.act is told.words told.within told.flush told.told told.writes in
+    let a = acts-read p r.beside c.args.w c.index.result.now c.act-acted.new.cells c.act-acted.new.worker c.act-acted.result.done is (told.local r.beside) (told.done r.beside) (told.memory r.beside) told.typed told.shape c.act-acted.result.act m in
     rw c.stepped-self-inside.ensures (step-holds _ (step-kept p c.self.invariant c.args.w c.act-acted.new.cells c.act-acted.new.worker c.act-acted.result.done phase may a))

@@ -37,4 +37,4 @@ returns c =
     let busy = rw (← c.self.view_is) at c.requires.busy in
     let phase = rw (← c.self.view_is) at c.requires.phase in
     let is = worker-read p c.args.w c.index-worker.result.now (workers-within p c.args.w within) c.index-worker.ensures in
-    rw (c.stepped-self-inside.ensures, ← c.self.view_is) (raw-seen p c.self.invariant c.args.w c.raw_act-acted.new.cells c.index-worker.result.now c.raw_act-acted.result phase within busy is c.raw_act-acted.ensures)
+    rw (c.stepped-self-inside.ensures, ← c.self.view_is) (raw-seen p c.self.invariant c.args.w c.raw_act-acted.new.cells c.index-worker.result.now c.raw_act-acted.result phase within busy (rw (← c.self.view_is) at c.requires.steps) is c.raw_act-acted.ensures)
