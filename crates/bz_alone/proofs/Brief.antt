@@ -12,20 +12,20 @@ use Rattle.bz_running.specs.Duties.{asks_of, change_of}
 use Rattle.bz_running.specs.LookingUp.{ForWay, ForKey, NoLook, look_of, reads_asked, IsReadOrEnd}
 use Rattle.bz_running.specs.declared.running.AnyTask.{AnyTask}
 use Rattle.bz_running.specs.declared.running.AnyTask.TheVariants.{Seeking, Finding, Reading as ReadsLeaf, Inserting, Updating, Deleting, Freezing, Consolidating, Splitting, SplittingBelow, SplittingInner, SplittingInnerRoot, Merging}
-use Rattle.bz_swap.specs.Alone.{allowed_while, allowed_to_all, left_to}
+use Rattle.bz_swap.specs.Solo.{allowed_while, allowed_to_all, left_to}
 use Rattle.bz_swap.specs.SwapMemory.{SwapMemory, Doing, Reading, doing_of}
-use Rattle.bz_swap.proofs.Proved.{lone_steps_are_allowed}
+use Rattle.bz_swap.proofs.Proved.{solo_steps_are_allowed}
 use Rattle.bz_task.specs.Requests.{Tells}
 use Rattle.bz_task.specs.Scene.{Scene, Waiting}
 use Rattle.bz_task.specs.declared.path.Path.{Path}
 use Rattle.bz_task.specs.declared.todo.Seen.TheVariants.{Swapped}
 use Rattle.bz_task.specs.declared.todo.Todo.{Todo}
 use Rattle.bz_task.specs.declared.todo.Todo.TheVariants.{Read, Load, Store, Flush, Swap, Finish}
-use Rattle.bz_alone.specs.Alone.{IsAlone}
+use Rattle.bz_alone.specs.Undisturbed.{IsUndisturbed}
 use Rattle.bz_alone.specs.Brief.{AllIdle, LooksFor, LookUpsAreBrief, WaysAreBrief, BriefLookUpsGoOn, GetsAreBrief}
 use Rattle.bz_running.specs.Duties.{made_of, view_of}
 use Rattle.bz_alone.specs.Reads.{get_reads}
-use Rattle.bz_alone.proofs.Tasks.{loners-go-on}
+use Rattle.bz_alone.proofs.Tasks.{undisturbed-tasks-go-on}
 use Rattle.bz_alone.proofs.Ways.{paths-read-few}
 
 sum-none : (f : ℕ → ℕ) (n : ℕ) → ((v : ℕ) → f v ≡ 0) → sum_below f n ≡ 0
@@ -44,7 +44,7 @@ no-rival m w v h = go (not (v == w)) (is_pending m (doing_of m v)) (ap (is_pendi
 none-left : (m : SwapMemory) (w : ℕ) → AllIdle m → left_to m w ≡ 0
 none-left m w h =
     let all : allowed_to_all m ≡ 0 = sum-none (λ v. allowed_while (doing_of m v)) (length m.workers) (λ v. ap allowed_while (h v)) in
-    omega (arith, lone_steps_are_allowed.most m w, all)
+    omega (arith, solo_steps_are_allowed.most m w, all)
 
 -- an effect that is told to a worker which reads is foreign
 untold : (m : SwapMemory) (w : ℕ) (doing : Doing) (a : ℕ) (told : Option ℕ) → doing_of m w ≡ doing → doing ≡ Reading a → foreign m w told ≡ 0 → told ≡ None
@@ -67,7 +67,7 @@ look-ups-are-brief = record {
   begins = λ m w a key t idle look one. record {
     looks = look;
     calm = rivals_fall.start m w (Reading a) ∙ sum-none (λ v. counted (is_rival m w v) 1) (length m.workers) (λ v. no-rival m w v idle);
-    few = omega (arith, lone_steps_are_allowed.start m w (Reading a), none-left m w idle, one);
+    few = omega (arith, solo_steps_are_allowed.start m w (Reading a), none-left m w idle, one);
   };
   step = λ old new w a made done told acts key way t reads st h.
       let fall = rivals_fall.step old new w made done told st in (
@@ -84,7 +84,7 @@ look-ups-are-brief = record {
         record {
           looks = h.looks;
           calm = omega (arith, fall, h.calm);
-          few = omega (arith, h.few, lone_steps_are_allowed.eviction old new w a told ev);
+          few = omega (arith, h.few, solo_steps_are_allowed.eviction old new w a told ev);
         },
       );
   told = λ m w acts key way t u todo counts change h. record {
@@ -95,7 +95,7 @@ look-ups-are-brief = record {
   reads = λ m w acts key way t u a counts change h. record {
     looks = looks-on key way t u counts.look change h.looks;
     calm = rivals_fall.start m w (Reading a) ∙ h.calm;
-    few = omega (arith, h.few, lone_steps_are_allowed.start m w (Reading a), counts.reads (looks-some key way t h.looks));
+    few = omega (arith, h.few, solo_steps_are_allowed.start m w (Reading a), counts.reads (looks-some key way t h.looks));
   };
 }
 
@@ -136,7 +136,7 @@ no-swap (Some Finish) s h t = t
 pub brief-look-ups-go-on : BriefLookUpsGoOn
 brief-look-ups-go-on t u seen moment free left todo s config good facts alone look few tells heard e = elim (heard.goes.restart e) [
   | inl q ↦ no-swap (asks_of t) s (λ x a. few.asks x look a) (subst (λ x. Tells (asks_of t) Waiting x s) q tells)
-  | inr d ↦ (loners-go-on t s config good facts (subst (λ n. IsAlone n s.past) (sym (none-made t look)) alone)).same seen tells d
+  | inr d ↦ (undisturbed-tasks-go-on t s config good facts (subst (λ n. IsUndisturbed n s.past) (sym (none-made t look)) alone)).same seen tells d
 ]
 
 pub gets-are-brief : GetsAreBrief

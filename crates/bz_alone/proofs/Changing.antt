@@ -23,13 +23,13 @@ use Rattle.bz_insert.specs.declared.phase.Phase.TheVariants.{Reserve, Publish}
 use Rattle.bz_mutate.specs.UpdateFacts.{update_asks, update_made, update_facts}
 use Rattle.bz_mutate.specs.declared.update_phase.UpdatePhase.{UpdatePhase}
 use Rattle.bz_mutate.specs.declared.update_phase.UpdatePhase.TheVariants.{Grow, Replace}
-use Rattle.bz_alone.specs.Alone.{IsAlone, GoesOn}
+use Rattle.bz_alone.specs.Undisturbed.{IsUndisturbed, GoesOn}
 use Rattle.bz_alone.specs.Changes.{InsertsGoOn, UpdatesGoOn}
 use Rattle.bz_alone.specs.Quiet.{IsQuietSince, HadEffects}
 use Rattle.bz_alone.proofs.Freezing.{one-stands}
 use Rattle.bz_alone.proofs.Going.{idles, swaps}
 use Rattle.bz_alone.proofs.Records.{two-stand, counted-as, blocked-as, leaf-status, meta-stands, free-word, swap-stands}
-use Rattle.bz_alone.proofs.Quiet.{lonely}
+use Rattle.bz_alone.proofs.Quiet.{undisturbed}
 
 abbrev pub Statuses : Type 0
 Statuses = IsCodec Status IsStatus IsStatusWord status_word status
@@ -70,27 +70,27 @@ had-one k st m p w h = record { since = w.since; now = w.now; effects = h }
 
 module _ (s : Scene) (good : IsScene s) where
   -- so the second one stands
-  publication-there : (r : NewRecord) → Fits r → WasReserved r s.past → IsAlone 1 s.past → Stand (entries_of s.past.config (publication r)) (here s)
+  publication-there : (r : NewRecord) → Fits r → WasReserved r s.past → IsUndisturbed 1 s.past → Stand (entries_of s.past.config (publication r)) (here s)
   publication-there r f w a =
-      let q : IsQuietSince w.moment s.past = lonely.later s 1 w.moment good a (had-one r.slot (status_reserved r) w.moment s.past w.leaf.leaf w.swapped) in
+      let q : IsQuietSince w.moment s.past = undisturbed.later s 1 w.moment good a (had-one r.slot (status_reserved r) w.moment s.past w.leaf.leaf w.swapped) in
       publication-stands s good w.moment q r f w (omega arith)
 
-  replacement-there : (r : NewRecord) (old : List ℕ) (place : ℕ) (e : Extent) → WasGrown r old place e s.past → IsAlone 1 s.past → Stand (entries_of s.past.config (replacement r place e)) (here s)
+  replacement-there : (r : NewRecord) (old : List ℕ) (place : ℕ) (e : Extent) → WasGrown r old place e s.past → IsUndisturbed 1 s.past → Stand (entries_of s.past.config (replacement r place e)) (here s)
   replacement-there r old place e g a =
-      let q : IsQuietSince g.was.moment s.past = lonely.later s 1 g.was.moment good a (had-one r.slot (status_grown r) g.was.moment s.past g.was.leaf.leaf g.swapped) in
+      let q : IsQuietSince g.was.moment s.past = undisturbed.later s 1 g.was.moment good a (had-one r.slot (status_grown r) g.was.moment s.past g.was.leaf.leaf g.swapped) in
       replacement-stands s good g.was.moment q r old place e g (omega arith)
 
-  insert-goes : (r : NewRecord) (phase : Phase) → insert_facts r phase Waiting s → IsAlone (insert_made phase) s.past → GoesOn (insert_asks s.past.config r phase) (λ seen. ⊥) s
+  insert-goes : (r : NewRecord) (phase : Phase) → insert_facts r phase Waiting s → IsUndisturbed (insert_made phase) s.past → GoesOn (insert_asks s.past.config r phase) (λ seen. ⊥) s
   insert-goes r Reserve f a =
       let v = f.1.viewed in
-      swaps (entries_of s.past.config (reservation r)) (λ seen. ⊥) s (reservation-stands s good s.past.since (lonely.whole s good a) r v.moment v.leaf.leaf v.leaf.leaf.since f.1.room) (λ seen d. d)
+      swaps (entries_of s.past.config (reservation r)) (λ seen. ⊥) s (reservation-stands s good s.past.since (undisturbed.whole s good a) r v.moment v.leaf.leaf v.leaf.leaf.since f.1.room) (λ seen d. d)
   insert-goes r Publish f a = swaps (entries_of s.past.config (publication r)) (λ seen. ⊥) s (publication-there r f.1.fits f.1.reserved a) (λ seen d. d)
   insert-goes r phase f a = idles _ (λ seen. ⊥) s (λ entries e. absurd (cc)) (λ seen d. d)
 
-  update-goes : (v : KeyView) (r : NewRecord) (phase : UpdatePhase) → update_facts v r phase Waiting s → IsAlone (update_made phase) s.past → GoesOn (update_asks s.past.config r phase) (λ seen. ⊥) s
+  update-goes : (v : KeyView) (r : NewRecord) (phase : UpdatePhase) → update_facts v r phase Waiting s → IsUndisturbed (update_made phase) s.past → GoesOn (update_asks s.past.config r phase) (λ seen. ⊥) s
   update-goes v r (Grow f) k a =
       let w = k.1.was in
-      swaps (growth s.past.config r ∷ []) (λ seen. ⊥) s (growth-stands s good s.past.since (lonely.whole s good a) r w.moment w.leaf.leaf w.leaf.leaf.since) (λ seen d. d)
+      swaps (growth s.past.config r ∷ []) (λ seen. ⊥) s (growth-stands s good s.past.since (undisturbed.whole s good a) r w.moment w.leaf.leaf w.leaf.leaf.since) (λ seen d. d)
   update-goes v r (Replace f) k a =
       swaps (entries_of s.past.config (replacement r f.place f.extent)) (λ seen. ⊥) s (replacement-there r k.1.pair.old f.place f.extent k.1.grown a) (λ seen d. d)
   update-goes v r phase k a = idles _ (λ seen. ⊥) s (λ entries e. absurd (cc)) (λ seen d. d)

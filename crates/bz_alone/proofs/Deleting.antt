@@ -7,12 +7,12 @@ use Rattle.bz_record.specs.Swaps.{entries_of}
 use Rattle.bz_mutate.specs.DeleteFacts.{delete_asks, delete_facts}
 use Rattle.bz_mutate.specs.declared.delete_phase.DeletePhase.{DeletePhase}
 use Rattle.bz_mutate.specs.declared.delete_phase.DeletePhase.TheVariants.{Remove}
-use Rattle.bz_alone.specs.Alone.{GoesOn}
+use Rattle.bz_alone.specs.Undisturbed.{GoesOn}
 use Rattle.bz_alone.specs.Laws.{DeletesGoOn}
 use Rattle.bz_alone.specs.Quiet.{IsQuietSince}
 use Rattle.bz_alone.proofs.Going.{idles, swaps}
 use Rattle.bz_alone.proofs.Records.{swap-stands}
-use Rattle.bz_alone.proofs.Quiet.{lonely}
+use Rattle.bz_alone.proofs.Quiet.{undisturbed}
 
 goes : (s : Scene) → IsScene s → IsQuietSince s.past.since s.past → (key : List ℕ) (v : KeyView) (phase : DeletePhase) → delete_facts key v phase Waiting s → GoesOn (delete_asks s.past.config v phase) (λ seen. ⊥) s
 goes s good q key v (Remove f) h =
@@ -21,4 +21,4 @@ goes s good q key v (Remove f) h =
 goes s good q key v phase h = idles _ (λ seen. ⊥) s (λ entries e. absurd (cc)) (λ seen d. d)
 
 pub deletes-go-on : DeletesGoOn
-deletes-go-on t s same good f a = subst (λ z. GoesOn (delete_asks z t.view t.phase) (λ seen. ⊥) s) same (goes s good (lonely.whole s good a) t.key t.view t.phase f)
+deletes-go-on t s same good f a = subst (λ z. GoesOn (delete_asks z t.view t.phase) (λ seen. ⊥) s) same (goes s good (undisturbed.whole s good a) t.key t.view t.phase f)

@@ -12,12 +12,12 @@ use Rattle.bz_running.specs.FromFind.Phases.{find_asks}
 use Rattle.bz_running.specs.FromFind.Find.{Find}
 use Rattle.bz_running.specs.FromFind.Phase.{Phase}
 use Rattle.bz_running.specs.FromFind.Phase.TheVariants.{Again, Link as Of_link, Guard}
-use Rattle.bz_alone.specs.Alone.{GoesOn}
+use Rattle.bz_alone.specs.Undisturbed.{GoesOn}
 use Rattle.bz_alone.specs.Lookups.{FindsGoOn}
 use Rattle.bz_alone.specs.Quiet.{IsQuietSince}
 use Rattle.bz_alone.proofs.Going.{idles, reads}
 use Rattle.bz_alone.proofs.LastLinks.{status-again, link-again, guard-thawed}
-use Rattle.bz_alone.proofs.Quiet.{lonely}
+use Rattle.bz_alone.proofs.Quiet.{undisturbed}
 
 module _ (s : Scene) (good : IsScene s) (q : IsQuietSince s.past.since s.past) (t : Find) (same : s.past.config ≡ t.config) (is : IsPath t.key t.path s.past) (last : IsLastLink t.path t.link) where
   -- the address of the status, in the memory of the task
@@ -33,4 +33,4 @@ module _ (s : Scene) (good : IsScene s) (q : IsQuietSince s.past.since s.past) (
   goes phase f = idles _ (find_differs t phase) s (λ entries e. absurd (cc)) (λ seen d. d)
 
 pub finds-go-on : FindsGoOn
-finds-go-on t s same good f a = goes s good (lonely.whole s good a) t same f.1 f.3 t.phase f.0
+finds-go-on t s same good f a = goes s good (undisturbed.whole s good a) t same f.1 f.3 t.phase f.0

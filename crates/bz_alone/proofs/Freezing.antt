@@ -7,12 +7,12 @@ use Rattle.bz_task.specs.Swaps.{Stand}
 use Rattle.bz_freeze.specs.Facts.{WasLeaf, entry_of, freeze_asks, freeze_facts}
 use Rattle.bz_freeze.specs.declared.phase.Phase.{Phase}
 use Rattle.bz_freeze.specs.declared.phase.Phase.TheVariants.{Swap}
-use Rattle.bz_alone.specs.Alone.{GoesOn}
+use Rattle.bz_alone.specs.Undisturbed.{GoesOn}
 use Rattle.bz_alone.specs.Laws.{FreezesGoOn}
 use Rattle.bz_alone.specs.Quiet.{IsQuietSince}
 use Rattle.bz_alone.proofs.Going.{idles, swaps}
 use Rattle.bz_alone.proofs.Standing.{reached-in, status-stands}
-use Rattle.bz_alone.proofs.Quiet.{lonely}
+use Rattle.bz_alone.proofs.Quiet.{undisturbed}
 
 pub one-stands : (e : Entry) (s : Scene) → (here s).value e.target ≡ e.expected → Stand (e ∷ []) (here s)
 one-stands e s h = All-cons (λ (z : Entry). (here s).value z.target ≡ z.expected) e [] h (λ i d l. absurd (omega (arith, l)))
@@ -28,4 +28,4 @@ module _ (s : Scene) (good : IsScene s) (q : IsQuietSince s.past.since s.past) w
   goes k st phase f = idles _ (λ seen. ⊥) s (λ entries e. absurd (cc)) (λ seen d. d)
 
 pub freezes-go-on : FreezesGoOn
-freezes-go-on t s same good f a = subst (λ z. GoesOn (freeze_asks z t.slot t.status t.phase) (λ seen. ⊥) s) same (goes s good (lonely.whole s good a) t.slot t.status t.phase f)
+freezes-go-on t s same good f a = subst (λ z. GoesOn (freeze_asks z t.slot t.status t.phase) (λ seen. ⊥) s) same (goes s good (undisturbed.whole s good a) t.slot t.status t.phase f)

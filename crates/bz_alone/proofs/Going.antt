@@ -8,7 +8,7 @@ use Rattle.bz_task.specs.declared.todo.Seen.{Seen}
 use Rattle.bz_task.specs.declared.todo.Seen.TheVariants.{Start, Read as Was, Stored, Flushed, Swapped, NoSwap}
 use Rattle.bz_task.specs.declared.todo.Todo.{Todo}
 use Rattle.bz_task.specs.declared.todo.Todo.TheVariants.{Read, Swap}
-use Rattle.bz_alone.specs.Alone.{GoesOn}
+use Rattle.bz_alone.specs.Undisturbed.{GoesOn}
 
 same-entries : (a b : List Entry) → Some (Swap a) ≡ Some (Swap b) → a ≡ b
 same-entries a b e = cc

@@ -18,7 +18,7 @@ use Rattle.bz_task.specs.Shown.{IsRead}
 use Rattle.bz_task.proofs.Proved.{headers_say_the_level}
 use Rattle.bz_alone.specs.Quiet.{IsQuietSince}
 use Rattle.bz_alone.specs.Trees.{PathsLeadToLeaves}
-use Rattle.bz_alone.proofs.Quiet.{lonely, read-values}
+use Rattle.bz_alone.proofs.Quiet.{undisturbed, read-values}
 use Rattle.bz_alone.proofs.Trees.{trees-stand}
 
 pub paths-lead : PathsLeadToLeaves
@@ -28,7 +28,7 @@ paths-lead s key path link good alone is last = now
     p = s.past
 
     q : IsQuietSince s.past.since s.past
-    q = lonely.whole s good alone
+    q = undisturbed.whole s good alone
 
     on : IsLink key s.past link
     on = is.links (path.depth - 1) link (omega (arith, is.some)) last

@@ -21,7 +21,7 @@ use Rattle.bz_running.specs.FromMerge.Plans.{Merging, viewed_leaf, beside_leaf}
 use Rattle.bz_running.specs.FromMerge.Siblings.{SeenLeaf}
 use Rattle.bz_running.specs.FromMerge.Phase.{Phase}
 use Rattle.bz_running.specs.FromMerge.Phase.TheVariants.{Again, Parent, Still, Freeze, FreezeBeside, Guard, Swap}
-use Rattle.bz_alone.specs.Alone.{IsAlone, GoesOn}
+use Rattle.bz_alone.specs.Undisturbed.{IsUndisturbed, GoesOn}
 use Rattle.bz_alone.specs.Changes.{MergesGoOn}
 use Rattle.bz_alone.specs.Quiet.{IsQuietSince}
 use Rattle.bz_alone.proofs.Freezing.{one-stands}
@@ -30,7 +30,7 @@ use Rattle.bz_alone.proofs.Links.{guard-same}
 use Rattle.bz_alone.proofs.Named.{WasSeenOnce, both-seen, AsRead, leaf-as-seen}
 use Rattle.bz_alone.proofs.OwnFreezes.{beside-as-read, both-as-read}
 use Rattle.bz_alone.proofs.Standing.{status-stands}
-use Rattle.bz_alone.proofs.Quiet.{lonely}
+use Rattle.bz_alone.proofs.Quiet.{undisturbed}
 
 -- before it has frozen anything
 module _ (s : Scene) (good : IsScene s) (q : IsQuietSince s.past.since s.past) where
@@ -70,25 +70,25 @@ module _ (s : Scene) (good : IsScene s) (r : Merging) where
       (fronts_stay s.past.config s.past.at s.past.since s.past.now seen.at s.past.now r.beside_slot good.history (record { since = o.since; order = o.now; until = omega arith }) then).reached in
       inr (inr (record { slot = r.beside_slot; place = STATUS_AT; address = refl; within = omega arith; reached = reached; shown = inl (omega arith) }))
 
-  beside-goes : merge_facts r FreezeBeside Waiting s → IsAlone (merge_made r FreezeBeside) s.past → GoesOn (merge_asks s.past.config r FreezeBeside) (merge_differs r FreezeBeside) s
+  beside-goes : merge_facts r FreezeBeside Waiting s → IsUndisturbed (merge_made r FreezeBeside) s.past → GoesOn (merge_asks s.past.config r FreezeBeside) (merge_differs r FreezeBeside) s
   beside-goes f a =
       let seen : WasSeenOnce (beside_leaf r) s.past = (both-seen r s.past f.1.0).1 in
       swaps (entry_of s.past.config r.beside_slot (slice_index r.beside STATUS_AT) ∷ []) (merge_differs r FreezeBeside) s
       (one-stands (entry_of s.past.config r.beside_slot (slice_index r.beside STATUS_AT)) s (beside-as-read s good r f.1.1.1.1 a seen (beside-read seen))) (λ seen d. d)
 
-  guard-goes : merge_facts r Guard Waiting s → IsAlone (merge_made r Guard) s.past → GoesOn (merge_asks s.past.config r Guard) (merge_differs r Guard) s
+  guard-goes : merge_facts r Guard Waiting s → IsUndisturbed (merge_made r Guard) s.past → GoesOn (merge_asks s.past.config r Guard) (merge_differs r Guard) s
   guard-goes f a = reads r.upper.guard (merge_differs r Guard) s (λ v h d. d (sym h.value ∙ (both-as-read s good r f.1.planned.paired.viewed.links f.1.froze a).guard))
 
-  swap-goes : merge_facts r Swap Waiting s → IsAlone (merge_made r Swap) s.past → GoesOn (merge_asks s.past.config r Swap) (merge_differs r Swap) s
+  swap-goes : merge_facts r Swap Waiting s → IsUndisturbed (merge_made r Swap) s.past → GoesOn (merge_asks s.past.config r Swap) (merge_differs r Swap) s
   swap-goes f a =
       let d = f.1.frozen.planned.paired.viewed.links in
       swaps (below_swap s.past.config r.upper r.lower (r.slot 0)) (merge_differs r Swap) s (swap-stands d (both-as-read s good r d f.1.frozen.froze a)) (λ seen d. d)
 
-merge-goes : (s : Scene) → IsScene s → (r : Merging) (phase : Phase) → merge_facts r phase Waiting s → IsAlone (merge_made r phase) s.past → GoesOn (merge_asks s.past.config r phase) (merge_differs r phase) s
-merge-goes s good r Again f a = again-goes s good (lonely.whole s good a) r f
-merge-goes s good r Parent f a = parent-goes s good (lonely.whole s good a) r f
-merge-goes s good r Still f a = still-goes s good (lonely.whole s good a) r f
-merge-goes s good r Freeze f a = freeze-goes s good (lonely.whole s good a) r f
+merge-goes : (s : Scene) → IsScene s → (r : Merging) (phase : Phase) → merge_facts r phase Waiting s → IsUndisturbed (merge_made r phase) s.past → GoesOn (merge_asks s.past.config r phase) (merge_differs r phase) s
+merge-goes s good r Again f a = again-goes s good (undisturbed.whole s good a) r f
+merge-goes s good r Parent f a = parent-goes s good (undisturbed.whole s good a) r f
+merge-goes s good r Still f a = still-goes s good (undisturbed.whole s good a) r f
+merge-goes s good r Freeze f a = freeze-goes s good (undisturbed.whole s good a) r f
 merge-goes s good r FreezeBeside f a = beside-goes s good r f a
 merge-goes s good r Guard f a = guard-goes s good r f a
 merge-goes s good r Swap f a = swap-goes s good r f a

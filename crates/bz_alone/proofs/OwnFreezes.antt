@@ -14,11 +14,11 @@ use Rattle.bz_running.specs.FromMerge.Counts.{freezes_of, both_freezes}
 use Rattle.bz_running.specs.FromMerge.OwnFreezes.{FrozeAfter, FrozeViewed, ViewedWasFrozen, FrozeBeside, BothWereFrozen}
 use Rattle.bz_running.specs.FromMerge.Plans.{Merging, viewed_leaf, beside_leaf}
 use Rattle.bz_running.specs.FromMerge.Siblings.{SeenLeaf}
-use Rattle.bz_alone.specs.Alone.{IsAlone}
+use Rattle.bz_alone.specs.Undisturbed.{IsUndisturbed}
 use Rattle.bz_alone.specs.Quiet.{IsQuietSince, HadEffects}
 use Rattle.bz_alone.proofs.Named.{WasSeenOnce, both-seen, pair-apart, AsRead, leaf-as-seen, quiet-as-read, guard-now, link-now, left-as-read}
 use Rattle.bz_alone.proofs.Standing.{now-as}
-use Rattle.bz_alone.proofs.Quiet.{lonely, never-fall}
+use Rattle.bz_alone.proofs.Quiet.{undisturbed, never-fall}
 
 -- effects around a freeze
 module _ (s : Scene) (good : IsScene s) (r : Merging) (l : SeenLeaf) (z : Scene) (f : FrozeAfter r l z s.past) where
@@ -36,8 +36,8 @@ module _ (s : Scene) (good : IsScene s) (r : Merging) (l : SeenLeaf) (z : Scene)
       let up : (z.past.at z.past.since).effects ≤ (here z).effects = never-fall z.past.config z.past.at z.past.since z.past.now z.past.since z.past.now f.earlier.good.history (record { since = omega arith; order = f.earlier.good.begun; until = omega arith }) in
       omega (arith, up)
 
-  pub alone-before : (made : ℕ) → (z.past.at z.past.since).effects + made ≤ (here z).effects → IsAlone (made + 1) s.past → IsAlone made z.past
-  alone-before made least a =
+  pub undisturbed-before : (made : ℕ) → (z.past.at z.past.since).effects + made ≤ (here z).effects → IsUndisturbed (made + 1) s.past → IsUndisturbed made z.past
+  undisturbed-before made least a =
       let up : (s.past.at m).effects ≤ (here s).effects = never-fall s.past.config s.past.at s.past.since s.past.now m s.past.now good.history (record { since = after-begin; order = f.earlier.now; until = omega arith }) in
       omega (arith, up, least, a, f.effects, same-begin)
 
@@ -51,12 +51,12 @@ module _ (s : Scene) (good : IsScene s) (r : Merging) (l : SeenLeaf) (z : Scene)
       omega (arith, up, none-lost, f.effects, same-begin)
 
   -- a value that is read now is what it was directly after the freeze, where nothing came since
-  pub value-since : (made : ℕ) → HadEffects made m s.past → IsAlone made s.past → (x : ℕ) → IsRead s.past.config (here s) x → (here s).value x ≡ (s.past.at m).value x
+  pub value-since : (made : ℕ) → HadEffects made m s.past → IsUndisturbed made s.past → (x : ℕ) → IsRead s.past.config (here s) x → (here s).value x ≡ (s.past.at m).value x
   value-since made h a x read =
-      let q : IsQuietSince m s.past = lonely.later s made m good a h in
+      let q : IsQuietSince m s.past = undisturbed.later s made m good a h in
       now-as s good m q s.past.now m x q.now (omega arith) read (omega arith) q.now
 
-  pub read-since : (made : ℕ) → HadEffects made m s.past → IsAlone made s.past → AreLinksDown r.upper r.lower s.past → AsRead r (s.past.at m) → AsRead r (here s)
+  pub read-since : (made : ℕ) → HadEffects made m s.past → IsUndisturbed made s.past → AreLinksDown r.upper r.lower s.past → AsRead r (s.past.at m) → AsRead r (here s)
   read-since made h a d x = record {
     link = value-since made h a r.upper.link (link-now s good r.upper d.upper_guard) ∙ x.link;
     guard = value-since made h a r.upper.guard (guard-now s good r.upper d.upper_guard) ∙ x.guard;
@@ -64,19 +64,19 @@ module _ (s : Scene) (good : IsScene s) (r : Merging) (l : SeenLeaf) (z : Scene)
   }
 
 -- an own freeze counts, and one that was not needed does not
-no-freeze : (own : ℕ) (p : Past) → (status own).frozen ≡ true → IsAlone (freezes_of own) p → IsAlone 0 p
-no-freeze own p e a = subst (λ t. IsAlone (if t then 0 else 1) p) e a
+no-freeze : (own : ℕ) (p : Past) → (status own).frozen ≡ true → IsUndisturbed (freezes_of own) p → IsUndisturbed 0 p
+no-freeze own p e a = subst (λ t. IsUndisturbed (if t then 0 else 1) p) e a
 
-one-freeze : (own : ℕ) (p : Past) → (status own).frozen ≡ false → IsAlone (freezes_of own) p → IsAlone 1 p
-one-freeze own p e a = subst (λ t. IsAlone (if t then 0 else 1) p) e a
+one-freeze : (own : ℕ) (p : Past) → (status own).frozen ≡ false → IsUndisturbed (freezes_of own) p → IsUndisturbed 1 p
+one-freeze own p e a = subst (λ t. IsUndisturbed (if t then 0 else 1) p) e a
 
-no-more : (own : ℕ) (made : ℕ) (p : Past) → (status own).frozen ≡ true → IsAlone (made + freezes_of own) p → IsAlone made p
+no-more : (own : ℕ) (made : ℕ) (p : Past) → (status own).frozen ≡ true → IsUndisturbed (made + freezes_of own) p → IsUndisturbed made p
 no-more own made p e a =
     let none : made + 0 ≡ made = omega arith in
-    subst (λ n. IsAlone n p) none (subst (λ t. IsAlone (made + (if t then 0 else 1)) p) e a)
+    subst (λ n. IsUndisturbed n p) none (subst (λ t. IsUndisturbed (made + (if t then 0 else 1)) p) e a)
 
-one-more : (own : ℕ) (made : ℕ) (p : Past) → (status own).frozen ≡ false → IsAlone (made + freezes_of own) p → IsAlone (made + 1) p
-one-more own made p e a = subst (λ t. IsAlone (made + (if t then 0 else 1)) p) e a
+one-more : (own : ℕ) (made : ℕ) (p : Past) → (status own).frozen ≡ false → IsUndisturbed (made + freezes_of own) p → IsUndisturbed (made + 1) p
+one-more own made p e a = subst (λ t. IsUndisturbed (made + (if t then 0 else 1)) p) e a
 
 least-one : (own : ℕ) (s : Scene) → (status own).frozen ≡ false → (s.past.at s.past.since).effects + 1 ≤ (here s).effects → (s.past.at s.past.since).effects + freezes_of own ≤ (here s).effects
 least-one own s e h = subst (λ t. (s.past.at s.past.since).effects + (if t then 0 else 1) ≤ (here s).effects) (sym e) h
@@ -86,7 +86,7 @@ least-none own s e h = subst (λ t. (s.past.at s.past.since).effects + (if t the
 
 module _ (s : Scene) (good : IsScene s) (r : Merging) where
   -- after the freeze of the viewed leaf, which nothing came before
-  module _ (w : FrozeViewed r s.past) (a : IsAlone 1 s.past) where
+  module _ (w : FrozeViewed r s.past) (a : IsUndisturbed 1 s.past) where
     abbrev z : Scene
     z = w.before
 
@@ -94,7 +94,7 @@ module _ (s : Scene) (good : IsScene s) (r : Merging) where
     least = none-lost s good r (viewed_leaf r) z w.froze
 
     quiet : IsQuietSince z.past.since z.past
-    quiet = lonely.whole z w.froze.earlier.good (alone-before s good r (viewed_leaf r) z w.froze 0 least a)
+    quiet = undisturbed.whole z w.froze.earlier.good (undisturbed-before s good r (viewed_leaf r) z w.froze 0 least a)
 
     had : HadEffects 1 (z.past.now + 1) s.past
     had = had-then s good r (viewed_leaf r) z w.froze 0 least
@@ -117,13 +117,13 @@ module _ (s : Scene) (good : IsScene s) (r : Merging) where
         ∙ leaf-as-seen z w.froze.earlier.good quiet (beside_leaf r) (both-seen r z.past plan).1))
 
   -- once the viewed leaf is frozen
-  pub own-as-read : ViewedWasFrozen r s.past → IsAlone (freezes_of r.status) s.past → AreLinksDown r.upper r.lower s.past → AsRead r (here s)
-  own-as-read (inl e) a d = quiet-as-read s good (lonely.whole s good (no-freeze r.status s.past e a)) r d
+  pub own-as-read : ViewedWasFrozen r s.past → IsUndisturbed (freezes_of r.status) s.past → AreLinksDown r.upper r.lower s.past → AsRead r (here s)
+  own-as-read (inl e) a d = quiet-as-read s good (undisturbed.whole s good (no-freeze r.status s.past e a)) r d
   own-as-read (inr w) a d = viewed-as-read w (one-freeze r.status s.past w.froze.thawed a) d
 
-  pub beside-as-read : ViewedWasFrozen r s.past → IsAlone (freezes_of r.status) s.past → WasSeenOnce (beside_leaf r) s.past → IsRead s.past.config (here s) (node_address s.past.config r.beside_slot + STATUS_AT)
+  pub beside-as-read : ViewedWasFrozen r s.past → IsUndisturbed (freezes_of r.status) s.past → WasSeenOnce (beside_leaf r) s.past → IsRead s.past.config (here s) (node_address s.past.config r.beside_slot + STATUS_AT)
       → (here s).value (node_address s.past.config r.beside_slot + STATUS_AT) ≡ slice_index r.beside STATUS_AT
-  beside-as-read (inl e) a seen read = leaf-as-seen s good (lonely.whole s good (no-freeze r.status s.past e a)) (beside_leaf r) seen
+  beside-as-read (inl e) a seen read = leaf-as-seen s good (undisturbed.whole s good (no-freeze r.status s.past e a)) (beside_leaf r) seen
   beside-as-read (inr w) a seen read = beside-after w (one-freeze r.status s.past w.froze.thawed a) read
 
   pub own-least : ViewedWasFrozen r s.past → (s.past.at s.past.since).effects + 0 ≤ (here s).effects → (s.past.at s.past.since).effects + freezes_of r.status ≤ (here s).effects
@@ -132,18 +132,18 @@ module _ (s : Scene) (good : IsScene s) (r : Merging) where
 
 -- once both are
 module _ (s : Scene) (good : IsScene s) (r : Merging) (d : AreLinksDown r.upper r.lower s.past) where
-  beside-frozen : FrozeBeside r s.past → IsAlone (both_freezes r) s.past → AsRead r (here s)
+  beside-frozen : FrozeBeside r s.past → IsUndisturbed (both_freezes r) s.past → AsRead r (here s)
   beside-frozen w a =
       let z = w.before in
       let before : IsScene z = w.froze.earlier.good in
       let plan = w.froze.planned in
       let made : ℕ = freezes_of r.status in
-      let now : IsAlone (made + 1) s.past = one-more (slice_index r.beside STATUS_AT) made s.past w.froze.thawed a in
+      let now : IsUndisturbed (made + 1) s.past = one-more (slice_index r.beside STATUS_AT) made s.past w.froze.thawed a in
       let least : (z.past.at z.past.since).effects + made ≤ (here z).effects = own-least z before r w.viewed (none-lost s good r (beside_leaf r) z w.froze) in
       read-since s good r (beside_leaf r) z w.froze (made + 1) (had-then s good r (beside_leaf r) z w.froze made least) now d
       (left-as-read z before r (beside_leaf r) s.past (both-seen r z.past plan).1 w.froze
-      (own-as-read z before r w.viewed (alone-before s good r (beside_leaf r) z w.froze made least now) plan.paired.viewed.links))
+      (own-as-read z before r w.viewed (undisturbed-before s good r (beside_leaf r) z w.froze made least now) plan.paired.viewed.links))
 
-  pub both-as-read : BothWereFrozen r s.past → IsAlone (both_freezes r) s.past → AsRead r (here s)
+  pub both-as-read : BothWereFrozen r s.past → IsUndisturbed (both_freezes r) s.past → AsRead r (here s)
   both-as-read (inl e) a = own-as-read s good r e.1 (no-more (slice_index r.beside STATUS_AT) (freezes_of r.status) s.past e.0 a) d
   both-as-read (inr w) a = beside-frozen w a

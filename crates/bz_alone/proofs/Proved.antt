@@ -8,15 +8,15 @@ use Rattle.bz_alone.proofs.Freezing.{freezes-go-on}
 use Rattle.bz_alone.proofs.Leads.{paths-lead}
 use Rattle.bz_alone.proofs.Merging.{merges-go-on}
 use Rattle.bz_alone.proofs.OwnSwaps.{own-counted}
-use Rattle.bz_alone.proofs.Quiet.{lonely, never-fall, quiet-times, read-values}
+use Rattle.bz_alone.proofs.Quiet.{undisturbed, never-fall, quiet-times, read-values}
 use Rattle.bz_alone.proofs.Reading.{readings-go-on}
-use Rattle.bz_alone.proofs.Restarts.{lone-restarts}
+use Rattle.bz_alone.proofs.Restarts.{undisturbed-restarts}
 use Rattle.bz_alone.proofs.Seeking.{seeks-go-on}
 use Rattle.bz_alone.proofs.Splitting.{root-splits-go-on}
 use Rattle.bz_alone.proofs.SplittingBelow.{splits-below-go-on}
 use Rattle.bz_alone.proofs.SplittingInner.{inner-splits-go-on}
 use Rattle.bz_alone.proofs.SplittingRoot.{inner-root-splits-go-on}
-use Rattle.bz_alone.proofs.Tasks.{loners-go-on}
+use Rattle.bz_alone.proofs.Tasks.{undisturbed-tasks-go-on}
 use Rattle.bz_alone.proofs.Trees.{trees-stand}
 use Rattle.bz_alone.proofs.Ways.{paths-read-few}
 use Rattle.bz_alone.specs.Brief.{BriefLookUpsGoOn, GetsAreBrief, LookUpsAreBrief, WaysAreBrief}
@@ -24,10 +24,10 @@ use Rattle.bz_alone.specs.Changes.{InsertsGoOn, MergesGoOn, UpdatesGoOn}
 use Rattle.bz_alone.specs.Counts.{OwnSwapsAreCounted}
 use Rattle.bz_alone.specs.Laws.{ConsolidationsGoOn, DeletesGoOn, FreezesGoOn, InnerRootSplitsGoOn, InnerSplitsGoOn, RootSplitsGoOn, SplitsBelowGoOn}
 use Rattle.bz_alone.specs.Lookups.{FindsGoOn, ReadingsGoOn, SeeksGoOn}
-use Rattle.bz_alone.specs.Quiet.{EffectsNeverFall, LonelyTimesAreQuiet, QuietTimesStay, ReadValuesStand}
+use Rattle.bz_alone.specs.Quiet.{EffectsNeverFall, UndisturbedTimesAreQuiet, QuietTimesStay, ReadValuesStand}
 use Rattle.bz_alone.specs.Reads.{PathsReadFew}
-use Rattle.bz_alone.specs.Restarts.{LoneRestartsAreRefusals}
-use Rattle.bz_alone.specs.Tasks.{LonersGoOn}
+use Rattle.bz_alone.specs.Restarts.{UndisturbedRestartsAreRefusals}
+use Rattle.bz_alone.specs.Tasks.{UndisturbedTasksGoOn}
 use Rattle.bz_alone.specs.Trees.{PathsLeadToLeaves, TreesStand}
 
 -- no effect is ever undone
@@ -43,8 +43,8 @@ pub read_values_stand : ReadValuesStand
 read_values_stand = read-values
 
 -- where a worker is alone, the time since its own last swap is such a time, and all of it since its look-up began where it made none
-pub lonely_times_are_quiet : LonelyTimesAreQuiet
-lonely_times_are_quiet = lonely
+pub undisturbed_times_are_quiet : UndisturbedTimesAreQuiet
+undisturbed_times_are_quiet = undisturbed
 
 -- in such a time the tree stands, and each key has the leaf that it had
 pub trees_stand : TreesStand
@@ -111,12 +111,12 @@ pub merges_go_on : MergesGoOn
 merges_go_on = merges-go-on
 
 -- whichever task it is, it goes on where its worker is alone
-pub loners_go_on : LonersGoOn
-loners_go_on = loners-go-on
+pub undisturbed_tasks_go_on : UndisturbedTasksGoOn
+undisturbed_tasks_go_on = undisturbed-tasks-go-on
 
 -- so a task that ends to begin again, while its worker is alone, was refused a swap whose expected values stand
-pub lone_restarts_are_refusals : LoneRestartsAreRefusals
-lone_restarts_are_refusals = lone-restarts
+pub undisturbed_restarts_are_refusals : UndisturbedRestartsAreRefusals
+undisturbed_restarts_are_refusals = undisturbed-restarts
 
 -- a task's own swaps are among the effects since its look-up began, so that it tells how many were others'
 pub own_swaps_are_counted : OwnSwapsAreCounted

@@ -9,7 +9,7 @@ use Rattle.bz_task.specs.Shown.{IsRead, SameWords, SameRecords, SameRoot}
 use Rattle.bz_task.specs.Steps.{IsQuiet, IsStep, IsHistory}
 use Rattle.bz_task.proofs.Proved.{nodes_stay, same_records_show_the_same}
 use Rattle.bz_renew.proofs.Words.{node-at}
-use Rattle.bz_alone.specs.Quiet.{EffectsNeverFall, QuietTimesStay, ReadValuesStand, LonelyTimesAreQuiet}
+use Rattle.bz_alone.specs.Quiet.{EffectsNeverFall, QuietTimesStay, ReadValuesStand, UndisturbedTimesAreQuiet}
 
 -- no effect came so far: the same nodes are reached, with the status words that they had, and the root is the same
 record IsStill (c : Config) (x y : Instant) : Type 0 where
@@ -114,8 +114,8 @@ read-values s m k a good q in-k r i j in-i in-j =
     stands p.config (p.at m) (p.at i) a (quiet-times p.config p.at p.since p.now m i p.now good.history o in-i.from in-i.to q.effects) at-m
     ∙ sym (stands p.config (p.at m) (p.at j) a (quiet-times p.config p.at p.since p.now m j p.now good.history o in-j.from in-j.to q.effects) at-m)
 
-pub lonely : LonelyTimesAreQuiet
-lonely = record {
+pub undisturbed : UndisturbedTimesAreQuiet
+undisturbed = record {
   later = λ s made m good a h.
       let up : (s.past.at m).effects ≤ (s.past.at s.past.now).effects = never-fall s.past.config s.past.at s.past.since s.past.now m s.past.now good.history (record { since = h.since; order = h.now; until = omega arith }) in
       record { since = h.since; now = h.now; effects = omega (arith, a, h.effects, up) };

@@ -11,12 +11,12 @@ use Rattle.bz_task.specs.declared.path.Path.{Path}
 use Rattle.bz_leaf.specs.Facts.{IsLastLink, leaf_asks, leaf_facts, leaf_differs}
 use Rattle.bz_leaf.specs.declared.phase.Phase.{Phase}
 use Rattle.bz_leaf.specs.declared.phase.Phase.TheVariants.{Again, Link as Of_link, Guard}
-use Rattle.bz_alone.specs.Alone.{GoesOn}
+use Rattle.bz_alone.specs.Undisturbed.{GoesOn}
 use Rattle.bz_alone.specs.Lookups.{ReadingsGoOn}
 use Rattle.bz_alone.specs.Quiet.{IsQuietSince}
 use Rattle.bz_alone.proofs.Going.{idles, reads}
 use Rattle.bz_alone.proofs.LastLinks.{status-again, link-again, guard-thawed}
-use Rattle.bz_alone.proofs.Quiet.{lonely}
+use Rattle.bz_alone.proofs.Quiet.{undisturbed}
 
 module _ (s : Scene) (good : IsScene s) (q : IsQuietSince s.past.since s.past) (key : List ℕ) (path : Path) (link : Link) (is : IsPath key path s.past) (last : IsLastLink path link) where
   goes : (image : NodeImage) (phase : Phase) → leaf_facts key link image.0 phase Waiting s → GoesOn (leaf_asks s.past.config link image phase) (leaf_differs link image.0 phase) s
@@ -27,4 +27,4 @@ module _ (s : Scene) (good : IsScene s) (q : IsQuietSince s.past.since s.past) (
 
 pub readings-go-on : ReadingsGoOn
 readings-go-on t s same good f a =
-    subst (λ z. GoesOn (leaf_asks z t.link t.image t.phase) (leaf_differs t.link t.image.0 t.phase) s) same (goes s good (lonely.whole s good a) t.key t.path t.link f.1 f.2 t.image t.phase f.0)
+    subst (λ z. GoesOn (leaf_asks z t.link t.image t.phase) (leaf_differs t.link t.image.0 t.phase) s) same (goes s good (undisturbed.whole s good a) t.key t.path t.link f.1 f.2 t.image t.phase f.0)

@@ -39,8 +39,8 @@ use Rattle.bz_task.specs.declared.todo.Todo.TheVariants as todo
 use Rattle.bz_running.specs.Duties.{asks_of, facts_of, differs_of, view_of}
 use Rattle.bz_running.specs.declared.running.AnyTask.{AnyTask}
 use Rattle.bz_running.specs.declared.running.AnyTask.TheVariants as running
-use Rattle.bz_alone.specs.Restarts.{LoneRestartsAreRefusals}
-use Rattle.bz_alone.proofs.Tasks.{loners-go-on}
+use Rattle.bz_alone.specs.Restarts.{UndisturbedRestartsAreRefusals}
+use Rattle.bz_alone.proofs.Tasks.{undisturbed-tasks-go-on}
 
 IsOfRead : Seen → Type 0
 IsOfRead (Was v) = Unit {0}
@@ -138,12 +138,12 @@ refuses Waiting (Some (todo.Swap entries)) s t = record { entries = entries; is 
 refuses Took (Some (todo.Swap entries)) s t = absurd (cc t)
 refuses stage asked s t = absurd t
 
-pub lone-restarts : LoneRestartsAreRefusals
-lone-restarts old new seen moment free left todo stage s heard ends config good facts tells alone = elim (heard.goes.restart ends) [
+pub undisturbed-restarts : UndisturbedRestartsAreRefusals
+undisturbed-restarts old new seen moment free left todo stage s heard ends config good facts tells alone = elim (heard.goes.restart ends) [
   | inl lost ↦ (
       let r : Refuses (asks_of old) stage = refuses stage (asks_of old) s (subst (λ z. Tells (asks_of old) stage z s) lost tells) in
-      record { entries = r.entries; asked = r.is; answer = lost; stands = (loners-go-on old s config good (subst (λ z. facts_of old z s) r.waiting facts) alone).stands r.entries r.is })
+      record { entries = r.entries; asked = r.is; answer = lost; stands = (undisturbed-tasks-go-on old s config good (subst (λ z. facts_of old z s) r.waiting facts) alone).stands r.entries r.is })
   | inr differs ↦ (
       let waiting : stage ≡ Waiting = waits (asks_of old) stage seen s (of-read old seen differs) tells in
-      absurd ((loners-go-on old s config good (subst (λ z. facts_of old z s) waiting facts) alone).same seen (subst (λ z. Tells (asks_of old) z seen s) waiting tells) differs))
+      absurd ((undisturbed-tasks-go-on old s config good (subst (λ z. facts_of old z s) waiting facts) alone).same seen (subst (λ z. Tells (asks_of old) z seen s) waiting tells) differs))
 ]

@@ -12,13 +12,13 @@ use Rattle.bz_descend.specs.SeekFacts.{seek_asks, seek_facts, seek_differs}
 use Rattle.bz_descend.specs.Ways.{ArrivesAtInner}
 use Rattle.bz_descend.specs.declared.sight.Way.{Way}
 use Rattle.bz_descend.specs.declared.sight.Way.TheVariants.{Status}
-use Rattle.bz_alone.specs.Alone.{GoesOn}
+use Rattle.bz_alone.specs.Undisturbed.{GoesOn}
 use Rattle.bz_alone.specs.Lookups.{SeeksGoOn}
 use Rattle.bz_alone.specs.Quiet.{IsQuietSince}
 use Rattle.bz_alone.proofs.Going.{idles, reads}
 use Rattle.bz_alone.proofs.Inners.{inner-thawed}
 use Rattle.bz_alone.proofs.Standing.{good-at, reached-in, status-stands}
-use Rattle.bz_alone.proofs.Quiet.{lonely}
+use Rattle.bz_alone.proofs.Quiet.{undisturbed}
 
 module _ (s : Scene) (good : IsScene s) (q : IsQuietSince s.past.since s.past) where
   arrived-thawed : (key : List ℕ) (path : Path) (k v : ℕ) → ArrivesAtInner key path k s.past → Answers s (node_address s.past.config k + STATUS_AT) v → (status v).frozen ≡ false
@@ -33,4 +33,4 @@ module _ (s : Scene) (good : IsScene s) (q : IsQuietSince s.past.since s.past) w
   goes key path height ws phase f = idles _ (seek_differs phase) s (λ entries e. absurd (cc)) (λ seen d. d)
 
 pub seeks-go-on : SeeksGoOn
-seeks-go-on t s same good f a = subst (λ z. GoesOn (seek_asks z t.phase) (seek_differs t.phase) s) same (goes s good (lonely.whole s good a) t.key t.path t.height t.words t.phase f.0)
+seeks-go-on t s same good f a = subst (λ z. GoesOn (seek_asks z t.phase) (seek_differs t.phase) s) same (goes s good (undisturbed.whole s good a) t.key t.path t.height t.words t.phase f.0)

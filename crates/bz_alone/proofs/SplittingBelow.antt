@@ -13,13 +13,13 @@ use Rattle.bz_below.specs.Guards.{with_guard, WasNamed}
 use Rattle.bz_below.specs.declared.phase.Phase.{Phase}
 use Rattle.bz_below.specs.declared.phase.Phase.TheVariants.{Room, Again, Guard, Named, Swap}
 use Rattle.bz_below.specs.FromSplit.BelowSplits.{below_swap}
-use Rattle.bz_alone.specs.Alone.{GoesOn}
+use Rattle.bz_alone.specs.Undisturbed.{GoesOn}
 use Rattle.bz_alone.specs.Laws.{SplitsBelowGoOn}
 use Rattle.bz_alone.specs.Quiet.{IsQuietSince}
 use Rattle.bz_alone.proofs.Going.{idles, reads, swaps}
 use Rattle.bz_alone.proofs.Links.{guard-same, below-stands, open-below}
 use Rattle.bz_alone.proofs.Standing.{guard-stood}
-use Rattle.bz_alone.proofs.Quiet.{lonely}
+use Rattle.bz_alone.proofs.Quiet.{undisturbed}
 
 -- the guard that was loaded last is the one that the path names
 named-guard : (s : Scene) → IsScene s → IsQuietSince s.past.since s.past → (link : Link) (word : ℕ) (nodes : Nodes) → IsGuarded s.past link → WasNamed link word nodes s.past → word ≡ link.status
@@ -42,4 +42,4 @@ goes s good q r Swap f =
 goes s good q r phase f = idles _ (below_differs r.lower phase) s (λ entries e. absurd (cc)) (λ seen d. d)
 
 pub splits-below-go-on : SplitsBelowGoOn
-splits-below-go-on t s same good f a = subst (λ z. GoesOn (below_asks z (below_of t) t.phase) (below_differs t.lower t.phase) s) same (goes s good (lonely.whole s good a) (below_of t) t.phase f)
+splits-below-go-on t s same good f a = subst (λ z. GoesOn (below_asks z (below_of t) t.phase) (below_differs t.lower t.phase) s) same (goes s good (undisturbed.whole s good a) (below_of t) t.phase f)

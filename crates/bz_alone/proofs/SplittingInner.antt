@@ -8,12 +8,12 @@ use Rattle.bz_running.specs.FromFork.Facts.{Fork, fork_asks, fork_facts, fork_di
 use Rattle.bz_running.specs.FromFork.Phase.{Phase}
 use Rattle.bz_running.specs.FromFork.Phase.TheVariants.{Unread, Tight, Again, Room, Check, Writing}
 use Rattle.bz_writer.specs.declared.phase.WritePhase.TheVariants.{Guard, Swap}
-use Rattle.bz_alone.specs.Alone.{GoesOn}
+use Rattle.bz_alone.specs.Undisturbed.{GoesOn}
 use Rattle.bz_alone.specs.Laws.{InnerSplitsGoOn}
 use Rattle.bz_alone.specs.Quiet.{IsQuietSince}
 use Rattle.bz_alone.proofs.Going.{idles, reads, swaps}
 use Rattle.bz_alone.proofs.Links.{guard-same, inner-stands, open-below}
-use Rattle.bz_alone.proofs.Quiet.{lonely}
+use Rattle.bz_alone.proofs.Quiet.{undisturbed}
 
 goes : (s : Scene) → IsScene s → IsQuietSince s.past.since s.past → (r : Fork) (phase : Phase) → fork_facts r phase Waiting s → GoesOn (fork_asks s.past.config r phase) (fork_differs r.upper r.middle r.lower phase) s
 goes s good q r Unread f = reads r.lower.guard (fork_differs r.upper r.middle r.lower Unread) s (λ v a d. d (guard-same s good q r.lower v f.1.0.links.node.guard a))
@@ -29,4 +29,4 @@ goes s good q r (Writing Swap) f =
 goes s good q r phase f = idles _ (fork_differs r.upper r.middle r.lower phase) s (λ entries e. absurd (cc)) (λ seen d. d)
 
 pub inner-splits-go-on : InnerSplitsGoOn
-inner-splits-go-on t s same good f a = subst (λ z. GoesOn (fork_asks z (fork_of t) t.phase) (fork_differs t.upper t.middle t.lower t.phase) s) same (goes s good (lonely.whole s good a) (fork_of t) t.phase f)
+inner-splits-go-on t s same good f a = subst (λ z. GoesOn (fork_asks z (fork_of t) t.phase) (fork_differs t.upper t.middle t.lower t.phase) s) same (goes s good (undisturbed.whole s good a) (fork_of t) t.phase f)

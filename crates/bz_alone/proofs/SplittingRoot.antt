@@ -7,12 +7,12 @@ use Rattle.bz_running.specs.FromCrown.Phase.{Phase}
 use Rattle.bz_running.specs.FromCrown.Phase.TheVariants.{Again, Writing}
 use Rattle.bz_writer.specs.declared.phase.WritePhase.TheVariants.{Guard, Swap}
 use Rattle.bz_below.specs.FromSplit.BelowSplits.{below_swap}
-use Rattle.bz_alone.specs.Alone.{GoesOn}
+use Rattle.bz_alone.specs.Undisturbed.{GoesOn}
 use Rattle.bz_alone.specs.Laws.{InnerRootSplitsGoOn}
 use Rattle.bz_alone.specs.Quiet.{IsQuietSince}
 use Rattle.bz_alone.proofs.Going.{idles, reads, swaps}
 use Rattle.bz_alone.proofs.Links.{guard-same, below-stands}
-use Rattle.bz_alone.proofs.Quiet.{lonely}
+use Rattle.bz_alone.proofs.Quiet.{undisturbed}
 
 goes : (s : Scene) → IsScene s → IsQuietSince s.past.since s.past → (r : Crown) (phase : Phase) → crown_facts r phase Waiting s → GoesOn (crown_asks s.past.config r phase) (crown_differs r.upper r.lower phase) s
 goes s good q r Again f = reads r.lower.guard (crown_differs r.upper r.lower Again) s (λ v a d. d (guard-same s good q r.lower v f.1.links.node.guard a))
@@ -23,4 +23,4 @@ goes s good q r (Writing Swap) f =
 goes s good q r phase f = idles _ (crown_differs r.upper r.lower phase) s (λ entries e. absurd (cc)) (λ seen d. d)
 
 pub inner-root-splits-go-on : InnerRootSplitsGoOn
-inner-root-splits-go-on t s same good f a = subst (λ z. GoesOn (crown_asks z (crown_of t) t.phase) (crown_differs t.upper t.lower t.phase) s) same (goes s good (lonely.whole s good a) (crown_of t) t.phase f)
+inner-root-splits-go-on t s same good f a = subst (λ z. GoesOn (crown_asks z (crown_of t) t.phase) (crown_differs t.upper t.lower t.phase) s) same (goes s good (undisturbed.whole s good a) (crown_of t) t.phase f)

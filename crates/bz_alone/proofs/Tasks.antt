@@ -1,7 +1,7 @@
 -- Whichever task it is, by the law of its own kind.
 use Rattle.bz_running.specs.Duties.{view_of}
 use Rattle.bz_running.specs.declared.running.AnyTask.TheVariants.{Seeking, Finding, Reading, Inserting, Updating, Deleting, Freezing, Consolidating, Splitting, SplittingBelow, SplittingInner, SplittingInnerRoot, Merging}
-use Rattle.bz_alone.specs.Tasks.{LonersGoOn}
+use Rattle.bz_alone.specs.Tasks.{UndisturbedTasksGoOn}
 use Rattle.bz_alone.proofs.Changing.{inserts-go-on, updates-go-on}
 use Rattle.bz_alone.proofs.Consolidating.{consolidations-go-on}
 use Rattle.bz_alone.proofs.Deleting.{deletes-go-on}
@@ -15,18 +15,18 @@ use Rattle.bz_alone.proofs.SplittingBelow.{splits-below-go-on}
 use Rattle.bz_alone.proofs.SplittingInner.{inner-splits-go-on}
 use Rattle.bz_alone.proofs.SplittingRoot.{inner-root-splits-go-on}
 
-pub loners-go-on : LonersGoOn
+pub undisturbed-tasks-go-on : UndisturbedTasksGoOn
 unfolding view_of
-loners-go-on (Seeking t) s same good f a = seeks-go-on t s same good f a
-loners-go-on (Finding t) s same good f a = finds-go-on t s same good f a
-loners-go-on (Reading t) s same good f a = readings-go-on t s same good f a
-loners-go-on (Inserting t) s same good f a = inserts-go-on t s same good f a
-loners-go-on (Updating t) s same good f a = updates-go-on t s same good f a
-loners-go-on (Deleting t) s same good f a = deletes-go-on t s same good f a
-loners-go-on (Freezing t) s same good f a = freezes-go-on t s same good f a
-loners-go-on (Consolidating t) s same good f a = consolidations-go-on t s same good f a
-loners-go-on (Splitting t) s same good f a = root-splits-go-on t s same good f a
-loners-go-on (SplittingBelow t up) s same good f a = splits-below-go-on t s same good f.0 a
-loners-go-on (SplittingInner t up) s same good f a = inner-splits-go-on t s same good f.0 a
-loners-go-on (SplittingInnerRoot t up) s same good f a = inner-root-splits-go-on t s same good f.0 a
-loners-go-on (Merging t) s same good f a = merges-go-on t s same good f a
+undisturbed-tasks-go-on (Seeking t) s same good f a = seeks-go-on t s same good f a
+undisturbed-tasks-go-on (Finding t) s same good f a = finds-go-on t s same good f a
+undisturbed-tasks-go-on (Reading t) s same good f a = readings-go-on t s same good f a
+undisturbed-tasks-go-on (Inserting t) s same good f a = inserts-go-on t s same good f a
+undisturbed-tasks-go-on (Updating t) s same good f a = updates-go-on t s same good f a
+undisturbed-tasks-go-on (Deleting t) s same good f a = deletes-go-on t s same good f a
+undisturbed-tasks-go-on (Freezing t) s same good f a = freezes-go-on t s same good f a
+undisturbed-tasks-go-on (Consolidating t) s same good f a = consolidations-go-on t s same good f a
+undisturbed-tasks-go-on (Splitting t) s same good f a = root-splits-go-on t s same good f a
+undisturbed-tasks-go-on (SplittingBelow t up) s same good f a = splits-below-go-on t s same good f.0 a
+undisturbed-tasks-go-on (SplittingInner t up) s same good f a = inner-splits-go-on t s same good f.0 a
+undisturbed-tasks-go-on (SplittingInnerRoot t up) s same good f a = inner-root-splits-go-on t s same good f.0 a
+undisturbed-tasks-go-on (Merging t) s same good f a = merges-go-on t s same good f a

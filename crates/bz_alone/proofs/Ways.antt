@@ -31,7 +31,7 @@ use Rattle.bz_alone.specs.Reads.{reads_above, way_reads, PathsReadFew}
 use Rattle.bz_alone.proofs.Inners.{fits}
 use Rattle.bz_alone.proofs.Standing.{good-at, guard-stood, link-stood}
 use Rattle.bz_alone.proofs.Leads.{paths-lead}
-use Rattle.bz_alone.proofs.Quiet.{lonely, quiet-times}
+use Rattle.bz_alone.proofs.Quiet.{undisturbed, quiet-times}
 use Rattle.bz_alone.proofs.Trees.{trees-stand}
 
 apart : (a b : ℕ) → a ≢ b → (a == b) ≡ false
@@ -185,7 +185,7 @@ module _ (s : Scene) (key : List ℕ) (path : Path) (j : ℕ) (good : IsScene s)
 pub paths-read-few : PathsReadFew
 unfolding way_reads
 paths-read-few s key path link j good alone is last in-j =
-    let q : IsQuietSince s.past.since s.past = lonely.whole s good alone in
+    let q : IsQuietSince s.past.since s.past = undisturbed.whole s good alone in
     let v : View = view_in s.past.config (s.past.at j).image in
     let r : Reaches s key path j good q is in-j (path.depth - 1) link = reaches s key path j good q is in-j (path.depth - 1) (omega (arith, is.some)) (slice_get_within path.links (path.depth - 1) link last) link last in
     let leaf : leaf_in s.past.config (s.past.at j).image key ≡ link.slot =

@@ -11,7 +11,7 @@ use Rattle.bz_running.specs.Duties.{config_of, asks_of, end_of, change_of, facts
 use Rattle.bz_running.specs.Hearing.{HasHeard}
 use Rattle.bz_running.specs.LookingUp.{ForWay, ForKey, NoLook, look_of, reads_asked, HasCounted, LooksUpBriefly}
 use Rattle.bz_running.specs.declared.running.AnyTask.{AnyTask}
-use Rattle.bz_swap.specs.Alone.{left_to}
+use Rattle.bz_swap.specs.Solo.{left_to}
 use Rattle.bz_swap.specs.Evictions.{IsEviction}
 use Rattle.bz_swap.specs.Starts.{started}
 use Rattle.bz_swap.specs.Steps.{IsStep}
@@ -27,7 +27,7 @@ use Rattle.bz_task.specs.declared.todo.Seen.{Seen}
 use Rattle.bz_task.specs.declared.todo.Todo.{Todo}
 use Rattle.bz_task.specs.declared.todo.Todo.TheVariants.{Read}
 use Rattle.bz_task.specs.declared.view.KeyView.{KeyView}
-use Rattle.bz_alone.specs.Alone.{IsAlone}
+use Rattle.bz_alone.specs.Undisturbed.{IsUndisturbed}
 use Rattle.bz_alone.specs.Reads.{get_reads}
 
 -- nobody does anything
@@ -73,11 +73,11 @@ WaysAreBrief =
 -- such a look-up is not begun again: what it reads stands
 abbrev pub BriefLookUpsGoOn : Type 0
 BriefLookUpsGoOn =
-    (t u : AnyTask) (seen : Seen) (moment : ℕ) (free left : FreeSlots) (todo : Todo) (s : Scene) → s.past.config ≡ config_of t → IsScene s → facts_of t Waiting s → IsAlone 0 s.past → look_of t ≢ NoLook →
+    (t u : AnyTask) (seen : Seen) (moment : ℕ) (free left : FreeSlots) (todo : Todo) (s : Scene) → s.past.config ≡ config_of t → IsScene s → facts_of t Waiting s → IsUndisturbed 0 s.past → look_of t ≢ NoLook →
     LooksUpBriefly t → Tells (asks_of t) Waiting seen s → HasHeard t seen moment free todo u left → end_of u ≢ Some outcome.Restart
 
 -- and once it has ended its acts are at most twice the reads of a get, in the image at the moment of the view
 abbrev pub GetsAreBrief : Type 0
 GetsAreBrief =
-    (m : SwapMemory) (w acts : ℕ) (key : List ℕ) (path : Path) (t : AnyTask) (view : KeyView) (s : Scene) → IsBrief m w acts key (Some path) t → LooksUpBriefly t → IsScene s → IsAlone 0 s.past → facts_of t Waiting s →
+    (m : SwapMemory) (w acts : ℕ) (key : List ℕ) (path : Path) (t : AnyTask) (view : KeyView) (s : Scene) → IsBrief m w acts key (Some path) t → LooksUpBriefly t → IsScene s → IsUndisturbed 0 s.past → facts_of t Waiting s →
     end_of t ≡ Some (outcome.Key view) → IsKeyView key view s.past → IsPath key path s.past → acts ≤ 2 * get_reads s.past.config (s.past.at view.at).image key

@@ -6,14 +6,14 @@ use Rattle.bz_running.specs.FromMerge.Duties as merge
 use Rattle.bz_running.specs.FromMerge.Merge.{Merge}
 use Rattle.bz_mutate.specs.UpdateDuties as update
 use Rattle.bz_mutate.specs.declared.update.Update.{Update}
-use Rattle.bz_alone.specs.Alone.{GoesOnAlone}
+use Rattle.bz_alone.specs.Undisturbed.{GoesOnUndisturbed}
 
 abbrev pub InsertsGoOn : Type 0
-InsertsGoOn = (t : Insert) → GoesOnAlone (insert.made_of t) t.config (insert.asks_of t) (insert.facts_of t) (λ seen. ⊥)
+InsertsGoOn = (t : Insert) → GoesOnUndisturbed (insert.made_of t) t.config (insert.asks_of t) (insert.facts_of t) (λ seen. ⊥)
 
 abbrev pub UpdatesGoOn : Type 0
-UpdatesGoOn = (t : Update) → GoesOnAlone (update.made_of t) t.config (update.asks_of t) (update.facts_of t) (λ seen. ⊥)
+UpdatesGoOn = (t : Update) → GoesOnUndisturbed (update.made_of t) t.config (update.asks_of t) (update.facts_of t) (λ seen. ⊥)
 
 -- a merge, which may freeze the two leaves before its swap
 abbrev pub MergesGoOn : Type 0
-MergesGoOn = (t : Merge) → GoesOnAlone (merge.made_of t) t.config (merge.asks_of t) (merge.facts_of t) (merge.differs_of t)
+MergesGoOn = (t : Merge) → GoesOnUndisturbed (merge.made_of t) t.config (merge.asks_of t) (merge.facts_of t) (merge.differs_of t)

@@ -1,4 +1,4 @@
-pub mod Alone
+pub mod Undisturbed
 pub mod Brief
 pub mod Changes
 pub mod Counts

@@ -5,13 +5,13 @@ use Rattle.bz_running.specs.FromFind.Duties as find
 use Rattle.bz_running.specs.FromFind.Find.{Find}
 use Rattle.bz_leaf.specs.Duties as leaf
 use Rattle.bz_leaf.specs.declared.read_leaf.ReadLeaf.{ReadLeaf}
-use Rattle.bz_alone.specs.Alone.{GoesOnAlone}
+use Rattle.bz_alone.specs.Undisturbed.{GoesOnUndisturbed}
 
 abbrev pub SeeksGoOn : Type 0
-SeeksGoOn = (t : Seek) → GoesOnAlone 0 t.config (seek.asks_of t) (seek.facts_of t) (seek.differs_of t)
+SeeksGoOn = (t : Seek) → GoesOnUndisturbed 0 t.config (seek.asks_of t) (seek.facts_of t) (seek.differs_of t)
 
 abbrev pub FindsGoOn : Type 0
-FindsGoOn = (t : Find) → GoesOnAlone 0 t.config (find.asks_of t) (find.facts_of t) (find.differs_of t)
+FindsGoOn = (t : Find) → GoesOnUndisturbed 0 t.config (find.asks_of t) (find.facts_of t) (find.differs_of t)
 
 abbrev pub ReadingsGoOn : Type 0
-ReadingsGoOn = (t : ReadLeaf) → GoesOnAlone 0 t.config (leaf.asks_of t) (leaf.facts_of t) (leaf.differs_of t)
+ReadingsGoOn = (t : ReadLeaf) → GoesOnUndisturbed 0 t.config (leaf.asks_of t) (leaf.facts_of t) (leaf.differs_of t)

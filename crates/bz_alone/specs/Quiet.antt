@@ -6,7 +6,7 @@ use Rattle.bz_task.specs.Laws.{AreMoments}
 use Rattle.bz_task.specs.Scene.{Past, IsScene, Scene}
 use Rattle.bz_task.specs.Shown.{IsRead}
 use Rattle.bz_task.specs.Steps.{IsQuiet, IsHistory}
-use Rattle.bz_alone.specs.Alone.{IsAlone}
+use Rattle.bz_alone.specs.Undisturbed.{IsUndisturbed}
 
 -- no effect is ever undone
 abbrev pub EffectsNeverFall : Type 0
@@ -41,6 +41,6 @@ pub record HadEffects (made m : ℕ) (p : Past) : Type 0 where
   pub effects : (p.at p.since).effects + made ≤ (p.at m).effects
 
 -- where the worker is alone, the time since its own last swap is quiet, and the whole time since its look-up began where it made none
-pub record LonelyTimesAreQuiet : Type 0 where
-  pub later : (s : Scene) (made m : ℕ) → IsScene s → IsAlone made s.past → HadEffects made m s.past → IsQuietSince m s.past
-  pub whole : (s : Scene) → IsScene s → IsAlone 0 s.past → IsQuietSince s.past.since s.past
+pub record UndisturbedTimesAreQuiet : Type 0 where
+  pub later : (s : Scene) (made m : ℕ) → IsScene s → IsUndisturbed made s.past → HadEffects made m s.past → IsQuietSince m s.past
+  pub whole : (s : Scene) → IsScene s → IsUndisturbed 0 s.past → IsQuietSince s.past.since s.past

@@ -16,7 +16,7 @@ use Rattle.bz_task.specs.Scene.{Scene, IsScene}
 use Rattle.bz_task.specs.declared.path.Link.{Link}
 use Rattle.bz_task.specs.declared.path.Path.{Path}
 use Rattle.bz_leaf.specs.Facts.{IsLastLink}
-use Rattle.bz_alone.specs.Alone.{IsAlone}
+use Rattle.bz_alone.specs.Undisturbed.{IsUndisturbed}
 use Rattle.bz_alone.specs.Quiet.{IsIn}
 
 -- the most reads of so many inner nodes above a slot of a tree, from its parent up: of each by how many records it has
@@ -36,4 +36,4 @@ get_reads c raw key = way_reads c raw key + find_reads (node c (resolve raw) (le
 -- where nobody's swap took effect since the look-up began, a path is as long as the way to the leaf of its key at each moment since
 abbrev pub PathsReadFew : Type 0
 PathsReadFew =
-    (s : Scene) (key : List ℕ) (path : Path) (link : Link) (j : ℕ) → IsScene s → IsAlone 0 s.past → IsPath key path s.past → IsLastLink path link → IsIn s.past.since s.past j → path_reads path ≤ way_reads s.past.config (s.past.at j).image key
+    (s : Scene) (key : List ℕ) (path : Path) (link : Link) (j : ℕ) → IsScene s → IsUndisturbed 0 s.past → IsPath key path s.past → IsLastLink path link → IsIn s.past.since s.past j → path_reads path ≤ way_reads s.past.config (s.past.at j).image key

@@ -13,7 +13,7 @@ use Rattle.bz_task.specs.declared.todo.Todo.TheVariants.{Swap}
 use Rattle.bz_running.specs.Duties.{config_of, asks_of, end_of, made_of, facts_of}
 use Rattle.bz_running.specs.Hearing.{HasHeard}
 use Rattle.bz_running.specs.declared.running.AnyTask.{AnyTask}
-use Rattle.bz_alone.specs.Alone.{IsAlone}
+use Rattle.bz_alone.specs.Undisturbed.{IsUndisturbed}
 
 -- its swap is answered with false, though all that it expects stands
 pub record IsRefused (asks : Option Todo) (seen : Seen) (s : Scene) : Type 0 where
@@ -23,7 +23,7 @@ pub record IsRefused (asks : Option Todo) (seen : Seen) (s : Scene) : Type 0 whe
   pub stands : Stand entries (here s)
 
 -- while its worker is alone nothing else ends a task so: no load does
-abbrev pub LoneRestartsAreRefusals : Type 0
-LoneRestartsAreRefusals =
+abbrev pub UndisturbedRestartsAreRefusals : Type 0
+UndisturbedRestartsAreRefusals =
     (old new : AnyTask) (seen : Seen) (moment : ℕ) (free left : FreeSlots) (todo : Todo) (stage : Stage) (s : Scene) → HasHeard old seen moment free todo new left → end_of new ≡ Some Restart →
-    s.past.config ≡ config_of old → IsScene s → facts_of old stage s → Tells (asks_of old) stage seen s → IsAlone (made_of old) s.past → IsRefused (asks_of old) seen s
+    s.past.config ≡ config_of old → IsScene s → facts_of old stage s → Tells (asks_of old) stage seen s → IsUndisturbed (made_of old) s.past → IsRefused (asks_of old) seen s

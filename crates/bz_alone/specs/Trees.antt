@@ -9,7 +9,7 @@ use Rattle.bz_task.specs.Scene.{Scene, IsScene, here}
 use Rattle.bz_task.specs.declared.path.Link.{Link}
 use Rattle.bz_task.specs.declared.path.Path.{Path}
 use Rattle.bz_leaf.specs.Facts.{IsLastLink}
-use Rattle.bz_alone.specs.Alone.{IsAlone}
+use Rattle.bz_alone.specs.Undisturbed.{IsUndisturbed}
 use Rattle.bz_alone.specs.Quiet.{IsQuietSince, IsIn}
 
 -- the same slots are in the tree, at their levels and with their ranges of keys, and each key has the same leaf
@@ -24,4 +24,4 @@ TreesStand = (s : Scene) (m i j : ℕ) → IsScene s → IsQuietSince m s.past �
 
 -- so the leaf at the end of a path that was found while the worker was alone is the leaf of the key now
 abbrev pub PathsLeadToLeaves : Type 0
-PathsLeadToLeaves = (s : Scene) (key : List ℕ) (path : Path) (link : Link) → IsScene s → IsAlone 0 s.past → IsPath key path s.past → IsLastLink path link → leaf_in s.past.config (here s).image key ≡ link.slot
+PathsLeadToLeaves = (s : Scene) (key : List ℕ) (path : Path) (link : Link) → IsScene s → IsUndisturbed 0 s.past → IsPath key path s.past → IsLastLink path link → leaf_in s.past.config (here s).image key ≡ link.slot

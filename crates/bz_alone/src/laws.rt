@@ -1,11 +1,11 @@
-//! Laws of a worker that is alone. Each function does nothing but call the laws that it follows from: its contract is the law.
+//! Laws of a worker that is alone. Each function does nothing: its contract is the law.
 
 ghost use Rattle.bz_alone.specs.Brief.{LookUpsAreBrief, WaysAreBrief, BriefLookUpsGoOn, GetsAreBrief};
 ghost use Rattle.bz_alone.specs.Counts.{OwnSwapsAreCounted};
 ghost use Rattle.bz_alone.specs.Quiet.{EffectsNeverFall};
 ghost use Rattle.bz_alone.specs.Reads.{PathsReadFew};
-ghost use Rattle.bz_alone.specs.Restarts.{LoneRestartsAreRefusals};
-ghost use Rattle.bz_alone.specs.Tasks.{LonersGoOn};
+ghost use Rattle.bz_alone.specs.Restarts.{UndisturbedRestartsAreRefusals};
+ghost use Rattle.bz_alone.specs.Tasks.{UndisturbedTasksGoOn};
 ghost use Rattle.bz_alone.specs.Trees.{TreesStand};
 
 /// No effect is ever undone.
@@ -24,13 +24,13 @@ pub fn paths_read_few()
 {}
 
 /// Whichever task it is, it goes on where its worker is alone.
-pub fn loners_go_on()
-    ensures { LonersGoOn }
+pub fn undisturbed_tasks_go_on()
+    ensures { UndisturbedTasksGoOn }
 {}
 
 /// So a task that ends to begin again, while its worker is alone, was refused a swap whose expected values stand.
-pub fn lone_restarts_are_refusals()
-    ensures { LoneRestartsAreRefusals }
+pub fn undisturbed_restarts_are_refusals()
+    ensures { UndisturbedRestartsAreRefusals }
 {}
 
 /// A task's own swaps are among the effects since its look-up began, so that it tells how many were others'.

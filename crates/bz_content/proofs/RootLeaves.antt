@@ -25,8 +25,8 @@ pub record HasRootLeaf (c : Config) (x : Image) : Type 0 where
   pub whole : node_fault c.nodes (node c x.raw 0) (node c x.words 0) 0 None None ≡ None
 
 -- the superblock and slot 0
-abbrev lone : Config → Form
-lone c = record {
+abbrev single : Config → Form
+single c = record {
   inside = λ k. (k == c.nodes) || (k == 0);
   level = λ k. if k == c.nodes then 1 else 0;
   low = λ k. None;
@@ -35,8 +35,8 @@ lone c = record {
   index = λ k. 0;
 }
 
-pub lone-fits : (c : Config) (x : Image) → HasRootLeaf c x → Fits (view_of c x) (lone c)
-lone-fits c x h = record {
+pub single-fits : (c : Config) (x : Image) → HasRootLeaf c x → Fits (view_of c x) (single c)
+single-fits c x h = record {
   top = rw (is c.nodes) refl;
   top_up = refl;
   top_low = refl;
@@ -68,7 +68,7 @@ lone-fits c x h = record {
     height : level_of (node c x.words (root x.words)) + 1 ≡ 1
     height = ap (λ k. level_of (node c x.words k) + 1) root_is ∙ ap (λ l. l + 1) (level-is c.nodes 0 (node c x.raw 0) (node c x.words 0) None None h.whole)
 
-    stands : (k i : ℕ) → ((k == c.nodes) || (k == 0)) ≡ true → 0 < (if k == c.nodes then 1 else 0) → i < (view_of c x).count k → Stands (view_of c x) (lone c) k i ((view_of c x).child k i)
+    stands : (k i : ℕ) → ((k == c.nodes) || (k == 0)) ≡ true → 0 < (if k == c.nodes then 1 else 0) → i < (view_of c x).count k → Stands (view_of c x) (single c) k i ((view_of c x).child k i)
     stands k i ins l lt = elim (cases_eq k c.nodes) [
       | inl e ↦
           let t : (k == c.nodes) ≡ true = grind (arith, nat_tests) in
@@ -86,19 +86,19 @@ pub record HoldsLeaf (c : Config) (x : Image) : Type 0 where
 pub root-leaf : (c : Config) (x : Image) → HasRootLeaf c x → HoldsLeaf c x
 root-leaf c x h = record { tree = tree; content = said; inside = agree.inside }
   where
-    g : Fits (view_of c x) (lone c)
-    g = lone-fits c x h
+    g : Fits (view_of c x) (single c)
+    g = single-fits c x h
 
     tree : IsTree (view_of c x)
-    tree = record { honest = honest c x; one = g.top_one; tall = g.tall; none = (forms_fit_trees (view_of c x) (lone c) g).0 }
+    tree = record { honest = honest c x; one = g.top_one; tall = g.tall; none = (forms_fit_trees (view_of c x) (single c) g).0 }
 
-    agree : Agree (view_of c x) (lone c) (form (view_of c x))
-    agree = (forms_fit_trees (view_of c x) (lone c) g).1
+    agree : Agree (view_of c x) (single c) (form (view_of c x))
+    agree = (forms_fit_trees (view_of c x) (single c) g).1
 
     zero_not : (0 == c.nodes) ≡ false
     zero_not = no 0 c.nodes (λ e. absurd (omega (arith, h.some)))
 
-    moved : Moved (lone c) (form (view_of c x)) 0
+    moved : Moved (single c) (form (view_of c x)) 0
     moved = agree.moved 0 (rw zero_not refl)
 
     at : (key : List ℕ) → leaf_of (view_of c x) key ≡ 0

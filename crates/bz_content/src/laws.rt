@@ -1,4 +1,4 @@
-//! Laws of images. Each function does nothing but call the laws that it follows from: its contract is the law.
+//! Laws of images. Each function does nothing: its contract is the law.
 
 ghost use Rattle.bz_content.specs.Laws.{PlainWordsStandForThemselves, WellFormedImagesHaveNoFault, FreshMemoryIsEmpty, MapIsTheContent};
 ghost use Rattle.bz_content.specs.Laws.{ConsolidationsKeepTheContent};

@@ -2,9 +2,9 @@
 use Rattle.std.proofs.Common.{arith}
 use Rattle.bz_search.specs.Digits.{digits_in}
 use Rattle.bz_costs.specs.Resources.{Resource, Marks}
-use Rattle.bz_costs.specs.Costs.{LoneCallsAreAffordable, WholeCallsAreAffordable}
+use Rattle.bz_costs.specs.Costs.{SoloCallsAreAffordable, WholeCallsAreAffordable}
 
-pub affordable : LoneCallsAreAffordable
+pub affordable : SoloCallsAreAffordable
 unfolding digits_in
 affordable c k = omega (arith, k.workers_in_range.at_least, k.workers_in_range.at_most)
 

@@ -5,9 +5,9 @@ use Rattle.bz_costs.specs.Resources.{Resource, Marks}
 use Rattle.bz_costs.proofs.Least.{weigh-little}
 use Rattle.bz_costs.proofs.Stages.{rise, rise-from}
 use Rattle.bz_costs.specs.Costs.{StretchesAreTheMost}
-use Rattle.bz_costs.specs.Lone.{rest_of_round}
+use Rattle.bz_costs.specs.Solo.{rest_of_round}
 use Rattle.bz_costs.specs.Most.{most_of, most_of_freeze}
-use Rattle.bz_costs.specs.Stretches.{cost_of_view, cost_once_viewed, cost_once_found, cost_from, top_stage, cost_viewed_at, cost_found_at, cost_at, lone_stretch}
+use Rattle.bz_costs.specs.Stretches.{cost_of_view, cost_once_viewed, cost_once_found, cost_from, top_stage, cost_viewed_at, cost_found_at, cost_at, solo_stretch}
 use Rattle.bz_running.specs.declared.running.AnyTask.{AnyTask}
 use Rattle.bz_running.specs.declared.running.AnyTask.TheVariants.{Seeking}
 
@@ -30,7 +30,7 @@ viewed-from r low high l = omega (arith, rise r low high l)
 behind : (r : Resource) (low high : ℕ) → low ≤ high → most_of_freeze r + cost_from r low ≤ most_of_freeze r + cost_from r high
 behind r low high l = omega (arith, rise-from r low high l)
 
-few : (r : Resource) (frozen : Bool) (stage : ℕ) → cost_at r frozen stage ≤ lone_stretch r
+few : (r : Resource) (frozen : Bool) (stage : ℕ) → cost_at r frozen stage ≤ solo_stretch r
 few r true stage = within r true stage top_stage (viewed-from r (min stage top_stage) top_stage (omega arith))
 few r false zero = within r false zero top_stage (viewed-from r 0 top_stage (omega arith))
 few r false (suc stage) = within r false (suc stage) top_stage (behind r (min stage top_stage) top_stage (omega arith))

@@ -8,7 +8,7 @@ use Rattle.bz_costs.proofs.Lost.{lost-little}
 use Rattle.bz_costs.proofs.Most.{the-most}
 use Rattle.bz_costs.proofs.Splits.{splits-paid}
 use Rattle.bz_costs.proofs.Stages.{cost-more, rounds-paid}
-use Rattle.bz_costs.specs.Costs.{HigherStagesCostMore, LoneCallsAreAffordable, RoundsArePaid, StretchesAreTheMost, WholeCallsAreAffordable}
+use Rattle.bz_costs.specs.Costs.{HigherStagesCostMore, SoloCallsAreAffordable, RoundsArePaid, StretchesAreTheMost, WholeCallsAreAffordable}
 use Rattle.bz_costs.specs.Examples.{CostsAreTold, WeightsAreTold}
 use Rattle.bz_costs.specs.Laws.{AskedSwapsAreCounted, HearingIsPaid, LostSplitsCostLittle, TasksWeighLittle}
 use Rattle.bz_costs.specs.Resources.{Resource}
@@ -47,8 +47,8 @@ pub stretches_are_the_most : (r : Resource) → StretchesAreTheMost r
 stretches_are_the_most = the-most
 
 -- a call that steps alone costs no more marks than its configuration tells
-pub lone_calls_are_affordable : LoneCallsAreAffordable
-lone_calls_are_affordable = affordable
+pub solo_calls_are_affordable : SoloCallsAreAffordable
+solo_calls_are_affordable = affordable
 
 -- nor does a call that begins while no other is open take more than is promised for each
 pub whole_calls_are_affordable : (r : Resource) → WholeCallsAreAffordable r

@@ -6,9 +6,9 @@ use Rattle.bz_layout.specs.declared.thresholds.TheConstants.{MARKS_PER_CALL}
 use Rattle.bz_running.specs.declared.running.AnyTask.{AnyTask}
 use Rattle.bz_costs.specs.Resources.{Resource}
 use Rattle.bz_costs.specs.Failing.{cost_of_lost_inner}
-use Rattle.bz_costs.specs.Lone.{own_marks, promised, rest_of_round, lone_most}
+use Rattle.bz_costs.specs.Solo.{own_marks, promised, rest_of_round, solo_most}
 use Rattle.bz_costs.specs.Most.{most_of_freeze, most_of_copy, most_of_merge, most_of_root, most_of_below, IsWithinItsActs}
-use Rattle.bz_costs.specs.Stretches.{cost_of_view, cost_of_split_at, cost_once_viewed, cost_once_found, cost_from, top_stage, cost_viewed_at, cost_found_at, cost_at, lone_stretch}
+use Rattle.bz_costs.specs.Stretches.{cost_of_view, cost_of_split_at, cost_once_viewed, cost_once_found, cost_from, top_stage, cost_viewed_at, cost_found_at, cost_at, solo_stretch}
 use Rattle.bz_costs.specs.Weights.{weigh}
 
 -- a stage costs no less than a lower one
@@ -34,15 +34,15 @@ pub record RoundsArePaid (r : Resource) : Type 0 where
 -- no stage costs more than a stretch, and no task more than the rest of a round; where another worker's swap takes effect, what was still to
 -- come pays for the rest of the round
 pub record StretchesAreTheMost (r : Resource) : Type 0 where
-  pub stage : (frozen : Bool) (stage : ℕ) → cost_at r frozen stage ≤ lone_stretch r
+  pub stage : (frozen : Bool) (stage : ℕ) → cost_at r frozen stage ≤ solo_stretch r
   pub task : (t : AnyTask) → IsWithinItsActs t → weigh r t ≤ rest_of_round r
   pub viewed : (frozen : Bool) (stage : ℕ) → cost_once_viewed r 0 ≤ cost_viewed_at r frozen stage
   pub found : (frozen : Bool) (stage : ℕ) → cost_once_found r 0 ≤ cost_found_at r frozen stage
 
 -- a call that steps alone costs no more marks than the configuration tells
-abbrev pub LoneCallsAreAffordable : Type 0
-LoneCallsAreAffordable = (c : Config) → IsConfig c → lone_most c ≤ MARKS_PER_CALL * (c.workers + 2)
+abbrev pub SoloCallsAreAffordable : Type 0
+SoloCallsAreAffordable = (c : Config) → IsConfig c → solo_most c ≤ MARKS_PER_CALL * (c.workers + 2)
 
 -- nor does one take more than is promised for each call that begins while no other is open, and whose worker steps alone
 abbrev pub WholeCallsAreAffordable : Resource → Type 0
-WholeCallsAreAffordable r = lone_stretch r + own_marks r ≤ promised r
+WholeCallsAreAffordable r = solo_stretch r + own_marks r ≤ promised r

@@ -3,9 +3,9 @@ use Rattle.std.specs.Prelude.{◌≡◌, ℕ}
 use Rattle.bz_layout.specs.declared.config.Config.{Config}
 use Rattle.bz_costs.specs.Resources.{Marks, Descriptors, Slots}
 use Rattle.bz_costs.specs.Failing.{cost_of_lost_below, cost_of_lost_inner}
-use Rattle.bz_costs.specs.Lone.{rest_of_round, lone_most}
+use Rattle.bz_costs.specs.Solo.{rest_of_round, solo_most}
 use Rattle.bz_costs.specs.Most.{most_of_seek, most_of_find, most_of_leaf, most_of_insert, most_of_update, most_of_delete, most_of_freeze, most_of_copy, most_of_merge, most_of_root, most_of_below, most_of_inner, most_of_inner_root}
-use Rattle.bz_costs.specs.Stretches.{cost_from, lone_stretch}
+use Rattle.bz_costs.specs.Stretches.{cost_from, solo_stretch}
 
 -- a configuration of so many workers
 abbrev pub with_workers : ℕ → Config
@@ -37,10 +37,10 @@ pub record CostsAreTold : Type 0 where
   pub two_more : cost_from Marks 2 ≡ 8818
   pub top : cost_from Marks 11 ≡ 32380
   pub rest : rest_of_round Marks ≡ 3268
-  pub stretch : lone_stretch Marks ≡ 33608
+  pub stretch : solo_stretch Marks ≡ 33608
   -- the most descriptors and slots that a stretch takes
-  pub descriptors : lone_stretch Descriptors ≡ 19
-  pub slots : lone_stretch Slots ≡ 36
-  pub one : lone_most (with_workers 1) ≡ 38927
-  pub eight : lone_most (with_workers 8) ≡ 281358
-  pub most : lone_most (with_workers 64) ≡ 2220806
+  pub descriptors : solo_stretch Descriptors ≡ 19
+  pub slots : solo_stretch Slots ≡ 36
+  pub one : solo_most (with_workers 1) ≡ 38927
+  pub eight : solo_most (with_workers 8) ≡ 281358
+  pub most : solo_most (with_workers 64) ≡ 2220806

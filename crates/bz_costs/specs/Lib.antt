@@ -3,7 +3,7 @@ pub mod Weights
 pub mod Most
 pub mod Failing
 pub mod Stretches
-pub mod Lone
+pub mod Solo
 pub mod Splits
 pub mod Laws
 pub mod Costs

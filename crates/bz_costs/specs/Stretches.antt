@@ -63,5 +63,5 @@ abbrev pub cost_at : Resource → Bool → ℕ → ℕ
 cost_at r frozen stage = cost_of_look_up r + cost_found_at r frozen stage
 
 -- the most that a stretch costs in which nobody disturbs the call, whatever the stage of its key
-abbrev pub lone_stretch : Resource → ℕ
-lone_stretch r = cost_of_view r + most_of_freeze r + cost_from r top_stage
+abbrev pub solo_stretch : Resource → ℕ
+solo_stretch r = cost_of_view r + most_of_freeze r + cost_from r top_stage

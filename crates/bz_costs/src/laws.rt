@@ -1,6 +1,6 @@
 //! Laws of costs. Each function does nothing: its contract is the law.
 
-ghost use Rattle.bz_costs.specs.Costs.{LoneCallsAreAffordable};
+ghost use Rattle.bz_costs.specs.Costs.{SoloCallsAreAffordable};
 ghost use Rattle.bz_costs.specs.Laws.{AskedSwapsAreCounted};
 
 /// A swap that a task asks for is one of those that were still to be asked for.
@@ -9,6 +9,6 @@ pub fn asked_swaps_are_counted()
 {}
 
 /// A call that steps alone costs no more marks than its configuration tells.
-pub fn lone_calls_are_affordable()
-    ensures { LoneCallsAreAffordable }
+pub fn solo_calls_are_affordable()
+    ensures { SoloCallsAreAffordable }
 {}

@@ -25,13 +25,13 @@ use Rattle.bz_task.specs.Outcomes.{IsLink, IsPath}
 use Rattle.bz_task.specs.Scene.{Scene, IsScene, here}
 use Rattle.bz_task.specs.declared.path.Link.{Link}
 use Rattle.bz_task.specs.declared.path.Path.{Path}
-use Rattle.bz_rounds.specs.FromAlone.Alone.{IsAlone}
+use Rattle.bz_rounds.specs.FromAlone.Undisturbed.{IsUndisturbed}
 use Rattle.bz_rounds.specs.FromAlone.Quiet.{IsQuietSince, IsIn}
 use Rattle.bz_rounds.specs.Due.{MayBeMadeAnew}
-use Rattle.bz_rounds.proofs.FromAlone.Proved.{lonely_times_are_quiet, paths_lead_to_leaves, read_values_stand, trees_stand}
-use Rattle.bz_rounds.proofs.Proved.{lone_leaves_are_due}
+use Rattle.bz_rounds.proofs.FromAlone.Proved.{undisturbed_times_are_quiet, paths_lead_to_leaves, read_values_stand, trees_stand}
+use Rattle.bz_rounds.proofs.Proved.{undisturbed_leaves_are_due}
 use Rattle.bz_alone.proofs.Proved.{}
-use Rattle.bz_joined.specs.DueMerges.{LoneViewsTellTheLiveWords, LoneRootLeavesHaveNoNeighbour, LoneMergesAreDue}
+use Rattle.bz_joined.specs.DueMerges.{UndisturbedViewsTellTheLiveWords, UndisturbedRootLeavesHaveNoNeighbour, UndisturbedMergesAreDue}
 use Rattle.bz_joined.proofs.Alike.{live-is}
 use Rattle.bz_joined.proofs.Families.{up-is, index-is}
 use Rattle.bz_joined.proofs.Quiet.{live-same}
@@ -39,9 +39,9 @@ use Rattle.bz_shape.proofs.TreeForms.{fits}
 use Rattle.bz_shape.proofs.Proved.{leaves_tile_the_keys}
 
 -- the view has as many live words as its leaf
-pub views-tell-live : LoneViewsTellTheLiveWords
+pub views-tell-live : UndisturbedViewsTellTheLiveWords
 views-tell-live key view s good alone v =
-    let q : IsQuietSince s.past.since s.past = lonely_times_are_quiet.whole s good alone in
+    let q : IsQuietSince s.past.since s.past = undisturbed_times_are_quiet.whole s good alone in
     let then-it : IsIn s.past.since s.past view.at = record { from = v.since; to = v.now } in
     let now : IsIn s.past.since s.past s.past.now = record { from = good.begun; to = omega arith } in
     let said : IsSaidBy key view s.past = views_say_what_images_say key view s.past v (good.history.good view.at v.since v.now) in
@@ -57,7 +57,7 @@ itself k = grind (arith, nat_tests)
 root-child : (c : Config) (x : Image) → (view_of c x).child c.nodes 0 ≡ root x.words
 root-child c x = ap (λ t. if t then (if 0 == 0 then root x.words else 0) else child_of (node c x.words c.nodes) 0) (itself c.nodes)
 
-module _ (key : List ℕ) (path : Path) (link : Link) (s : Scene) (good : IsScene s) (alone : IsAlone 0 s.past) (p : IsPath key path s.past) (last : slice_get path.links (path.depth - 1) ≡ Some link) (one : path.depth ≡ 1) where
+module _ (key : List ℕ) (path : Path) (link : Link) (s : Scene) (good : IsScene s) (alone : IsUndisturbed 0 s.past) (p : IsPath key path s.past) (last : slice_get path.links (path.depth - 1) ≡ Some link) (one : path.depth ≡ 1) where
   abbrev c : Config
   c = s.past.config
 
@@ -85,7 +85,7 @@ module _ (key : List ℕ) (path : Path) (link : Link) (s : Scene) (good : IsScen
   pointer-now : (here s).value ROOT_AT ≡ link.slot + 1
   pointer-now =
       let was : IsIn s.past.since s.past on.was = record { from = on.since; to = on.now } in
-      read_values_stand s s.past.since on.was ROOT_AT good (lonely_times_are_quiet.whole s good alone) was (inl refl) s.past.now on.was (record { from = good.begun; to = omega arith }) was
+      read_values_stand s s.past.since on.was ROOT_AT good (undisturbed_times_are_quiet.whole s good alone) was (inl refl) s.past.now on.was (record { from = good.begun; to = omega arith }) was
       ∙ (ap (s.past.at on.was).value (sym (p.first link first).pointer) ∙ on.led)
 
   root-now : root (resolve (here s).image) ≡ link.slot
@@ -123,11 +123,11 @@ module _ (key : List ℕ) (path : Path) (link : Link) (s : Scene) (good : IsScen
       let one-down : Stands v fm c.nodes 0 (v.child c.nodes 0) = fits-now.down c.nodes 0 fits-now.top high within in
       omega (arith, one-down.level, ap fm.level child-now, h.leaf, fits-now.height)
 
-pub roots-have-none : LoneRootLeavesHaveNoNeighbour
+pub roots-have-none : UndisturbedRootLeavesHaveNoNeighbour
 roots-have-none key path link s good alone p last one m = no-neighbour key path link s good alone p last one m
 
-pub merges-are-due : LoneMergesAreDue
+pub merges-are-due : UndisturbedMergesAreDue
 merges-are-due key path link view s good alone p last v m =
-    let anew : MayBeMadeAnew path view = lone_leaves_are_due key path view s good alone p v in
+    let anew : MayBeMadeAnew path view = undisturbed_leaves_are_due key path view s good alone p v in
     let deep : 2 ≤ path.depth = elim (cases_lt path.depth 2) [ inl low ↦ absurd (roots-have-none key path link s good alone p last (omega (arith, low, p.some)) m) | inr high ↦ high ] in
     (deep, (anew.above deep, (omega (arith, m.small, views-tell-live key view s good alone v), anew.led)))

@@ -25,12 +25,12 @@ use Rattle.bz_rounds.specs.FromAlone.Duties.{end_of, facts_of, means_of, view_of
 use Rattle.bz_rounds.specs.FromAlone.Kinds as kinds
 use Rattle.bz_rounds.specs.FromAlone.Kinds.{kind_of}
 use Rattle.bz_rounds.specs.FromAlone.MadeFor.{WasLeafOf, WasSmallLeafOf, IsSmallMerge}
-use Rattle.bz_rounds.specs.FromAlone.Alone.{IsAlone}
+use Rattle.bz_rounds.specs.FromAlone.Undisturbed.{IsUndisturbed}
 use Rattle.bz_rounds.specs.FromAlone.Quiet.{IsIn}
-use Rattle.bz_rounds.proofs.FromAlone.Proved.{lonely_times_are_quiet}
+use Rattle.bz_rounds.proofs.FromAlone.Proved.{undisturbed_times_are_quiet}
 use Rattle.bz_alone.proofs.Proved.{}
-use Rattle.bz_joined.specs.Neighbours.{WasReadBelow, KnowsItsLeaf, LoneMergesTryTheirNeighbours, LoneTasksTryTheirNeighbours, LoneMergesDoNotLackRoom, MergesKnowTheirLeaf, KnownLeavesStay}
-use Rattle.bz_joined.proofs.Lacked.{lone-lack}
+use Rattle.bz_joined.specs.Neighbours.{WasReadBelow, KnowsItsLeaf, UndisturbedMergesTryTheirNeighbours, UndisturbedTasksTryTheirNeighbours, UndisturbedMergesDoNotLackRoom, MergesKnowTheirLeaf, KnownLeavesStay}
+use Rattle.bz_joined.proofs.Lacked.{undisturbed-lack}
 use Rattle.bz_joined.proofs.Standing.{neighbours-stand}
 
 -- while it goes on it knows the leaf as it was viewed
@@ -165,8 +165,8 @@ ends-so (Store j) e = absurd (cc)
 ends-so (Flush j) e = absurd (cc)
 ends-so Swap e = absurd (cc)
 
-pub merges-try : LoneMergesTryTheirNeighbours
-merges-try t key s config good f e alone was r m = lone-lack key t.upper t.lower t.leaf.0 s good alone was r (none-fits (merging_of t) t.phase s e f) m
+pub merges-try : UndisturbedMergesTryTheirNeighbours
+merges-try t key s config good f e alone was r m = undisturbed-lack key t.upper t.lower t.leaf.0 s good alone was r (none-fits (merging_of t) t.phase s e f) m
 
 -- so does whichever task
 means-merge : (t : Merge) (s : Scene) → facts_of (Merging t) Waiting s → end_of (Merging t) ≡ Some NeedsRoom → means_of (Merging t) NeedsRoom s
@@ -189,12 +189,12 @@ means-so (SplittingBelow t a) s f is e = absurd (cc)
 means-so (SplittingInner t a) s f is e = absurd (cc)
 means-so (SplittingInnerRoot t a) s f is e = absurd (cc)
 
-pub tasks-try : LoneTasksTryTheirNeighbours
-tasks-try t key s good f is e alone k m = lone-lack key k.upper k.lower k.leaf s good alone k.was k.read (k.means s (means-so t s f is e)) m
+pub tasks-try : UndisturbedTasksTryTheirNeighbours
+tasks-try t key s good f is e alone k m = undisturbed-lack key k.upper k.lower k.leaf s good alone k.was k.read (k.means s (means-so t s f is e)) m
 
 -- such a merge had frozen nothing
-pub do-not-lack : LoneMergesDoNotLackRoom
+pub do-not-lack : UndisturbedMergesDoNotLackRoom
 do-not-lack old new seen moment free left todo key i s h kind good facts alone knows then-it may lacks =
-    let first : IsAlone 0 s.past = subst (λ n. IsAlone n s.past) (h.no_neighbour kind lacks) alone in
+    let first : IsUndisturbed 0 s.past = subst (λ n. IsUndisturbed n s.past) (h.no_neighbour kind lacks) alone in
     let now : IsIn s.past.since s.past s.past.now = record { from = good.begun; to = omega arith } in
-    tasks-try new key s good facts (h.kind ∙ kind) lacks first (known-stay.heard old new key s.past knows h.goes.meant) (neighbours-stand s s.past.since i s.past.now key good (lonely_times_are_quiet.whole s good first) then-it now may)
+    tasks-try new key s good facts (h.kind ∙ kind) lacks first (known-stay.heard old new key s.past knows h.goes.meant) (neighbours-stand s s.past.since i s.past.now key good (undisturbed_times_are_quiet.whole s good first) then-it now may)

@@ -17,24 +17,24 @@ use Rattle.bz_task.specs.Good.{IsGood}
 use Rattle.bz_task.specs.Instant.{durable, form_at, is_inside}
 use Rattle.bz_task.specs.Scene.{Scene, IsScene, here}
 use Rattle.bz_task.specs.declared.path.Link.{Link}
-use Rattle.bz_rounds.specs.FromAlone.Alone.{IsAlone}
+use Rattle.bz_rounds.specs.FromAlone.Undisturbed.{IsUndisturbed}
 use Rattle.bz_rounds.specs.FromAlone.MadeFor.{WasLeafOf}
 use Rattle.bz_rounds.specs.FromAlone.Quiet.{IsQuietSince, IsIn}
 use Rattle.bz_rounds.specs.FromAlone.Trees.{SameTree}
-use Rattle.bz_rounds.proofs.FromAlone.Proved.{lonely_times_are_quiet, trees_stand}
+use Rattle.bz_rounds.proofs.FromAlone.Proved.{undisturbed_times_are_quiet, trees_stand}
 use Rattle.bz_alone.proofs.Proved.{}
-use Rattle.bz_joined.specs.Neighbours.{WasReadBelow, LoneNeighboursLackRoom}
+use Rattle.bz_joined.specs.Neighbours.{WasReadBelow, UndisturbedNeighboursLackRoom}
 use Rattle.bz_joined.proofs.Alike.{live-is}
 use Rattle.bz_joined.proofs.Families.{count-is, child-is, high-inside, up-is, index-is}
 use Rattle.bz_joined.proofs.SeenLeaves.{below, live-then}
 use Rattle.bz_joined.proofs.Quiet.{fits-at, inner-read, same-tree, live-same, inner-same}
 
-module _ (s : Scene) (good : IsScene s) (alone : IsAlone 0 s.past) where
+module _ (s : Scene) (good : IsScene s) (alone : IsUndisturbed 0 s.past) where
   abbrev c : Config
   c = s.past.config
 
   q : IsQuietSince s.past.since s.past
-  q = lonely_times_are_quiet.whole s good alone
+  q = undisturbed_times_are_quiet.whole s good alone
 
   now : IsIn s.past.since s.past s.past.now
   now = record { from = good.begun; to = omega arith }
@@ -136,5 +136,5 @@ module _ (s : Scene) (good : IsScene s) (alone : IsAlone 0 s.past) where
       pub no-room : ⊥
       no-room = absurd (omega (arith, m.room, lacked.many, own-now, beside-now m.place lacked))
 
-pub lone-lack : LoneNeighboursLackRoom
-lone-lack key upper lower leaf s good alone was r f m = no-room s good alone key upper lower leaf was r f m
+pub undisturbed-lack : UndisturbedNeighboursLackRoom
+undisturbed-lack key upper lower leaf s good alone was r f m = no-room s good alone key upper lower leaf was r f m

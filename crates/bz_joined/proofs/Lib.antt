@@ -5,7 +5,7 @@ mod Freezes
 mod Knowing
 mod Lacked
 mod LackingSlots
-mod Lone
+mod Undisturbed
 mod Merges
 mod Quiet
 mod Roomy

@@ -6,19 +6,19 @@ use Rattle.bz_word.proofs.Proved.{statuses}
 use Rattle.bz_joined.proofs.DueMerges.{merges-are-due, roots-have-none, views-tell-live}
 use Rattle.bz_joined.proofs.Freezes.{freezes-beside, freezes-beside-leaf, freezes-own, small-freezes}
 use Rattle.bz_joined.proofs.Knowing.{do-not-lack, known-stay, merges-know, tasks-try}
-use Rattle.bz_joined.proofs.Lacked.{lone-lack}
+use Rattle.bz_joined.proofs.Lacked.{undisturbed-lack}
 use Rattle.bz_joined.proofs.LackingSlots.{merges-lack}
-use Rattle.bz_joined.proofs.Lone.{freezes-beside-leaf-lone, freezes-beside-lone}
+use Rattle.bz_joined.proofs.Undisturbed.{freezes-beside-leaf-undisturbed, freezes-beside-undisturbed}
 use Rattle.bz_joined.proofs.Merges.{merges}
 use Rattle.bz_joined.proofs.Single.{freezes-single}
-use Rattle.bz_joined.proofs.SmallLeaves.{deletes-tell, lone-deletes-tell, mergeable-below, roots-are-trees}
+use Rattle.bz_joined.proofs.SmallLeaves.{deletes-tell, undisturbed-deletes-tell, mergeable-below, roots-are-trees}
 use Rattle.bz_joined.proofs.Standing.{neighbours-stand}
 use Rattle.bz_joined.proofs.Swapped.{merge-swaps}
-use Rattle.bz_joined.specs.DueMerges.{LoneMergesAreDue, LoneRootLeavesHaveNoNeighbour, LoneViewsTellTheLiveWords}
+use Rattle.bz_joined.specs.DueMerges.{UndisturbedMergesAreDue, UndisturbedRootLeavesHaveNoNeighbour, UndisturbedViewsTellTheLiveWords}
 use Rattle.bz_joined.specs.Laws.{FreezesBesideKeepTheLeaf, FreezesBesideKeepTheStage, FrozenLeavesAreTheKeys, MergesGiveRoom, SmallFreezesLeaveACopy}
-use Rattle.bz_joined.specs.Lone.{LoneFreezesBesideKeepTheLeaf, LoneFreezesBesideKeepTheStage, LoneFreezesFreezeTheLeaf, MergeSwapsGiveRoom}
-use Rattle.bz_joined.specs.Neighbours.{KnownLeavesStay, LoneMergesDoNotLackRoom, LoneNeighboursLackRoom, LoneTasksTryTheirNeighbours, MergesKnowTheirLeaf, MergesLackSlotsRightly, NeighboursStand}
-use Rattle.bz_joined.specs.SmallLeaves.{DeletesTellOfMerges, LoneDeletesTellOfMerges, LoneRootLeavesAreTheTree, MergeableLeavesStandBelow}
+use Rattle.bz_joined.specs.Undisturbed.{UndisturbedFreezesBesideKeepTheLeaf, UndisturbedFreezesBesideKeepTheStage, UndisturbedFreezesFreezeTheLeaf, MergeSwapsGiveRoom}
+use Rattle.bz_joined.specs.Neighbours.{KnownLeavesStay, UndisturbedMergesDoNotLackRoom, UndisturbedNeighboursLackRoom, UndisturbedTasksTryTheirNeighbours, MergesKnowTheirLeaf, MergesLackSlotsRightly, NeighboursStand}
+use Rattle.bz_joined.specs.SmallLeaves.{DeletesTellOfMerges, UndisturbedDeletesTellOfMerges, UndisturbedRootLeavesAreTheTree, MergeableLeavesStandBelow}
 
 -- the freeze of a neighbour leaves the stage
 pub freezes_beside_keep_the_stage : FreezesBesideKeepTheStage
@@ -41,12 +41,12 @@ pub merges_give_room : MergesGiveRoom
 merges_give_room = merges
 
 -- so a merge that freezes the neighbour of the key's leaf leaves the stage
-pub lone_freezes_beside_keep_the_stage : LoneFreezesBesideKeepTheStage
-lone_freezes_beside_keep_the_stage = freezes-beside-lone
+pub undisturbed_freezes_beside_keep_the_stage : UndisturbedFreezesBesideKeepTheStage
+undisturbed_freezes_beside_keep_the_stage = freezes-beside-undisturbed
 
 -- and the key's leaf as it is
-pub lone_freezes_beside_keep_the_leaf : LoneFreezesBesideKeepTheLeaf
-lone_freezes_beside_keep_the_leaf = freezes-beside-leaf-lone
+pub undisturbed_freezes_beside_keep_the_leaf : UndisturbedFreezesBesideKeepTheLeaf
+undisturbed_freezes_beside_keep_the_leaf = freezes-beside-leaf-undisturbed
 
 -- one that turns the link to the parent gives room
 pub merge_swaps_give_room : MergeSwapsGiveRoom
@@ -61,16 +61,16 @@ merge_swaps_give_room =
     })
 
 -- a freeze of the key's leaf by itself leaves it frozen
-pub lone_freezes_freeze_the_leaf : LoneFreezesFreezeTheLeaf
-lone_freezes_freeze_the_leaf = freezes-single
+pub undisturbed_freezes_freeze_the_leaf : UndisturbedFreezesFreezeTheLeaf
+undisturbed_freezes_freeze_the_leaf = freezes-single
 
 -- in a quiet time a leaf that may be merged may be merged throughout
 pub neighbours_stand : NeighboursStand
 neighbours_stand = neighbours-stand
 
 -- where no neighbour of the key's leaf had room for it, none has while nobody's swap takes effect
-pub lone_neighbours_lack_room : LoneNeighboursLackRoom
-lone_neighbours_lack_room = lone-lack
+pub undisturbed_neighbours_lack_room : UndisturbedNeighboursLackRoom
+undisturbed_neighbours_lack_room = undisturbed-lack
 
 -- a merge that goes on knows the leaf that it was made for
 pub merges_know_their_leaf : MergesKnowTheirLeaf
@@ -81,28 +81,28 @@ pub known_leaves_stay : KnownLeavesStay
 known_leaves_stay = known-stay
 
 -- so whichever task ends for want of a neighbour leaves a leaf that may not be merged
-pub lone_tasks_try_their_neighbours : LoneTasksTryTheirNeighbours
-lone_tasks_try_their_neighbours = tasks-try
+pub undisturbed_tasks_try_their_neighbours : UndisturbedTasksTryTheirNeighbours
+undisturbed_tasks_try_their_neighbours = tasks-try
 
 -- so a merge of a leaf that may be merged does not end for want of a neighbour while its worker is alone
-pub lone_merges_do_not_lack_room : LoneMergesDoNotLackRoom
-lone_merges_do_not_lack_room = do-not-lack
+pub undisturbed_merges_do_not_lack_room : UndisturbedMergesDoNotLackRoom
+undisturbed_merges_do_not_lack_room = do-not-lack
 
 -- a merge of a frozen leaf that ends for want of slots had found a neighbour with room
 pub merges_lack_slots_rightly : MergesLackSlotsRightly
 merges_lack_slots_rightly = merges-lack
 
 -- a leaf that was viewed has the live words of the view
-pub lone_views_tell_the_live_words : LoneViewsTellTheLiveWords
-lone_views_tell_the_live_words = views-tell-live
+pub undisturbed_views_tell_the_live_words : UndisturbedViewsTellTheLiveWords
+undisturbed_views_tell_the_live_words = views-tell-live
 
 -- a leaf that is the root may not be merged
-pub lone_root_leaves_have_no_neighbour : LoneRootLeavesHaveNoNeighbour
-lone_root_leaves_have_no_neighbour = roots-have-none
+pub undisturbed_root_leaves_have_no_neighbour : UndisturbedRootLeavesHaveNoNeighbour
+undisturbed_root_leaves_have_no_neighbour = roots-have-none
 
 -- so where a leaf may be merged, its merge is due
-pub lone_merges_are_due : LoneMergesAreDue
-lone_merges_are_due = merges-are-due
+pub undisturbed_merges_are_due : UndisturbedMergesAreDue
+undisturbed_merges_are_due = merges-are-due
 
 -- a delete that leaves a leaf which may be merged tells that it leaves little
 pub deletes_tell_of_merges : DeletesTellOfMerges
@@ -113,9 +113,9 @@ pub mergeable_leaves_stand_below : MergeableLeavesStandBelow
 mergeable_leaves_stand_below = mergeable-below
 
 -- a leaf to which one link leads is the whole tree
-pub lone_root_leaves_are_the_tree : LoneRootLeavesAreTheTree
-lone_root_leaves_are_the_tree = roots-are-trees
+pub undisturbed_root_leaves_are_the_tree : UndisturbedRootLeavesAreTheTree
+undisturbed_root_leaves_are_the_tree = roots-are-trees
 
 -- so a delete that leaves a leaf which may be merged tells that it leaves little, in a leaf below another node
-pub lone_deletes_tell_of_merges : LoneDeletesTellOfMerges
-lone_deletes_tell_of_merges = lone-deletes-tell
+pub undisturbed_deletes_tell_of_merges : UndisturbedDeletesTellOfMerges
+undisturbed_deletes_tell_of_merges = undisturbed-deletes-tell

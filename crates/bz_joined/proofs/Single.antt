@@ -13,10 +13,10 @@ use Rattle.bz_task.specs.Swaps.{Stand, SwapsTo}
 use Rattle.bz_task.specs.declared.todo.Todo.TheVariants.{Swap as Swaps_for}
 use Rattle.bz_stage.specs.Swaps.{FreezesLeaf}
 use Rattle.bz_rounds.proofs.Freezing.{freezes-leaf}
-use Rattle.bz_rounds.proofs.Lone.{tree-now, leaf-now, holds-now, below-top, same-entries}
+use Rattle.bz_rounds.proofs.Undisturbed.{tree-now, leaf-now, holds-now, below-top, same-entries}
 use Rattle.bz_rounds.proofs.FromAlone.Proved.{freezes_go_on}
 use Rattle.bz_alone.proofs.Proved.{}
-use Rattle.bz_joined.specs.Lone.{LoneFreezesFreezeTheLeaf}
+use Rattle.bz_joined.specs.Undisturbed.{UndisturbedFreezesFreezeTheLeaf}
 use Rattle.bz_joined.proofs.Freezes.{freezes-own}
 
 -- a freeze that asks for a swap knows that the leaf was not frozen
@@ -24,7 +24,7 @@ known : (c : Config) (k st : ℕ) (phase : Phase) (s : Scene) (entries : List En
 known c k st Swap s entries f e = (f.1, same-entries (entry_of c k st ∷ []) entries e)
 known c k st phase s entries f e = absurd (cc)
 
-pub freezes-single : LoneFreezesFreezeTheLeaf
+pub freezes-single : UndisturbedFreezesFreezeTheLeaf
 freezes-single t key entries s y l was =
     let f = known t.config t.slot t.status t.phase s entries l.knows l.asks in
     let is : entry_of s.past.config t.slot t.status ∷ [] ≡ entries = ap (λ (z : Config). entry_of z t.slot t.status ∷ []) l.config ∙ f.1 in

@@ -15,7 +15,7 @@ use Rattle.bz_rounds.specs.FromAlone.Duties.{change_of}
 use Rattle.bz_rounds.specs.FromTally.Deletes.{LosesOneRecord}
 use Rattle.bz_rounds.proofs.FromTally.Proved.{deletes_take_one_record, deletes_tell_few}
 use Rattle.bz_tally.proofs.Proved.{}
-use Rattle.bz_joined.specs.SmallLeaves.{DeletesTellOfMerges, MergeableLeavesStandBelow, LoneRootLeavesAreTheTree, LoneDeletesTellOfMerges}
+use Rattle.bz_joined.specs.SmallLeaves.{DeletesTellOfMerges, MergeableLeavesStandBelow, UndisturbedRootLeavesAreTheTree, UndisturbedDeletesTellOfMerges}
 use Rattle.bz_joined.proofs.DueMerges.{height-one}
 
 pub deletes-tell : DeletesTellOfMerges
@@ -53,11 +53,11 @@ module _ (c : Config) (raw : ℕ → ℕ) (key : List ℕ) (tree : IsTree (view_
 pub mergeable-below : MergeableLeavesStandBelow
 mergeable-below c raw key tree m = stands-below c raw key tree m
 
-pub roots-are-trees : LoneRootLeavesAreTheTree
+pub roots-are-trees : UndisturbedRootLeavesAreTheTree
 roots-are-trees key path link s good alone p last one = height-one key path link s good alone p last one
 
-pub lone-deletes-tell : LoneDeletesTellOfMerges
-lone-deletes-tell t path link entries s y w e alone p last good m = record {
+pub undisturbed-deletes-tell : UndisturbedDeletesTellOfMerges
+undisturbed-deletes-tell t path link entries s y w e alone p last good m = record {
   deep = elim (cases_lt path.depth 2) [
     | inl low ↦
         let loses : LosesOneRecord (change_of t).key s y = deletes_take_one_record t entries s y w e in

@@ -31,13 +31,13 @@ use Rattle.bz_stage.specs.Stages.{full_above}
 use Rattle.bz_stage.specs.Swaps.{IsRoomy}
 use Rattle.bz_rounds.specs.FromAlone.MadeFor.{WasLeafOf}
 use Rattle.bz_rounds.proofs.Lacking.{some}
-use Rattle.bz_rounds.proofs.Lone.{same-entries}
+use Rattle.bz_rounds.proofs.Undisturbed.{same-entries}
 use Rattle.bz_rounds.specs.FromTally.Counts.{IsLeafNow}
 use Rattle.bz_rounds.proofs.FromTally.Links.{tree-now}
 use Rattle.bz_rounds.proofs.FromTally.Merging.{first-leaf, second-leaf, merges, merged-words}
 use Rattle.bz_rounds.proofs.FromTally.Pairs.{to-own}
 use Rattle.bz_joined.specs.Laws.{MergesGiveRoom}
-use Rattle.bz_joined.specs.Lone.{MergeSwapsGiveRoom}
+use Rattle.bz_joined.specs.Undisturbed.{MergeSwapsGiveRoom}
 use Rattle.bz_joined.proofs.Roomy.{Laws as Roomy, joined-roomy}
 
 -- the laws on which it rests

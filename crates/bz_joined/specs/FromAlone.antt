@@ -1,5 +1,5 @@
 -- What crates above take of bz_alone by this one.
-pub use Rattle.bz_rounds.specs.FromAlone.Alone
+pub use Rattle.bz_rounds.specs.FromAlone.Undisturbed
 pub use Rattle.bz_rounds.specs.FromAlone.Brief
 pub use Rattle.bz_rounds.specs.FromAlone.Counts
 pub use Rattle.bz_rounds.specs.FromAlone.Quiet

@@ -2,6 +2,6 @@
 pub use Rattle.bz_rounds.specs.Due
 pub use Rattle.bz_rounds.specs.Left
 pub use Rattle.bz_rounds.specs.Levels
-pub use Rattle.bz_rounds.specs.Lone
+pub use Rattle.bz_rounds.specs.Undisturbed
 pub use Rattle.bz_rounds.specs.Stands
 pub use Rattle.bz_rounds.specs.Viewed

@@ -1,5 +1,5 @@
 pub mod Laws
-pub mod Lone
+pub mod Undisturbed
 pub mod Neighbours
 pub mod DueMerges
 pub mod SmallLeaves

@@ -16,7 +16,7 @@ use Rattle.bz_task.specs.declared.todo.Outcome.{Outcome}
 use Rattle.bz_task.specs.declared.todo.Outcome.TheVariants.{Full, NeedsRoom}
 use Rattle.bz_task.specs.declared.todo.Seen.{Seen}
 use Rattle.bz_task.specs.declared.todo.Todo.{Todo}
-use Rattle.bz_rounds.specs.FromAlone.Alone.{IsAlone}
+use Rattle.bz_rounds.specs.FromAlone.Undisturbed.{IsUndisturbed}
 use Rattle.bz_rounds.specs.FromAlone.AnyTask.{AnyTask}
 use Rattle.bz_rounds.specs.FromAlone.Duties as any
 use Rattle.bz_rounds.specs.FromAlone.Hearing.{HasHeard}
@@ -40,15 +40,15 @@ pub record WasReadBelow (upper lower : Link) (leaf : List ℕ) (p : Past) : Type
   pub seen : WasSeen (record { slot = lower.slot; status = status; image = leaf }) at low high p
 
 -- where nobody's swap took effect since the look-up began, no neighbour has room now for the key's leaf, where none had when it was read
-abbrev pub LoneNeighboursLackRoom : Type 0
-LoneNeighboursLackRoom =
-    (key : List ℕ) (upper lower : Link) (leaf : List ℕ) (s : Scene) → IsScene s → IsAlone 0 s.past → WasLeafOf key lower.slot s.past → WasReadBelow upper lower leaf s.past →
+abbrev pub UndisturbedNeighboursLackRoom : Type 0
+UndisturbedNeighboursLackRoom =
+    (key : List ℕ) (upper lower : Link) (leaf : List ℕ) (s : Scene) → IsScene s → IsUndisturbed 0 s.past → WasLeafOf key lower.slot s.past → WasReadBelow upper lower leaf s.past →
     NoneFitted upper lower leaf s.past → MayBeMerged s.past.config (here s).image key → ⊥
 
 -- so a merge of the key's leaf that has ended because no neighbour fits leaves one that may not be merged
-abbrev pub LoneMergesTryTheirNeighbours : Type 0
-LoneMergesTryTheirNeighbours =
-    (t : Merge) (key : List ℕ) (s : Scene) → s.past.config ≡ t.config → IsScene s → facts_of t Waiting s → t.phase ≡ NoNeighbour → IsAlone 0 s.past →
+abbrev pub UndisturbedMergesTryTheirNeighbours : Type 0
+UndisturbedMergesTryTheirNeighbours =
+    (t : Merge) (key : List ℕ) (s : Scene) → s.past.config ≡ t.config → IsScene s → facts_of t Waiting s → t.phase ≡ NoNeighbour → IsUndisturbed 0 s.past →
     WasLeafOf key t.lower.slot s.past → WasReadBelow t.upper t.lower t.leaf.0 s.past → MayBeMerged s.past.config (here s).image key → ⊥
 
 -- the task is one of which NeedsRoom means that no neighbour fitted the key's leaf, as it was read
@@ -71,17 +71,17 @@ pub record KnownLeavesStay : Type 0 where
   pub heard : (old new : AnyTask) (key : List ℕ) (p : Past) → KnowsItsLeaf old key p → ((o : Outcome) (s : Scene) → any.means_of new o s → any.means_of old o s) → KnowsItsLeaf new key p
 
 -- and where such a merge ends with NeedsRoom, the key's leaf may not be merged
-abbrev pub LoneTasksTryTheirNeighbours : Type 0
-LoneTasksTryTheirNeighbours =
-    (t : AnyTask) (key : List ℕ) (s : Scene) → IsScene s → any.facts_of t Waiting s → kinds.kind_of t ≡ kinds.Merge → any.end_of t ≡ Some NeedsRoom → IsAlone 0 s.past →
+abbrev pub UndisturbedTasksTryTheirNeighbours : Type 0
+UndisturbedTasksTryTheirNeighbours =
+    (t : AnyTask) (key : List ℕ) (s : Scene) → IsScene s → any.facts_of t Waiting s → kinds.kind_of t ≡ kinds.Merge → any.end_of t ≡ Some NeedsRoom → IsUndisturbed 0 s.past →
     KnowsItsLeaf t key s.past → MayBeMerged s.past.config (here s).image key → ⊥
 
 -- and as such a merge has frozen nothing, it does not end so where the key's leaf may be merged, at whichever moment since the look-up began,
 -- and no swap took effect since then but those of the task
-abbrev pub LoneMergesDoNotLackRoom : Type 0
-LoneMergesDoNotLackRoom =
+abbrev pub UndisturbedMergesDoNotLackRoom : Type 0
+UndisturbedMergesDoNotLackRoom =
     (old new : AnyTask) (seen : Seen) (moment : ℕ) (free left : FreeSlots) (todo : Todo) (key : List ℕ) (i : ℕ) (s : Scene) → HasHeard old seen moment free todo new left → kinds.kind_of old ≡ kinds.Merge →
-    IsScene s → any.facts_of new Waiting s → IsAlone (any.made_of old + effects_in seen) s.past → KnowsItsLeaf old key s.past → IsIn s.past.since s.past i → MayBeMerged s.past.config (s.past.at i).image key →
+    IsScene s → any.facts_of new Waiting s → IsUndisturbed (any.made_of old + effects_in seen) s.past → KnowsItsLeaf old key s.past → IsIn s.past.since s.past i → MayBeMerged s.past.config (s.past.at i).image key →
     any.end_of new ≡ Some NeedsRoom → ⊥
 
 -- at a moment since the look-up began the key's leaf was frozen, and could be merged with a neighbour

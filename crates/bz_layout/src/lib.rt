@@ -19,8 +19,8 @@ pub use address_laws::{
 pub use config::Config;
 pub use error::ConfigError;
 pub use limits::{
-    MAX_CALLS, MAX_MARKS, MAX_NODES, MAX_PAGES, MAX_SWAPS, MAX_WORKERS, MIN_CALLS, MIN_MARKS,
-    MIN_NODES, MIN_PAGES, MIN_SWAPS, MIN_WORKERS,
+    MAX_CALLS, MAX_CAPACITY, MAX_MARKS, MAX_NODES, MAX_PAGES, MAX_SWAPS, MAX_WORKERS, MIN_CALLS,
+    MIN_CAPACITY, MIN_MARKS, MIN_NODES, MIN_PAGES, MIN_SWAPS, MIN_WORKERS,
 };
 pub use room_laws::{
     delete_leaves_enough, descriptor_parts_follow, full_inner_is_above_limit,

@@ -12,6 +12,12 @@ pub const MIN_SWAPS: u32 = 1;
 /// A descriptor's number fits the 16 bits that a pointer or a tag has for it.
 pub const MAX_SWAPS: u32 = 65_536;
 
+/// Cells of a queue's ring.
+pub const MIN_CAPACITY: u32 = 1;
+
+/// A cell's number fits 12 bits.
+pub const MAX_CAPACITY: u32 = 4_096;
+
 /// Workers of a world.
 pub const MIN_WORKERS: u32 = 1;
 

@@ -2,9 +2,9 @@
 use Rattle.std.proofs.Common.{◌≡◌, ℕ, zero, suc, ◌+◌, ◌-◌, ◌*◌, ◌<◌, ◌≤◌, if◌then◌else◌, Bool, true, false, arith, refl, sym, subst, max, length, mul-le-mul_left}
 use Rattle.bz_costs.specs.Resources.{Marks}
 use Rattle.bz_costs.specs.Laws.{TasksWeighLittle}
-use Rattle.bz_costs.specs.Lone.{rest_of_round, own_marks}
+use Rattle.bz_costs.specs.Solo.{rest_of_round, own_marks}
 use Rattle.bz_costs.specs.Most.{most_of, most_of_seek, most_of_find, most_of_leaf, most_of_insert, most_of_update, most_of_delete, most_of_freeze, most_of_copy, most_of_merge, most_of_root, most_of_below, most_of_inner, most_of_inner_root}
-use Rattle.bz_costs.specs.Stretches.{cost_of_change, lone_stretch}
+use Rattle.bz_costs.specs.Stretches.{cost_of_change, solo_stretch}
 use Rattle.bz_costs.specs.Weights.{weigh}
 use Rattle.bz_machine.specs.Allowed.{for_worker, sum_below}
 use Rattle.bz_rivals.specs.Laws.{RivalsAreFew}
@@ -13,8 +13,8 @@ use Rattle.bz_costs.specs.FromRunning.Kinds as kinds
 use Rattle.bz_costs.specs.FromRunning.Kinds.{Kind, kind_of}
 use Rattle.bz_costs.specs.FromRunning.AnyTask.{AnyTask}
 use Rattle.bz_costs.specs.FromRunning.AnyTask.TheVariants.{Seeking}
-use Rattle.bz_swap.specs.Alone.{allowed_while, left_to}
-use Rattle.bz_swap.specs.LoneRuns.{LoneStepsAreAllowed}
+use Rattle.bz_swap.specs.Solo.{allowed_while, left_to}
+use Rattle.bz_swap.specs.SoloRuns.{SoloStepsAreAllowed}
 use Rattle.bz_swap.specs.SwapMemory.{SwapMemory, Doing, Idle, doing_of}
 use Rattle.bz_lone.specs.Errands.{Errand, is_read}
 use Rattle.bz_lone.specs.Prices.{disturbed_prices, coming_to_read, coming_to_write, coming_after, coming}
@@ -27,7 +27,7 @@ use Rattle.bz_lone.proofs.Rises.{by_tests}
 -- the laws on which it rests
 pub record Laws : Type 0 where
   pub few : RivalsAreFew
-  pub allowed : LoneStepsAreAllowed
+  pub allowed : SoloStepsAreAllowed
   pub little : TasksWeighLittle Marks
 
 -- the greatest weight of a task, by its kind
@@ -112,7 +112,7 @@ any-paid b c m w e t untold by p crew within look thawed enough = record {
   state = In Disturbed;
   holds = tt;
   affords = record {
-    enough = sums (lone_stretch Marks + 1) (rivals m w) c.workers (length m.workers) (left_to m w) (own_left Marks e) p.now (lone_stretch Marks) (weigh Marks t) (coming Marks (disturbed_prices Marks) e (kind_of t)) (most_of Marks t) (rest_of_round Marks) by crew.size
+    enough = sums (solo_stretch Marks + 1) (rivals m w) c.workers (length m.workers) (left_to m w) (own_left Marks e) p.now (solo_stretch Marks) (weigh Marks t) (coming Marks (disturbed_prices Marks) e (kind_of t)) (most_of Marks t) (rest_of_round Marks) by crew.size
         (b.few.others m w crew.worker (inside w c.workers (length m.workers) crew.within crew.size) crew.zero)
         (all-allowed b m w) (own-few e.effected) (b.little t within) (task-fits e t) enough;
   };
@@ -129,9 +129,9 @@ none-more : (n : ℕ) → 0 + 0 ≤ n
 none-more n = omega arith
 
 pub any-round-paid : Laws → pricing.Laws Marks → AnyRoundIsPaid
-any-round-paid b d c m w e by p crew thawed enough = pays Marks m w e e (p.now + left_to m w) by p (lone_stretch Marks) refl thawed (pricing.round-within Marks d p.config (p.at p.now).image e) (record {
-  enough = whole (lone_stretch Marks + 1) (rivals m w) (own_left Marks e) (p.now + left_to m w) (lone_stretch Marks) by
-      (sums (lone_stretch Marks + 1) (rivals m w) c.workers (length m.workers) (left_to m w) (own_left Marks e) p.now (lone_stretch Marks) 0 0 0 (rest_of_round Marks) by crew.size
+any-round-paid b d c m w e by p crew thawed enough = pays Marks m w e e (p.now + left_to m w) by p (solo_stretch Marks) refl thawed (pricing.round-within Marks d p.config (p.at p.now).image e) (record {
+  enough = whole (solo_stretch Marks + 1) (rivals m w) (own_left Marks e) (p.now + left_to m w) (solo_stretch Marks) by
+      (sums (solo_stretch Marks + 1) (rivals m w) c.workers (length m.workers) (left_to m w) (own_left Marks e) p.now (solo_stretch Marks) 0 0 0 (rest_of_round Marks) by crew.size
       (b.few.others m w crew.worker (inside w c.workers (length m.workers) crew.within crew.size) crew.zero)
       (all-allowed b m w) (own-few e.effected) (omega arith) (none-more (rest_of_round Marks)) enough);
 })

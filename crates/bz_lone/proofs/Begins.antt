@@ -1,7 +1,7 @@
 -- A task begins, and a round.
 use Rattle.std.proofs.Common.{◌≡◌, ℕ, ◌+◌, ◌≤◌, false, arith, ap, refl, inl, sym, subst, ◌∙◌}
 use Rattle.std.specs.Prelude.{Option, Some, None}
-use Rattle.bz_joined.specs.FromAlone.Alone.{IsAlone}
+use Rattle.bz_joined.specs.FromAlone.Undisturbed.{IsUndisturbed}
 use Rattle.bz_call.specs.declared.calls.Call.{Call}
 use Rattle.bz_call.specs.declared.calls.Call.TheVariants as call
 use Rattle.bz_costs.specs.Resources.{Resource, Marks, Descriptors, Slots}
@@ -28,7 +28,7 @@ use Rattle.bz_lone.specs.Sum.{Round, Disturbed, Clean, In, IsIn, IsSmall, reserv
 goes-on : (t : AnyTask) (o : Outcome) → end_of t ≡ None → end_of t ≡ Some o → ⊥
 goes-on t o goes ended = cc
 
-begun-in : (e : Errand) (t : AnyTask) (p : Past) → end_of t ≡ None → made_of t ≡ 0 → (e.effected ≡ false → kind_of t ≡ kinds.Merge → IsAlone 0 p → IsSmall e p) → (round : Round) → (round ≡ Clean → IsAlone 0 p) → IsIn (In round) e t 0 p
+begun-in : (e : Errand) (t : AnyTask) (p : Past) → end_of t ≡ None → made_of t ≡ 0 → (e.effected ≡ false → kind_of t ≡ kinds.Merge → IsUndisturbed 0 p → IsSmall e p) → (round : Round) → (round ≡ Clean → IsUndisturbed 0 p) → IsIn (In round) e t 0 p
 begun-in e t p goes none small Disturbed alone = tt
 begun-in e t p goes none small Clean alone = record {
   made = 0;
@@ -97,7 +97,7 @@ module _ (r : Resource) (m : SwapMemory) (w : ℕ) (e : Errand) (t : AnyTask) (u
       few : (first own most now before : ℕ) → now ≡ before → first + own ≤ most → first + (0 + (own + now)) ≤ most + before
       few first own most now before same l = omega (arith, same, l)
 
-  alone : IsAlone 0 q
+  alone : IsUndisturbed 0 q
   alone = omega (arith, ap (λ (n : ℕ). (q.at n).effects) b.since)
 
 pub rounds-begin : (r : Resource) → RoundsBegin r

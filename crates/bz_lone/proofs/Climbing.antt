@@ -3,7 +3,7 @@ use Rattle.std.proofs.Common.{◌≡◌, ◌⊎◌, ℕ, ◌+◌, ◌-◌, ◌*�
 use Rattle.std.specs.Prelude.{Option, Some, if◌then◌else◌, nat_lt}
 use Rattle.std.proofs.lemmas.Bool.{cases_lt}
 use Rattle.std.proofs.lemmas.Bool.Decides.{nat_tests}
-use Rattle.bz_joined.specs.FromAlone.Alone.{IsAlone}
+use Rattle.bz_joined.specs.FromAlone.Undisturbed.{IsUndisturbed}
 use Rattle.bz_costs.specs.FromRunning.Ascents.{IsOneUp}
 use Rattle.bz_costs.specs.FromRunning.Ascent.{Ascent}
 use Rattle.bz_costs.specs.Laws.{LostSplitsCostLittle}
@@ -25,7 +25,7 @@ use Rattle.bz_task.specs.Scene.{Past}
 use Rattle.bz_task.specs.declared.path.Path.{Path}
 use Rattle.bz_task.specs.declared.todo.Outcome.TheVariants.{NeedsRoom}
 use Rattle.bz_lone.proofs.Coming.{comes-to-write}
-use Rattle.bz_lone.proofs.Ends.{unmade, alone-yet}
+use Rattle.bz_lone.proofs.Ends.{unmade, undisturbed-yet}
 use Rattle.bz_lone.proofs.Pricing.{less}
 use Rattle.bz_lone.proofs.Sparing.{less-afforded}
 use Rattle.bz_lone.specs.Errands.{Errand, is_read, may_swap_twice}
@@ -186,17 +186,17 @@ module _ (r : Resource) (b : Laws r) (e : Errand) (t next : AnyTask) (a up : Asc
   once : may_swap_twice (kind_of t) ≡ false
   once = elim above.from [ inl leaf ↦ ap may_swap_twice leaf.0 | inr node ↦ ap may_swap_twice node ]
 
-  price-in : (p : Past) → (IsAlone 0 p → level_of up + 1 ≤ stage_now e p) → (round : Round) → (round ≡ Clean → IsAlone 0 p) → most_of r next + coming r (prices_of r round e p) e (kind_of next) ≤ weigh r t + coming r (prices_of r round e p) e (kind_of t)
+  price-in : (p : Past) → (IsUndisturbed 0 p → level_of up + 1 ≤ stage_now e p) → (round : Round) → (round ≡ Clean → IsUndisturbed 0 p) → most_of r next + coming r (prices_of r round e p) e (kind_of next) ≤ weigh r t + coming r (prices_of r round e p) e (kind_of t)
   price-in p full Disturbed alone = disturbed
   price-in p full Clean alone = clean p (full (alone refl))
 
-  climb-in : (m : SwapMemory) (w used by : ℕ) (p : Past) → (IsAlone 0 p → level_of up + 1 ≤ stage_now e p) → IsThawed e → (state : State) → IsIn state e t 0 p → Affords r m w e used by (0 + left_in r state e t p) → Spares r m w e used by p (λ q. most_of r next + coming r q e (kind_of next))
+  climb-in : (m : SwapMemory) (w used by : ℕ) (p : Past) → (IsUndisturbed 0 p → level_of up + 1 ≤ stage_now e p) → IsThawed e → (state : State) → IsIn state e t 0 p → Affords r m w e used by (0 + left_in r state e t p) → Spares r m w e used by p (λ q. most_of r next + coming r q e (kind_of next))
   climb-in m w used by p full thawed (In round) h afford = record {
     round = round;
-    alone = alone-yet e t round p once h;
+    alone = undisturbed-yet e t round p once h;
     thawed = thawed;
     affords = less-afforded r m w e used by (0 + left_in r (In round) e t p) (reserve r round + (most_of r next + coming r (prices_of r round e p) e (kind_of next)))
-        (beside (reserve r round) _ _ (price-in p full round (alone-yet e t round p once h))) afford;
+        (beside (reserve r round) _ _ (price-in p full round (undisturbed-yet e t round p once h))) afford;
   }
     where
       beside : (kept price paid : ℕ) → price ≤ paid → kept + price ≤ 0 + (kept + paid)

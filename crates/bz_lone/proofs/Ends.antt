@@ -1,10 +1,10 @@
 -- At the end of a task.
 use Rattle.std.proofs.Common.{◌≡◌, ◌≢◌, ℕ, ◌+◌, ◌≤◌, true, false, arith, inl, inr, subst}
 use Rattle.std.specs.Prelude.{◌*◌, Bool, Some}
-use Rattle.bz_joined.specs.FromAlone.Alone.{IsAlone}
-use Rattle.bz_costs.specs.Lone.{one_mark}
+use Rattle.bz_joined.specs.FromAlone.Undisturbed.{IsUndisturbed}
+use Rattle.bz_costs.specs.Solo.{one_mark}
 use Rattle.bz_costs.specs.Resources.{Resource, Marks, Descriptors, Slots}
-use Rattle.bz_costs.specs.Stretches.{lone_stretch}
+use Rattle.bz_costs.specs.Stretches.{solo_stretch}
 use Rattle.bz_costs.specs.Weights.{weigh}
 use Rattle.bz_rivals.specs.Rivals.{rivals}
 use Rattle.bz_costs.specs.FromRunning.Duties.{end_of}
@@ -21,7 +21,7 @@ use Rattle.bz_lone.specs.Rounds.{EndsAreAfforded, EndsArePaid}
 use Rattle.bz_lone.specs.Sum.{Affords, Round, Disturbed, Clean, State, In, Made, IsIn, IsMade, IsThawed, Spares, own_left, reserve, prices_of, left_in}
 
 pub ends-afforded : (r : Resource) → EndsAreAfforded r
-ends-afforded r m w e t untold extra used by p paid = all ((lone_stretch r + one_mark r) * rivals m w) (own_left r e) (weigh r t) (left_in r paid.state e t p) (one_mark r) (some r e.effected) (left paid.state) paid.affords.enough
+ends-afforded r m w e t untold extra used by p paid = all ((solo_stretch r + one_mark r) * rivals m w) (own_left r e) (weigh r t) (left_in r paid.state e t p) (one_mark r) (some r e.effected) (left paid.state) paid.affords.enough
   where
     some : (r : Resource) (done : Bool) → one_mark r ≤ own_left r (record e { effected = done })
     some Marks true = omega arith
@@ -50,16 +50,16 @@ unmade e t o P ended other made = absurd (elim made.told [ inl one ↦ absurd (o
     same a b = cc
 
 -- a task that makes no swap before its end is alone in a clean round
-pub alone-yet : (e : Errand) (t : AnyTask) (round : Round) (p : Past) → may_swap_twice (kind_of t) ≡ false → IsIn (In round) e t 0 p → round ≡ Clean → IsAlone 0 p
-alone-yet e t Disturbed p once h is = absurd (cc)
-alone-yet e t Clean p once h is = subst (λ (made : ℕ). IsAlone made p) (h.none once) h.alone
+pub undisturbed-yet : (e : Errand) (t : AnyTask) (round : Round) (p : Past) → may_swap_twice (kind_of t) ≡ false → IsIn (In round) e t 0 p → round ≡ Clean → IsUndisturbed 0 p
+undisturbed-yet e t Disturbed p once h is = absurd (cc)
+undisturbed-yet e t Clean p once h is = subst (λ (made : ℕ). IsUndisturbed made p) (h.none once) h.alone
 
 -- in whichever round, what it leaves is spared
 ended-in : (r : Resource) (m : SwapMemory) (w : ℕ) (e : Errand) (t : AnyTask) (o : Outcome) (used by : ℕ) (p : Past) → end_of t ≡ Some o → o ≢ Done → may_swap_twice (kind_of t) ≡ false → IsThawed e →
     (state : State) → IsIn state e t 0 p → Affords r m w e used by (0 + left_in r state e t p) → Spares r m w e used by p (λ q. coming r q e (kind_of t))
 ended-in r m w e t o used by p ended other once thawed (In round) h a = record {
   round = round;
-  alone = alone-yet e t round p once h;
+  alone = undisturbed-yet e t round p once h;
   thawed = thawed;
   affords = less-afforded r m w e used by (0 + left_in r (In round) e t p) (reserve r round + coming r (prices_of r round e p) e (kind_of t)) (rest (reserve r round) (weigh r t) (coming r (prices_of r round e p) e (kind_of t))) a;
 }

@@ -2,13 +2,13 @@
 use Rattle.std.proofs.Common.{◌≡◌, ℕ, zero, suc, ◌+◌, ◌*◌, ◌≤◌, ◌&&◌, if◌then◌else◌, Bool, true, false, arith, ap, refl, sym, subst, ◌∙◌}
 use Rattle.bz_costs.specs.Resources.{Resource, Marks}
 use Rattle.bz_costs.specs.Costs.{WholeCallsAreAffordable}
-use Rattle.bz_costs.specs.Lone.{one_mark, own_marks, promised}
-use Rattle.bz_costs.specs.Stretches.{lone_stretch}
+use Rattle.bz_costs.specs.Solo.{one_mark, own_marks, promised}
+use Rattle.bz_costs.specs.Stretches.{solo_stretch}
 use Rattle.bz_machine.specs.Allowed.{sum_below, counted}
 use Rattle.bz_rivals.specs.Rivals.{is_pending, rivals}
-use Rattle.bz_swap.specs.Alone.{allowed_while, allowed_to_all}
+use Rattle.bz_swap.specs.Solo.{allowed_while, allowed_to_all}
 use Rattle.bz_swap.specs.SwapMemory.{SwapMemory, Doing, Idle, doing_of}
-use Rattle.bz_swap.proofs.Proved.{lone_steps_are_allowed}
+use Rattle.bz_swap.proofs.Proved.{solo_steps_are_allowed}
 use Rattle.bz_lone.specs.Steps.{FirstRoundsArePaid, IdleMemoriesAllowNothing}
 use Rattle.bz_lone.specs.Errands.{Errand}
 use Rattle.bz_lone.specs.Sum.{own_left}
@@ -37,15 +37,15 @@ sums : (k rivals own used stretch own_most promised by : ℕ) → rivals ≡ 0 �
 sums k rivals own used stretch own_most promised by none o few enough = subst (λ (n : ℕ). k * n + own + used + stretch ≤ by) (sym none) (omega (arith, o, few, enough))
 
 pub first-paid : (r : Resource) → WholeCallsAreAffordable r → pricing.Laws r → FirstRoundsArePaid r
-first-paid r few d m w e used by p idle thawed enough = pays r m w e e used by p (lone_stretch r) refl thawed (pricing.round-within r d p.config (p.at p.now).image e) (record {
-  enough = sums (lone_stretch r + one_mark r) (rivals m w) (own_left r e) used (lone_stretch r) (own_marks r) (promised r) by none (own-few r e) few enough;
+first-paid r few d m w e used by p idle thawed enough = pays r m w e e used by p (solo_stretch r) refl thawed (pricing.round-within r d p.config (p.at p.now).image e) (record {
+  enough = sums (solo_stretch r + one_mark r) (rivals m w) (own_left r e) used (solo_stretch r) (own_marks r) (promised r) by none (own-few r e) few enough;
 })
   where
     none : rivals m w ≡ 0
     none = sum-none _ _ (λ v. no-rival m _ (doing_of m v) (idle v))
 
 pub allow-nothing : IdleMemoriesAllowNothing
-allow-nothing m w idle = omega (arith, lone_steps_are_allowed.most m w, nothing)
+allow-nothing m w idle = omega (arith, solo_steps_are_allowed.most m w, nothing)
   where
     nothing : allowed_to_all m ≡ 0
     nothing = sum-none _ _ (λ v. ap allowed_while (idle v))

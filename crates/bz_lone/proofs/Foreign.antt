@@ -4,11 +4,11 @@ use Rattle.bz_call.specs.Map.{key_of}
 use Rattle.bz_content.specs.Content.{image_of}
 use Rattle.bz_joined.specs.FromStage.Neighbours.{leaf_page}
 use Rattle.bz_costs.specs.Resources.{Resource}
-use Rattle.bz_costs.specs.Lone.{one_mark}
+use Rattle.bz_costs.specs.Solo.{one_mark}
 use Rattle.bz_costs.specs.Weights.{weigh}
 use Rattle.bz_costs.specs.Costs.{HigherStagesCostMore, StretchesAreTheMost}
 use Rattle.bz_costs.specs.Most.{most_of_seek}
-use Rattle.bz_costs.specs.Stretches.{lone_stretch}
+use Rattle.bz_costs.specs.Stretches.{solo_stretch}
 use Rattle.bz_rivals.specs.Rivals.{rivals}
 use Rattle.bz_costs.specs.FromRunning.Kinds as kinds
 use Rattle.bz_costs.specs.FromRunning.Kinds.{kind_of}
@@ -29,8 +29,8 @@ pub record Laws (r : Resource) : Type 0 where
   pub more : HigherStagesCostMore r
 
 module _ (r : Resource) (b : Laws r) (m n : SwapMemory) (w : ℕ) (e : Errand) (t : AnyTask) (untold used next by : ℕ) (p q : Past) (less : next ≤ used) (gone : rivals n w + 1 ≤ rivals m w) where
-  kept : (lone_stretch r + one_mark r) * rivals n w + (lone_stretch r + one_mark r) ≤ (lone_stretch r + one_mark r) * rivals m w
-  kept = one-fewer (lone_stretch r + one_mark r) (rivals m w) (rivals n w) gone
+  kept : (solo_stretch r + one_mark r) * rivals n w + (solo_stretch r + one_mark r) ≤ (solo_stretch r + one_mark r) * rivals m w
+  kept = one-fewer (solo_stretch r + one_mark r) (rivals m w) (rivals n w) gone
 
   -- what the next round costs after the last swap of a task
   pays : IsMade e t untold → coming r (disturbed_prices r) e (kind_of t) ≤ round_price r (prices_in r p.config (p.at p.now).image (after e (kind_of t))) (after e (kind_of t))
@@ -42,13 +42,13 @@ module _ (r : Resource) (b : Laws r) (m n : SwapMemory) (w : ℕ) (e : Errand) (
       both a b c d u v l = subst (λ z. z ≤ d) (sym u) (subst (λ z. b ≤ z) (sym v) l)
 
   affords : (state : State) → IsIn state e t untold p → Affords r m w e used by (0 + left_in r state e t p) → Affords r n w e next by (one_mark r + left_in r (In Disturbed) e t q)
-  affords (In Disturbed) h a = record { enough = loses (lone_stretch r) (one_mark r) _ _ (own_left r e) used next (lone_stretch r + (weigh r t + coming r (disturbed_prices r) e (kind_of t))) by kept less a.enough }
+  affords (In Disturbed) h a = record { enough = loses (solo_stretch r) (one_mark r) _ _ (own_left r e) used next (solo_stretch r + (weigh r t + coming r (disturbed_prices r) e (kind_of t))) by kept less a.enough }
   affords (In Clean) h a = record {
-    enough = disturbs (lone_stretch r) (one_mark r) _ _ (own_left r e) used next (weigh r t) (coming r (disturbed_prices r) e (kind_of t)) (coming r (prices_in r p.config (p.at p.now).image e) e (kind_of t)) by kept less
+    enough = disturbs (solo_stretch r) (one_mark r) _ _ (own_left r e) used next (weigh r t) (coming r (disturbed_prices r) e (kind_of t)) (coming r (prices_in r p.config (p.at p.now).image e) e (kind_of t)) by kept less
         (all-rises r (disturbed_prices r) (prices_in r p.config (p.at p.now).image e) e (kind_of t) (disturbed-least r b.most b.more e.alone (leaf_page p.config (image_of (p.at p.now).image) (key_of e.call)) (stage_in p.config (p.at p.now).image (key_of e.call) (words_asked e.call)))) a.enough;
   }
   affords Made h a = record {
-    enough = begins-again (lone_stretch r) (one_mark r) _ _ (own_left r e) used next (weigh r t) (coming r (disturbed_prices r) e (kind_of t)) (round_price r (prices_in r p.config (p.at p.now).image (after e (kind_of t))) (after e (kind_of t))) by kept less (pays h) a.enough;
+    enough = begins-again (solo_stretch r) (one_mark r) _ _ (own_left r e) used next (weigh r t) (coming r (disturbed_prices r) e (kind_of t)) (round_price r (prices_in r p.config (p.at p.now).image (after e (kind_of t))) (after e (kind_of t))) by kept less (pays h) a.enough;
   }
 
 pub foreign-paid : (r : Resource) → Laws r → ForeignEffectsArePaid r

@@ -1,11 +1,11 @@
 -- What a task is told lowers its weight by what the slots take that are gone then, and the start of its next act; and the round stays what it is.
 use Rattle.std.proofs.Common.{◌≡◌, ◌≢◌, ◌⊎◌, ℕ, ◌+◌, ◌*◌, ◌<◌, ◌≤◌, true, false, Option, Some, None, IsSome, arith, refl, sym, ap, subst, ◌∙◌, inl, inr}
-use Rattle.bz_joined.specs.FromAlone.Alone.{IsAlone}
-use Rattle.bz_costs.specs.Lone.{one_mark}
+use Rattle.bz_joined.specs.FromAlone.Undisturbed.{IsUndisturbed}
+use Rattle.bz_costs.specs.Solo.{one_mark}
 use Rattle.bz_costs.specs.Resources.{Resource}
 use Rattle.bz_costs.specs.Laws.{AskedSwapsAreCounted, HearingIsPaid}
 use Rattle.bz_costs.specs.Weights.{slots_gone, start_takes, weigh}
-use Rattle.bz_costs.specs.Stretches.{lone_stretch}
+use Rattle.bz_costs.specs.Stretches.{solo_stretch}
 use Rattle.bz_layout.specs.Slots.{FreeSlots}
 use Rattle.bz_rivals.specs.Rivals.{rivals}
 use Rattle.bz_costs.specs.FromRunning.Duties.{asks_of, end_of, made_of}
@@ -63,7 +63,7 @@ one-effect : (seen : Seen) → seen ≡ Swapped true → effects_in seen ≡ 1
 one-effect seen e = ap effects_in e
 
 module _ (r : Resource) (b : Laws r) (m : SwapMemory) (w : ℕ) (e : Errand) (old new : AnyTask) (seen : Seen) (moment : ℕ) (free left : FreeSlots) (todo : Todo) (used next by : ℕ) (p : Past) (h : HasHeard old seen moment free todo new left) (before : AreLaws old)
-    (hears_it : Hears (asks_of old) seen) (stands : IsAlone (made_of old + effects_in seen) p → end_of new ≢ Some Restart) (gone : next ≤ used + slots_gone r free left) where
+    (hears_it : Hears (asks_of old) seen) (stands : IsUndisturbed (made_of old + effects_in seen) p → end_of new ≢ Some Restart) (gone : next ≤ used + slots_gone r free left) where
   goes-on : end_of old ≡ None
   goes-on = not-ended old seen before hears_it
 
@@ -79,7 +79,7 @@ module _ (r : Resource) (b : Laws r) (m : SwapMemory) (w : ℕ) (e : Errand) (ol
     none = λ f. c.none (ap may_swap_twice (sym h.kind) ∙ f);
     before = λ f l. refl;
     goes = λ f d. no-end (c.before f (omega (arith, h.goes.only_last d))) (one-effect seen (h.goes.done d));
-    stands = stands (subst (λ n. IsAlone n p) (c.counts goes-on) c.alone);
+    stands = stands (subst (λ n. IsUndisturbed n p) (c.counts goes-on) c.alone);
     small = λ f k. c.small f (sym h.kind ∙ k);
   }
     where
@@ -101,7 +101,7 @@ module _ (r : Resource) (b : Laws r) (m : SwapMemory) (w : ℕ) (e : Errand) (ol
       done (inr d) = absurd (cc (goes-on, d))
 
   abbrev kept : ℕ
-  kept = (lone_stretch r + one_mark r) * rivals m w
+  kept = (solo_stretch r + one_mark r) * rivals m w
 
   paid : (look : e.effected ≡ false → IsLookOf e.call (kind_of old)) (thawed : e.froze ≡ true → is_read e.call ≡ false) (state : State) → IsIn state e old (effects_in seen) p → Affords r m w e used by (0 + left_in r state e old p) → IsPaid r m w e new 0 (start_takes r todo) next by p
   paid look thawed (In Disturbed) c a = record {

@@ -1,17 +1,17 @@
 -- What the end of a task leaves: the next round is paid for.
 use Rattle.std.proofs.Common.{◌≡◌, ℕ, ◌+◌, ◌*◌, ◌≤◌, Bool, true, false, true≢false, arith, ap, refl, sym, subst, inl, inr, ◌∙◌}
 use Rattle.std.specs.Prelude.{Some, if◌then◌else◌, nat_lt}
-use Rattle.bz_joined.specs.FromAlone.Alone.{IsAlone}
+use Rattle.bz_joined.specs.FromAlone.Undisturbed.{IsUndisturbed}
 use Rattle.bz_call.specs.Map.{key_of}
 use Rattle.bz_call.specs.declared.calls.Call.{Call}
 use Rattle.bz_call.specs.declared.calls.Call.TheVariants as call
 use Rattle.bz_content.specs.Content.{image_of}
 use Rattle.bz_joined.specs.FromStage.Neighbours.{leaf_page}
-use Rattle.bz_costs.specs.Lone.{one_mark}
+use Rattle.bz_costs.specs.Solo.{one_mark}
 use Rattle.bz_costs.specs.Resources.{Resource}
 use Rattle.bz_costs.specs.Weights.{weigh}
 use Rattle.bz_costs.specs.Most.{most_of_seek, most_of_find, most_of_leaf, most_of_copy, most_of_merge}
-use Rattle.bz_costs.specs.Stretches.{cost_of_view, cost_from, cost_viewed_at, lone_stretch}
+use Rattle.bz_costs.specs.Stretches.{cost_of_view, cost_from, cost_viewed_at, solo_stretch}
 use Rattle.bz_rivals.specs.Rivals.{rivals}
 use Rattle.bz_costs.specs.FromRunning.Duties.{end_of}
 use Rattle.bz_costs.specs.FromRunning.Kinds as kinds
@@ -46,10 +46,10 @@ pays r m w e next used by p much same thawed l a = record {
 }
   where
     as-before : Affords r m w e used by (round_price r (prices_in r p.config (p.at p.now).image next) next) → Affords r m w next used by (round_price r (prices_in r p.config (p.at p.now).image next) next)
-    as-before b = record { enough = subst (λ (own : ℕ). (lone_stretch r + one_mark r) * rivals m w + own + used + round_price r (prices_in r p.config (p.at p.now).image next) next ≤ by) (sym same) b.enough }
+    as-before b = record { enough = subst (λ (own : ℕ). (solo_stretch r + one_mark r) * rivals m w + own + used + round_price r (prices_in r p.config (p.at p.now).image next) next ≤ by) (sym same) b.enough }
 
-disturbed-in : (r : Resource) → Laws r → (m : SwapMemory) (w : ℕ) (e : Errand) (used by : ℕ) (p : Past) (price : Prices → ℕ) → (IsAlone 0 p → ⊥) → IsThawed e → (round : Round) → (round ≡ Clean → IsAlone 0 p) → Affords r m w e used by (reserve r round + price (prices_of r round e p)) → PaysForRound r m w e used by p
-disturbed-in r b m w e used by p price hurt thawed Disturbed alone a = pays r m w e e used by p _ refl thawed (of-reserve (lone_stretch r) _ _ (round-within r b p.config (p.at p.now).image e)) a
+disturbed-in : (r : Resource) → Laws r → (m : SwapMemory) (w : ℕ) (e : Errand) (used by : ℕ) (p : Past) (price : Prices → ℕ) → (IsUndisturbed 0 p → ⊥) → IsThawed e → (round : Round) → (round ≡ Clean → IsUndisturbed 0 p) → Affords r m w e used by (reserve r round + price (prices_of r round e p)) → PaysForRound r m w e used by p
+disturbed-in r b m w e used by p price hurt thawed Disturbed alone a = pays r m w e e used by p _ refl thawed (of-reserve (solo_stretch r) _ _ (round-within r b p.config (p.at p.now).image e)) a
 disturbed-in r b m w e used by p price hurt thawed Clean alone a = absurd (hurt (alone refl))
 
 pub disturbed-paid : (r : Resource) → Laws r → DisturbedRoundsArePaid r
@@ -73,7 +73,7 @@ write-merges called k look merge = refl
 -- after its swap
 done-in : (r : Resource) → Laws r → (m : SwapMemory) (w : ℕ) (e : Errand) (t : AnyTask) (used by : ℕ) (p : Past) → e.effected ≡ false → end_of t ≡ Some Done → IsThawed (after e (kind_of t)) → (state : State) → IsIn state e t 0 p → Affords r m w e used by (0 + left_in r state e t p) →
     PaysForRound r m w (after e (kind_of t)) used by p
-done-in r b m w e t used by p quiet ended thawed (In Disturbed) h a = pays r m w e (after e (kind_of t)) used by p _ refl thawed (of-all (lone_stretch r) _ _ (round-within r b p.config (p.at p.now).image (after e (kind_of t)))) a
+done-in r b m w e t used by p quiet ended thawed (In Disturbed) h a = pays r m w e (after e (kind_of t)) used by p _ refl thawed (of-all (solo_stretch r) _ _ (round-within r b p.config (p.at p.now).image (after e (kind_of t)))) a
 done-in r b m w e t used by p quiet ended thawed (In Clean) h a = absurd (h.goes quiet ended)
 done-in r b m w e t used by p quiet ended thawed Made h a = pays r m w e (after e (kind_of t)) used by p _ refl thawed (rest (weigh r t) (round_price r (prices_in r p.config (p.at p.now).image (after e (kind_of t))) (after e (kind_of t)))) a
   where
@@ -82,7 +82,7 @@ done-in r b m w e t used by p quiet ended thawed Made h a = pays r m w e (after 
 
 -- where it begins again
 restart-in : (r : Resource) → Laws r → (m : SwapMemory) (w : ℕ) (e : Errand) (t : AnyTask) (used by : ℕ) (p : Past) → end_of t ≡ Some Restart → IsThawed e → (state : State) → IsIn state e t 0 p → Affords r m w e used by (0 + left_in r state e t p) → PaysForRound r m w e used by p
-restart-in r b m w e t used by p ended thawed (In Disturbed) h a = pays r m w e e used by p _ refl thawed (of-all (lone_stretch r) _ _ (round-within r b p.config (p.at p.now).image e)) a
+restart-in r b m w e t used by p ended thawed (In Disturbed) h a = pays r m w e e used by p _ refl thawed (of-all (solo_stretch r) _ _ (round-within r b p.config (p.at p.now).image e)) a
 restart-in r b m w e t used by p ended thawed (In Clean) h a = absurd (h.stands ended)
 restart-in r b m w e t used by p ended thawed Made h a = unmade e t Restart _ ended (λ same. cc) h
 
@@ -90,7 +90,7 @@ restart-in r b m w e t used by p ended thawed Made h a = unmade e t Restart _ en
 crowded-in : (r : Resource) → Laws r → (m : SwapMemory) (w : ℕ) (e : Errand) (t : AnyTask) (used by : ℕ) (p : Past) → end_of t ≡ Some NeedsRoom → (IsIn (In Clean) e t 0 p → ⊥) → IsThawed e → (state : State) → IsIn state e t 0 p → Affords r m w e used by (0 + left_in r state e t p) →
     PaysForRound r m w (record e { alone = false }) used by p
 crowded-in r b m w e t used by p ended hurt thawed (In Disturbed) h a =
-    pays r m w e (record e { alone = false }) used by p _ refl thawed (of-all (lone_stretch r) _ _ (round-within r b p.config (p.at p.now).image (record e { alone = false }))) a
+    pays r m w e (record e { alone = false }) used by p _ refl thawed (of-all (solo_stretch r) _ _ (round-within r b p.config (p.at p.now).image (record e { alone = false }))) a
 crowded-in r b m w e t used by p ended hurt thawed (In Clean) h a = absurd (hurt h)
 crowded-in r b m w e t used by p ended hurt thawed Made h a = unmade e t NeedsRoom _ ended (λ same. cc) h
 
@@ -109,7 +109,7 @@ copied r e leaf stage quiet write alone frozen few =
 merge-in : (r : Resource) → Laws r → (m : SwapMemory) (w : ℕ) (e : Errand) (t : AnyTask) (used by : ℕ) (p : Past) → e.effected ≡ false → is_read e.call ≡ false → end_of t ≡ Some NeedsRoom → kind_of t ≡ kinds.Merge → IsThawed e → (state : State) → IsIn state e t 0 p → Affords r m w e used by (0 + left_in r state e t p) →
     PaysForRound r m w (record e { alone = true }) used by p
 merge-in r b m w e t used by p quiet write ended merge thawed (In Disturbed) h a =
-    pays r m w e (record e { alone = true }) used by p _ refl thawed (of-all (lone_stretch r) _ _ (round-within r b p.config (p.at p.now).image (record e { alone = true }))) a
+    pays r m w e (record e { alone = true }) used by p _ refl thawed (of-all (solo_stretch r) _ _ (round-within r b p.config (p.at p.now).image (record e { alone = true }))) a
 merge-in r b m w e t used by p quiet write ended merge thawed (In Clean) h a =
     let small : IsSmall e p = h.small quiet merge in
     pays r m w e (record e { alone = true }) used by p _ refl thawed

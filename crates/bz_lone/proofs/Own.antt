@@ -2,21 +2,21 @@
 use Rattle.std.proofs.Common.{◌≡◌, ◌⊎◌, ℕ, ◌+◌, ◌*◌, ◌<◌, ◌≤◌, Bool, true, false, List, Some, arith, refl, sym, ap, subst, ◌∙◌, inl, inr, if◌then◌else◌}
 use Rattle.std.specs.Prelude.{None}
 use Rattle.std.proofs.lemmas.Bool.{cases_lt}
-use Rattle.bz_joined.specs.FromAlone.Alone.{IsAlone}
-use Rattle.bz_joined.specs.FromAlone.Tasks.{LonersGoOn}
+use Rattle.bz_joined.specs.FromAlone.Undisturbed.{IsUndisturbed}
+use Rattle.bz_joined.specs.FromAlone.Tasks.{UndisturbedTasksGoOn}
 use Rattle.bz_call.specs.Map.{key_of}
 use Rattle.bz_content.specs.Content.{image_of}
 use Rattle.bz_joined.specs.FromStage.Neighbours.{leaf_page}
-use Rattle.bz_costs.specs.Lone.{one_mark}
+use Rattle.bz_costs.specs.Solo.{one_mark}
 use Rattle.bz_costs.specs.Resources.{Resource, Marks, Descriptors, Slots}
 use Rattle.bz_costs.specs.Weights.{weigh}
 use Rattle.bz_costs.specs.Laws.{AskedSwapsAreCounted}
-use Rattle.bz_costs.specs.Stretches.{lone_stretch}
-use Rattle.bz_joined.specs.Lone.{LoneFreezesFreezeTheLeaf}
+use Rattle.bz_costs.specs.Stretches.{solo_stretch}
+use Rattle.bz_joined.specs.Undisturbed.{UndisturbedFreezesFreezeTheLeaf}
 use Rattle.bz_layout.specs.declared.thresholds.TheConstants.{LEAF_RECORD_WORDS}
 use Rattle.bz_rivals.specs.Rivals.{rivals}
-use Rattle.bz_joined.specs.FromRounds.Left.{LoneSwapsLeave}
-use Rattle.bz_joined.specs.FromRounds.Lone.{IsLoneSwap}
+use Rattle.bz_joined.specs.FromRounds.Left.{UndisturbedSwapsLeave}
+use Rattle.bz_joined.specs.FromRounds.Undisturbed.{IsUndisturbedSwap}
 use Rattle.bz_costs.specs.FromRunning.Duties.{config_of, end_of, made_of, facts_of, asks_of, swaps_of, change_swaps, publishing_of, makes_no_change}
 use Rattle.bz_costs.specs.FromRunning.Kinds as kinds
 use Rattle.bz_costs.specs.FromRunning.Kinds.{kind_of, is_look}
@@ -42,15 +42,15 @@ use Rattle.bz_lone.proofs.OwnMerges.{IsBeside, IsJoining, IsMerging, merging}
 use Rattle.bz_lone.proofs.OwnPrices as own_prices
 use Rattle.bz_lone.proofs.OwnPrices.{room-merged}
 use Rattle.bz_lone.proofs.Coming.{comes-after, comes-to-write}
-use Rattle.bz_lone.proofs.Same.{alone-later}
+use Rattle.bz_lone.proofs.Same.{undisturbed-later}
 use Rattle.bz_lone.proofs.Spending.{fewer, publishes, wins, wins-last}
 
 -- the laws on which it rests
 pub record Laws (r : Resource) : Type 0 where
   pub prices : own_prices.Laws r
-  pub leave : LoneSwapsLeave
-  pub freezes : LoneFreezesFreezeTheLeaf
-  pub go : LonersGoOn
+  pub leave : UndisturbedSwapsLeave
+  pub freezes : UndisturbedFreezesFreezeTheLeaf
+  pub go : UndisturbedTasksGoOn
   pub asked : AskedSwapsAreCounted
 
 true-false : {A : Type 0} → true ≡ false → A
@@ -70,8 +70,8 @@ module _ (r : Resource) (b : Laws r) (m n : SwapMemory) (w : ℕ) (e : Errand) (
   goes : end_of t ≡ None
   goes = own_kinds.not-ended t entries own.laws own.asks
 
-  kept : (lone_stretch r + one_mark r) * rivals n w ≤ (lone_stretch r + one_mark r) * rivals m w
-  kept = fewer (lone_stretch r + one_mark r) (rivals m w) (rivals n w) stepped.rivals
+  kept : (solo_stretch r + one_mark r) * rivals n w ≤ (solo_stretch r + one_mark r) * rivals m w
+  kept = fewer (solo_stretch r + one_mark r) (rivals m w) (rivals n w) stepped.rivals
 
   -- the prices after it
   prices-are : (z : Errand) → prices_in r q.config (q.at q.now).image z ≡ prices_in r s.past.config y.image z
@@ -109,7 +109,7 @@ module _ (r : Resource) (b : Laws r) (m n : SwapMemory) (w : ℕ) (e : Errand) (
     published-clean : IsClean e t 0 s.past → IsClean (record e { effected = true }) t 1 q
     published-clean c = record {
       made = c.made + 1;
-      alone = alone-later c.made 1 s.past q next.adds c.alone;
+      alone = undisturbed-later c.made 1 s.past q next.adds c.alone;
       counts = λ g. omega (arith, c.counts g);
       none = λ f. true-false (sym (own_kinds.change-twice (kind_of t) change) ∙ f);
       before = λ f l. true-false f;
@@ -124,7 +124,7 @@ module _ (r : Resource) (b : Laws r) (m n : SwapMemory) (w : ℕ) (e : Errand) (
       thawed = paid.thawed;
       state = In Disturbed;
       holds = tt;
-      affords = record { enough = publishes (lone_stretch r) (one_mark r) _ _ (own_left r e) (own_left r (record e { effected = true })) used more (weigh r t) (coming_after r (kind_of t)) (coming r (disturbed_prices r) e (kind_of t)) by (falls r) kept stepped.less (change-price change write quiet Disturbed) a.enough };
+      affords = record { enough = publishes (solo_stretch r) (one_mark r) _ _ (own_left r e) (own_left r (record e { effected = true })) used more (weigh r t) (coming_after r (kind_of t)) (coming r (disturbed_prices r) e (kind_of t)) by (falls r) kept stepped.less (change-price change write quiet Disturbed) a.enough };
     }
     published (In Clean) h a = record {
       look = λ f. true-false f;
@@ -146,7 +146,7 @@ module _ (r : Resource) (b : Laws r) (m n : SwapMemory) (w : ℕ) (e : Errand) (
     state = In Clean;
     holds = record {
       made = c.made + 1;
-      alone = alone-later c.made 1 s.past q next.adds c.alone;
+      alone = undisturbed-later c.made 1 s.past q next.adds c.alone;
       counts = λ g. omega (arith, c.counts g);
       none = λ f. true-false (sym twice ∙ f);
       before = λ f z. absurd (omega (arith, left f, z));
@@ -182,8 +182,8 @@ module _ (r : Resource) (b : Laws r) (m n : SwapMemory) (w : ℕ) (e : Errand) (
 
     -- of one that has not
     module _ (quiet : e.effected ≡ false) where
-      alone : IsAlone (made_of t) s.past
-      alone = subst (λ k. IsAlone k s.past) (counted (clean.counts goes)) clean.alone
+      alone : IsUndisturbed (made_of t) s.past
+      alone = subst (λ k. IsUndisturbed k s.past) (counted (clean.counts goes)) clean.alone
         where
           counted : clean.made ≡ made_of t + 0 → clean.made ≡ made_of t
           counted c = omega (arith, c)
@@ -242,9 +242,9 @@ module _ (r : Resource) (b : Laws r) (m n : SwapMemory) (w : ℕ) (e : Errand) (
       making made =
           let is = own_kinds.making t key (words_asked e.call) s.past made in
           let write : is_read e.call ≡ false = own_kinds.writes e.call (kind_of t) (paid.look quiet) is.works in
-          let lone : IsLoneSwap (config_of t) (asks_of t) (facts_of t) entries s y = record { config = own.config; good = own.good; knows = own.knows; asks = own.asks; alone = subst (λ k. IsAlone k s.past) (clean.none is.once) clean.alone; leads = own.leads } in
+          let undisturbed : IsUndisturbedSwap (config_of t) (asks_of t) (facts_of t) entries s y = record { config = own.config; good = own.good; knows = own.knows; asks = own.asks; alone = subst (λ k. IsUndisturbed k s.past) (clean.none is.once) clean.alone; leads = own.leads } in
           made-by quiet write is.silent (own.laws.single is.renews).swaps
-          (left-price r b.prices e s.past.config (here s) y quiet write (kind_of t) is.once is.works (b.leave t key (words_asked e.call) entries s y lone made few) (leaf-frozen t key (words_asked e.call) entries s y lone made) (has-foot t key (words_asked e.call) s.past made)) a
+          (left-price r b.prices e s.past.config (here s) y quiet write (kind_of t) is.once is.works (b.leave t key (words_asked e.call) entries s y undisturbed made few) (leaf-frozen t key (words_asked e.call) entries s y undisturbed made) (has-foot t key (words_asked e.call) s.past made)) a
 
       meant : IsMeantFor e.call t s.past → IsPaid r n w e t 1 0 more by q
       meant (inl none) = changing none
@@ -261,7 +261,7 @@ module _ (r : Resource) (b : Laws r) (m n : SwapMemory) (w : ℕ) (e : Errand) (
     thawed = paid.thawed;
     state = In Disturbed;
     holds = tt;
-    affords = record { enough = wins (lone_stretch r) _ _ (own_left r e) used more (weigh r t) (coming r (disturbed_prices r) e (kind_of t)) (coming r (disturbed_prices r) e (kind_of t)) by kept stepped.less (same _ _ refl) a.enough };
+    affords = record { enough = wins (solo_stretch r) _ _ (own_left r e) used more (weigh r t) (coming r (disturbed_prices r) e (kind_of t)) (coming r (disturbed_prices r) e (kind_of t)) by kept stepped.less (same _ _ refl) a.enough };
   }
   hidden hides (In Clean) h a = cleanly hides h a e.effected refl
   hidden hides Made h a = absurd (not-made h)

@@ -8,7 +8,7 @@ use Rattle.bz_costs.specs.Resources.{Resource}
 use Rattle.bz_costs.specs.Stretches.{cost_from, top_stage}
 use Rattle.bz_layout.specs.declared.config.Config.{Config}
 use Rattle.bz_joined.specs.FromRounds.Left.{HasSplit, IsLeft}
-use Rattle.bz_joined.specs.FromRounds.Lone.{IsLoneSwap}
+use Rattle.bz_joined.specs.FromRounds.Undisturbed.{IsUndisturbedSwap}
 use Rattle.bz_costs.specs.FromRunning.Duties.{config_of, asks_of, facts_of, view_of}
 use Rattle.bz_costs.specs.FromRunning.Kinds as kinds
 use Rattle.bz_costs.specs.FromRunning.Kinds.{Kind, kind_of, is_look, level_of}
@@ -16,7 +16,7 @@ use Rattle.bz_costs.specs.FromRunning.MadeFor.{HasFoot, IsMadeFor}
 use Rattle.bz_costs.specs.FromRunning.AnyTask.{AnyTask}
 use Rattle.bz_costs.specs.FromRunning.AnyTask.TheVariants.{Freezing, SplittingInner, SplittingInnerRoot}
 use Rattle.bz_joined.specs.FromStage.Stages.{full_above, stage_in}
-use Rattle.bz_joined.proofs.Proved.{lone_freezes_freeze_the_leaf}
+use Rattle.bz_joined.proofs.Proved.{undisturbed_freezes_freeze_the_leaf}
 use Rattle.bz_task.specs.Instant.{Instant}
 use Rattle.bz_task.specs.Scene.{Past, Scene}
 use Rattle.bz_word.specs.declared.entry.Entry.{Entry}
@@ -37,10 +37,10 @@ has-foot (SplittingInnerRoot t a) key words p made = made.come.foot
 has-foot t key words p made = tt
 
 -- a freeze has left the leaf frozen
-pub leaf-frozen : (t : AnyTask) (key : List ℕ) (words : ℕ) (entries : List Entry) (s : Scene) (y : Instant) → IsLoneSwap (config_of t) (asks_of t) (facts_of t) entries s y → IsMadeFor t key words s.past → kind_of t ≡ kinds.Freeze →
+pub leaf-frozen : (t : AnyTask) (key : List ℕ) (words : ℕ) (entries : List Entry) (s : Scene) (y : Instant) → IsUndisturbedSwap (config_of t) (asks_of t) (facts_of t) entries s y → IsMadeFor t key words s.past → kind_of t ≡ kinds.Freeze →
     (leaf_page s.past.config (image_of y.image) key).frozen ≡ true
 unfolding view_of IsMadeFor kind_of
-leaf-frozen (Freezing u) key words entries s y l made is = lone_freezes_freeze_the_leaf u key entries s y l made.was
+leaf-frozen (Freezing u) key words entries s y l made is = undisturbed_freezes_freeze_the_leaf u key entries s y l made.was
 leaf-frozen t key words entries s y l made is = absurd (cc)
 
 module _ (r : Resource) (b : Laws r) (e : Errand) (c : Config) (x y : Instant) (quiet : e.effected ≡ false) (write : is_read e.call ≡ false) where

@@ -1,7 +1,7 @@
 -- The own swap of a merge that stands in the place of a copy: the freeze of the neighbour, which leaves the key's leaf as it is, or the last one,
 -- after which the leaf has room.
 use Rattle.std.proofs.Common.{◌≡◌, ◌⊎◌, ℕ, ◌+◌, ◌≤◌, true, false, List, Some, arith, refl, sym, ap, subst, ◌∙◌, inl, inr}
-use Rattle.bz_joined.specs.FromAlone.Alone.{IsAlone}
+use Rattle.bz_joined.specs.FromAlone.Undisturbed.{IsUndisturbed}
 use Rattle.bz_content.specs.Content.{image_of}
 use Rattle.bz_joined.specs.FromStage.Neighbours.{leaf_page}
 use Rattle.bz_layout.specs.declared.config.Config.{Config}
@@ -18,7 +18,7 @@ use Rattle.bz_costs.specs.FromRunning.MadeFor.{IsMergeFor}
 use Rattle.bz_costs.specs.FromRunning.AnyTask.{AnyTask}
 use Rattle.bz_costs.specs.FromRunning.AnyTask.TheVariants.{Merging}
 use Rattle.bz_joined.specs.FromStage.Stages.{stage_in}
-use Rattle.bz_joined.proofs.Proved.{lone_freezes_beside_keep_the_leaf, merge_swaps_give_room}
+use Rattle.bz_joined.proofs.Proved.{undisturbed_freezes_beside_keep_the_leaf, merge_swaps_give_room}
 use Rattle.bz_task.specs.Instant.{Instant}
 use Rattle.bz_task.specs.Scene.{Scene, Waiting, IsScene, here}
 use Rattle.bz_task.specs.Swaps.{Stand, SwapsTo}
@@ -62,7 +62,7 @@ true-false : {A : Type 0} → true ≡ false → A
 true-false e = absurd (cc)
 
 pub merging : (t : AnyTask) (key : List ℕ) (words : ℕ) (entries : List Entry) (s : Scene) (y : Instant) → IsMergeFor t key s.past → s.past.config ≡ config_of t → IsScene s → facts_of t Waiting s → asks_of t ≡ Some (Swaps_for entries) → Stand entries (here s) →
-    SwapsTo s.past.config entries (here s) y → IsAlone (made_of t) s.past → words ≤ LEAF_RECORD_WORDS + 1 → IsMerging t key words s y
+    SwapsTo s.past.config entries (here s) y → IsUndisturbed (made_of t) s.past → words ≤ LEAF_RECORD_WORDS + 1 → IsMerging t key words s y
 unfolding IsMergeFor view_of makes_no_change kind_of
 merging (Merging t) key words entries s y made config good knows asks stand leads alone few =
     record { kind = refl; silent = refl; either = go (phase-of t.config (merging_of t) t.phase entries asks) }
@@ -71,7 +71,7 @@ merging (Merging t) key words entries s y made config good knows asks stand lead
     go (inl e) = true-false (sym made.frozen ∙ thawed (merging_of t) t.phase s e knows)
     go (inr (inl e)) = inl (record {
       twice = omega (arith, ap merge_swaps e);
-      leaf = lone_freezes_beside_keep_the_leaf t key entries s y (record { config = config; good = good; knows = knows; asks = asks; alone = subst (λ n. IsAlone n s.past) (none-made (merging_of t) t.phase e made.frozen) alone; leads = leads }) e made.frozen made.leaf;
+      leaf = undisturbed_freezes_beside_keep_the_leaf t key entries s y (record { config = config; good = good; knows = knows; asks = asks; alone = subst (λ n. IsUndisturbed n s.past) (none-made (merging_of t) t.phase e made.frozen) alone; leads = leads }) e made.frozen made.leaf;
     })
     go (inr (inr e)) = inr (record {
       once = omega (arith, ap merge_swaps e);

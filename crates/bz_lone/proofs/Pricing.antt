@@ -8,7 +8,7 @@ use Rattle.bz_joined.specs.FromStage.Neighbours.{leaf_page}
 use Rattle.bz_costs.specs.Resources.{Resource}
 use Rattle.bz_costs.specs.Costs.{HigherStagesCostMore, StretchesAreTheMost}
 use Rattle.bz_costs.specs.Most.{most_of_find, most_of_leaf, most_of_freeze, most_of_copy}
-use Rattle.bz_costs.specs.Stretches.{cost_of_look_up, cost_of_view, cost_of_change, cost_from, top_stage, cost_viewed_at, lone_stretch}
+use Rattle.bz_costs.specs.Stretches.{cost_of_look_up, cost_of_view, cost_of_change, cost_from, top_stage, cost_viewed_at, solo_stretch}
 use Rattle.bz_layout.specs.declared.config.Config.{Config}
 use Rattle.bz_layout.specs.declared.sizes.TheConstants.{SHARED_WORDS}
 use Rattle.bz_costs.specs.FromRunning.Kinds as kinds
@@ -94,7 +94,7 @@ from-within r q e from viewed read last = omega (arith, comes-within r q e kinds
 last-within : (r : Resource) (from : ℕ) → cost_from r 0 ≤ from → cost_from r 0 ≤ most_of_freeze r + from
 last-within r from l = omega (arith, l)
 
-clean-within : (r : Resource) → Laws r → (e : Errand) (leaf : Page) (stage : ℕ) → round_price r (clean_prices r e.alone leaf stage) e ≤ lone_stretch r
+clean-within : (r : Resource) → Laws r → (e : Errand) (leaf : Page) (stage : ℕ) → round_price r (clean_prices r e.alone leaf stage) e ≤ solo_stretch r
 clean-within r b e leaf stage = from-within r (clean_prices r e.alone leaf stage) e (cost_from r top_stage) viewed (either (nat_lt 0 stage) _ _ _ viewed (last-within r (cost_from r top_stage) last)) last
   where
     viewed : viewed_price r e.alone leaf stage ≤ most_of_freeze r + cost_from r top_stage
@@ -103,5 +103,5 @@ clean-within r b e leaf stage = from-within r (clean_prices r e.alone leaf stage
     last : cost_from r 0 ≤ cost_from r top_stage
     last = b.higher.from 0 top_stage (omega arith)
 
-pub round-within : (r : Resource) → Laws r → (c : Config) (image : ℕ → ℕ) (e : Errand) → round_price r (prices_in r c image e) e ≤ lone_stretch r
+pub round-within : (r : Resource) → Laws r → (c : Config) (image : ℕ → ℕ) (e : Errand) → round_price r (prices_in r c image e) e ≤ solo_stretch r
 round-within r b c image e = clean-within r b e (leaf_page c (image_of image) (key_of e.call)) (stage_in c image (key_of e.call) (words_asked e.call))

@@ -1,11 +1,11 @@
 -- What this crate proves, as lemmas that other crates cite by these names.
 use Rattle.bz_costs.proofs.Proved.{asked_swaps_are_counted, hearing_is_paid, higher_stages_cost_more, lost_splits_cost_little, rounds_are_paid, splits_are_paid, stretches_are_the_most, tasks_weigh_little, whole_calls_are_affordable}
 use Rattle.bz_costs.specs.Resources.{Marks, Resource}
-use Rattle.bz_joined.proofs.FromAlone.Proved.{loners_go_on}
-use Rattle.bz_joined.proofs.FromRounds.Proved.{lone_swaps_leave}
-use Rattle.bz_joined.proofs.Proved.{lone_freezes_freeze_the_leaf}
+use Rattle.bz_joined.proofs.FromAlone.Proved.{undisturbed_tasks_go_on}
+use Rattle.bz_joined.proofs.FromRounds.Proved.{undisturbed_swaps_leave}
+use Rattle.bz_joined.proofs.Proved.{undisturbed_freezes_freeze_the_leaf}
 use Rattle.bz_rivals.proofs.Proved.{rivals_are_few}
-use Rattle.bz_swap.proofs.Proved.{lone_steps_are_allowed}
+use Rattle.bz_swap.proofs.Proved.{solo_steps_are_allowed}
 use Rattle.bz_lone.proofs.Any.{any-paid, any-round-paid}
 use Rattle.bz_lone.proofs.Begins.{rounds-begin, tasks-begin}
 use Rattle.bz_lone.proofs.Climbing.{ascents-paid}
@@ -27,11 +27,11 @@ use Rattle.bz_lone.specs.Steps.{AnyCallIsPaid, AnyRoundIsPaid, EffectMarksArePai
 
 -- whatever a call has come to, it ends within the marks that the configuration tells
 pub any_call_is_paid : AnyCallIsPaid
-any_call_is_paid = any-paid (record { few = rivals_are_few; allowed = lone_steps_are_allowed; little = tasks_weigh_little Marks })
+any_call_is_paid = any-paid (record { few = rivals_are_few; allowed = solo_steps_are_allowed; little = tasks_weigh_little Marks })
 
 -- so does one that is about to look its key up
 pub any_round_is_paid : AnyRoundIsPaid
-any_round_is_paid = any-round-paid (record { few = rivals_are_few; allowed = lone_steps_are_allowed; little = tasks_weigh_little Marks }) (record { higher = higher_stages_cost_more Marks; most = stretches_are_the_most Marks })
+any_round_is_paid = any-round-paid (record { few = rivals_are_few; allowed = solo_steps_are_allowed; little = tasks_weigh_little Marks }) (record { higher = higher_stages_cost_more Marks; most = stretches_are_the_most Marks })
 
 -- so does one that begins while nobody does anything, within what is promised for each call
 pub first_rounds_are_paid : (r : Resource) → FirstRoundsArePaid r
@@ -62,9 +62,9 @@ pub own_effects_are_paid : (r : Resource) → OwnEffectsArePaid r
 own_effects_are_paid =
     λ r. own-paid r (record {
       prices = record { more = higher_stages_cost_more r; rounds = rounds_are_paid r; splits = splits_are_paid r };
-      leave = lone_swaps_leave;
-      freezes = lone_freezes_freeze_the_leaf;
-      go = loners_go_on;
+      leave = undisturbed_swaps_leave;
+      freezes = undisturbed_freezes_freeze_the_leaf;
+      go = undisturbed_tasks_go_on;
       asked = asked_swaps_are_counted;
     })
 

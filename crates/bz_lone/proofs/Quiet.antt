@@ -2,9 +2,9 @@
 use Rattle.std.proofs.Common.{◌≡◌, ℕ, ◌+◌, refl, ap, ◌∙◌}
 use Rattle.bz_call.specs.Map.{key_of}
 use Rattle.bz_costs.specs.Resources.{Resource}
-use Rattle.bz_costs.specs.Lone.{one_mark}
+use Rattle.bz_costs.specs.Solo.{one_mark}
 use Rattle.bz_costs.specs.Weights.{weigh}
-use Rattle.bz_costs.specs.Stretches.{lone_stretch}
+use Rattle.bz_costs.specs.Stretches.{solo_stretch}
 use Rattle.bz_rivals.specs.Rivals.{rivals}
 use Rattle.bz_costs.specs.FromRunning.Kinds.{kind_of}
 use Rattle.bz_costs.specs.FromRunning.AnyTask.{AnyTask}
@@ -13,7 +13,7 @@ use Rattle.bz_lone.specs.Errands.{Errand, after}
 use Rattle.bz_lone.specs.Prices.{coming, round_price}
 use Rattle.bz_lone.specs.Steps.{QuietStepsArePaid, EffectMarksArePaid, IsNext}
 use Rattle.bz_lone.specs.Sum.{State, In, Disturbed, Clean, Made, IsIn, IsSmall, own_left, left_in}
-use Rattle.bz_lone.proofs.Same.{SameLeaf, alone-still, prices-same, same-leaf}
+use Rattle.bz_lone.proofs.Same.{SameLeaf, undisturbed-still, prices-same, same-leaf}
 use Rattle.bz_lone.proofs.Spending.{fewer, marks, steps}
 
 pub small-still : (e : Errand) (p q : Past) → SameLeaf p q (key_of e.call) → IsSmall e p → IsSmall e q
@@ -24,7 +24,7 @@ holds-still : (state : State) (e : Errand) (t : AnyTask) (untold : ℕ) (p q : P
 holds-still (In Disturbed) e t untold p q next h z = tt
 holds-still (In Clean) e t untold p q next h z = record {
   made = z.made;
-  alone = alone-still z.made p q next.adds z.alone;
+  alone = undisturbed-still z.made p q next.adds z.alone;
   counts = z.counts;
   none = z.none;
   before = z.before;
@@ -46,7 +46,7 @@ quiet-paid r m n w e t untold used more by p s good next stepped h = record {
   state = h.state;
   holds = holds-still h.state e t untold p s.past next (same-leaf p s (key_of e.call) good next) h.holds;
   affords = record {
-    enough = steps _ _ (own_left r e) used more (left_in r h.state e t s.past) (left_in r h.state e t p) by (fewer (lone_stretch r + one_mark r) (rivals m w) (rivals n w) stepped.rivals) stepped.less
+    enough = steps _ _ (own_left r e) used more (left_in r h.state e t s.past) (left_in r h.state e t p) by (fewer (solo_stretch r + one_mark r) (rivals m w) (rivals n w) stepped.rivals) stepped.less
         (left-still r h.state e t p s.past (same-leaf p s (key_of e.call) good next)) h.affords.enough;
   };
 }

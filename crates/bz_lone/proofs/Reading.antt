@@ -1,12 +1,12 @@
 -- The reading of a leaf that may lack room, and what comes after it.
 use Rattle.std.proofs.Common.{◌≡◌, ℕ, ◌+◌, ◌<◌, ◌≤◌, false, arith, ap, refl, ◌∙◌}
-use Rattle.bz_joined.specs.FromAlone.Alone.{IsAlone}
+use Rattle.bz_joined.specs.FromAlone.Undisturbed.{IsUndisturbed}
 use Rattle.bz_call.specs.Map.{key_of}
 use Rattle.bz_content.specs.Content.{image_of}
 use Rattle.bz_joined.specs.FromStage.Neighbours.{leaf_page}
 use Rattle.bz_costs.specs.Resources.{Resource}
 use Rattle.bz_costs.specs.Most.{most_of_leaf}
-use Rattle.bz_costs.specs.Stretches.{cost_once_viewed, cost_from, cost_viewed_at, lone_stretch}
+use Rattle.bz_costs.specs.Stretches.{cost_once_viewed, cost_from, cost_viewed_at, solo_stretch}
 use Rattle.bz_costs.specs.FromRunning.Kinds as kinds
 use Rattle.bz_slotted.specs.Page.{Page}
 use Rattle.bz_joined.specs.FromStage.Stages.{full_above}
@@ -26,18 +26,18 @@ leaves-read r m w e used by p quiet write some s = spend r m w e used by p _ _ h
     hurt : most_of_leaf r + coming r (disturbed_prices r) e kinds.ReadWhole ≤ coming r (disturbed_prices r) e kinds.Find
     hurt = omega (arith, comes-to-write r (disturbed_prices r) e kinds.ReadWhole quiet write, comes-to-write r (disturbed_prices r) e kinds.Find quiet write)
 
-    clean : IsAlone 0 p → most_of_leaf r + coming r (prices_in r p.config (p.at p.now).image e) e kinds.ReadWhole ≤ coming r (prices_in r p.config (p.at p.now).image e) e kinds.Find
+    clean : IsUndisturbed 0 p → most_of_leaf r + coming r (prices_in r p.config (p.at p.now).image e) e kinds.ReadWhole ≤ coming r (prices_in r p.config (p.at p.now).image e) e kinds.Find
     clean alone =
         let q = prices_in r p.config (p.at p.now).image e in
         omega (arith, comes-to-write r q e kinds.ReadWhole quiet write, comes-to-write r q e kinds.Find quiet write, some-read q.viewed (cost_from r 0) (stage_now e p) (some alone))
 
-lacks : (r : Resource) (m : SwapMemory) (w : ℕ) (e : Errand) (used by : ℕ) (p : Past) → e.effected ≡ false → is_read e.call ≡ false → (IsAlone 0 p → 0 < stage_now e p) → Spares r m w e used by p (λ q. coming r q e kinds.ReadWhole) → Spares r m w e used by p (λ q. q.viewed)
+lacks : (r : Resource) (m : SwapMemory) (w : ℕ) (e : Errand) (used by : ℕ) (p : Past) → e.effected ≡ false → is_read e.call ≡ false → (IsUndisturbed 0 p → 0 < stage_now e p) → Spares r m w e used by p (λ q. coming r q e kinds.ReadWhole) → Spares r m w e used by p (λ q. q.viewed)
 lacks r m w e used by p quiet write some s = spend r m w e used by p _ _ hurt clean s
   where
     hurt : (disturbed_prices r).viewed ≤ coming r (disturbed_prices r) e kinds.ReadWhole
     hurt = omega (arith, comes-to-write r (disturbed_prices r) e kinds.ReadWhole quiet write)
 
-    clean : IsAlone 0 p → (prices_in r p.config (p.at p.now).image e).viewed ≤ coming r (prices_in r p.config (p.at p.now).image e) e kinds.ReadWhole
+    clean : IsUndisturbed 0 p → (prices_in r p.config (p.at p.now).image e).viewed ≤ coming r (prices_in r p.config (p.at p.now).image e) e kinds.ReadWhole
     clean alone =
         let q = prices_in r p.config (p.at p.now).image e in
         omega (arith, comes-to-write r q e kinds.ReadWhole quiet write, some-read q.viewed (cost_from r 0) (stage_now e p) (some alone))
@@ -52,9 +52,9 @@ ready r e leaf stage quiet write thawed none =
     viewed : viewed_price r e.alone leaf stage ≡ cost_once_viewed r 0
     viewed = viewed-thawed r e.alone leaf stage thawed ∙ ap (cost_viewed_at r false) none
 
-module _ (r : Resource) (b : Laws r) (m : SwapMemory) (w : ℕ) (e : Errand) (used by : ℕ) (p : Past) (quiet : e.effected ≡ false) (write : is_read e.call ≡ false) (none : IsAlone 0 p → stage_now e p ≡ 0) where
-  again-for : (round : Round) → (round ≡ Clean → IsAlone 0 p) → round_price r (prices_in r p.config (p.at p.now).image (after e kinds.ReadWhole)) (after e kinds.ReadWhole) ≤ reserve r round + coming r (prices_of r round e p) e kinds.ReadWhole
-  again-for Disturbed alone = within (lone_stretch r) _ _ (round-within r b p.config (p.at p.now).image (after e kinds.ReadWhole))
+module _ (r : Resource) (b : Laws r) (m : SwapMemory) (w : ℕ) (e : Errand) (used by : ℕ) (p : Past) (quiet : e.effected ≡ false) (write : is_read e.call ≡ false) (none : IsUndisturbed 0 p → stage_now e p ≡ 0) where
+  again-for : (round : Round) → (round ≡ Clean → IsUndisturbed 0 p) → round_price r (prices_in r p.config (p.at p.now).image (after e kinds.ReadWhole)) (after e kinds.ReadWhole) ≤ reserve r round + coming r (prices_of r round e p) e kinds.ReadWhole
+  again-for Disturbed alone = within (solo_stretch r) _ _ (round-within r b p.config (p.at p.now).image (after e kinds.ReadWhole))
     where
       within : (stretch rest price : ℕ) → price ≤ stretch → price ≤ stretch + rest
       within stretch rest price l = omega (arith, l)

@@ -1,7 +1,7 @@
 -- One mark later, where no swap took effect: the key's leaf is frozen and crowded or not as it was, and the stage is the same. So the prices are.
 use Rattle.std.proofs.Common.{◌≡◌, ℕ, ◌+◌, ◌-◌, if◌then◌else◌, ◌&&◌, Bool, true, List, arith, ap, ◌∙◌}
 use Rattle.std.specs.Prelude.{not, nat_lt}
-use Rattle.bz_joined.specs.FromAlone.Alone.{IsAlone}
+use Rattle.bz_joined.specs.FromAlone.Undisturbed.{IsUndisturbed}
 use Rattle.bz_content.specs.Content.{image_of}
 use Rattle.bz_joined.specs.FromStage.Neighbours.{leaf_page}
 use Rattle.bz_costs.specs.Resources.{Resource}
@@ -52,11 +52,11 @@ began : (more : ℕ) (p q : Past) → Adds more p q → (q.at q.since).effects �
 began more p q a = ap (λ k. (q.at k).effects) a.continues.since ∙ ap (λ (x : Instant). x.effects) (a.continues.at p.since a.begun)
 
 -- a worker is alone after its own swap, and where there was none
-pub alone-later : (made more : ℕ) (p q : Past) → Adds more p q → IsAlone made p → IsAlone (made + more) q
-alone-later made more p q a h = omega (arith, began more p q a, a.effects, h)
+pub undisturbed-later : (made more : ℕ) (p q : Past) → Adds more p q → IsUndisturbed made p → IsUndisturbed (made + more) q
+undisturbed-later made more p q a h = omega (arith, began more p q a, a.effects, h)
 
-pub alone-still : (made : ℕ) (p q : Past) → Adds 0 p q → IsAlone made p → IsAlone made q
-alone-still made p q a h = omega (arith, began 0 p q a, a.effects, h)
+pub undisturbed-still : (made : ℕ) (p q : Past) → Adds 0 p q → IsUndisturbed made p → IsUndisturbed made q
+undisturbed-still made p q a h = omega (arith, began 0 p q a, a.effects, h)
 
 -- the time since the moment before is quiet
 pub same-leaf : (p : Past) (s : Scene) (key : List ℕ) → IsScene s → IsNext 0 p s.past → SameLeaf p s.past key

@@ -1,8 +1,8 @@
 -- What pays for more pays for less, and the start of an act is paid for.
 use Rattle.std.proofs.Common.{◌+◌}
-use Rattle.bz_costs.specs.Lone.{one_mark}
+use Rattle.bz_costs.specs.Solo.{one_mark}
 use Rattle.bz_costs.specs.Resources.{Resource}
-use Rattle.bz_costs.specs.Stretches.{lone_stretch}
+use Rattle.bz_costs.specs.Stretches.{solo_stretch}
 use Rattle.bz_costs.specs.Weights.{start_takes}
 use Rattle.bz_rivals.specs.Rivals.{rivals}
 use Rattle.bz_lone.specs.Steps.{LessIsPaid, StartsArePaid}
@@ -24,5 +24,5 @@ starts-paid r m n w e t untold used next by todo p more rivals_are h = record {
   thawed = h.thawed;
   state = h.state;
   holds = h.holds;
-  affords = record { enough = starts (lone_stretch r + one_mark r) (rivals m w) (rivals n w) (own_left r e) used next (start_takes r todo) (left_in r h.state e t p) by rivals_are more h.affords.enough };
+  affords = record { enough = starts (solo_stretch r + one_mark r) (rivals m w) (rivals n w) (own_left r e) used next (start_takes r todo) (left_in r h.state e t p) by rivals_are more h.affords.enough };
 }

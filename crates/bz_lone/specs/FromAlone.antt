@@ -1,5 +1,5 @@
 -- What crates above take of bz_alone by this one.
-pub use Rattle.bz_joined.specs.FromAlone.Alone
+pub use Rattle.bz_joined.specs.FromAlone.Undisturbed
 pub use Rattle.bz_joined.specs.FromAlone.Brief
 pub use Rattle.bz_joined.specs.FromAlone.Counts
 pub use Rattle.bz_joined.specs.FromAlone.Quiet

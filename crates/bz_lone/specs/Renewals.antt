@@ -1,6 +1,6 @@
 -- What is done to a leaf that has no room, and to the nodes above it, is paid for by the stage of the key.
 use Rattle.std.specs.Prelude.{◌≡◌, ◌⊎◌, ℕ, ◌+◌, ◌<◌, ◌≤◌, true, false, Some}
-use Rattle.bz_joined.specs.FromAlone.Alone.{IsAlone}
+use Rattle.bz_joined.specs.FromAlone.Undisturbed.{IsUndisturbed}
 use Rattle.bz_costs.specs.FromRunning.Ascents.{IsOneUp}
 use Rattle.bz_costs.specs.FromRunning.Ascent.{Ascent}
 use Rattle.bz_call.specs.Map.{key_of}
@@ -37,11 +37,11 @@ pub record IsLarge (e : Errand) (p : Past) : Type 0 where
 
 -- a leaf that was read whole is frozen, copied, split or merged
 pub record RenewalsArePaid (r : Resource) : Type 0 where
-  pub freeze : (m : SwapMemory) (w : ℕ) (e : Errand) (used by : ℕ) (p : Past) → (IsAlone 0 p → IsLacking e p) → Spares r m w e used by p (λ q. q.viewed) → Spares r m w e used by p (λ q. most_of_freeze r + q.froze)
-  pub copy : (m : SwapMemory) (w : ℕ) (e : Errand) (used by : ℕ) (p : Past) → (IsAlone 0 p → IsSmall e p) → Spares r m w e used by p (λ q. q.viewed) → Spares r m w e used by p (λ q. most_of_copy r + q.renewed)
-  pub merge : (m : SwapMemory) (w : ℕ) (e : Errand) (used by : ℕ) (p : Past) → e.alone ≡ false → (IsAlone 0 p → IsSmall e p) → Spares r m w e used by p (λ q. q.viewed) → Spares r m w e used by p (λ q. most_of_merge r + q.merged)
-  pub root : (m : SwapMemory) (w : ℕ) (e : Errand) (used by : ℕ) (p : Past) → (IsAlone 0 p → IsLarge e p) → Spares r m w e used by p (λ q. q.viewed) → Spares r m w e used by p (λ q. most_of_root r + q.renewed)
-  pub below : (m : SwapMemory) (w : ℕ) (e : Errand) (used by : ℕ) (p : Past) → (IsAlone 0 p → IsLarge e p) → Spares r m w e used by p (λ q. q.viewed) → Spares r m w e used by p (λ q. most_of_below r + q.below)
+  pub freeze : (m : SwapMemory) (w : ℕ) (e : Errand) (used by : ℕ) (p : Past) → (IsUndisturbed 0 p → IsLacking e p) → Spares r m w e used by p (λ q. q.viewed) → Spares r m w e used by p (λ q. most_of_freeze r + q.froze)
+  pub copy : (m : SwapMemory) (w : ℕ) (e : Errand) (used by : ℕ) (p : Past) → (IsUndisturbed 0 p → IsSmall e p) → Spares r m w e used by p (λ q. q.viewed) → Spares r m w e used by p (λ q. most_of_copy r + q.renewed)
+  pub merge : (m : SwapMemory) (w : ℕ) (e : Errand) (used by : ℕ) (p : Past) → e.alone ≡ false → (IsUndisturbed 0 p → IsSmall e p) → Spares r m w e used by p (λ q. q.viewed) → Spares r m w e used by p (λ q. most_of_merge r + q.merged)
+  pub root : (m : SwapMemory) (w : ℕ) (e : Errand) (used by : ℕ) (p : Past) → (IsUndisturbed 0 p → IsLarge e p) → Spares r m w e used by p (λ q. q.viewed) → Spares r m w e used by p (λ q. most_of_root r + q.renewed)
+  pub below : (m : SwapMemory) (w : ℕ) (e : Errand) (used by : ℕ) (p : Past) → (IsUndisturbed 0 p → IsLarge e p) → Spares r m w e used by p (λ q. q.viewed) → Spares r m w e used by p (λ q. most_of_below r + q.below)
 
 -- the split of the node above one whose split found no room there: below a parent, or of the root
 pub record IsAbove (t next : AnyTask) (a up : Ascent) : Type 0 where
@@ -54,5 +54,5 @@ pub record IsAbove (t next : AnyTask) (a up : Ascent) : Type 0 where
 -- it is paid for, in a clean round where the node is one of the full ones directly above the leaf
 abbrev pub AscentsArePaid : Resource → Type 0
 AscentsArePaid r =
-    (m : SwapMemory) (w : ℕ) (e : Errand) (t next : AnyTask) (a up : Ascent) (used by : ℕ) (p : Past) → e.effected ≡ false → is_read e.call ≡ false → IsAbove t next a up → end_of t ≡ Some NeedsRoom → (IsAlone 0 p → level_of up + 1 ≤ stage_now e p) →
+    (m : SwapMemory) (w : ℕ) (e : Errand) (t next : AnyTask) (a up : Ascent) (used by : ℕ) (p : Past) → e.effected ≡ false → is_read e.call ≡ false → IsAbove t next a up → end_of t ≡ Some NeedsRoom → (IsUndisturbed 0 p → level_of up + 1 ≤ stage_now e p) →
     IsPaid r m w e t 0 0 used by p → Spares r m w e used by p (λ q. most_of r next + coming r q e (kind_of next))

@@ -1,8 +1,8 @@
 -- What comes after a task is paid for by what it has left: the next task of the round, or the next round.
 use Rattle.std.specs.Prelude.{◌≡◌, ◌≢◌, ◌⊎◌, ℕ, ◌+◌, ◌<◌, ◌≤◌, true, false, None, Some}
-use Rattle.bz_joined.specs.FromAlone.Alone.{IsAlone}
+use Rattle.bz_joined.specs.FromAlone.Undisturbed.{IsUndisturbed}
 use Rattle.bz_call.specs.Map.{key_of}
-use Rattle.bz_costs.specs.Lone.{one_mark}
+use Rattle.bz_costs.specs.Solo.{one_mark}
 use Rattle.bz_costs.specs.Resources.{Resource}
 use Rattle.bz_costs.specs.Weights.{start_takes, weigh}
 use Rattle.bz_costs.specs.Most.{most_of, most_of_find, most_of_leaf, IsWithinItsActs}
@@ -50,21 +50,21 @@ ChangesArePaid r = (q : Prices) (e : Errand) (t : AnyTask) → e.effected ≡ fa
 
 -- and where its leaf has no room, so is the reading of the whole leaf
 abbrev pub LeavesAreRead : Resource → Type 0
-LeavesAreRead r = (m : SwapMemory) (w : ℕ) (e : Errand) (used by : ℕ) (p : Past) → e.effected ≡ false → is_read e.call ≡ false → (IsAlone 0 p → 0 < stage_now e p) → Spares r m w e used by p (λ q. coming r q e kinds.Find) →
+LeavesAreRead r = (m : SwapMemory) (w : ℕ) (e : Errand) (used by : ℕ) (p : Past) → e.effected ≡ false → is_read e.call ≡ false → (IsUndisturbed 0 p → 0 < stage_now e p) → Spares r m w e used by p (λ q. coming r q e kinds.Find) →
     Spares r m w e used by p (λ q. most_of_leaf r + coming r q e kinds.ReadWhole)
 
 -- a leaf that was read whole is made anew where it has no room, and the key is looked up again where it has
 pub record ReadLeavesArePaid (r : Resource) : Type 0 where
-  pub lacks : (m : SwapMemory) (w : ℕ) (e : Errand) (used by : ℕ) (p : Past) → e.effected ≡ false → is_read e.call ≡ false → (IsAlone 0 p → 0 < stage_now e p) → Spares r m w e used by p (λ q. coming r q e kinds.ReadWhole) →
+  pub lacks : (m : SwapMemory) (w : ℕ) (e : Errand) (used by : ℕ) (p : Past) → e.effected ≡ false → is_read e.call ≡ false → (IsUndisturbed 0 p → 0 < stage_now e p) → Spares r m w e used by p (λ q. coming r q e kinds.ReadWhole) →
       Spares r m w e used by p (λ q. q.viewed)
-  pub has : (m : SwapMemory) (w : ℕ) (e : Errand) (used by : ℕ) (p : Past) → e.effected ≡ false → is_read e.call ≡ false → (IsAlone 0 p → stage_now e p ≡ 0) → Spares r m w e used by p (λ q. coming r q e kinds.ReadWhole) →
+  pub has : (m : SwapMemory) (w : ℕ) (e : Errand) (used by : ℕ) (p : Past) → e.effected ≡ false → is_read e.call ≡ false → (IsUndisturbed 0 p → stage_now e p ≡ 0) → Spares r m w e used by p (λ q. coming r q e kinds.ReadWhole) →
       PaysForRound r m w (after e kinds.ReadWhole) used by p
 
 -- a task that is yet to begin is paid for
 abbrev pub TasksMayBegin : Resource → Type 0
 TasksMayBegin r =
     (m : SwapMemory) (w : ℕ) (e : Errand) (t : AnyTask) (used by : ℕ) (p : Past) → end_of t ≡ None → made_of t ≡ 0 → IsWithinItsActs t → (e.effected ≡ false → IsLookOf e.call (kind_of t)) →
-    (e.effected ≡ false → kind_of t ≡ kinds.Merge → IsAlone 0 p → IsSmall e p) → Spares r m w e used by p (λ q. most_of r t + coming r q e (kind_of t)) → IsPaid r m w e t 0 0 used by p
+    (e.effected ≡ false → kind_of t ≡ kinds.Merge → IsUndisturbed 0 p → IsSmall e p) → Spares r m w e used by p (λ q. most_of r t + coming r q e (kind_of t)) → IsPaid r m w e t 0 0 used by p
 
 -- a look-up that has begun with its first read, which is to be started
 pub record IsBegunAt (t : AnyTask) (p q : Past) : Type 0 where
@@ -82,7 +82,7 @@ RoundsBegin r = (m : SwapMemory) (w : ℕ) (e : Errand) (t : AnyTask) (used by a
 
 -- it is paid for: where another's swap took effect in the one before
 abbrev pub DisturbedRoundsArePaid : Resource → Type 0
-DisturbedRoundsArePaid r = (m : SwapMemory) (w : ℕ) (e : Errand) (used by : ℕ) (p : Past) (price : Prices → ℕ) → (IsAlone 0 p → ⊥) → Spares r m w e used by p price → PaysForRound r m w e used by p
+DisturbedRoundsArePaid r = (m : SwapMemory) (w : ℕ) (e : Errand) (used by : ℕ) (p : Past) (price : Prices → ℕ) → (IsUndisturbed 0 p → ⊥) → Spares r m w e used by p price → PaysForRound r m w e used by p
 
 -- and after a task of a call without effect: one that is done; one that has to begin again; and one that ended for want of room, where that was
 -- not a split or a change in a clean round. Of a merge the leaf is to be copied alone then

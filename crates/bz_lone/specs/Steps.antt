@@ -1,8 +1,8 @@
 -- What a worker's steps, what its task is told and what it starts, make of the number: it is paid for by what they take.
 use Rattle.std.specs.Prelude.{◌≡◌, ◌≢◌, ℕ, ◌+◌, ◌<◌, ◌≤◌, if◌then◌else◌, Bool, true, false, List, length, Some}
-use Rattle.bz_joined.specs.FromAlone.Alone.{IsAlone}
+use Rattle.bz_joined.specs.FromAlone.Undisturbed.{IsUndisturbed}
 use Rattle.bz_costs.specs.Resources.{Resource, Marks}
-use Rattle.bz_costs.specs.Lone.{one_mark, promised, lone_most}
+use Rattle.bz_costs.specs.Solo.{one_mark, promised, solo_most}
 use Rattle.bz_costs.specs.Most.{IsWithinItsActs}
 use Rattle.bz_costs.specs.Weights.{slots_gone, start_takes}
 use Rattle.bz_layout.specs.Config.{IsConfig}
@@ -16,7 +16,7 @@ use Rattle.bz_costs.specs.FromRunning.Hearing.{HasHeard}
 use Rattle.bz_costs.specs.FromRunning.Kinds.{kind_of}
 use Rattle.bz_costs.specs.FromRunning.Laws.{AreLaws}
 use Rattle.bz_costs.specs.FromRunning.AnyTask.{AnyTask}
-use Rattle.bz_swap.specs.Alone.{left_to}
+use Rattle.bz_swap.specs.Solo.{left_to}
 use Rattle.bz_swap.specs.SwapMemory.{SwapMemory, Idle, doing_of}
 use Rattle.bz_task.specs.Instant.{Instant}
 use Rattle.bz_task.specs.Requests.{Hears, effects_in}
@@ -43,11 +43,11 @@ pub record IsCrew (c : Config) (m : SwapMemory) (w : ℕ) : Type 0 where
 abbrev pub AnyCallIsPaid : Type 0
 AnyCallIsPaid =
     (c : Config) (m : SwapMemory) (w : ℕ) (e : Errand) (t : AnyTask) (untold by : ℕ) (p : Past) → IsCrew c m w → IsWithinItsActs t → (e.effected ≡ false → IsLookOf e.call (kind_of t)) → IsThawed e →
-    p.now + lone_most c ≤ by → IsPaid Marks m w e t untold 0 (p.now + left_to m w) by p
+    p.now + solo_most c ≤ by → IsPaid Marks m w e t untold 0 (p.now + left_to m w) by p
 
 -- and so is a round that is yet to begin
 abbrev pub AnyRoundIsPaid : Type 0
-AnyRoundIsPaid = (c : Config) (m : SwapMemory) (w : ℕ) (e : Errand) (by : ℕ) (p : Past) → IsCrew c m w → IsThawed e → p.now + lone_most c ≤ by → PaysForRound Marks m w e (p.now + left_to m w) by p
+AnyRoundIsPaid = (c : Config) (m : SwapMemory) (w : ℕ) (e : Errand) (by : ℕ) (p : Past) → IsCrew c m w → IsThawed e → p.now + solo_most c ≤ by → PaysForRound Marks m w e (p.now + left_to m w) by p
 
 -- where nobody does anything, it is paid for by what is promised for each call
 abbrev pub FirstRoundsArePaid : Resource → Type 0
@@ -124,7 +124,7 @@ OwnEffectsArePaid r =
 abbrev pub HearingsArePaid : Resource → Type 0
 HearingsArePaid r =
     (m : SwapMemory) (w : ℕ) (e : Errand) (old new : AnyTask) (seen : Seen) (moment : ℕ) (free left : FreeSlots) (todo : Todo) (used next by : ℕ) (p : Past) → HasHeard old seen moment free todo new left → AreLaws old → AreLaws new →
-    Hears (asks_of old) seen → (IsAlone (made_of old + effects_in seen) p → end_of new ≢ Some Restart) → next ≤ used + slots_gone r free left → IsPaid r m w e old (effects_in seen) 0 used by p → IsPaid r m w e new 0 (start_takes r todo) next by p
+    Hears (asks_of old) seen → (IsUndisturbed (made_of old + effects_in seen) p → end_of new ≢ Some Restart) → next ≤ used + slots_gone r free left → IsPaid r m w e old (effects_in seen) 0 used by p → IsPaid r m w e new 0 (start_takes r todo) next by p
 
 -- and that start
 abbrev pub StartsArePaid : Resource → Type 0

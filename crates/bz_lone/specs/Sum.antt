@@ -1,13 +1,13 @@
 -- The one number that falls: what is left of a resource to a worker that steps alone, of that by which its call is to end, and what its task
 -- and all that may come after it may still take of it.
 use Rattle.std.specs.Prelude.{◌≡◌, ◌≢◌, ◌⊎◌, ℕ, ◌+◌, ◌*◌, ◌≤◌, if◌then◌else◌, Bool, true, false, Some, None}
-use Rattle.bz_joined.specs.FromAlone.Alone.{IsAlone}
+use Rattle.bz_joined.specs.FromAlone.Undisturbed.{IsUndisturbed}
 use Rattle.bz_call.specs.Map.{key_of}
 use Rattle.bz_content.specs.Content.{image_of}
 use Rattle.bz_joined.specs.FromStage.Neighbours.{leaf_page}
-use Rattle.bz_costs.specs.Lone.{one_mark}
+use Rattle.bz_costs.specs.Solo.{one_mark}
 use Rattle.bz_costs.specs.Resources.{Resource, Marks}
-use Rattle.bz_costs.specs.Stretches.{lone_stretch}
+use Rattle.bz_costs.specs.Stretches.{solo_stretch}
 use Rattle.bz_costs.specs.Weights.{weigh}
 use Rattle.bz_rivals.specs.Rivals.{rivals}
 use Rattle.bz_costs.specs.FromRunning.Duties.{end_of, made_of, swaps_of, makes_no_change}
@@ -33,7 +33,7 @@ own_left r e = own_by r e.effected
 -- with so much used, which of marks are those of the journal and all that the swap memory still allows, so much more suffices for its tasks, if
 -- no more is to be used than some number: the rest is kept for the swaps of others that may still take effect, and for the call's own marks
 pub record Affords (r : Resource) (m : SwapMemory) (w : ℕ) (e : Errand) (used by n : ℕ) : Type 0 where
-  pub enough : (lone_stretch r + one_mark r) * rivals m w + own_left r e + used + n ≤ by
+  pub enough : (solo_stretch r + one_mark r) * rivals m w + own_left r e + used + n ≤ by
 
 -- a round in which another's swap took effect, and a clean one
 pub data Round : Type 0 where
@@ -42,7 +42,7 @@ pub data Round : Type 0 where
 
 -- after a disturbed round a whole stretch may come
 abbrev pub reserve : Resource → Round → ℕ
-reserve r Disturbed = lone_stretch r
+reserve r Disturbed = solo_stretch r
 reserve r Clean = 0
 
 abbrev pub prices_of : Resource → Round → Errand → Past → Prices
@@ -56,7 +56,7 @@ IsThawed e = e.froze ≡ true → is_read e.call ≡ false
 -- between two tasks: this may be paid for, in the present round
 pub record Spares (r : Resource) (m : SwapMemory) (w : ℕ) (e : Errand) (used by : ℕ) (p : Past) (price : Prices → ℕ) : Type 0 where
   pub round : Round
-  pub alone : round ≡ Clean → IsAlone 0 p
+  pub alone : round ≡ Clean → IsUndisturbed 0 p
   pub thawed : IsThawed e
   pub affords : Affords r m w e used by (reserve r round + price (prices_of r round e p))
 
@@ -73,7 +73,7 @@ pub record IsSmall (e : Errand) (p : Past) : Type 0 where
 -- what is known in a clean round of its task, which had so many effects of which it was not told
 pub record IsClean (e : Errand) (t : AnyTask) (untold : ℕ) (p : Past) : Type 0 where
   pub made : ℕ
-  pub alone : IsAlone made p
+  pub alone : IsUndisturbed made p
   pub counts : end_of t ≡ None → made ≡ made_of t + untold
   pub none : may_swap_twice (kind_of t) ≡ false → made ≡ 0
   -- of a call without effect the last swap that its task may ask for is still to be made

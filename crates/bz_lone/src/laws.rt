@@ -1,21 +1,23 @@
-//! Laws of the number. Each function does nothing but call the laws that it follows from: its contract is the law.
+//! Laws of the number. Each function does nothing: its contract is the law.
 
 ghost use Rattle.bz_costs.specs.Resources.{Resource};
 ghost use Rattle.bz_lone.specs.Renewals.{RenewalsArePaid, AscentsArePaid};
 ghost use Rattle.bz_lone.specs.Rounds.{LessIsSpared, EndsAreAfforded, EndsArePaid, WaysArePaid, ChangesArePaid, LeavesAreRead, ReadLeavesArePaid, TasksMayBegin, RoundsBegin, DisturbedRoundsArePaid, EndsLeaveARound};
 ghost use Rattle.bz_lone.specs.Steps.{AnyCallIsPaid, AnyRoundIsPaid, FirstRoundsArePaid, IdleMemoriesAllowNothing, QuietStepsArePaid, ForeignEffectsArePaid, EffectMarksArePaid, LessIsPaid, OwnEffectsArePaid, HearingsArePaid, StartsArePaid};
 
-pub use bz_costs::laws::{asked_swaps_are_counted, lone_calls_are_affordable};
+pub use bz_costs::laws::{asked_swaps_are_counted, solo_calls_are_affordable};
 pub use bz_joined::laws::{
     brief_look_ups_go_on, deletes_take_one_record, deletes_tell_few, deletes_tell_of_merges,
-    effects_never_fall, gets_are_brief, known_leaves_stay, leaves_come_and_go,
-    lone_ascents_are_below_the_stage, lone_ascents_are_due, lone_deletes_tell_of_merges,
-    lone_key_views_tell_the_stage, lone_leaves_are_due, lone_merges_are_due,
-    lone_merges_do_not_lack_room, lone_restarts_are_refusals, lone_root_leaves_are_the_tree,
-    lone_tasks_try_their_neighbours, lone_views_tell_the_leaf, lone_views_tell_the_live_words,
-    lone_views_tell_the_stage, loners_go_on, look_ups_are_brief, mergeable_leaves_stand_below,
-    merges_count_at_last, merges_know_their_leaf, merges_lack_slots_rightly, neighbours_stand,
-    own_swaps_are_counted, paths_read_few, stages_stand, trees_stand, ways_are_brief,
+    effects_never_fall, gets_are_brief, known_leaves_stay, leaves_come_and_go, look_ups_are_brief,
+    mergeable_leaves_stand_below, merges_count_at_last, merges_know_their_leaf,
+    merges_lack_slots_rightly, neighbours_stand, own_swaps_are_counted, paths_read_few,
+    stages_stand, trees_stand, undisturbed_ascents_are_below_the_stage,
+    undisturbed_ascents_are_due, undisturbed_deletes_tell_of_merges,
+    undisturbed_key_views_tell_the_stage, undisturbed_leaves_are_due, undisturbed_merges_are_due,
+    undisturbed_merges_do_not_lack_room, undisturbed_restarts_are_refusals,
+    undisturbed_root_leaves_are_the_tree, undisturbed_tasks_go_on,
+    undisturbed_tasks_try_their_neighbours, undisturbed_views_tell_the_leaf,
+    undisturbed_views_tell_the_live_words, undisturbed_views_tell_the_stage, ways_are_brief,
 };
 
 /// Whatever a call has come to, it ends within the marks that the configuration tells.

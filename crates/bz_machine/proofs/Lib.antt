@@ -40,7 +40,7 @@ pub mod KeptFacts
 pub mod KeptKnowledge
 pub mod Lasting
 pub mod Learns
-pub mod LoneRuns
+pub mod SoloRuns
 pub mod Meets
 pub mod Misses
 pub mod NextEnds

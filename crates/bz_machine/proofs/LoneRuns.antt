@@ -4,7 +4,7 @@ use Rattle.bz_machine.specs.declared.place.Place.TheVariants.{Idle}
 use Rattle.bz_machine.specs.Allowed.{allowed, allowed_by_kind}
 use Rattle.bz_machine.specs.Budget.{budget}
 use Rattle.bz_machine.specs.Budgets.{IsBounded, IsAmong}
-use Rattle.bz_machine.specs.LoneRuns.{IsLone, AreLone, step_of, steps_in, allowed_in, allowed_by_kind_in, LoneStepsAreAllowed, LoneStepsAreAllowedByKind}
+use Rattle.bz_machine.specs.SoloRuns.{IsSolo, AreSolo, step_of, steps_in, allowed_in, allowed_by_kind_in, SoloStepsAreAllowed, SoloStepsAreAllowedByKind}
 use Rattle.bz_machine.specs.State.{State, Event, StartRead, StartStore, StartFlush, StartSwap, Act, Evict, EvictStatus, EvictField, happens, MayHappen}
 use Rattle.bz_machine.proofs.ActsSpend.{acts_spend}
 use Rattle.bz_machine.proofs.Bounded.{bounded-happens}
@@ -13,15 +13,15 @@ use Rattle.bz_machine.proofs.BudgetStarts.{starts_add_by_kind}
 use Rattle.bz_machine.proofs.SwapStarts.{swaps_add_allowed}
 
 -- a worker alone is one of n
-among-lone : (x : State) (w n : ℕ) (v : Event) → w < n → IsLone x w v → IsAmong n v
-among-lone x w n (StartRead u a) below lone = omega (arith, lone, below)
-among-lone x w n (StartStore u a v) below lone = omega (arith, lone, below)
-among-lone x w n (StartFlush u line) below lone = omega (arith, lone, below)
-among-lone x w n (StartSwap u new targets) below lone = let same : u ≡ w = lone.0 in (omega (arith, same, below), lone.1, lone.2)
-among-lone x w n (Act u) below lone = let same : u ≡ w = lone.0 in omega (arith, same, below)
-among-lone x w n (Evict a) below lone = tt
-among-lone x w n (EvictStatus s) below lone = tt
-among-lone x w n (EvictField s k) below lone = tt
+among-solo : (x : State) (w n : ℕ) (v : Event) → w < n → IsSolo x w v → IsAmong n v
+among-solo x w n (StartRead u a) below solo = omega (arith, solo, below)
+among-solo x w n (StartStore u a v) below solo = omega (arith, solo, below)
+among-solo x w n (StartFlush u line) below solo = omega (arith, solo, below)
+among-solo x w n (StartSwap u new targets) below solo = let same : u ≡ w = solo.0 in (omega (arith, same, below), solo.1, solo.2)
+among-solo x w n (Act u) below solo = let same : u ≡ w = solo.0 in omega (arith, same, below)
+among-solo x w n (Evict a) below solo = tt
+among-solo x w n (EvictStatus s) below solo = tt
+among-solo x w n (EvictField s k) below solo = tt
 
 plain : {a b : ℕ} → a ≤ b → 0 + a ≤ b
 plain f = omega (arith, f)
@@ -30,35 +30,35 @@ same : (b : ℕ) → 0 + b ≤ b + 0
 same b = omega arith
 
 -- each event spends what is a step, and adds what it allows by its kind
-spends-lone : (x : State) (w n : ℕ) (event : Event) → IsLone x w event → MayHappen x event → IsBounded x n → step_of event + budget (happens x event) w n ≤ budget x w n + allowed_by_kind event
-spends-lone x w n (StartRead u a) lone may bounded =
-    subst (λ k. 0 + budget (happens x (StartRead k a)) w n ≤ budget x w n + allowed_by_kind (StartRead k a)) (sym lone) (plain ((starts_add_by_kind x w n bounded.owned (subst (λ k. (x.local k).place ≡ Idle) lone may)).read a))
-spends-lone x w n (StartStore u a v) lone may bounded =
-    subst (λ k. 0 + budget (happens x (StartStore k a v)) w n ≤ budget x w n + allowed_by_kind (StartStore k a v)) (sym lone) (plain ((starts_add_by_kind x w n bounded.owned (subst (λ k. (x.local k).place ≡ Idle) lone may.0)).store a v))
-spends-lone x w n (StartFlush u line) lone may bounded =
-    subst (λ k. 0 + budget (happens x (StartFlush k line)) w n ≤ budget x w n + allowed_by_kind (StartFlush k line)) (sym lone) (plain ((starts_add_by_kind x w n bounded.owned (subst (λ k. (x.local k).place ≡ Idle) lone may)).flush line))
-spends-lone x w n (StartSwap u new targets) lone may bounded =
-    subst (λ k. 0 + budget (happens x (StartSwap k new targets)) w n ≤ budget x w n + allowed_by_kind (StartSwap k new targets)) (sym lone.0)
-    (plain (swaps_add_allowed x w n new targets bounded (subst (λ k. MayHappen x (StartSwap k new targets)) lone.0 may) lone.2))
-spends-lone x w n (Act u) lone may bounded =
-    subst (λ k. 1 + budget (happens x (Act k)) w n ≤ budget x w n + 0) (sym lone.0) (one (acts_spend x w n bounded lone.1))
+spends-solo : (x : State) (w n : ℕ) (event : Event) → IsSolo x w event → MayHappen x event → IsBounded x n → step_of event + budget (happens x event) w n ≤ budget x w n + allowed_by_kind event
+spends-solo x w n (StartRead u a) solo may bounded =
+    subst (λ k. 0 + budget (happens x (StartRead k a)) w n ≤ budget x w n + allowed_by_kind (StartRead k a)) (sym solo) (plain ((starts_add_by_kind x w n bounded.owned (subst (λ k. (x.local k).place ≡ Idle) solo may)).read a))
+spends-solo x w n (StartStore u a v) solo may bounded =
+    subst (λ k. 0 + budget (happens x (StartStore k a v)) w n ≤ budget x w n + allowed_by_kind (StartStore k a v)) (sym solo) (plain ((starts_add_by_kind x w n bounded.owned (subst (λ k. (x.local k).place ≡ Idle) solo may.0)).store a v))
+spends-solo x w n (StartFlush u line) solo may bounded =
+    subst (λ k. 0 + budget (happens x (StartFlush k line)) w n ≤ budget x w n + allowed_by_kind (StartFlush k line)) (sym solo) (plain ((starts_add_by_kind x w n bounded.owned (subst (λ k. (x.local k).place ≡ Idle) solo may)).flush line))
+spends-solo x w n (StartSwap u new targets) solo may bounded =
+    subst (λ k. 0 + budget (happens x (StartSwap k new targets)) w n ≤ budget x w n + allowed_by_kind (StartSwap k new targets)) (sym solo.0)
+    (plain (swaps_add_allowed x w n new targets bounded (subst (λ k. MayHappen x (StartSwap k new targets)) solo.0 may) solo.2))
+spends-solo x w n (Act u) solo may bounded =
+    subst (λ k. 1 + budget (happens x (Act k)) w n ≤ budget x w n + 0) (sym solo.0) (one (acts_spend x w n bounded solo.1))
   where
     one : {a b : ℕ} → a < b → 1 + a ≤ b + 0
     one f = omega (arith, f)
-spends-lone x w n (Evict a) lone may bounded = same (budget x w n)
-spends-lone x w n (EvictStatus s) lone may bounded = same (budget x w n)
-spends-lone x w n (EvictField s k) lone may bounded = same (budget x w n)
+spends-solo x w n (Evict a) solo may bounded = same (budget x w n)
+spends-solo x w n (EvictStatus s) solo may bounded = same (budget x w n)
+spends-solo x w n (EvictField s k) solo may bounded = same (budget x w n)
 
 sums : (s r b b' a t : ℕ) → s + b' ≤ b + a → r ≤ b' + t → s + r ≤ b + (a + t)
 sums s r b b' a t f g = omega (arith, f, g)
 
-spends-all : (x : State) (w n : ℕ) (events : List Event) → w < n → IsBounded x n → AreLone x w events → steps_in events ≤ budget x w n + allowed_by_kind_in events
-spends-all x w n [] below bounded lone = omega arith
-spends-all x w n (v ∷ vs) below bounded lone =
-    sums _ _ _ _ _ _ (spends-lone x w n v lone.0 lone.1 bounded) (spends-all (happens x v) w n vs below (bounded-happens x n v lone.1 (among-lone x w n v below lone.0) bounded) lone.2)
+spends-all : (x : State) (w n : ℕ) (events : List Event) → w < n → IsBounded x n → AreSolo x w events → steps_in events ≤ budget x w n + allowed_by_kind_in events
+spends-all x w n [] below bounded solo = omega arith
+spends-all x w n (v ∷ vs) below bounded solo =
+    sums _ _ _ _ _ _ (spends-solo x w n v solo.0 solo.1 bounded) (spends-all (happens x v) w n vs below (bounded-happens x n v solo.1 (among-solo x w n v below solo.0) bounded) solo.2)
 
-pub lone_steps_are_allowed_by_kind : LoneStepsAreAllowedByKind
-lone_steps_are_allowed_by_kind x w n events below bounded lone = omega (arith, spends-all x w n events below bounded lone, budgets_are_allowed x w n below bounded.few bounded.short)
+pub solo_steps_are_allowed_by_kind : SoloStepsAreAllowedByKind
+solo_steps_are_allowed_by_kind x w n events below bounded solo = omega (arith, spends-all x w n events below bounded solo, budgets_are_allowed x w n below bounded.few bounded.short)
 
 -- the finer count is never more
 kind-less : (event : Event) → allowed_by_kind event ≤ allowed event
@@ -72,5 +72,5 @@ kinds-less : (events : List Event) → allowed_by_kind_in events ≤ allowed_in 
 kinds-less [] = omega arith
 kinds-less (v ∷ vs) = omega (arith, kind-less v, kinds-less vs)
 
-pub lone_steps_are_allowed : LoneStepsAreAllowed
-lone_steps_are_allowed x w n events below bounded lone = omega (arith, lone_steps_are_allowed_by_kind x w n events below bounded lone, kinds-less events)
+pub solo_steps_are_allowed : SoloStepsAreAllowed
+solo_steps_are_allowed x w n events below bounded solo = omega (arith, solo_steps_are_allowed_by_kind x w n events below bounded solo, kinds-less events)

@@ -1,6 +1,6 @@
 -- What this crate proves, as lemmas that other crates cite by these names.
 use Rattle.bz_machine.proofs.ActsSpend.{acts_spend as acts_spend-holds}
-use Rattle.bz_machine.proofs.Alone.{swaps_alone as swaps_alone-holds}
+use Rattle.bz_machine.proofs.Alone.{worked_solo_swap as worked_solo_swap-holds}
 use Rattle.bz_machine.proofs.AskRuns.{asks_are_kept as asks_are_kept-holds}
 use Rattle.bz_machine.proofs.Asleep.{sleeper_is_harmless as sleeper_is_harmless-holds}
 use Rattle.bz_machine.proofs.Bounded.{bounded-happens, bounded-power_on}
@@ -10,7 +10,7 @@ use Rattle.bz_machine.proofs.DirtyHome.{dirty_stay_home as dirty_stay_home-holds
 use Rattle.bz_machine.proofs.EndsStay.{ends_stay_whole as ends_stay_whole-holds}
 use Rattle.bz_machine.proofs.EventLaws.{acts_atomically as acts_atomically-holds, begins_as_state as begins_as_state-holds, begins_in_range as begins_in_range-holds, cut_recovers as cut_recovers-holds, keeps_range as keeps_range-holds, keeps_state as keeps_state-holds}
 use Rattle.bz_machine.proofs.FrontsStay.{all_stay_rising as all_stay_rising-holds, fronts_stay as fronts_stay-holds}
-use Rattle.bz_machine.proofs.LoneRuns.{lone_steps_are_allowed as lone_steps_are_allowed-holds, lone_steps_are_allowed_by_kind as lone_steps_are_allowed_by_kind-holds}
+use Rattle.bz_machine.proofs.SoloRuns.{solo_steps_are_allowed as undisturbed_steps_are_allowed-holds, solo_steps_are_allowed_by_kind as undisturbed_steps_are_allowed_by_kind-holds}
 use Rattle.bz_machine.proofs.OwnersStay.{owners_stay as owners_stay-holds}
 use Rattle.bz_machine.proofs.PowerOn.{atomic as atomic-holds, cuts_keep as cuts_keep-holds, effects_last as effects_last-holds, failures_last as failures_last-holds, plain_is_held as plain_is_held-holds}
 use Rattle.bz_machine.proofs.RangeEvents.{stay_in_range as stay_in_range-holds}
@@ -22,11 +22,11 @@ use Rattle.bz_machine.specs.BudgetTable.{BudgetsAreSpent, PlacesCount}
 use Rattle.bz_machine.specs.Budgets.{ActsSpend, BeginsBounded, BudgetsAreAllowed, EvictionsKeepBudgets, StartsAddAllowed, StartsAddByKind, StaysBounded, SwapsAddAllowed}
 use Rattle.bz_machine.specs.DirtyHomes.{DirtyStayHome}
 use Rattle.bz_machine.specs.Ends.{EndsStayWhole}
-use Rattle.bz_machine.specs.Examples.{SwapsAlone}
+use Rattle.bz_machine.specs.Examples.{WorkedSoloSwap}
 use Rattle.bz_machine.specs.Fronts.{AllStayRising, FrontsStay}
 use Rattle.bz_machine.specs.Invariance.{ActsAtomically, BeginsAsState, BeginsInRange, CutRecovers, KeepsRange, KeepsState}
 use Rattle.bz_machine.specs.Lawful.{StayInRange}
-use Rattle.bz_machine.specs.LoneRuns.{LoneStepsAreAllowed, LoneStepsAreAllowedByKind}
+use Rattle.bz_machine.specs.SoloRuns.{SoloStepsAreAllowed, SoloStepsAreAllowedByKind}
 use Rattle.bz_machine.specs.Owners.{OwnersStay}
 use Rattle.bz_machine.specs.Progress.{TagsStayHome}
 use Rattle.bz_machine.specs.Promise.{Atomic, CutsKeep, EffectsLast, FailuresLast, PlainIsHeld}
@@ -53,8 +53,8 @@ pub cuts_keep : CutsKeep
 cuts_keep = cuts_keep-holds
 
 -- a swap of one word alone, act by act
-pub swaps_alone : SwapsAlone
-swaps_alone = swaps_alone-holds
+pub worked_solo_swap : WorkedSoloSwap
+worked_solo_swap = worked_solo_swap-holds
 
 -- worked asks and fences of one word
 pub asks_are_kept : AsksAreKept
@@ -149,14 +149,14 @@ pub swaps_add_allowed : SwapsAddAllowed
 swaps_add_allowed = swaps_add_allowed-holds
 
 -- a worker that steps alone takes no more steps than its starts allow, and the workers that are not idle at first
-pub lone_steps_are_allowed : LoneStepsAreAllowed
-lone_steps_are_allowed = lone_steps_are_allowed-holds
+pub solo_steps_are_allowed : SoloStepsAreAllowed
+solo_steps_are_allowed = undisturbed_steps_are_allowed-holds
 
 -- by the finer count too, where a read, a load or a store allows one step
-pub lone_steps_are_allowed_by_kind : LoneStepsAreAllowedByKind
-lone_steps_are_allowed_by_kind = lone_steps_are_allowed_by_kind-holds
+pub solo_steps_are_allowed_by_kind : SoloStepsAreAllowedByKind
+solo_steps_are_allowed_by_kind = undisturbed_steps_are_allowed_by_kind-holds
 
--- what each place counts in a lone worker's budget, as a table
+-- what each place counts in a solo worker's budget, as a table
 pub places_count : PlacesCount
 places_count = places_count-holds
 

@@ -35,7 +35,7 @@ pub record AddsByKind (x : State) (w n : ℕ) : Type 0 where
 abbrev pub StartsAddByKind : Type 0
 StartsAddByKind = (x : State) (w n : ℕ) → AreOwned x → (x.local w).place ≡ Idle → AddsByKind x w n
 
--- what holds at every moment of a state whose workers have numbers below n: its invariant, and what makes a lone worker end
+-- what holds at every moment of a state whose workers have numbers below n: its invariant, and what makes a solo worker end
 pub record IsBounded (x : State) (n : ℕ) : Type 0 where
   pub state : IsState x
   pub tags : TagsAreHome x

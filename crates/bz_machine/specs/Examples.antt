@@ -43,7 +43,7 @@ abbrev pub run : ℕ → State
 run acts = since zeros (begun ++ replicate acts (Act 1))
 
 -- the swap is answered by its 21st act, and takes effect at the 16th, the fence of its status
-pub record SwapsAlone : Type 0 where
+pub record WorkedSoloSwap : Type 0 where
   pub renewable : IsRenewable zeros
   pub may : AllMayHappen (power_on zeros) begun
   pub before : content (run 15).entries (run 15).memory 100 ≡ 0

@@ -17,7 +17,7 @@ pub mod Invariance
 pub mod Keeps
 pub mod Knows
 pub mod Lawful
-pub mod LoneRuns
+pub mod SoloRuns
 pub mod Machine
 pub mod Owners
 pub mod Pending

@@ -7,7 +7,7 @@ ghost use Rattle.bz_machine.specs.Ends.{EndsStayWhole};
 ghost use Rattle.bz_machine.specs.Fronts.{FrontsStay, AllStayRising};
 ghost use Rattle.bz_machine.specs.Invariance.{CutRecovers};
 ghost use Rattle.bz_machine.specs.Lawful.{StayInRange};
-ghost use Rattle.bz_machine.specs.LoneRuns.{LoneStepsAreAllowed, LoneStepsAreAllowedByKind};
+ghost use Rattle.bz_machine.specs.SoloRuns.{SoloStepsAreAllowed, SoloStepsAreAllowedByKind};
 ghost use Rattle.bz_machine.specs.Owners.{OwnersStay};
 ghost use Rattle.bz_machine.specs.Progress.{TagsStayHome};
 ghost use Rattle.bz_machine.specs.Promise.{Atomic, EffectsLast, FailuresLast, CutsKeep};
@@ -114,16 +114,16 @@ pub fn swaps_add_allowed()
 {}
 
 /// A worker that steps alone takes no more steps than its starts allow, and the workers that are not idle at first.
-pub fn lone_steps_are_allowed()
-    ensures { LoneStepsAreAllowed }
+pub fn solo_steps_are_allowed()
+    ensures { SoloStepsAreAllowed }
 {}
 
 /// By the finer count too, where a read, a load or a store allows one step.
-pub fn lone_steps_are_allowed_by_kind()
-    ensures { LoneStepsAreAllowedByKind }
+pub fn solo_steps_are_allowed_by_kind()
+    ensures { SoloStepsAreAllowedByKind }
 {}
 
-/// What each place counts in a lone worker's budget, as a table.
+/// What each place counts in a solo worker's budget, as a table.
 pub fn places_count()
     ensures { PlacesCount }
 {}

@@ -2,6 +2,7 @@
 use Rattle.std.specs.Prelude.{◌≡◌, ◌≢◌, ◌<◌, ◌≤◌, ◌⊎◌, ℕ, ◌+◌, ◌-◌, ◌^◌, Bool, false, ◌==◌, ◌||◌, nat_lt, nat_le, if◌then◌else◌, is_some, is_none, get_or, slice_set, replicate, List, [], ◌∷◌, length, Option, Some, None, option_map, MatchOption}
 use Rattle.bz_acts.specs.Rule.{is_flush_act}
 use Rattle.bz_acts.specs.declared.acted.Act.{Act}
+use Rattle.bz_layout.specs.declared.limits.TheConstants.{MIN_CAPACITY, MAX_CAPACITY, MIN_SWAPS, MAX_SWAPS, MIN_WORKERS, MAX_WORKERS, MIN_MARKS, MAX_MARKS, MIN_CALLS, MAX_CALLS}
 use Rattle.bz_mark.specs.declared.marks.Mark.TheVariants.{Evict}
 use Rattle.bz_ring.specs.declared.calls.QCall.{QCall}
 use Rattle.bz_ring.specs.declared.calls.QCall.TheVariants as call
@@ -36,11 +37,11 @@ pub record IsWithin (number low high : ℕ) : Type 0 where
   pub at_most : number ≤ high
 
 abbrev pub IsInRange : Numbers → QOpenError → Type 0
-IsInRange n open_error.Capacity = IsWithin n.ring.capacity 1 4096
-IsInRange n open_error.Swaps = IsWithin n.ring.swaps 1 65536
-IsInRange n open_error.Workers = IsWithin n.workers 1 64
-IsInRange n open_error.Marks = IsWithin n.marks 1024 33554432
-IsInRange n open_error.Calls = IsWithin n.calls 1 65536
+IsInRange n open_error.Capacity = IsWithin n.ring.capacity MIN_CAPACITY MAX_CAPACITY
+IsInRange n open_error.Swaps = IsWithin n.ring.swaps MIN_SWAPS MAX_SWAPS
+IsInRange n open_error.Workers = IsWithin n.workers MIN_WORKERS MAX_WORKERS
+IsInRange n open_error.Marks = IsWithin n.marks MIN_MARKS MAX_MARKS
+IsInRange n open_error.Calls = IsWithin n.calls MIN_CALLS MAX_CALLS
 IsInRange n open_error.Memory = Unit {0}
 
 pub record AreNumbers (n : Numbers) : Type 0 where

@@ -14,4 +14,4 @@ mod tests;
 pub use calls::{QCall, QReply};
 pub use journal::QJournal;
 pub use marks::QMark;
-pub use ring::{HEAD_AT, MAX_CAPACITY, MIN_CAPACITY, QUEUE_FORMAT, Ring, TAIL_AT, fresh};
+pub use ring::{HEAD_AT, QUEUE_FORMAT, Ring, TAIL_AT, fresh};

@@ -15,12 +15,6 @@ pub struct Ring {
     pub swaps: u32,
 }
 
-/// Cells of a ring.
-pub const MIN_CAPACITY: u32 = 1;
-
-/// A cell's number fits 12 bits.
-pub const MAX_CAPACITY: u32 = 4_096;
-
 /// The word with how many items were taken.
 pub const HEAD_AT: u32 = 1;
 

@@ -5,10 +5,10 @@ use Rattle.bz_rivals.proofs.Expected.{expected-stand}
 use Rattle.bz_rivals.proofs.Falls.{rivals-fall}
 use Rattle.bz_rivals.proofs.Few.{rivals-are-few}
 use Rattle.bz_rivals.proofs.Notes.{notes-are-of-begun, zero-swaps-nothing}
-use Rattle.bz_rivals.proofs.Runs.{lone-effects-are-few}
+use Rattle.bz_rivals.proofs.Runs.{solo-effects-are-few}
 use Rattle.bz_rivals.proofs.Wins.{own-swaps-win, whole-swaps-win}
 use Rattle.bz_rivals.specs.Examples.{RivalsAreTold}
-use Rattle.bz_rivals.specs.Laws.{LoneEffectsAreFew, RivalsAreExact, RivalsAreFew, RivalsFall}
+use Rattle.bz_rivals.specs.Laws.{SoloEffectsAreFew, RivalsAreExact, RivalsAreFew, RivalsFall}
 use Rattle.bz_rivals.specs.Notes.{NotesAreOfBegun, ZeroSwapsNothing}
 use Rattle.bz_rivals.specs.Wins.{ExpectedStand, OwnSwapsWin, WholeSwapsWin}
 
@@ -29,8 +29,8 @@ pub rivals_are_exact : RivalsAreExact
 rivals_are_exact = rivals-are-exact
 
 -- so over any run of one worker alone the foreign effects are at most as many as its rivals were at first
-pub lone_effects_are_few : LoneEffectsAreFew
-lone_effects_are_few = lone-effects-are-few
+pub solo_effects_are_few : SoloEffectsAreFew
+solo_effects_are_few = solo-effects-are-few
 
 -- worker 0, which recovers, never does a swap
 pub zero_swaps_nothing : ZeroSwapsNothing

@@ -6,11 +6,11 @@ use Rattle.bz_machine.specs.declared.done.Done.{Done}
 use Rattle.bz_swap.specs.declared.phase.Phase.{Phase}
 use Rattle.bz_swap.specs.declared.phase.Phase.TheVariants.{Opened, Running, Recovering}
 use Rattle.bz_swap.specs.Evictions.{IsEviction}
-use Rattle.bz_swap.specs.LoneRuns.{Turn, Start, Begin, Step, Evict, HasTurned}
+use Rattle.bz_swap.specs.SoloRuns.{Turn, Start, Begin, Step, Evict, HasTurned}
 use Rattle.bz_swap.specs.Starts.{phase_of}
 use Rattle.bz_swap.specs.Steps.{IsStep, StepsIn}
 use Rattle.bz_swap.specs.SwapMemory.{SwapMemory}
-use Rattle.bz_rivals.specs.Laws.{LoneEffectsAreFew}
+use Rattle.bz_rivals.specs.Laws.{SoloEffectsAreFew}
 use Rattle.bz_rivals.specs.Rivals.{rivals}
 use Rattle.bz_rivals.specs.Runs.{foreign_of, foreign_in}
 use Rattle.bz_rivals.proofs.Falls.{rivals-fall}
@@ -50,9 +50,9 @@ turn-falls w old new (Evict a told) not turned = rivals-fall.eviction old new w 
 further : (f fs before next after : ℕ) → next + f ≤ before → fs + after ≤ next → (f + fs) + after ≤ before
 further f fs before next after first rest = omega (arith, first, rest)
 
-pub lone-effects-are-few : LoneEffectsAreFew
-lone-effects-are-few w old new [] some not is = omega (arith, ap (λ (m : SwapMemory). rivals m w) is)
-lone-effects-are-few w old new (turn ∷ turns) some not (next, (first, rest)) =
+pub solo-effects-are-few : SoloEffectsAreFew
+solo-effects-are-few w old new [] some not is = omega (arith, ap (λ (m : SwapMemory). rivals m w) is)
+solo-effects-are-few w old new (turn ∷ turns) some not (next, (first, rest)) =
     further (foreign_of old w turn) (foreign_in w next new turns rest) (rivals old w) (rivals next w) (rivals new w)
     (turn-falls w old next turn not first)
-    (lone-effects-are-few w next new turns some (turn-works w old next turn some not first) rest)
+    (solo-effects-are-few w next new turns some (turn-works w old next turn some not first) rest)

@@ -7,7 +7,7 @@ use Rattle.bz_word.specs.declared.entry.Entry.{Entry}
 use Rattle.bz_machine.specs.declared.done.Done.{Done}
 use Rattle.bz_machine.specs.declared.done.Done.TheVariants.{Busy}
 use Rattle.bz_swap.specs.declared.phase.Phase.TheVariants.{Recovering}
-use Rattle.bz_swap.specs.LoneRuns.{Turn, Start, Begin, Step, Evict, HasTurned, IsLoneRun}
+use Rattle.bz_swap.specs.SoloRuns.{Turn, Start, Begin, Step, Evict, HasTurned, IsSoloRun}
 use Rattle.bz_swap.specs.Starts.{swapping}
 use Rattle.bz_swap.specs.Steps.{IsStep, doing_after}
 use Rattle.bz_swap.specs.SwapMemory.{SwapMemory, Doing, Swapping, Working, idle, value_at, doing_of}
@@ -49,14 +49,14 @@ no-first f fs none = omega (arith, none)
 no-rest : (f fs : ℕ) → f + fs ≡ 0 → fs ≡ 0
 no-rest f fs none = omega (arith, none)
 
-going-run : (w s : ℕ) (old new : SwapMemory) (turns : List Turn) → IsGoing old w s → (run : IsLoneRun w old turns new) → AllGoOn turns → foreign_in w old new turns run ≡ 0 → IsGoing new w s
+going-run : (w s : ℕ) (old new : SwapMemory) (turns : List Turn) → IsGoing old w s → (run : IsSoloRun w old turns new) → AllGoOn turns → foreign_in w old new turns run ≡ 0 → IsGoing new w s
 going-run w s old new [] going is on none = subst (λ (m : SwapMemory). IsGoing m w s) (sym is) going
 going-run w s old new (turn ∷ turns) going (next, (first, rest)) on none =
     going-run w s next new turns
     (turned w s old next turn going first on.0 (no-first (foreign_of old w turn) (foreign_in w next new turns rest) none))
     rest on.1 (no-rest (foreign_of old w turn) (foreign_in w next new turns rest) none)
 
-well-run : (w s : ℕ) (old new : SwapMemory) (turns : List Turn) → old.phase ≢ Recovering → doing_of old w ≡ Swapping s → GoesWell old s → (run : IsLoneRun w old turns new) → AllGoOn turns
+well-run : (w s : ℕ) (old new : SwapMemory) (turns : List Turn) → old.phase ≢ Recovering → doing_of old w ≡ Swapping s → GoesWell old s → (run : IsSoloRun w old turns new) → AllGoOn turns
     → foreign_in w old new turns run ≡ 0 → (doing_of new w ≡ Swapping s) × GoesWell new s
 well-run w s old new turns works mine well run on none =
     let going : IsGoing new w s = going-run w s old new turns (record { works = works; mine = mine; well = well }) run on none in

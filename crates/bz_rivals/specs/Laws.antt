@@ -5,7 +5,7 @@ use Rattle.bz_acts.specs.declared.acted.Act.{Act}
 use Rattle.bz_machine.specs.declared.done.Done.{Done}
 use Rattle.bz_swap.specs.declared.phase.Phase.TheVariants.{Recovering}
 use Rattle.bz_swap.specs.Evictions.{IsEviction}
-use Rattle.bz_swap.specs.LoneRuns.{Turn, IsLoneRun}
+use Rattle.bz_swap.specs.SoloRuns.{Turn, IsSoloRun}
 use Rattle.bz_swap.specs.Settled.{AreOwned}
 use Rattle.bz_swap.specs.Starts.{started, swapping}
 use Rattle.bz_swap.specs.Steps.{IsStep}
@@ -33,5 +33,5 @@ pub record RivalsAreExact : Type 0 where
   pub eviction : (old new : SwapMemory) (w a : ℕ) (told : Option ℕ) → old.phase ≢ Recovering → AreOwned old → IsEviction old a told new → rivals new w + foreign old w told ≡ rivals old w
 
 -- over a run of worker w alone, outside a recovery time
-abbrev pub LoneEffectsAreFew : Type 0
-LoneEffectsAreFew = (w : ℕ) (old new : SwapMemory) (turns : List Turn) → 0 < w → old.phase ≢ Recovering → (run : IsLoneRun w old turns new) → foreign_in w old new turns run + rivals new w ≤ rivals old w
+abbrev pub SoloEffectsAreFew : Type 0
+SoloEffectsAreFew = (w : ℕ) (old new : SwapMemory) (turns : List Turn) → 0 < w → old.phase ≢ Recovering → (run : IsSoloRun w old turns new) → foreign_in w old new turns run + rivals new w ≤ rivals old w

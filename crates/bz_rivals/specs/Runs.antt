@@ -1,7 +1,7 @@
 -- The foreign effects of a run of one worker alone.
 use Rattle.std.specs.Prelude.{◌≡◌, ℕ, ◌+◌, List, [], ◌∷◌}
 use Rattle.bz_machine.specs.declared.done.Done.TheVariants.{Busy}
-use Rattle.bz_swap.specs.LoneRuns.{Turn, Start, Begin, Step, Evict, IsLoneRun}
+use Rattle.bz_swap.specs.SoloRuns.{Turn, Start, Begin, Step, Evict, IsSoloRun}
 use Rattle.bz_swap.specs.SwapMemory.{SwapMemory}
 use Rattle.bz_rivals.specs.Rivals.{foreign}
 
@@ -12,7 +12,7 @@ foreign_of m w (Begin entries) = 0
 foreign_of m w (Step made done told) = foreign m w told
 foreign_of m w (Evict a told) = foreign m w told
 
-abbrev pub foreign_in : (w : ℕ) (old new : SwapMemory) (turns : List Turn) → IsLoneRun w old turns new → ℕ
+abbrev pub foreign_in : (w : ℕ) (old new : SwapMemory) (turns : List Turn) → IsSoloRun w old turns new → ℕ
 foreign_in w old new [] run = 0
 foreign_in w old new (turn ∷ turns) (next, (first, rest)) = foreign_of old w turn + foreign_in w next new turns rest
 

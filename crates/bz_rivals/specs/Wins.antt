@@ -8,7 +8,7 @@ use Rattle.bz_swap.specs.declared.phase.Phase.TheVariants.{Recovering}
 use Rattle.bz_swap.specs.Atomic.{value_of}
 use Rattle.bz_swap.specs.Evictions.{IsEviction}
 use Rattle.bz_swap.specs.Held.{IsHeld}
-use Rattle.bz_swap.specs.LoneRuns.{Turn, IsLoneRun}
+use Rattle.bz_swap.specs.SoloRuns.{Turn, IsSoloRun}
 use Rattle.bz_swap.specs.Starts.{MaySwap, swapping}
 use Rattle.bz_swap.specs.Steps.{IsStep}
 use Rattle.bz_swap.specs.SwapMemory.{SwapMemory, Swapping, value_at, has_effect, is_missed, entries_of, doing_of}
@@ -38,7 +38,7 @@ pub record OwnSwapsWin : Type 0 where
       → GoesWell old s → GoesWell new s
   -- so it does over a run
   pub run : (w s : ℕ) (old new : SwapMemory) (turns : List Turn) → old.phase ≢ Recovering → doing_of old w ≡ Swapping s → GoesWell old s
-      → (run : IsLoneRun w old turns new) → AllGoOn turns → foreign_in w old new turns run ≡ 0 → (doing_of new w ≡ Swapping s) × GoesWell new s
+      → (run : IsSoloRun w old turns new) → AllGoOn turns → foreign_in w old new turns run ≡ 0 → (doing_of new w ≡ Swapping s) × GoesWell new s
 
 -- entries whose targets have the expected values, as readers see them
 abbrev pub AreExpected : SwapMemory → List Entry → Type 0
@@ -53,5 +53,5 @@ ExpectedStand = (m : SwapMemory) (w : ℕ) (entries : List Entry) → IsHeld m �
 abbrev pub WholeSwapsWin : Type 0
 WholeSwapsWin = (w : ℕ) (m mid new : SwapMemory) (entries : List Entry) (turns : List Turn) (made : Act) (told : Option ℕ) (won : Bool)
     → IsHeld m → AreNoted m → MaySwap m w entries → AreExpected m entries
-    → (run : IsLoneRun w (swapping m w entries) turns mid) → AllGoOn turns → foreign_in w (swapping m w entries) mid turns run ≡ 0
+    → (run : IsSoloRun w (swapping m w entries) turns mid) → AllGoOn turns → foreign_in w (swapping m w entries) mid turns run ≡ 0
     → IsStep mid w made (Swapped won) told new → (won ≡ true) × (has_effect new m.taken ≡ true)

@@ -1,6 +1,6 @@
 //! Laws of rivals. Each function does nothing: its contract is the law.
 
-ghost use Rattle.bz_rivals.specs.Laws.{RivalsAreFew, RivalsFall, RivalsAreExact, LoneEffectsAreFew};
+ghost use Rattle.bz_rivals.specs.Laws.{RivalsAreFew, RivalsFall, RivalsAreExact, SoloEffectsAreFew};
 ghost use Rattle.bz_rivals.specs.Notes.{NotesAreOfBegun, ZeroSwapsNothing};
 ghost use Rattle.bz_rivals.specs.Wins.{OwnSwapsWin, ExpectedStand, WholeSwapsWin};
 
@@ -20,8 +20,8 @@ pub fn rivals_are_exact()
 {}
 
 /// So over any run of one worker alone the foreign effects are at most as many as its rivals were at first.
-pub fn lone_effects_are_few()
-    ensures { LoneEffectsAreFew }
+pub fn solo_effects_are_few()
+    ensures { SoloEffectsAreFew }
 {}
 
 /// Worker 0, which recovers, never does a swap.

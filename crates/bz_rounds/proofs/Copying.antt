@@ -30,9 +30,9 @@ use Rattle.bz_writer.proofs.Written.{holds, fresh as fresh-slot}
 use Rattle.bz_stage.specs.Swaps.{IsRoomy}
 use Rattle.bz_stage.proofs.Proved.{copies_give_room}
 use Rattle.bz_alone.proofs.Proved.{consolidations_go_on}
-use Rattle.bz_rounds.specs.Laws.{LoneCopiesGiveRoom}
+use Rattle.bz_rounds.specs.Laws.{UndisturbedCopiesGiveRoom}
 use Rattle.bz_rounds.proofs.Lacking.{lacks-room}
-use Rattle.bz_rounds.proofs.Lone.{tree-now, leaf-now, same-entries}
+use Rattle.bz_rounds.proofs.Undisturbed.{tree-now, leaf-now, same-entries}
 use Rattle.bz_rounds.proofs.Made.{copy-has-room}
 
 module _ (r : Renewal) (s : Scene) (y : Instant) (good : IsScene s) (f : IsWritten (consol_plan r) s) (swaps : SwapsTo s.past.config (renewal r.link (r.slot 0)) (here s) y) where
@@ -88,7 +88,7 @@ swapping : (c : Config) (r : Renewal) (phase : WritePhase) (s : Scene) (entries 
 swapping c r Swap s entries f e = (f.1, same-entries (renewal r.link (r.slot 0)) entries e)
 swapping c r phase s entries f e = absurd (cc)
 
-pub copies : LoneCopiesGiveRoom
+pub copies : UndisturbedCopiesGiveRoom
 copies t key read words entries s y l was m few =
     let r : Renewal = renewal_of t in
     let f = swapping t.config r t.phase s entries l.knows l.asks in

@@ -23,16 +23,16 @@ use Rattle.bz_stage.specs.Paths.{StandsOver, on_path}
 use Rattle.bz_stage.specs.Rooms.{words_taken}
 use Rattle.bz_stage.specs.Stages.{page_on_path}
 use Rattle.bz_stage.proofs.Proved.{paths_are_of_keys}
-use Rattle.bz_alone.specs.Alone.{IsAlone}
+use Rattle.bz_alone.specs.Undisturbed.{IsUndisturbed}
 use Rattle.bz_alone.specs.Quiet.{IsQuietSince}
-use Rattle.bz_alone.proofs.Proved.{lonely_times_are_quiet, paths_lead_to_leaves}
-use Rattle.bz_rounds.specs.Due.{LoneLeavesAreDue, LoneAscentsAreDue}
+use Rattle.bz_alone.proofs.Proved.{undisturbed_times_are_quiet, paths_lead_to_leaves}
+use Rattle.bz_rounds.specs.Due.{UndisturbedLeavesAreDue, UndisturbedAscentsAreDue}
 use Rattle.bz_rounds.proofs.Rising.{full-now}
 use Rattle.bz_rounds.proofs.Seeing.{viewed-now}
 use Rattle.bz_rounds.proofs.Staying.{tree-at, reached-at, below-height, place-now, stands-over}
 use Rattle.bz_rounds.proofs.Thawed.{guard-thawed, status-again, inner-now, inside-here, now}
 
-pub leaves-due : LoneLeavesAreDue
+pub leaves-due : UndisturbedLeavesAreDue
 leaves-due key path view s good alone is v = record {
   due = λ frozen link last. record { viewed = record { plain = v.plain; is = frozen }; guard = guard link last; leads = leads link last };
   led = λ link last. record { guard = guard link last; leads = leads link last };
@@ -40,7 +40,7 @@ leaves-due key path view s good alone is v = record {
 }
   where
     q : IsQuietSince s.past.since s.past
-    q = lonely_times_are_quiet.whole s good alone
+    q = undisturbed_times_are_quiet.whole s good alone
 
     guard : (link : Link) → slice_get path.links (path.depth - 1) ≡ Some link → IsStatusOf false link.status
     guard link last = guard-thawed s good q key path is (path.depth - 1) link (omega (arith, is.some)) last
@@ -49,7 +49,7 @@ leaves-due key path view s good alone is v = record {
     leads link last = sym (paths_lead_to_leaves s key path link good alone is last) ∙ viewed-now s good alone key view v
 
 -- the node to which an ascent has come, by the link that leads on from it
-module _ (s : Scene) (good : IsScene s) (alone : IsAlone 0 s.past) (a : Ascent) (up : IsAscent a s.past) (deep : a.place + 1 < a.path.depth) where
+module _ (s : Scene) (good : IsScene s) (alone : IsUndisturbed 0 s.past) (a : Ascent) (up : IsAscent a s.past) (deep : a.place + 1 < a.path.depth) where
   abbrev c : Config
   c = s.past.config
 
@@ -57,7 +57,7 @@ module _ (s : Scene) (good : IsScene s) (alone : IsAlone 0 s.past) (a : Ascent) 
   k = a.node.slot
 
   q : IsQuietSince s.past.since s.past
-  q = lonely_times_are_quiet.whole s good alone
+  q = undisturbed_times_are_quiet.whole s good alone
 
   on : IsLink a.key s.past a.node
   on = up.path.links a.place a.node up.within up.node
@@ -119,7 +119,7 @@ two-on i h = omega (arith, h)
 one-on : (i : ℕ) → i ≡ 0 → 1 ≡ i + 1
 one-on i h = omega (arith, h)
 
-pub ascents-due : LoneAscentsAreDue
+pub ascents-due : UndisturbedAscentsAreDue
 ascents-due a s good alone up deep = record {
   below = λ some. record {
     deep = omega (arith, some, deep);

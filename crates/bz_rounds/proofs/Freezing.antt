@@ -31,9 +31,9 @@ use Rattle.bz_stage.specs.Stages.{stage_in}
 use Rattle.bz_stage.specs.Swaps.{FreezesLeaf}
 use Rattle.bz_stage.proofs.Proved.{freezes_lower_the_stage}
 use Rattle.bz_alone.proofs.Proved.{freezes_go_on}
-use Rattle.bz_rounds.specs.Laws.{LoneFreezesLowerTheStage}
+use Rattle.bz_rounds.specs.Laws.{UndisturbedFreezesLowerTheStage}
 use Rattle.bz_rounds.proofs.Wanting.{lacks-now}
-use Rattle.bz_rounds.proofs.Lone.{at-most, good-now, tree-now, leaf-now, holds-now, below-top, same-entries}
+use Rattle.bz_rounds.proofs.Undisturbed.{at-most, good-now, tree-now, leaf-now, holds-now, below-top, same-entries}
 
 -- what one entry sets and leaves
 set-one : (e : Entry) (f : ℕ → ℕ) (a : ℕ) → e.target ≡ a → swapped (e ∷ []) f a ≡ e.new
@@ -110,7 +110,7 @@ swapping : (c : Config) (k st : ℕ) (phase : Phase) (s : Scene) (entries : List
 swapping c k st Swap s entries f e = (f.1, same-entries (entry_of c k st ∷ []) entries e)
 swapping c k st phase s entries f e = absurd (cc)
 
-pub freezes : LoneFreezesLowerTheStage
+pub freezes : UndisturbedFreezesLowerTheStage
 freezes t key words entries s y l lacked =
     let f = swapping t.config t.slot t.status t.phase s entries l.knows l.asks in
     let is : entry_of s.past.config t.slot t.status ∷ [] ≡ entries = ap (λ (z : Config). entry_of z t.slot t.status ∷ []) l.config ∙ f.1 in

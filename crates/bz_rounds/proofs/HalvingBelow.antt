@@ -35,10 +35,10 @@ use Rattle.bz_ascent.proofs.FromBranch.Standing.{node-below}
 use Rattle.bz_stage.specs.Swaps.{IsRoomy, IsRoomyLeaf}
 use Rattle.bz_stage.proofs.Proved.{leaf_splits_give_room}
 use Rattle.bz_alone.specs.Quiet.{IsQuietSince}
-use Rattle.bz_alone.proofs.Proved.{lonely_times_are_quiet, splits_below_go_on}
-use Rattle.bz_rounds.specs.Laws.{LoneLeafSplitsGiveRoom}
+use Rattle.bz_alone.proofs.Proved.{undisturbed_times_are_quiet, splits_below_go_on}
+use Rattle.bz_rounds.specs.Laws.{UndisturbedLeafSplitsGiveRoom}
 use Rattle.bz_rounds.proofs.Lacking.{lacks-room}
-use Rattle.bz_rounds.proofs.Lone.{tree-now, leaf-now, same-entries}
+use Rattle.bz_rounds.proofs.Undisturbed.{tree-now, leaf-now, same-entries}
 use Rattle.bz_rounds.proofs.Made.{HasRoom, left-has-room, right-has-room}
 use Rattle.bz_rounds.proofs.Parents.{guard-at, node-leads, node-place, node-words, node-freezable, not-above}
 use Rattle.bz_tally.proofs.Links.{in-parent, out-one}
@@ -153,11 +153,11 @@ swapping : (c : Config) (r : Below) (phase : Phase) (s : Scene) (entries : List 
 swapping c r Swap s entries f e = (f.1.0, (f.1.1, same-entries (below_swap c (with_guard r.upper r.guard) r.lower (r.slot 0)) entries e))
 swapping c r phase s entries f e = absurd (cc)
 
-pub halves-below : LoneLeafSplitsGiveRoom
+pub halves-below : UndisturbedLeafSplitsGiveRoom
 halves-below t key read words entries s y l was m few =
     let r : Below = below_of t in
     let f = swapping t.config r t.phase s entries l.knows l.asks in
-    let quiet : IsQuietSince s.past.since s.past = lonely_times_are_quiet.whole s l.good l.alone in
+    let quiet : IsQuietSince s.past.since s.past = undisturbed_times_are_quiet.whole s l.good l.alone in
     let named : r.guard ≡ r.upper.status = sym f.1.0.value ∙ guard-at s l.good quiet r.upper f.0.planned.parted.links.upper_guard f.1.0.named f.1.0.since f.1.0.now in
     let is : below_swap s.past.config r.upper r.lower (r.slot 0) ≡ entries =
     ap (λ (g : ℕ). below_swap s.past.config (with_guard r.upper g) r.lower (r.slot 0)) (sym named) ∙ (ap (λ (z : Config). below_swap z (with_guard r.upper r.guard) r.lower (r.slot 0)) l.config ∙ f.1.1) in

@@ -38,13 +38,13 @@ use Rattle.bz_stage.specs.Swaps.{IsRoomyInner}
 use Rattle.bz_stage.proofs.Proved.{inner_splits_lower_the_stage, paths_are_of_keys, splits_leave_a_level}
 use Rattle.bz_alone.specs.Quiet.{IsQuietSince}
 use Rattle.bz_alone.specs.FromRunning.MadeFor.{HasComeTo, WasCrowded}
-use Rattle.bz_alone.proofs.Proved.{inner_splits_go_on, lonely_times_are_quiet}
+use Rattle.bz_alone.proofs.Proved.{inner_splits_go_on, undisturbed_times_are_quiet}
 use Rattle.bz_rounds.specs.Crowded.{IsRisen}
 use Rattle.bz_rounds.specs.Falls.{Falls}
-use Rattle.bz_rounds.specs.Laws.{LoneInnerSplitsLowerTheStage}
-use Rattle.bz_rounds.specs.Left.{LoneInnerSplitsLeaveALevel}
-use Rattle.bz_rounds.specs.Lone.{IsLoneSwap}
-use Rattle.bz_rounds.proofs.Lone.{tree-now, fits-now, same-entries}
+use Rattle.bz_rounds.specs.Laws.{UndisturbedInnerSplitsLowerTheStage}
+use Rattle.bz_rounds.specs.Left.{UndisturbedInnerSplitsLeaveALevel}
+use Rattle.bz_rounds.specs.Undisturbed.{IsUndisturbedSwap}
+use Rattle.bz_rounds.proofs.Undisturbed.{tree-now, fits-now, same-entries}
 use Rattle.bz_rounds.proofs.Made.{IsFew, left-few, right-few}
 use Rattle.bz_rounds.proofs.Nodes.{SplitsNode}
 use Rattle.bz_rounds.proofs.Parents.{node-leads, node-place, node-words, node-freezable, not-above}
@@ -180,12 +180,12 @@ swapping c r (Writing Swap) s entries f e = (f.1, same-entries (inner_swap c r.u
 swapping c r phase s entries f e = absurd (cc)
 
 -- the split of the node to which an ascent has come
-halves-node : (t : SplitInner) (a : Ascent) (key : List ℕ) (entries : List Entry) (s : Scene) (y : Instant) → IsLoneSwap t.config (asks_fork t) (facts_fork t) entries s y → IsAscent a s.past → HasComeTo key t.middle.slot a s.past
+halves-node : (t : SplitInner) (a : Ascent) (key : List ℕ) (entries : List Entry) (s : Scene) (y : Instant) → IsUndisturbedSwap t.config (asks_fork t) (facts_fork t) entries s y → IsAscent a s.past → HasComeTo key t.middle.slot a s.past
     → SplitsNode s.past.config (image_of (here s).image) (image_of y.image) a.key ((form_at s.past.config (here s)).level a.node.slot)
 halves-node t a key entries s y l up-to come =
     let r : Fork = fork_of t in
     let f = swapping t.config r t.phase s entries l.knows l.asks in
-    let quiet : IsQuietSince s.past.since s.past = lonely_times_are_quiet.whole s l.good l.alone in
+    let quiet : IsQuietSince s.past.since s.past = undisturbed_times_are_quiet.whole s l.good l.alone in
     let is : inner_swap s.past.config r.upper r.middle r.lower (r.slot 0) ≡ entries = ap (λ (z : Config). inner_swap z r.upper r.middle r.lower (r.slot 0)) l.config ∙ f.1 in
     let stand : Stand entries (here s) = (inner_splits_go_on t s l.config l.good l.knows l.alone).stands entries l.asks in
     let crowded : WasCrowded a.key come.view s.past = subst (λ k. WasCrowded k come.view s.past) (sym come.key_is) come.leaf in
@@ -209,13 +209,13 @@ halves-node t a key entries s y l up-to come =
       right_roomy = d.1.1;
     }
 
-pub inner-halves : LoneInnerSplitsLowerTheStage
+pub inner-halves : UndisturbedInnerSplitsLowerTheStage
 inner-halves t a key words entries s y l up-to come =
     let z : SplitsNode s.past.config (image_of (here s).image) (image_of y.image) a.key ((form_at s.past.config (here s)).level a.node.slot) = halves-node t a key entries s y l up-to come in
     subst (λ k. Falls s.past.config (here s) y k words) come.key_is
     (inner_splits_lower_the_stage s.past.config (image_of (here s).image) (image_of y.image) a.key words ((form_at s.past.config (here s)).level a.node.slot) z.above z.left z.right z.cut z.separator z.tree z.some z.crowded z.splits z.left_roomy z.right_roomy)
 
-pub inner-halves-leave : LoneInnerSplitsLeaveALevel
+pub inner-halves-leave : UndisturbedInnerSplitsLeaveALevel
 inner-halves-leave t a key words entries s y l up-to come =
     let z : SplitsNode s.past.config (image_of (here s).image) (image_of y.image) a.key ((form_at s.past.config (here s)).level a.node.slot) = halves-node t a key entries s y l up-to come in
     subst (λ k. LeavesALevel s.past.config (image_of y.image) k words ((form_at s.past.config (here s)).level a.node.slot)) come.key_is

@@ -9,15 +9,15 @@ use Rattle.bz_task.specs.Instant.{durable, page_at}
 use Rattle.bz_task.specs.Scene.{Scene, IsScene, here}
 use Rattle.bz_stage.proofs.Leaves.{stage-frozen}
 use Rattle.bz_stage.specs.Stages.{full_above, frozen_stage, stage_of, stage_in}
-use Rattle.bz_alone.specs.Alone.{IsAlone}
+use Rattle.bz_alone.specs.Undisturbed.{IsUndisturbed}
 use Rattle.bz_alone.specs.FromRunning.MadeFor.{WasLeafOf}
-use Rattle.bz_rounds.proofs.Lone.{good-now, leaf-now, holds-now, below-top}
+use Rattle.bz_rounds.proofs.Undisturbed.{good-now, leaf-now, holds-now, below-top}
 
 pub some : (p : Page) (full words : ℕ) → p.frozen ≡ true → 0 < stage_of p full words
 some p full words frozen = let e : stage_of p full words ≡ frozen_stage p full = stage-frozen p full words frozen in omega (arith, e)
 
 -- the leaf of a key that reads find frozen is frozen in the image, so that it takes no words
-module _ (s : Scene) (good : IsScene s) (key : List ℕ) (k : ℕ) (alone : IsAlone 0 s.past) (was : WasLeafOf key k s.past) (frozen : (page_at s.past.config (here s) k).frozen ≡ true) where
+module _ (s : Scene) (good : IsScene s) (key : List ℕ) (k : ℕ) (alone : IsUndisturbed 0 s.past) (was : WasLeafOf key k s.past) (frozen : (page_at s.past.config (here s) k).frozen ≡ true) where
   reached : (here s).reached k ≡ true
   reached = (good-now s good).inside k (holds-now s good key k alone was).inside (below-top s good key k alone was)
 

@@ -6,13 +6,13 @@ use Rattle.bz_content.specs.Content.{image_of}
 use Rattle.bz_task.specs.Instant.{Instant, form_at}
 use Rattle.bz_task.specs.Scene.{Scene, IsScene, here}
 use Rattle.bz_stage.specs.Laws.{LeavesALevel}
-use Rattle.bz_alone.specs.Alone.{IsAlone}
+use Rattle.bz_alone.specs.Undisturbed.{IsUndisturbed}
 use Rattle.bz_alone.specs.FromRunning.AnyTask.TheVariants.{Seeking, Finding, Reading, Inserting, Updating, Deleting, Freezing, Consolidating, Splitting, SplittingBelow, SplittingInner, SplittingInnerRoot, Merging}
 use Rattle.bz_alone.specs.FromRunning.Duties.{view_of}
 use Rattle.bz_alone.specs.FromRunning.Kinds.{kind_of}
 use Rattle.bz_alone.specs.FromRunning.MadeFor.{IsMadeFor}
 use Rattle.bz_rounds.specs.Falls.{Falls}
-use Rattle.bz_rounds.specs.Left.{HasSplit, LoneSwapsLeave}
+use Rattle.bz_rounds.specs.Left.{HasSplit, UndisturbedSwapsLeave}
 use Rattle.bz_rounds.proofs.Whichever.{viewed, own}
 use Rattle.bz_rounds.proofs.Copying.{copies}
 use Rattle.bz_rounds.proofs.Freezing.{freezes}
@@ -23,7 +23,7 @@ use Rattle.bz_rounds.proofs.PartingRoot.{root-parts, root-parts-leave}
 use Rattle.bz_rounds.proofs.RootHalving.{root-halves}
 
 -- a node that was split, at the level that its ascent tells
-has-split : (a : Ascent) (key : List ℕ) (words : ℕ) (s : Scene) (y : Instant) → IsScene s → IsAlone 0 s.past → IsAscent a s.past → Falls s.past.config (here s) y key words
+has-split : (a : Ascent) (key : List ℕ) (words : ℕ) (s : Scene) (y : Instant) → IsScene s → IsUndisturbed 0 s.past → IsAscent a s.past → Falls s.past.config (here s) y key words
     → LeavesALevel s.past.config (image_of y.image) key words ((form_at s.past.config (here s)).level a.node.slot) → HasSplit s.past.config (here s) y key words a
 has-split a key words s y good alone up falls l = record {
   falls = falls;
@@ -32,23 +32,23 @@ has-split a key words s y good alone up falls l = record {
   one_higher = λ last end. omega (arith, l.one_higher, ascents-stand a last s good alone up end);
 }
 
-pub lone-left : LoneSwapsLeave
+pub undisturbed-left : UndisturbedSwapsLeave
 unfolding view_of kind_of IsMadeFor
-lone-left (Seeking t) key words entries s y l m few = absurd m
-lone-left (Finding t) key words entries s y l m few = absurd m
-lone-left (Reading t) key words entries s y l m few = absurd m
-lone-left (Inserting t) key words entries s y l m few = absurd m
-lone-left (Updating t) key words entries s y l m few = absurd m
-lone-left (Deleting t) key words entries s y l m few = absurd m
-lone-left (Freezing t) key words entries s y l m few = freezes t key words entries s y l m
-lone-left (Consolidating t) key words entries s y l m few = copies t key m.view.image.0 words entries s y l (viewed key m.view t.link.slot s.past m.is m.at) m.small few
-lone-left (Splitting t) key words entries s y l m few =
+undisturbed-left (Seeking t) key words entries s y l m few = absurd m
+undisturbed-left (Finding t) key words entries s y l m few = absurd m
+undisturbed-left (Reading t) key words entries s y l m few = absurd m
+undisturbed-left (Inserting t) key words entries s y l m few = absurd m
+undisturbed-left (Updating t) key words entries s y l m few = absurd m
+undisturbed-left (Deleting t) key words entries s y l m few = absurd m
+undisturbed-left (Freezing t) key words entries s y l m few = freezes t key words entries s y l m
+undisturbed-left (Consolidating t) key words entries s y l m few = copies t key m.view.image.0 words entries s y l (viewed key m.view t.link.slot s.past m.is m.at) m.small few
+undisturbed-left (Splitting t) key words entries s y l m few =
     root-halves t key m.view.image.0 words entries s y l (viewed key m.view t.link.slot s.past m.leaf.is m.at) (record { halves = m.halves; many = m.leaf.many }) few
-lone-left (SplittingBelow t a) key words entries s y l m few =
+undisturbed-left (SplittingBelow t a) key words entries s y l m few =
     let h = m.halves in
     halves-below t key h.view.image.0 words entries s y (own _ _ _ _ entries s y l) (viewed key h.view t.lower.slot s.past h.leaf.is h.at) (record { halves = h.halves; many = h.leaf.many }) few
-lone-left (SplittingInner t a) key words entries s y l m few =
+undisturbed-left (SplittingInner t a) key words entries s y l m few =
     has-split a key words s y l.good l.alone l.knows.1.0 (inner-halves t a key words entries s y (own _ _ _ _ entries s y l) l.knows.1.0 m.come) (inner-halves-leave t a key words entries s y (own _ _ _ _ entries s y l) l.knows.1.0 m.come)
-lone-left (SplittingInnerRoot t a) key words entries s y l m few =
+undisturbed-left (SplittingInnerRoot t a) key words entries s y l m few =
     has-split a key words s y l.good l.alone l.knows.1.0 (root-parts t a key words entries s y (own _ _ _ _ entries s y l) l.knows.1.0 m.come) (root-parts-leave t a key words entries s y (own _ _ _ _ entries s y l) l.knows.1.0 m.come)
-lone-left (Merging t) key words entries s y l m few = absurd m
+undisturbed-left (Merging t) key words entries s y l m few = absurd m

@@ -27,9 +27,9 @@ use Rattle.bz_stage.specs.Rooms.{words_taken, is_full}
 use Rattle.bz_stage.specs.Stages.{page_on_path, root_level, full_above, stage}
 use Rattle.bz_stage.specs.Swaps.{IsCrowdedBelow}
 use Rattle.bz_alone.specs.Quiet.{IsQuietSince}
-use Rattle.bz_alone.proofs.Proved.{lonely_times_are_quiet}
+use Rattle.bz_alone.proofs.Proved.{undisturbed_times_are_quiet}
 use Rattle.bz_rounds.specs.Crowded.{IsRisen}
-use Rattle.bz_rounds.specs.Levels.{AscentsStandAtLevels, LoneAscentsAreBelowTheStage}
+use Rattle.bz_rounds.specs.Levels.{AscentsStandAtLevels, UndisturbedAscentsAreBelowTheStage}
 use Rattle.bz_rounds.proofs.Staying.{not-top, below-height, word-stays, inside-now}
 use Rattle.bz_rounds.proofs.Thawed.{guard-thawed, status-again}
 use Rattle.bz_rounds.proofs.Rising.{ascents-are-crowded}
@@ -83,7 +83,7 @@ module _ (s : Scene) (good : IsScene s) (q : IsQuietSince s.past.since s.past) (
 
 pub ascents-stand : AscentsStandAtLevels
 ascents-stand a last s good alone up end =
-    level-at s good (lonely_times_are_quiet.whole s good alone) a.key a.path up.path last end (a.path.depth - 1 - a.place) a.place a.node (omega (arith, up.within)) up.node
+    level-at s good (undisturbed_times_are_quiet.whole s good alone) a.key a.path up.path last end (a.path.depth - 1 - a.place) a.place a.node (omega (arith, up.within)) up.node
 
 -- a leaf that has to be split below so many full nodes
 below-stage : (c : Config) (x : Image) (key : List ℕ) (level words : ℕ) → IsCrowdedBelow c x key level → level ≤ root_level c x → level + 1 ≤ stage c x key words
@@ -93,7 +93,7 @@ below-stage c x key level words z le =
     run-reaches (λ n. is_full (page_on_path c x key n)) 1 (root_level c x) level (λ i some lt. less INNER_LIMIT (words_taken (page_on_path c x key i)) (z.full i (omega (arith, some)) (omega (arith, lt)))) le in
     omega (arith, many, full)
 
-pub ascents-below : LoneAscentsAreBelowTheStage
+pub ascents-below : UndisturbedAscentsAreBelowTheStage
 ascents-below a last view words s good alone up end w =
     let risen : IsRisen a s = ascents-are-crowded a view s good alone up w in
     let on : IsLink a.key s.past a.node = up.path.links a.place a.node up.within up.node in

@@ -8,7 +8,7 @@ pub mod Lacking
 mod Lasting
 mod Left
 mod Levels
-pub mod Lone
+pub mod Undisturbed
 mod Made
 mod Nodes
 mod Parents

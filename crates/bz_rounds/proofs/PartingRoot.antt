@@ -49,13 +49,13 @@ use Rattle.bz_stage.specs.Swaps.{IsCrowdedBelow, IsRoomyInner}
 use Rattle.bz_stage.proofs.Proved.{root_splits_lower_the_stage, splits_leave_a_level}
 use Rattle.bz_alone.specs.Quiet.{IsQuietSince}
 use Rattle.bz_alone.specs.FromRunning.MadeFor.{HasComeTo, WasCrowded}
-use Rattle.bz_alone.proofs.Proved.{inner_root_splits_go_on, lonely_times_are_quiet}
+use Rattle.bz_alone.proofs.Proved.{inner_root_splits_go_on, undisturbed_times_are_quiet}
 use Rattle.bz_rounds.specs.Crowded.{IsRisen}
 use Rattle.bz_rounds.specs.Falls.{Falls}
-use Rattle.bz_rounds.specs.Laws.{LoneRootSplitsLowerTheStage}
-use Rattle.bz_rounds.specs.Left.{LoneRootSplitsLeaveALevel}
-use Rattle.bz_rounds.specs.Lone.{IsLoneSwap}
-use Rattle.bz_rounds.proofs.Lone.{good-now, tree-now, fits-now, same-entries}
+use Rattle.bz_rounds.specs.Laws.{UndisturbedRootSplitsLowerTheStage}
+use Rattle.bz_rounds.specs.Left.{UndisturbedRootSplitsLeaveALevel}
+use Rattle.bz_rounds.specs.Undisturbed.{IsUndisturbedSwap}
+use Rattle.bz_rounds.proofs.Undisturbed.{good-now, tree-now, fits-now, same-entries}
 use Rattle.bz_rounds.proofs.Made.{IsFew, left-few, right-few}
 use Rattle.bz_rounds.proofs.Nodes.{SplitsTop}
 use Rattle.bz_rounds.proofs.Parents.{node-leads, node-place, node-words, node-freezable}
@@ -180,12 +180,12 @@ swapping c r (Writing Swap) s entries f e = (f.1, same-entries (below_swap c r.u
 swapping c r phase s entries f e = absurd (cc)
 
 -- the split of the root, to which an ascent has come
-parts-top : (t : SplitInnerRoot) (a : Ascent) (key : List ℕ) (entries : List Entry) (s : Scene) (y : Instant) → IsLoneSwap t.config (asks_crown t) (facts_crown t) entries s y → IsAscent a s.past → HasComeTo key t.upper.slot a s.past
+parts-top : (t : SplitInnerRoot) (a : Ascent) (key : List ℕ) (entries : List Entry) (s : Scene) (y : Instant) → IsUndisturbedSwap t.config (asks_crown t) (facts_crown t) entries s y → IsAscent a s.past → HasComeTo key t.upper.slot a s.past
     → SplitsTop s.past.config (image_of (here s).image) (image_of y.image) a.key ((form_at s.past.config (here s)).level a.node.slot)
 parts-top t a key entries s y l up-to come =
     let r : Crown = crown_of t in
     let f = swapping t.config r t.phase s entries l.knows l.asks in
-    let quiet : IsQuietSince s.past.since s.past = lonely_times_are_quiet.whole s l.good l.alone in
+    let quiet : IsQuietSince s.past.since s.past = undisturbed_times_are_quiet.whole s l.good l.alone in
     let is : below_swap s.past.config r.upper r.lower (r.slot 0) ≡ entries = ap (λ (z : Config). below_swap z r.upper r.lower (r.slot 0)) l.config ∙ f.1 in
     let stand : Stand (below_swap s.past.config r.upper r.lower (r.slot 0)) (here s) = subst (λ z. Stand z (here s)) (sym is) ((inner_root_splits_go_on t s l.config l.good l.knows l.alone).stands entries l.asks) in
     let swaps : SwapsTo s.past.config (below_swap s.past.config r.upper r.lower (r.slot 0)) (here s) y = subst (λ z. SwapsTo s.past.config z (here s) y) (sym is) l.leads in
@@ -207,13 +207,13 @@ parts-top t a key entries s y l up-to come =
       right_roomy = right-roomy r s y l.good quiet f.0 stand swaps;
     }
 
-pub root-parts : LoneRootSplitsLowerTheStage
+pub root-parts : UndisturbedRootSplitsLowerTheStage
 root-parts t a key words entries s y l up-to come =
     let z : SplitsTop s.past.config (image_of (here s).image) (image_of y.image) a.key ((form_at s.past.config (here s)).level a.node.slot) = parts-top t a key entries s y l up-to come in
     subst (λ k. Falls s.past.config (here s) y k words) come.key_is
     (root_splits_lower_the_stage s.past.config (image_of (here s).image) (image_of y.image) a.key words z.above z.left z.right z.cut z.separator z.tree z.some z.crowded z.splits z.left_roomy z.right_roomy)
 
-pub root-parts-leave : LoneRootSplitsLeaveALevel
+pub root-parts-leave : UndisturbedRootSplitsLeaveALevel
 root-parts-leave t a key words entries s y l up-to come =
     let z : SplitsTop s.past.config (image_of (here s).image) (image_of y.image) a.key ((form_at s.past.config (here s)).level a.node.slot) = parts-top t a key entries s y l up-to come in
     subst (λ k. LeavesALevel s.past.config (image_of y.image) k words ((form_at s.past.config (here s)).level a.node.slot)) come.key_is

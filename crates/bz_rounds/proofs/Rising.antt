@@ -24,7 +24,7 @@ use Rattle.bz_stage.specs.Stages.{page_on_path}
 use Rattle.bz_stage.proofs.Proved.{entries_take_the_words, paths_are_of_keys}
 use Rattle.bz_alone.specs.Quiet.{IsQuietSince}
 use Rattle.bz_alone.specs.FromRunning.MadeFor.{WasCrowded}
-use Rattle.bz_alone.proofs.Proved.{lonely_times_are_quiet}
+use Rattle.bz_alone.proofs.Proved.{undisturbed_times_are_quiet}
 use Rattle.bz_rounds.specs.Crowded.{AscentsAreCrowded}
 use Rattle.bz_rounds.proofs.Staying.{tree-at, below-height, no-fault, good-then, place-now, inner-stays, stands-over}
 use Rattle.bz_rounds.proofs.Viewing.{frozen-now, live-now}
@@ -78,7 +78,7 @@ ascents-are-crowded a view s good alone up w = record {
 }
   where
     q : IsQuietSince s.past.since s.past
-    q = lonely_times_are_quiet.whole s good alone
+    q = undisturbed_times_are_quiet.whole s good alone
 
     on : IsLink a.key s.past a.node
     on = up.path.links a.place a.node up.within up.node

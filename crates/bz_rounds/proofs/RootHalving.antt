@@ -38,9 +38,9 @@ use Rattle.bz_stage.proofs.Leaves.{roomy-ready}
 use Rattle.bz_stage.specs.Stages.{full_above}
 use Rattle.bz_stage.specs.Swaps.{IsRoomy, IsRoomyLeaf}
 use Rattle.bz_alone.proofs.Proved.{root_splits_go_on}
-use Rattle.bz_rounds.specs.Laws.{LoneRootLeafSplitsGiveRoom}
+use Rattle.bz_rounds.specs.Laws.{UndisturbedRootLeafSplitsGiveRoom}
 use Rattle.bz_rounds.proofs.Lacking.{lacks-room}
-use Rattle.bz_rounds.proofs.Lone.{same-entries}
+use Rattle.bz_rounds.proofs.Undisturbed.{same-entries}
 use Rattle.bz_rounds.proofs.Made.{HasRoom, left-has-room, right-has-room}
 use Rattle.bz_tally.proofs.Stored.{node-held, node-fresh}
 
@@ -143,7 +143,7 @@ swapping : (c : Config) (r : Split) (phase : WritePhase) (s : Scene) (entries : 
 swapping c r Swap s entries f e = (f.1, same-entries (renewal r.link (r.slot 0)) entries e)
 swapping c r phase s entries f e = absurd (cc)
 
-pub root-halves : LoneRootLeafSplitsGiveRoom
+pub root-halves : UndisturbedRootLeafSplitsGiveRoom
 root-halves t key read words entries s y l was m few =
     let r : Split = split_of t in
     let f = swapping t.config r t.phase s entries l.knows l.asks in

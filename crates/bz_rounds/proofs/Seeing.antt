@@ -23,12 +23,12 @@ use Rattle.bz_task.specs.declared.view.LeafView.{LeafView}
 use Rattle.bz_stage.proofs.Leaves.{stage-lacking, stage-ready}
 use Rattle.bz_stage.specs.Rooms.{words_taken}
 use Rattle.bz_stage.specs.Stages.{full_above, frozen_stage, stage_of, stage_in}
-use Rattle.bz_alone.specs.Alone.{IsAlone}
+use Rattle.bz_alone.specs.Undisturbed.{IsUndisturbed}
 use Rattle.bz_alone.specs.FromRunning.MadeFor.{WasLeafOf}
 use Rattle.bz_alone.specs.Quiet.{IsQuietSince}
-use Rattle.bz_alone.proofs.Proved.{lonely_times_are_quiet}
-use Rattle.bz_rounds.specs.Stands.{LoneKeyViewsTellTheLeaf}
-use Rattle.bz_rounds.specs.Viewed.{TellsTheStage, LoneKeyViewsTellTheStage, LoneViewsTellTheStage, LoneViewsAgree}
+use Rattle.bz_alone.proofs.Proved.{undisturbed_times_are_quiet}
+use Rattle.bz_rounds.specs.Stands.{UndisturbedKeyViewsTellTheLeaf}
+use Rattle.bz_rounds.specs.Viewed.{TellsTheStage, UndisturbedKeyViewsTellTheStage, UndisturbedViewsTellTheStage, UndisturbedViewsAgree}
 use Rattle.bz_rounds.proofs.Lacking.{some}
 use Rattle.bz_rounds.proofs.Staying.{reached-at, no-fault, good-then, same-tree, word-stays}
 
@@ -46,7 +46,7 @@ pub record WasSeen (key : List ℕ) (slot st : ℕ) (p : Past) : Type 0 where
   pub within : slot < p.config.nodes
   pub status : words p.config (p.at was.moment) slot STATUS_AT ≡ st
 
-module _ (s : Scene) (good : IsScene s) (alone : IsAlone 0 s.past) (key : List ℕ) (k st : ℕ) (w : WasSeen key k st s.past) where
+module _ (s : Scene) (good : IsScene s) (alone : IsUndisturbed 0 s.past) (key : List ℕ) (k st : ℕ) (w : WasSeen key k st s.past) where
   abbrev c : Config
   c = s.past.config
 
@@ -54,7 +54,7 @@ module _ (s : Scene) (good : IsScene s) (alone : IsAlone 0 s.past) (key : List �
   then-it = s.past.at w.was.moment
 
   q : IsQuietSince s.past.since s.past
-  q = lonely_times_are_quiet.whole s good alone
+  q = undisturbed_times_are_quiet.whole s good alone
 
   now : IsGood s.past.config (here s)
   now = good.history.good s.past.now good.begun (omega arith)
@@ -122,20 +122,20 @@ looked-up key view p v = record { was = record { moment = view.at; since = v.sin
 read-whole : (key : List ℕ) (view : LeafView) (p : Past) → IsView key view p → WasSeen key view.slot view.status p
 read-whole key view p v = record { was = record { moment = view.at; since = v.since; now = v.now; leaf = v.leaf }; within = v.slot; status = v.status }
 
-pub key-views-tell : LoneKeyViewsTellTheStage
+pub key-views-tell : UndisturbedKeyViewsTellTheStage
 key-views-tell key view s good alone v = tells s good alone key view.slot view.status (looked-up key view s.past v)
 
-pub views-tell : LoneViewsTellTheStage
+pub views-tell : UndisturbedViewsTellTheStage
 views-tell key view s good alone v = tells s good alone key view.slot view.status (read-whole key view s.past v)
 
-pub key-views-tell-leaf : LoneKeyViewsTellTheLeaf
+pub key-views-tell-leaf : UndisturbedKeyViewsTellTheLeaf
 key-views-tell-leaf key view s good alone v = frozen-now s good alone key view.slot view.status (looked-up key view s.past v)
 
 -- the leaf that was read whole is the key's leaf now
-pub viewed-now : (s : Scene) → IsScene s → IsAlone 0 s.past → (key : List ℕ) (view : LeafView) → IsView key view s.past → leaf_in s.past.config (here s).image key ≡ view.slot
+pub viewed-now : (s : Scene) → IsScene s → IsUndisturbed 0 s.past → (key : List ℕ) (view : LeafView) → IsView key view s.past → leaf_in s.past.config (here s).image key ≡ view.slot
 viewed-now s good alone key view v = leaf-now s good alone key view.slot view.status (read-whole key view s.past v)
 
-pub views-agree : LoneViewsAgree
+pub views-agree : UndisturbedViewsAgree
 views-agree key view whole s good alone v w =
     let a : WasSeen key view.slot view.status s.past = looked-up key view s.past v in
     let d : WasSeen key whole.slot whole.status s.past = read-whole key whole s.past w in

@@ -29,8 +29,8 @@ use Rattle.bz_task.specs.declared.path.Path.{Path}
 use Rattle.bz_task.proofs.Proved.{headers_say_the_level}
 use Rattle.bz_renew.proofs.Words.{node-at}
 use Rattle.bz_alone.specs.Quiet.{IsQuietSince}
-use Rattle.bz_alone.proofs.Proved.{lonely_times_are_quiet}
-use Rattle.bz_rounds.specs.Due.{LoneGuardsAreThawed}
+use Rattle.bz_alone.proofs.Proved.{undisturbed_times_are_quiet}
+use Rattle.bz_rounds.specs.Due.{UndisturbedGuardsAreThawed}
 use Rattle.bz_rounds.proofs.Staying.{not-top, reached-at, no-fault, good-then, word-stays, inside-now}
 
 -- an inner node of the tree
@@ -130,5 +130,5 @@ module _ (s : Scene) (good : IsScene s) (q : IsQuietSince s.past.since s.past) (
     ]
   ]
 
-pub guards-thawed : LoneGuardsAreThawed
-guards-thawed key path s good alone is i link lt e = guard-thawed s good (lonely_times_are_quiet.whole s good alone) key path is i link lt e
+pub guards-thawed : UndisturbedGuardsAreThawed
+guards-thawed key path s good alone is i link lt e = guard-thawed s good (undisturbed_times_are_quiet.whole s good alone) key path is i link lt e

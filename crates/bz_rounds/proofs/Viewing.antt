@@ -22,8 +22,8 @@ use Rattle.bz_task.specs.Outcomes.{IsView}
 use Rattle.bz_task.specs.Scene.{Scene, IsScene, here}
 use Rattle.bz_task.specs.declared.view.LeafView.{LeafView}
 use Rattle.bz_alone.specs.Quiet.{IsQuietSince}
-use Rattle.bz_alone.proofs.Proved.{lonely_times_are_quiet}
-use Rattle.bz_rounds.specs.Stands.{LoneViewsTellTheLeaf}
+use Rattle.bz_alone.proofs.Proved.{undisturbed_times_are_quiet}
+use Rattle.bz_rounds.specs.Stands.{UndisturbedViewsTellTheLeaf}
 use Rattle.bz_tally.proofs.Lives.{live-same}
 use Rattle.bz_rounds.proofs.Staying.{reached-at, good-then, same-tree, word-stays}
 
@@ -88,7 +88,7 @@ module _ (s : Scene) (good : IsScene s) (q : IsQuietSince s.past.since s.past) (
   pub live-now : live_words (leaf_page c (image_of (here s).image) key) ≡ live_of (node_of view.image.0)
   live-now = ap (λ k. live_words (page (durable c (here s) k))) leaf ∙ live
 
-pub views-tell-leaf : LoneViewsTellTheLeaf
+pub views-tell-leaf : UndisturbedViewsTellTheLeaf
 views-tell-leaf key view s good alone v =
-    let q : IsQuietSince s.past.since s.past = lonely_times_are_quiet.whole s good alone in
+    let q : IsQuietSince s.past.since s.past = undisturbed_times_are_quiet.whole s good alone in
     record { frozen = frozen-now s good q key view v; crowded = ap (λ n. nat_lt SPLIT_ABOVE n) (live-now s good q key view v) }

@@ -6,10 +6,10 @@ use Rattle.bz_stage.specs.FromLeaves.Neighbours.{leaf_page}
 use Rattle.bz_task.specs.Instant.{words}
 use Rattle.bz_task.specs.Scene.{Scene, IsScene, here}
 use Rattle.bz_stage.specs.Rooms.{words_taken}
-use Rattle.bz_alone.specs.Alone.{IsAlone}
+use Rattle.bz_alone.specs.Undisturbed.{IsUndisturbed}
 use Rattle.bz_alone.specs.FromRunning.MadeFor.{LackedWords}
 use Rattle.bz_rounds.proofs.Seeing.{taken-now}
 
-pub lacks-now : (s : Scene) → IsScene s → IsAlone 0 s.past → (key : List ℕ) (need k : ℕ) → LackedWords key need k s.past → SHARED_WORDS < words_taken (leaf_page s.past.config (image_of (here s).image) key) + need
+pub lacks-now : (s : Scene) → IsScene s → IsUndisturbed 0 s.past → (key : List ℕ) (need k : ℕ) → LackedWords key need k s.past → SHARED_WORDS < words_taken (leaf_page s.past.config (image_of (here s).image) key) + need
 lacks-now s good alone key need k l =
     subst (λ n. SHARED_WORDS < n + need) (sym (taken-now s good alone key k (words s.past.config (s.past.at l.was.moment) k STATUS_AT) (record { was = l.was; within = l.within; status = refl }))) l.lacked

@@ -11,8 +11,8 @@ use Rattle.bz_alone.specs.FromRunning.Duties.{view_of}
 use Rattle.bz_alone.specs.FromRunning.MadeFor.{WasLeafOf, IsMadeFor}
 use Rattle.bz_alone.specs.FromRunning.AnyTask.TheVariants.{Seeking, Finding, Reading, Inserting, Updating, Deleting, Freezing, Consolidating, Splitting, SplittingBelow, SplittingInner, SplittingInnerRoot, Merging}
 use Rattle.bz_rounds.specs.Falls.{Falls, GivesRoom}
-use Rattle.bz_rounds.specs.Laws.{LoneSwapsLowerTheStage}
-use Rattle.bz_rounds.specs.Lone.{IsLoneSwap}
+use Rattle.bz_rounds.specs.Laws.{UndisturbedSwapsLowerTheStage}
+use Rattle.bz_rounds.specs.Undisturbed.{IsUndisturbedSwap}
 use Rattle.bz_rounds.proofs.Copying.{copies}
 use Rattle.bz_rounds.proofs.Freezing.{freezes}
 use Rattle.bz_rounds.proofs.HalvingBelow.{halves-below}
@@ -29,25 +29,25 @@ pub viewed : (key : List ℕ) (view : LeafView) (slot : ℕ) (p : Past) → IsVi
 viewed key view slot p is at = record { moment = view.at; since = is.since; now = is.now; leaf = is.leaf ∙ at }
 
 -- what a split on the way up knows beside its own is left out
-pub own : (c : Config) (asked : Option Todo) (facts more : Stage → Scene → Type 0) (entries : List Entry) (s : Scene) (y : Instant) → IsLoneSwap c asked (λ stage s. facts stage s × more stage s) entries s y → IsLoneSwap c asked facts entries s y
+pub own : (c : Config) (asked : Option Todo) (facts more : Stage → Scene → Type 0) (entries : List Entry) (s : Scene) (y : Instant) → IsUndisturbedSwap c asked (λ stage s. facts stage s × more stage s) entries s y → IsUndisturbedSwap c asked facts entries s y
 own c asked facts more entries s y l = record { config = l.config; good = l.good; knows = l.knows.0; asks = l.asks; alone = l.alone; leads = l.leads }
 
-pub lone-swaps : LoneSwapsLowerTheStage
+pub undisturbed-swaps : UndisturbedSwapsLowerTheStage
 unfolding view_of IsMadeFor
-lone-swaps (Seeking t) key words entries s y l m few = absurd m
-lone-swaps (Finding t) key words entries s y l m few = absurd m
-lone-swaps (Reading t) key words entries s y l m few = absurd m
-lone-swaps (Inserting t) key words entries s y l m few = absurd m
-lone-swaps (Updating t) key words entries s y l m few = absurd m
-lone-swaps (Deleting t) key words entries s y l m few = absurd m
-lone-swaps (Freezing t) key words entries s y l m few = freezes t key words entries s y l m
-lone-swaps (Consolidating t) key words entries s y l m few =
+undisturbed-swaps (Seeking t) key words entries s y l m few = absurd m
+undisturbed-swaps (Finding t) key words entries s y l m few = absurd m
+undisturbed-swaps (Reading t) key words entries s y l m few = absurd m
+undisturbed-swaps (Inserting t) key words entries s y l m few = absurd m
+undisturbed-swaps (Updating t) key words entries s y l m few = absurd m
+undisturbed-swaps (Deleting t) key words entries s y l m few = absurd m
+undisturbed-swaps (Freezing t) key words entries s y l m few = freezes t key words entries s y l m
+undisturbed-swaps (Consolidating t) key words entries s y l m few =
     falls s.past.config (here s) y key words (copies t key m.view.image.0 words entries s y l (viewed key m.view t.link.slot s.past m.is m.at) m.small few)
-lone-swaps (Splitting t) key words entries s y l m few =
+undisturbed-swaps (Splitting t) key words entries s y l m few =
     falls s.past.config (here s) y key words (root-halves t key m.view.image.0 words entries s y l (viewed key m.view t.link.slot s.past m.leaf.is m.at) (record { halves = m.halves; many = m.leaf.many }) few)
-lone-swaps (SplittingBelow t a) key words entries s y l m few =
+undisturbed-swaps (SplittingBelow t a) key words entries s y l m few =
     let h = m.halves in
     falls s.past.config (here s) y key words (halves-below t key h.view.image.0 words entries s y (own _ _ _ _ entries s y l) (viewed key h.view t.lower.slot s.past h.leaf.is h.at) (record { halves = h.halves; many = h.leaf.many }) few)
-lone-swaps (SplittingInner t a) key words entries s y l m few = inner-halves t a key words entries s y (own _ _ _ _ entries s y l) l.knows.1.0 m.come
-lone-swaps (SplittingInnerRoot t a) key words entries s y l m few = root-parts t a key words entries s y (own _ _ _ _ entries s y l) l.knows.1.0 m.come
-lone-swaps (Merging t) key words entries s y l m few = absurd m
+undisturbed-swaps (SplittingInner t a) key words entries s y l m few = inner-halves t a key words entries s y (own _ _ _ _ entries s y l) l.knows.1.0 m.come
+undisturbed-swaps (SplittingInnerRoot t a) key words entries s y l m few = root-parts t a key words entries s y (own _ _ _ _ entries s y l) l.knows.1.0 m.come
+undisturbed-swaps (Merging t) key words entries s y l m few = absurd m

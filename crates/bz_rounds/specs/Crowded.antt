@@ -8,7 +8,7 @@ use Rattle.bz_content.specs.Content.{image_of}
 use Rattle.bz_task.specs.Instant.{form_at}
 use Rattle.bz_task.specs.Scene.{Scene, IsScene, here}
 use Rattle.bz_task.specs.declared.view.LeafView.{LeafView}
-use Rattle.bz_alone.specs.Alone.{IsAlone}
+use Rattle.bz_alone.specs.Undisturbed.{IsUndisturbed}
 use Rattle.bz_alone.specs.FromRunning.MadeFor.{WasCrowded}
 
 -- the node to which an ascent has come stands at a level on the way to its key; the leaf has to be split, and all nodes above it up to
@@ -18,4 +18,4 @@ pub record IsRisen (a : Ascent) (s : Scene) : Type 0 where
   pub crowded : IsCrowdedBelow s.past.config (image_of (here s).image) a.key ((form_at s.past.config (here s)).level a.node.slot)
 
 abbrev pub AscentsAreCrowded : Type 0
-AscentsAreCrowded = (a : Ascent) (view : LeafView) (s : Scene) → IsScene s → IsAlone 0 s.past → IsAscent a s.past → WasCrowded a.key view s.past → IsRisen a s
+AscentsAreCrowded = (a : Ascent) (view : LeafView) (s : Scene) → IsScene s → IsUndisturbed 0 s.past → IsAscent a s.past → WasCrowded a.key view s.past → IsRisen a s

@@ -12,13 +12,13 @@ use Rattle.bz_task.specs.Scene.{Scene, IsScene}
 use Rattle.bz_task.specs.declared.path.Link.{Link}
 use Rattle.bz_task.specs.declared.path.Path.{Path}
 use Rattle.bz_task.specs.declared.view.LeafView.{LeafView}
-use Rattle.bz_alone.specs.Alone.{IsAlone}
+use Rattle.bz_alone.specs.Undisturbed.{IsUndisturbed}
 use Rattle.bz_alone.specs.FromRunning.GoingUp.{MayBeSplit}
 
 -- no guard of a link of the path, as it was read, was a frozen node's
-abbrev pub LoneGuardsAreThawed : Type 0
-LoneGuardsAreThawed =
-    (key : List ℕ) (path : Path) (s : Scene) → IsScene s → IsAlone 0 s.past → IsPath key path s.past →
+abbrev pub UndisturbedGuardsAreThawed : Type 0
+UndisturbedGuardsAreThawed =
+    (key : List ℕ) (path : Path) (s : Scene) → IsScene s → IsUndisturbed 0 s.past → IsPath key path s.past →
     (i : ℕ) (link : Link) → i < path.depth → slice_get path.links i ≡ Some link → IsStatusOf false link.status
 
 -- a leaf that was viewed, and to which the path leads, may be made anew: what is asked besides of how many links and of how many live
@@ -28,8 +28,8 @@ pub record MayBeMadeAnew (path : Path) (view : LeafView) : Type 0 where
   pub led : IsLedTo path view.slot
   pub above : 2 ≤ path.depth → IsThawedAbove path
 
-abbrev pub LoneLeavesAreDue : Type 0
-LoneLeavesAreDue = (key : List ℕ) (path : Path) (view : LeafView) (s : Scene) → IsScene s → IsAlone 0 s.past → IsPath key path s.past → IsView key view s.past → MayBeMadeAnew path view
+abbrev pub UndisturbedLeavesAreDue : Type 0
+UndisturbedLeavesAreDue = (key : List ℕ) (path : Path) (view : LeafView) (s : Scene) → IsScene s → IsUndisturbed 0 s.past → IsPath key path s.past → IsView key view s.past → MayBeMadeAnew path view
 
-abbrev pub LoneAscentsAreDue : Type 0
-LoneAscentsAreDue = (a : Ascent) (s : Scene) → IsScene s → IsAlone 0 s.past → IsAscent a s.past → a.place + 1 < a.path.depth → MayBeSplit a
+abbrev pub UndisturbedAscentsAreDue : Type 0
+UndisturbedAscentsAreDue = (a : Ascent) (s : Scene) → IsScene s → IsUndisturbed 0 s.past → IsAscent a s.past → a.place + 1 < a.path.depth → MayBeSplit a

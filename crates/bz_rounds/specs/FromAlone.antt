@@ -1,5 +1,5 @@
 -- What crates above take of bz_alone by this one.
-pub use Rattle.bz_alone.specs.Alone
+pub use Rattle.bz_alone.specs.Undisturbed
 pub use Rattle.bz_alone.specs.Brief
 pub use Rattle.bz_alone.specs.Changes
 pub use Rattle.bz_alone.specs.Counts

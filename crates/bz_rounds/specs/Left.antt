@@ -20,18 +20,18 @@ use Rattle.bz_alone.specs.FromRunning.Duties.{config_of, asks_of, facts_of}
 use Rattle.bz_alone.specs.FromRunning.Kinds.{Kind, Seek, Find, ReadWhole, Insert, Update, Delete, Freeze, Copy, SplitRootLeaf, SplitLeaf, SplitNode, SplitRootNode, Merge, kind_of, level_of}
 use Rattle.bz_alone.specs.FromRunning.MadeFor.{HasComeTo, IsMadeFor}
 use Rattle.bz_rounds.specs.Falls.{Falls, GivesRoom}
-use Rattle.bz_rounds.specs.Lone.{IsLoneSwap}
+use Rattle.bz_rounds.specs.Undisturbed.{IsUndisturbedSwap}
 
 -- after the split of a full node on the way up the stage is at most the level of that node, and there is one level more above it
-abbrev pub LoneInnerSplitsLeaveALevel : Type 0
-LoneInnerSplitsLeaveALevel =
-    (t : SplitInner) (a : Ascent) (key : List ℕ) (words : ℕ) (entries : List Entry) (s : Scene) (y : Instant) → IsLoneSwap t.config (asks_fork t) (facts_fork t) entries s y →
+abbrev pub UndisturbedInnerSplitsLeaveALevel : Type 0
+UndisturbedInnerSplitsLeaveALevel =
+    (t : SplitInner) (a : Ascent) (key : List ℕ) (words : ℕ) (entries : List Entry) (s : Scene) (y : Instant) → IsUndisturbedSwap t.config (asks_fork t) (facts_fork t) entries s y →
     IsAscent a s.past → HasComeTo key t.middle.slot a s.past → LeavesALevel s.past.config (image_of y.image) key words ((form_at s.past.config (here s)).level a.node.slot)
 
 -- so it is after that of a full root
-abbrev pub LoneRootSplitsLeaveALevel : Type 0
-LoneRootSplitsLeaveALevel =
-    (t : SplitInnerRoot) (a : Ascent) (key : List ℕ) (words : ℕ) (entries : List Entry) (s : Scene) (y : Instant) → IsLoneSwap t.config (asks_crown t) (facts_crown t) entries s y →
+abbrev pub UndisturbedRootSplitsLeaveALevel : Type 0
+UndisturbedRootSplitsLeaveALevel =
+    (t : SplitInnerRoot) (a : Ascent) (key : List ℕ) (words : ℕ) (entries : List Entry) (s : Scene) (y : Instant) → IsUndisturbedSwap t.config (asks_crown t) (facts_crown t) entries s y →
     IsAscent a s.past → HasComeTo key t.upper.slot a s.past → LeavesALevel s.past.config (image_of y.image) key words ((form_at s.past.config (here s)).level a.node.slot)
 
 -- of the node to which an ascent has come, where the last link is among those of its path
@@ -58,7 +58,7 @@ IsLeft (SplitNode a) c x y key words = HasSplit c x y key words a
 IsLeft (SplitRootNode a) c x y key words = HasSplit c x y key words a
 IsLeft Merge c x y key words = Unit {0}
 
-abbrev pub LoneSwapsLeave : Type 0
-LoneSwapsLeave =
-    (t : AnyTask) (key : List ℕ) (words : ℕ) (entries : List Entry) (s : Scene) (y : Instant) → IsLoneSwap (config_of t) (asks_of t) (facts_of t) entries s y →
+abbrev pub UndisturbedSwapsLeave : Type 0
+UndisturbedSwapsLeave =
+    (t : AnyTask) (key : List ℕ) (words : ℕ) (entries : List Entry) (s : Scene) (y : Instant) → IsUndisturbedSwap (config_of t) (asks_of t) (facts_of t) entries s y →
     IsMadeFor t key words s.past → words ≤ LEAF_RECORD_WORDS + 1 → IsLeft (kind_of t) s.past.config (here s) y key words

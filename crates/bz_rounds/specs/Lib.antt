@@ -6,6 +6,6 @@ pub mod FromTally
 pub mod Laws
 pub mod Left
 pub mod Levels
-pub mod Lone
+pub mod Undisturbed
 pub mod Stands
 pub mod Viewed

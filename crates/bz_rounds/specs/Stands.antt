@@ -15,7 +15,7 @@ use Rattle.bz_task.specs.declared.view.KeyView.{KeyView}
 use Rattle.bz_task.specs.declared.view.LeafView.{LeafView}
 use Rattle.bz_stage.specs.Rooms.{is_crowded}
 use Rattle.bz_stage.specs.Stages.{stage_in}
-use Rattle.bz_alone.specs.Alone.{IsAlone}
+use Rattle.bz_alone.specs.Undisturbed.{IsUndisturbed}
 use Rattle.bz_alone.specs.Quiet.{IsQuietSince, IsIn}
 
 -- the key's leaf is frozen or not, crowded or not, with the live words that it had, the tree is as high as it was, and the stage is the same,
@@ -32,14 +32,14 @@ abbrev pub StagesStand : Type 0
 StagesStand = (s : Scene) (m i j : ℕ) (key : List ℕ) → IsScene s → IsQuietSince m s.past → IsIn m s.past i → IsIn m s.past j → SameStage s.past.config (s.past.at i) (s.past.at j) key
 
 -- the leaf is frozen now where it was when the key was looked up
-abbrev pub LoneKeyViewsTellTheLeaf : Type 0
-LoneKeyViewsTellTheLeaf =
-    (key : List ℕ) (view : KeyView) (s : Scene) → IsScene s → IsAlone 0 s.past → IsKeyView key view s.past → (leaf_page s.past.config (image_of (here s).image) key).frozen ≡ (status view.status).frozen
+abbrev pub UndisturbedKeyViewsTellTheLeaf : Type 0
+UndisturbedKeyViewsTellTheLeaf =
+    (key : List ℕ) (view : KeyView) (s : Scene) → IsScene s → IsUndisturbed 0 s.past → IsKeyView key view s.past → (leaf_page s.past.config (image_of (here s).image) key).frozen ≡ (status view.status).frozen
 
 -- and it is frozen and crowded now where it was when it was read whole
 pub record IsAsViewed (key : List ℕ) (view : LeafView) (s : Scene) : Type 0 where
   pub frozen : (leaf_page s.past.config (image_of (here s).image) key).frozen ≡ (status view.status).frozen
   pub crowded : is_crowded (leaf_page s.past.config (image_of (here s).image) key) ≡ nat_lt SPLIT_ABOVE (live_of (node_of view.image.0))
 
-abbrev pub LoneViewsTellTheLeaf : Type 0
-LoneViewsTellTheLeaf = (key : List ℕ) (view : LeafView) (s : Scene) → IsScene s → IsAlone 0 s.past → IsView key view s.past → IsAsViewed key view s
+abbrev pub UndisturbedViewsTellTheLeaf : Type 0
+UndisturbedViewsTellTheLeaf = (key : List ℕ) (view : LeafView) (s : Scene) → IsScene s → IsUndisturbed 0 s.past → IsView key view s.past → IsAsViewed key view s

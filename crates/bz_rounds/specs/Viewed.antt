@@ -7,7 +7,7 @@ use Rattle.bz_task.specs.Outcomes.{IsView, IsKeyView}
 use Rattle.bz_task.specs.Scene.{Scene, IsScene, here}
 use Rattle.bz_task.specs.declared.view.KeyView.{KeyView}
 use Rattle.bz_task.specs.declared.view.LeafView.{LeafView}
-use Rattle.bz_alone.specs.Alone.{IsAlone}
+use Rattle.bz_alone.specs.Undisturbed.{IsUndisturbed}
 
 -- a leaf with this status has no room now: not for a record of so many words and its metadata word, and if it is frozen for nothing. Or
 -- it has, and if it is not frozen for the change of a delete, which asks for no words
@@ -18,16 +18,16 @@ pub record TellsTheStage (st : ℕ) (key : List ℕ) (s : Scene) : Type 0 where
   pub thawed : (status st).frozen ≡ false → stage_in s.past.config (here s).image key 0 ≡ 0
 
 -- the status of the key's leaf where the key was looked up, and where the leaf was read whole
-abbrev pub LoneKeyViewsTellTheStage : Type 0
-LoneKeyViewsTellTheStage = (key : List ℕ) (view : KeyView) (s : Scene) → IsScene s → IsAlone 0 s.past → IsKeyView key view s.past → TellsTheStage view.status key s
+abbrev pub UndisturbedKeyViewsTellTheStage : Type 0
+UndisturbedKeyViewsTellTheStage = (key : List ℕ) (view : KeyView) (s : Scene) → IsScene s → IsUndisturbed 0 s.past → IsKeyView key view s.past → TellsTheStage view.status key s
 
-abbrev pub LoneViewsTellTheStage : Type 0
-LoneViewsTellTheStage = (key : List ℕ) (view : LeafView) (s : Scene) → IsScene s → IsAlone 0 s.past → IsView key view s.past → TellsTheStage view.status key s
+abbrev pub UndisturbedViewsTellTheStage : Type 0
+UndisturbedViewsTellTheStage = (key : List ℕ) (view : LeafView) (s : Scene) → IsScene s → IsUndisturbed 0 s.past → IsView key view s.past → TellsTheStage view.status key s
 
 -- the leaf that was read whole is the one in which the key was looked up, with the status that it had then
 pub record IsSameLeaf (view : KeyView) (whole : LeafView) : Type 0 where
   pub slot : whole.slot ≡ view.slot
   pub status : whole.status ≡ view.status
 
-abbrev pub LoneViewsAgree : Type 0
-LoneViewsAgree = (key : List ℕ) (view : KeyView) (whole : LeafView) (s : Scene) → IsScene s → IsAlone 0 s.past → IsKeyView key view s.past → IsView key whole s.past → IsSameLeaf view whole
+abbrev pub UndisturbedViewsAgree : Type 0
+UndisturbedViewsAgree = (key : List ℕ) (view : KeyView) (whole : LeafView) (s : Scene) → IsScene s → IsUndisturbed 0 s.past → IsKeyView key view s.past → IsView key whole s.past → IsSameLeaf view whole

@@ -15,7 +15,7 @@ use Rattle.bz_sound.specs.Calls.{Open, begun_calls, open_call, with_effect}
 use Rattle.bz_mark.specs.Times.{power_of}
 use Rattle.bz_mark.specs.declared.power.Power.{Power as State}
 use Rattle.bz_mark.specs.declared.power.Power.TheVariants as power
-use Rattle.bz_sched.specs.AloneLaws.{ended_calls, calls_above, CallsAboveEnd}
+use Rattle.bz_sched.specs.UndisturbedLaws.{ended_calls, calls_above, CallsAboveEnd}
 use Rattle.bz_sched.specs.Plans.{RunsBy}
 use Rattle.bz_sched.specs.Points.{Point, actor, IsUpToOneEffect, IsUpToOneEnd, IsStep, ready_by, ready, is_busy, IsTurn}
 use Rattle.bz_sched.specs.Queued.{calls_of, without_first, is_busy_by}

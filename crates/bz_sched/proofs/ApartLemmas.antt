@@ -13,7 +13,7 @@ use Rattle.bz_sound.specs.Memory.Sound.{IsApart}
 use Rattle.bz_mark.specs.Times.{power_of}
 use Rattle.bz_mark.specs.declared.power.Power.{Power as State}
 use Rattle.bz_mark.specs.declared.power.Power.TheVariants as power
-use Rattle.bz_sched.specs.AloneLaws.{without_power, powers_first, CallsGoApart}
+use Rattle.bz_sched.specs.UndisturbedLaws.{without_power, powers_first, CallsGoApart}
 use Rattle.bz_sched.specs.Enough.{AreClosed}
 use Rattle.bz_sched.specs.Plans.{RunsBy}
 use Rattle.bz_sched.specs.Points.{Point, actor, IsUpToOneEffect, IsUpToOneEnd, IsStep, ready_by, ready, IsTurn}

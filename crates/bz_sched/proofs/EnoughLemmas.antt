@@ -17,7 +17,7 @@ use Rattle.bz_mark.specs.Log.{Log, count_begins, count_page_calls}
 use Rattle.bz_mark.specs.declared.marks.Mark.{Mark}
 use Rattle.bz_mark.specs.declared.marks.Mark.TheVariants as mark
 use Rattle.bz_sound.specs.Calls.{Open, open_call}
-use Rattle.bz_world.specs.WorldView.{WorldView, Supply, is_short, mark_of, stepper, is_stepper, before_run, are_closed, begins_alone, run_marks, deadline, HadFew, EndsFullOfLittle, IsStruck, KeepsSupply, RunsWhole, Steps, after_begin}
+use Rattle.bz_world.specs.WorldView.{WorldView, Supply, is_short, mark_of, stepper, is_stepper, before_run, are_closed, begins_solitary, run_marks, deadline, HadFew, EndsFullOfLittle, IsStruck, KeepsSupply, RunsWhole, Steps, after_begin}
 use Rattle.bz_world.specs.declared.answers.Applied.{Applied}
 use Rattle.bz_world.specs.declared.answers.Applied.TheVariants as applied
 use Rattle.bz_world.specs.declared.answers.Begun.TheVariants.{Begun}
@@ -70,7 +70,7 @@ all-closed zero past closed = ap is_none (closed 0)
 all-closed (suc n) past closed = ap (λ (o : Option Open). is_none o && are_closed n past) (closed (suc n)) ∙ all-closed n past closed
 
 -- by when the call ends
-due_is : (config : Config) (w : ℕ) (past : List Mark) → begins_alone config w (before_run w past) ≡ true → deadline config w past ≡ length (before_run w past) + run_marks config true
+due_is : (config : Config) (w : ℕ) (past : List Mark) → begins_solitary config w (before_run w past) ≡ true → deadline config w past ≡ length (before_run w past) + run_marks config true
 due_is config w past begins = ap (λ (b : Bool). length (before_run w past) + run_marks config b) begins
 
 -- what is said of descriptors and slots, of a world with as many
@@ -114,7 +114,7 @@ begins_well most w n world new call calls left rest first after gone r a =
       rationed = same-ration most.ration world (after_begin world w call (Begun n)) refl refl r.rationed;
     }
 
-    begins : begins_alone world.config w (mark.Begin w n call ∷ world.log.past) ≡ true
+    begins : begins_solitary world.config w (mark.Begin w n call ∷ world.log.past) ≡ true
     begins = ap (λ (b : Bool). b && are_closed world.config.workers world.log.past) self ∙ all-closed world.config.workers world.log.past a.closed
 
     inside : IsInCall most w (after_begin world w call (Begun n)) (without_first w calls)
@@ -262,7 +262,7 @@ goes-well most w old new calls applied.Stepped r i s =
     let m = moves w s.made old.log.past s.struck s.effect in
     let past : new.log.past ≡ s.struck = ap (λ (log : Log). log.past) s.ends in
     let before : before_run w new.log.past ≡ before_run w old.log.past = ap (before_run w) past ∙ m.before in
-    let whole : RunsWhole new.config w s.struck = ap (begins_alone new.config w) m.before ∙ (ap (λ (c : Config). begins_alone c w (before_run w old.log.past)) s.config ∙ i.begins) in (
+    let whole : RunsWhole new.config w s.struck = ap (begins_solitary new.config w) m.before ∙ (ap (λ (c : Config). begins_solitary c w (before_run w old.log.past)) s.config ∙ i.begins) in (
       record {
         marks = omega (arith, r.marks, ap (λ (log : Log). log.limits.marks) s.ends);
         calls = omega (arith, r.calls, ap count_begins past, m.begins);
@@ -274,8 +274,8 @@ goes-well most w old new calls applied.Stepped r i s =
       inr (record {
         is_open = ap (λ (z : List Mark). is_some (open_call w z)) past ∙ (m.opens ∙ i.is_open);
         others = λ v ne. ap (open_call v) past ∙ m.others v (i.others v ne);
-        begins = ap (begins_alone new.config w) before ∙ (ap (λ (c : Config). begins_alone c w (before_run w old.log.past)) s.config ∙ i.begins);
-        in_time = subst (λ (z : List Mark). length new.log.past ≤ deadline new.config w z) (sym past) s.lone;
+        begins = ap (begins_solitary new.config w) before ∙ (ap (λ (c : Config). begins_solitary c w (before_run w old.log.past)) s.config ∙ i.begins);
+        in_time = subst (λ (z : List Mark). length new.log.past ≤ deadline new.config w z) (sym past) s.undisturbed;
         enough = omega (arith, i.enough, ap length before);
         keeps = s.supplied whole;
         lasts = subst (λ (z : Supply). SupplyLastsIn most.ration z (length calls + 1)) (sym s.at_begin) i.lasts;
@@ -284,8 +284,8 @@ goes-well most w old new calls applied.Stepped r i s =
 goes-well most w old new calls (applied.Ended n) r i s =
     let m = moves w s.made old.log.past s.struck s.effect in
     let past = ap (λ (log : Log). log.past) s.ends.is in
-    let whole : RunsWhole new.config w s.struck = ap (begins_alone new.config w) m.before ∙ (ap (λ (c : Config). begins_alone c w (before_run w old.log.past)) s.config ∙ i.begins) in
-    let by : length new.log.past ≤ deadline new.config w s.struck = s.lone in
+    let whole : RunsWhole new.config w s.struck = ap (begins_solitary new.config w) m.before ∙ (ap (λ (c : Config). begins_solitary c w (before_run w old.log.past)) s.config ∙ i.begins) in
+    let by : length new.log.past ≤ deadline new.config w s.struck = s.undisturbed in
     let end : IsEndIn w (length calls) old new s.struck = record { n = n; reply = s.ends.reply; at = s.ends.at; past = past; before = m.wanting; config = s.config; at_begin = s.at_begin; little = s.little whole } in (
       record {
         marks = omega (arith, r.marks, ap (λ (log : Log). log.limits.marks) s.ends.is);

@@ -3,7 +3,7 @@ use Rattle.bz_sched.proofs.AboveLemmas.{calls-above-end}
 use Rattle.bz_sched.proofs.ApartLemmas.{calls-go-apart}
 use Rattle.bz_sched.proofs.IdleRuns.{alone-ends-idle, turns-end-idle}
 use Rattle.bz_sched.proofs.TurnAdds.{words-are-kept}
-use Rattle.bz_sched.specs.AloneLaws.{CallsAboveEnd, CallsGoApart}
+use Rattle.bz_sched.specs.UndisturbedLaws.{CallsAboveEnd, CallsGoApart}
 use Rattle.bz_sched.specs.TurnLaws.{AloneEndsIdle, TurnsEndIdle, WordsAreKept}
 
 -- a turn word adds acts of its worker alone, at most as many as it says, and fewer only where no call of that worker is then open or waits; and no eviction

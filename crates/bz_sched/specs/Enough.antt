@@ -16,7 +16,7 @@ use Rattle.bz_sound.specs.Calls.{open_call}
 use Rattle.bz_sound.specs.Memory.Moments.{image_after}
 use Rattle.bz_mark.specs.declared.power.Power.{Power}
 use Rattle.bz_mark.specs.declared.power.Power.TheVariants as power
-use Rattle.bz_world.specs.WorldView.{WorldView, Supply, power_in, recovery_acts, recovery_most, before_run, begins_alone, count_in, deadline, KeepsSupply}
+use Rattle.bz_world.specs.WorldView.{WorldView, Supply, power_in, recovery_acts, recovery_most, before_run, begins_solitary, count_in, deadline, KeepsSupply}
 use Rattle.bz_sched.specs.Queued.{Queued}
 use Rattle.bz_sched.specs.declared.cut.CutPlan.{CutPlan}
 use Rattle.bz_sched.specs.declared.running.RunEnd.{RunEnd}
@@ -94,7 +94,7 @@ pub record AwaitsCalls (most : Bounds) (world : WorldView) (waiting : List (ℕ 
 pub record IsInCall (most : Bounds) (w : ℕ) (world : WorldView) (waiting : List (ℕ × Call)) : Type 0 where
   pub is_open : is_some (open_call w world.log.past) ≡ true
   pub others : (v : ℕ) → v ≢ w → open_call v world.log.past ≡ None
-  pub begins : begins_alone world.config w (before_run w world.log.past) ≡ true
+  pub begins : begins_solitary world.config w (before_run w world.log.past) ≡ true
   pub in_time : length world.log.past ≤ deadline world.config w world.log.past
   pub enough : length (before_run w world.log.past) + MARKS_PER_CALL * (length waiting + 1) ≤ most.journal.marks + 1
   pub keeps : KeepsSupply world.at_begin world.supply

@@ -18,6 +18,6 @@ pub mod Cutting
 pub mod Powering
 pub mod TurnLaws
 pub mod TurnExample
-pub mod AloneLaws
+pub mod UndisturbedLaws
 pub mod FromWorld
 pub mod Numbers

@@ -1,6 +1,6 @@
 //! The laws of runs. Each function does nothing: its contract is the law.
 
-ghost use Rattle.bz_sched.specs.AloneLaws.{CallsAboveEnd, CallsGoApart};
+ghost use Rattle.bz_sched.specs.UndisturbedLaws.{CallsAboveEnd, CallsGoApart};
 ghost use Rattle.bz_sched.specs.Numbers.{NumbersOfFormats};
 
 /// Where each run goes one worker after the other, and no cut is armed for a run or a power on, each call that stands above a run has ended.

@@ -6,13 +6,13 @@ use Rattle.bz_sound.proofs.Cuts.Left.{cuts-leave, marks-leave}
 use Rattle.bz_sound.proofs.Cuts.OneHistory.{powered-history}
 use Rattle.bz_sound.proofs.Cuts.Told.{acts-allowed, calls-are-last, changes-follow, effects-answer, effects-directly, effects-once, ends-within, full-has-cause, held-spent, image-answers, image-pages, room-left, same-content, slots-spent, spent-answers, told-took-effect}
 use Rattle.bz_sound.proofs.Cuts.WorkedCuts.{worked-cuts}
-use Rattle.bz_sound.proofs.Lonely.{lonely-calls-are-alone}
-use Rattle.bz_sound.proofs.Memory.Apart.{apart-alone}
+use Rattle.bz_sound.proofs.Solitary.{none-is-open-beside-a-solitary-call}
+use Rattle.bz_sound.proofs.Memory.Apart.{apart-solitary}
 use Rattle.bz_sound.proofs.Memory.OpenEffects.{effects-stay}
 use Rattle.bz_sound.proofs.Memory.Told.{acts-of-open-calls}
 use Rattle.bz_sound.proofs.Memory.Worked.{worked-get}
-use Rattle.bz_sound.specs.Lonely.{LonelyCallsAreAlone}
-use Rattle.bz_sound.specs.Memory.CallLaws.{ActsAreOfOpenCalls, ApartCallsAreAlone}
+use Rattle.bz_sound.specs.Solitary.{NoneIsOpenBesideASolitaryCall}
+use Rattle.bz_sound.specs.Memory.CallLaws.{ActsAreOfOpenCalls, ApartCallsAreSolitary}
 use Rattle.bz_sound.specs.Memory.Example.{WorkedGetIsSound}
 use Rattle.bz_sound.specs.Memory.OpenCallLaws.{EffectsStayOpen}
 use Rattle.bz_sound.specs.Power.CallLaws.{ActsAreAllowed, EffectsComeDirectly, EffectsStandOnce, EndsLieWithinTheirCalls, FullHasACause, OpenCallsAreLast, OpenCallsLeaveRoom, ToldChangesTookEffect}
@@ -96,8 +96,8 @@ pub open_calls_leave_room : OpenCallsLeaveRoom
 open_calls_leave_room = room-left
 
 -- while calls run one after the other no two are open
-pub apart_calls_are_alone : ApartCallsAreAlone
-apart_calls_are_alone = apart-alone
+pub apart_calls_are_solitary : ApartCallsAreSolitary
+apart_calls_are_solitary = apart-solitary
 
 -- acts are of workers whose call is open
 pub acts_are_of_open_calls : ActsAreOfOpenCalls
@@ -168,8 +168,8 @@ pub readys_follow : ReadysFollow
 readys_follow = readys-follow
 
 -- a call that began while none was open is the only one that is open until the next Begin
-pub lonely_calls_are_alone : LonelyCallsAreAlone
-lonely_calls_are_alone = lonely-calls-are-alone
+pub none_is_open_beside_a_solitary_call : NoneIsOpenBesideASolitaryCall
+none_is_open_beside_a_solitary_call = none-is-open-beside-a-solitary-call
 
 -- acts are of worker 0 in recovery, and of workers whose call is open
 pub acts_are_allowed : ActsAreAllowed

@@ -1,5 +1,5 @@
 pub mod Calls
 pub mod Replies
-pub mod Lonely
+pub mod Solitary
 pub mod Memory
 pub mod Power

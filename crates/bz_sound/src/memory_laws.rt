@@ -1,5 +1,4 @@
-//! Laws over sound journals over a memory. Each function does nothing but call the laws that it follows from: its
-//! contract is the law.
+//! Laws over sound journals over a memory. Each function does nothing: its contract is the law.
 ghost use Rattle.bz_sound.specs.Memory.History.{OneHistory};
 ghost use Rattle.bz_sound.specs.Memory.Laws.{FreshJournalsAreSound, QuietActsFollow, FlushesFollow, EffectsFollowActs, BeginsFollow, EndsFollow, PageEndsFollow};
 ghost use Rattle.bz_sound.specs.Memory.Laws.{LoadsAreSettled};

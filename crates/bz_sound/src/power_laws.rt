@@ -1,6 +1,6 @@
 //! Laws over sound journals over a memory whose power fails and comes on again. Each function does nothing but call
 //! the laws that it follows from: its contract is the law.
-ghost use Rattle.bz_sound.specs.Lonely.{LonelyCallsAreAlone};
+ghost use Rattle.bz_sound.specs.Solitary.{NoneIsOpenBesideASolitaryCall};
 ghost use Rattle.bz_sound.specs.Power.CallLaws.{OpenCallsAreLast, OpenCallsLeaveRoom};
 ghost use Rattle.bz_sound.specs.Power.Growth.{QuietActsFollow, FlushesFollow, EffectsFollowActs, BeginsFollow, EndsFollow, PageEndsFollow, LoadsAreSettled};
 ghost use Rattle.bz_sound.specs.Power.History.{OneHistory};
@@ -58,8 +58,8 @@ pub fn open_calls_leave_room()
 {}
 
 /// A call that began while none was open is the only one that is open until the next Begin.
-pub fn lonely_calls_are_alone()
-    ensures { LonelyCallsAreAlone }
+pub fn none_is_open_beside_a_solitary_call()
+    ensures { NoneIsOpenBesideASolitaryCall }
 {}
 
 /// What the image has there for a key gives the right reply.

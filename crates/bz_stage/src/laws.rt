@@ -1,4 +1,4 @@
-//! Laws of stages. Each function does nothing but call the laws that it follows from: its contract is the law.
+//! Laws of stages. Each function does nothing: its contract is the law.
 
 ghost use Rattle.bz_stage.specs.Laws.{LackingLeavesSay};
 

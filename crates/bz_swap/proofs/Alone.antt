@@ -8,7 +8,7 @@ use Rattle.bz_machine.specs.declared.worker.Worker.{Worker}
 use Rattle.bz_machine.specs.Allowed.{for_worker, sum_below, counted, is_busy}
 use Rattle.bz_machine.specs.Sizes.{most_workers}
 use Rattle.bz_cells.specs.Store.{Store}
-use Rattle.bz_swap.specs.Alone.{allowed_while, allowed_to_all, steps_left, left_to}
+use Rattle.bz_swap.specs.Solo.{allowed_while, allowed_to_all, steps_left, left_to}
 use Rattle.bz_swap.specs.SwapMemory.{Doing, Idle, Reading, Swapping, Loading, Storing, Flushing, doing_of}
 use Rattle.bz_swap.specs.Inside.Parts.{Parts, worker_at, working, seen}
 use Rattle.bz_swap.specs.Inside.Kept.{IsRunning, IsKept, allowed_at}

@@ -24,7 +24,7 @@ pub mod Going
 pub mod HeldWords
 pub mod Insides
 pub mod Listed
-pub mod LoneRuns
+pub mod SoloRuns
 pub mod MaySwaps
 pub mod Opening
 pub mod OwnedStay

@@ -8,9 +8,9 @@ use Rattle.bz_machine.specs.declared.done.Done.{Done}
 use Rattle.bz_machine.specs.Allowed.{for_swap}
 use Rattle.bz_swap.specs.declared.phase.Phase.{Phase}
 use Rattle.bz_swap.specs.declared.phase.Phase.TheVariants.{Opened, Running, Recovering}
-use Rattle.bz_swap.specs.Alone.{allowed_for, allowed_by_kind, allowed_to_all, steps_left, left_to}
+use Rattle.bz_swap.specs.Solo.{allowed_for, allowed_by_kind, allowed_to_all, steps_left, left_to}
 use Rattle.bz_swap.specs.Evictions.{IsEviction}
-use Rattle.bz_swap.specs.LoneRuns.{Turn, Start, Begin, Step, Evict, HasTurned, IsLoneRun, step_of, steps_in, allowed_of, allowed_in, allowed_by_kind_of, allowed_by_kind_in, LoneStepsAreAllowed, LoneStepsAreAllowedByKind}
+use Rattle.bz_swap.specs.SoloRuns.{Turn, Start, Begin, Step, Evict, HasTurned, IsSoloRun, step_of, steps_in, allowed_of, allowed_in, allowed_by_kind_of, allowed_by_kind_in, SoloStepsAreAllowed, SoloStepsAreAllowedByKind}
 use Rattle.bz_swap.specs.Starts.{started, swapping}
 use Rattle.bz_swap.specs.Steps.{StepsIn}
 use Rattle.bz_swap.specs.SwapMemory.{SwapMemory, Doing, Swapping, Flushing}
@@ -64,11 +64,11 @@ turned w old new (Evict a told) e = omega (arith, left-evicted old new w a told 
 further : (s t l m a b : ℕ) → m + s ≤ l + a → t ≤ m + b → s + t ≤ l + (a + b)
 further s t l m a b first rest = omega (arith, first, rest)
 
-run-left : (w : ℕ) (old new : SwapMemory) (turns : List Turn) → IsLoneRun w old turns new → steps_in turns ≤ left_to old w + allowed_by_kind_in turns
+run-left : (w : ℕ) (old new : SwapMemory) (turns : List Turn) → IsSoloRun w old turns new → steps_in turns ≤ left_to old w + allowed_by_kind_in turns
 run-left w old new [] is = omega arith
 run-left w old new (turn ∷ turns) (next, (first, rest)) = further (step_of turn) (steps_in turns) (left_to old w) (left_to next w) (allowed_by_kind_of turn) (allowed_by_kind_in turns) (turned w old next turn first) (run-left w next new turns rest)
 
-run-allowed_by_kind : (w : ℕ) (old new : SwapMemory) (turns : List Turn) → IsLoneRun w old turns new → steps_in turns ≤ allowed_to_all old + allowed_by_kind_in turns
+run-allowed_by_kind : (w : ℕ) (old new : SwapMemory) (turns : List Turn) → IsSoloRun w old turns new → steps_in turns ≤ allowed_to_all old + allowed_by_kind_in turns
 run-allowed_by_kind w old new turns run = omega (arith, run-left w old new turns run, left-most old w)
 
 turn-less : (turn : Turn) → allowed_by_kind_of turn ≤ allowed_of turn
@@ -80,14 +80,14 @@ turns-less : (turns : List Turn) → allowed_by_kind_in turns ≤ allowed_in tur
 turns-less [] = omega arith
 turns-less (turn ∷ turns) = omega (arith, turn-less turn, turns-less turns)
 
-run-allowed : (w : ℕ) (old new : SwapMemory) (turns : List Turn) → IsLoneRun w old turns new → steps_in turns ≤ allowed_to_all old + allowed_in turns
+run-allowed : (w : ℕ) (old new : SwapMemory) (turns : List Turn) → IsSoloRun w old turns new → steps_in turns ≤ allowed_to_all old + allowed_in turns
 run-allowed w old new turns run = omega (arith, run-allowed_by_kind w old new turns run, turns-less turns)
 
-pub lone_steps_are_allowed_by_kind : LoneStepsAreAllowedByKind
-lone_steps_are_allowed_by_kind = record { start = kind-started; run = run-allowed_by_kind }
+pub solo_steps_are_allowed_by_kind : SoloStepsAreAllowedByKind
+solo_steps_are_allowed_by_kind = record { start = kind-started; run = run-allowed_by_kind }
 
-pub lone_steps_are_allowed : LoneStepsAreAllowed
-lone_steps_are_allowed = record {
+pub solo_steps_are_allowed : SoloStepsAreAllowed
+solo_steps_are_allowed = record {
   most = left-most;
   start = left-started;
   swap = left-swapping;

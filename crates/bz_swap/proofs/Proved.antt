@@ -4,7 +4,7 @@ use Rattle.bz_swap.proofs.BegunStay.{begun_stay_taken as begun_stay_taken-holds}
 use Rattle.bz_swap.proofs.DroppedStay.{dropped_stay as dropped_stay-holds}
 use Rattle.bz_swap.proofs.EffectsInside.{effects_stay_inside as effects_stay_inside-holds}
 use Rattle.bz_swap.proofs.FieldsStay.{plain_fields_stay as plain_fields_stay-holds}
-use Rattle.bz_swap.proofs.LoneRuns.{lone_steps_are_allowed as lone_steps_are_allowed-holds, lone_steps_are_allowed_by_kind as lone_steps_are_allowed_by_kind-holds}
+use Rattle.bz_swap.proofs.SoloRuns.{solo_steps_are_allowed as undisturbed_steps_are_allowed-holds, solo_steps_are_allowed_by_kind as undisturbed_steps_are_allowed_by_kind-holds}
 use Rattle.bz_swap.proofs.OwnedStay.{owned_stay as owned_stay-holds}
 use Rattle.bz_swap.proofs.SettledKept.{settled_words_stay as settled_words_stay-holds}
 use Rattle.bz_swap.proofs.SettledStay.{effects_stay as effects_stay-holds, settled_stay as settled_stay-holds}
@@ -12,7 +12,7 @@ use Rattle.bz_swap.proofs.TakenStay.{taken_statuses_stay as taken_statuses_stay-
 use Rattle.bz_swap.proofs.WordSizes.{sizes_stay as sizes_stay-holds}
 use Rattle.bz_swap.specs.AtomicCalls.{AccessIsAtomic}
 use Rattle.bz_swap.specs.EffectPlaces.{EffectsStayInside}
-use Rattle.bz_swap.specs.LoneRuns.{LoneStepsAreAllowed, LoneStepsAreAllowedByKind}
+use Rattle.bz_swap.specs.SoloRuns.{SoloStepsAreAllowed, SoloStepsAreAllowedByKind}
 use Rattle.bz_swap.specs.PlainFields.{PlainFieldsStay}
 use Rattle.bz_swap.specs.Settled.{DroppedStay, EffectsStay, OwnedStay, SettledStay}
 use Rattle.bz_swap.specs.SettledWords.{SettledWordsStay}
@@ -64,9 +64,9 @@ pub owned_stay : OwnedStay
 owned_stay = owned_stay-holds
 
 -- what is left to a worker falls with each of its steps, and its starts add what they allow: so a worker that steps alone makes no more steps than are allowed
-pub lone_steps_are_allowed : LoneStepsAreAllowed
-lone_steps_are_allowed = lone_steps_are_allowed-holds
+pub solo_steps_are_allowed : SoloStepsAreAllowed
+solo_steps_are_allowed = undisturbed_steps_are_allowed-holds
 
 -- by the finer count too, where a read, a load or a store allows one step
-pub lone_steps_are_allowed_by_kind : LoneStepsAreAllowedByKind
-lone_steps_are_allowed_by_kind = lone_steps_are_allowed_by_kind-holds
+pub solo_steps_are_allowed_by_kind : SoloStepsAreAllowedByKind
+solo_steps_are_allowed_by_kind = undisturbed_steps_are_allowed_by_kind-holds

@@ -10,7 +10,7 @@ use Rattle.bz_machine.specs.declared.worker.Worker.{Worker}
 use Rattle.bz_machine.specs.Allowed.{for_worker}
 use Rattle.bz_swap.specs.declared.phase.Phase.{Phase}
 use Rattle.bz_swap.specs.declared.phase.Phase.TheVariants.{Opened, Running, Recovering}
-use Rattle.bz_swap.specs.Alone.{allowed_by_kind}
+use Rattle.bz_swap.specs.Solo.{allowed_by_kind}
 use Rattle.bz_swap.specs.Held.{Holds}
 use Rattle.bz_swap.specs.Starts.{MayRecover, MayLoad, MayStore, MayFlush, started, phase_of, begins_by_flush}
 use Rattle.bz_swap.specs.SwapMemory.{Doing, Loading, Storing, Flushing}

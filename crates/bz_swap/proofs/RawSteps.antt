@@ -18,7 +18,7 @@ use Rattle.bz_cells.specs.FromPm.State.{State}
 use Rattle.bz_acts.specs.declared.acted.Acted.{Acted}
 use Rattle.bz_swap.specs.declared.phase.Phase.{Phase}
 use Rattle.bz_swap.specs.declared.phase.Phase.TheVariants.{Opened, Running, Recovering}
-use Rattle.bz_swap.specs.Alone.{steps_left}
+use Rattle.bz_swap.specs.Solo.{steps_left}
 use Rattle.bz_swap.specs.Inside.Allowances.{all_after}
 use Rattle.bz_swap.specs.Inside.Raw.{IsAsked, IsRawAct}
 use Rattle.bz_swap.specs.Steps.{IsAnswer, IsRawStep, doing_after}

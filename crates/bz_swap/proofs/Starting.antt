@@ -15,7 +15,7 @@ use Rattle.bz_machine.specs.Workers.{local_of}
 use Rattle.bz_machine.proofs.EventLaws.{keeps_state, keeps_range, stays_bounded}
 use Rattle.bz_swap.specs.declared.phase.Phase.TheVariants.{Running, Recovering}
 use Rattle.bz_swap.specs.Held.{Holds}
-use Rattle.bz_swap.specs.Alone.{allowed_by_kind}
+use Rattle.bz_swap.specs.Solo.{allowed_by_kind}
 use Rattle.bz_swap.specs.Starts.{started, phase_of, begins_by_flush}
 use Rattle.bz_swap.specs.SwapMemory.{Doing}
 use Rattle.bz_swap.specs.Inside.Parts.{Parts, idle_worker, worker_at, working, listed, entry_list, begun_seen, seen}

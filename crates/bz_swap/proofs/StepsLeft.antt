@@ -14,7 +14,7 @@ use Rattle.bz_machine.proofs.EventLaws.{budgets_are_allowed, acts_spend}
 use Rattle.bz_swap.specs.declared.allowance.Allowance.{Allowance}
 use Rattle.bz_swap.specs.declared.role.WordRole.{WordRole}
 use Rattle.bz_swap.specs.declared.role.WordRole.TheVariants.{Outside, Status, Field}
-use Rattle.bz_swap.specs.Alone.{steps_left}
+use Rattle.bz_swap.specs.Solo.{steps_left}
 use Rattle.bz_swap.specs.Inside.Allowances.{after_start, after_step}
 use Rattle.bz_swap.specs.Inside.Evicted.{event_of}
 use Rattle.bz_swap.specs.Inside.Kept.{IsEnough}

@@ -1,4 +1,4 @@
-pub mod Alone
+pub mod Solo
 pub mod Atomic
 pub mod AtomicCalls
 pub mod EffectPlaces
@@ -9,7 +9,7 @@ pub mod Held
 pub mod Inside
 pub mod Lawful
 pub mod LayoutSizes
-pub mod LoneRuns
+pub mod SoloRuns
 pub mod PlainFields
 pub mod Power
 pub mod Resolve

@@ -4,7 +4,7 @@ use Rattle.bz_word.specs.declared.entry.Entry.{Entry}
 use Rattle.bz_cells.specs.Store.{IsOutside}
 use Rattle.bz_swap.specs.declared.phase.Phase.{Phase}
 use Rattle.bz_swap.specs.declared.phase.Phase.TheVariants.{Running, Recovering}
-use Rattle.bz_swap.specs.Alone.{allowed_by_kind, left_to}
+use Rattle.bz_swap.specs.Solo.{allowed_by_kind, left_to}
 use Rattle.bz_swap.specs.SwapMemory.{SwapMemory, Doing, Idle, Swapping, Storing, Flushing, is_named, is_settled_at, doing_of}
 
 -- an address of the memory outside the descriptors

@@ -11,7 +11,7 @@ use Rattle.bz_machine.specs.declared.done.Done.{Done}
 use Rattle.bz_machine.specs.declared.done.Done.TheVariants.{Busy, Read, Swapped, Stored, Flushed}
 use Rattle.bz_swap.specs.declared.phase.Phase.{Phase}
 use Rattle.bz_swap.specs.declared.phase.Phase.TheVariants.{Opened, Running, Recovering}
-use Rattle.bz_swap.specs.Alone.{left_to}
+use Rattle.bz_swap.specs.Solo.{left_to}
 use Rattle.bz_swap.specs.SwapMemory.{SwapMemory, Doing, Idle, Reading, Swapping, Loading, Storing, Flushing, memory_words, memory_state, value_at, has_effect, is_missed, is_named, worker_of, doing_of}
 use Rattle.bz_swap.specs.Effects.{EffectIs, NotesMisses, KeepsDurableOutside}
 use Rattle.bz_swap.specs.Writes.{WritesLawfully, IsDecided}

@@ -1,7 +1,7 @@
 //! The swap memory and its operations.
 
 ghost use Rattle.std.specs.Prelude.{IsTrue, ◌↔◌, ◌≡◌, ◌<◌, false, length, slice_index};
-ghost use Rattle.bz_swap.specs.Alone.{left_to};
+ghost use Rattle.bz_swap.specs.Solo.{left_to};
 ghost use Rattle.bz_swap.specs.Inside.Parts.{idle_worker};
 ghost use Rattle.bz_swap.specs.SwapMemory.{Idle, worker_of, doing_of};
 

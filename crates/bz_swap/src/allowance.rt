@@ -1,7 +1,7 @@
 //! How many steps a worker may make that steps alone.
 
 ghost use Rattle.std.specs.Prelude.{◌≡◌, ◌+◌, ◌-◌, ◌≤◌, ◌^◌};
-ghost use Rattle.bz_swap.specs.Alone.{steps_left};
+ghost use Rattle.bz_swap.specs.Solo.{steps_left};
 ghost use Rattle.bz_swap.specs.Inside.Allowances.{after_start, after_step};
 
 use bz_machine::Place;

@@ -3,7 +3,7 @@
 ghost use Rattle.bz_swap.specs.AtomicCalls.{AccessIsAtomic};
 ghost use Rattle.bz_swap.specs.EffectPlaces.{EffectsStayInside, StatusWords};
 ghost use Rattle.bz_swap.specs.LayoutSizes.{SizesAreOfLayout};
-ghost use Rattle.bz_swap.specs.LoneRuns.{LoneStepsAreAllowed, LoneStepsAreAllowedByKind};
+ghost use Rattle.bz_swap.specs.SoloRuns.{SoloStepsAreAllowed, SoloStepsAreAllowedByKind};
 ghost use Rattle.bz_swap.specs.PlainFields.{PlainFieldsStay};
 ghost use Rattle.bz_swap.specs.Settled.{SettledStay, EffectsStay, DroppedStay, OwnedStay};
 ghost use Rattle.bz_swap.specs.SettledWords.{SettledWordsStay};
@@ -69,13 +69,13 @@ pub fn status_words()
 
 /// What is left to a worker falls with each of its steps, and its starts add what they allow: so a worker that steps alone makes
 /// no more steps than are allowed.
-pub fn lone_steps_are_allowed()
-    ensures { LoneStepsAreAllowed }
+pub fn solo_steps_are_allowed()
+    ensures { SoloStepsAreAllowed }
 {}
 
 /// By the finer count too, where a read, a load or a store allows one step.
-pub fn lone_steps_are_allowed_by_kind()
-    ensures { LoneStepsAreAllowedByKind }
+pub fn solo_steps_are_allowed_by_kind()
+    ensures { SoloStepsAreAllowedByKind }
 {}
 
 /// The sizes that the machine speaks of, which knows no layout, are those of the layout.

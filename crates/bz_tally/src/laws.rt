@@ -1,5 +1,4 @@
-//! Laws of what the swaps of tasks make of the number of leaves. Each function does nothing but call the laws that it follows from: its
-//! contract is the law.
+//! Laws of what the swaps of tasks make of the number of leaves. Each function does nothing: its contract is the law.
 
 ghost use Rattle.bz_tally.specs.Deletes.{DeletesTakeOneRecord, DeletesTellFew};
 ghost use Rattle.bz_tally.specs.Laws.{LeavesComeAndGo, MergesCountAtLast};

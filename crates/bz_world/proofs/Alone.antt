@@ -26,8 +26,8 @@ use Rattle.bz_task.specs.declared.todo.Seen.TheVariants as seen
 use Rattle.bz_task.specs.declared.todo.Todo.{Todo}
 use Rattle.bz_task.specs.declared.todo.Todo.TheVariants as todo
 use Rattle.bz_word.specs.declared.entry.Entry.{Entry}
-use Rattle.bz_world.specs.Inside.Alone.{untold, DoesWell, WaitsAlone, HearsAlone}
-use Rattle.bz_world.proofs.Lonely.{now-is, before-is}
+use Rattle.bz_world.specs.Inside.Alone.{untold, DoesWell, WaitsUndisturbed, HearsUndisturbed}
+use Rattle.bz_world.proofs.Solitary.{now-is, before-is}
 
 -- what is no swap has no effect that is not told, and goes well
 pub none-untold : (m : SwapMemory) (d : Doing) → ((s : ℕ) → d ≢ Swapping s) → untold m d ≡ 0
@@ -95,8 +95,8 @@ others-on c past mark story after v since opened later y others made rest own mo
 
 -- without a mark
 pub waits-same : (m n : SwapMemory) (v : ℕ) (t : AnyTask) (p : Past) → doing_of n v ≡ doing_of m v → ((s : ℕ) → doing_of m v ≡ Swapping s → has_effect n s ≡ has_effect m s) → ((s : ℕ) → doing_of m v ≡ Swapping s → GoesWell m s → GoesWell n s)
-    → WaitsAlone m (doing_of m v) t p → WaitsAlone n (doing_of n v) t p
-waits-same m n v t p does effects well h = subst (λ (d : Doing). WaitsAlone n d t p) (sym does) (record {
+    → WaitsUndisturbed m (doing_of m v) t p → WaitsUndisturbed n (doing_of n v) t p
+waits-same m n v t p does effects well h = subst (λ (d : Doing). WaitsUndisturbed n d t p) (sym does) (record {
   others = h.others;
   counted = subst (λ k. HasOthers h.others (made_of t + k) p) (sym (untold-by m n (doing_of m v) effects)) h.counted;
   well = λ none. well-by m n (doing_of m v) well (h.well none);
@@ -104,11 +104,11 @@ waits-same m n v t p does effects well h = subst (λ (d : Doing). WaitsAlone n d
 })
 
 module _ (c : Config) (m n : SwapMemory) (past : List Mark) (mark : Mark) (story after : Story) (v since : ℕ) (opened later : Open) (t : AnyTask) (y : Instant) (is : after.at ≡ and_then story.at (length past) y) (l : since ≤ length past)
-    (h : WaitsAlone m (doing_of m v) t (scene c past story v since opened).past) where
+    (h : WaitsUndisturbed m (doing_of m v) t (scene c past story v since opened).past) where
   -- by a mark at which no swap takes effect
   pub waits-on : y.effects ≡ (story.at (length past)).effects → doing_of n v ≡ doing_of m v → ((s : ℕ) → doing_of m v ≡ Swapping s → has_effect n s ≡ has_effect m s) → ((s : ℕ) → doing_of m v ≡ Swapping s → GoesWell m s → GoesWell n s)
-      → WaitsAlone n (doing_of n v) t (scene c (mark ∷ past) after v since later).past
-  waits-on same does effects well = subst (λ (d : Doing). WaitsAlone n d t (scene c (mark ∷ past) after v since later).past) (sym does) (record {
+      → WaitsUndisturbed n (doing_of n v) t (scene c (mark ∷ past) after v since later).past
+  waits-on same does effects well = subst (λ (d : Doing). WaitsUndisturbed n d t (scene c (mark ∷ past) after v since later).past) (sym does) (record {
     others = h.others;
     counted = others-on c past mark story after v since opened later y h.others (made_of t + untold m (doing_of m v)) h.others (made_of t + untold n (doing_of m v)) 0 is l (omega (arith, same)) (omega (arith, untold-by m n (doing_of m v) effects)) h.counted;
     well = λ none. well-by m n (doing_of m v) well (h.well none);
@@ -116,8 +116,8 @@ module _ (c : Config) (m n : SwapMemory) (past : List Mark) (mark : Mark) (story
   })
 
   -- at which another's does: it is alone no more
-  pub waits-beside : y.effects ≡ (story.at (length past)).effects + 1 → doing_of n v ≡ doing_of m v → ((s : ℕ) → doing_of m v ≡ Swapping s → has_effect n s ≡ has_effect m s) → WaitsAlone n (doing_of n v) t (scene c (mark ∷ past) after v since later).past
-  waits-beside more does effects = subst (λ (d : Doing). WaitsAlone n d t (scene c (mark ∷ past) after v since later).past) (sym does) (record {
+  pub waits-beside : y.effects ≡ (story.at (length past)).effects + 1 → doing_of n v ≡ doing_of m v → ((s : ℕ) → doing_of m v ≡ Swapping s → has_effect n s ≡ has_effect m s) → WaitsUndisturbed n (doing_of n v) t (scene c (mark ∷ past) after v since later).past
+  waits-beside more does effects = subst (λ (d : Doing). WaitsUndisturbed n d t (scene c (mark ∷ past) after v since later).past) (sym does) (record {
     others = h.others + 1;
     counted = others-on c past mark story after v since opened later y h.others (made_of t + untold m (doing_of m v)) (h.others + 1) (made_of t + untold n (doing_of m v)) 1 is l more (omega (arith, untold-by m n (doing_of m v) effects)) h.counted;
     well = λ none. absurd (omega (arith, none));
@@ -126,7 +126,7 @@ module _ (c : Config) (m n : SwapMemory) (past : List Mark) (mark : Mark) (story
 
   -- or its own
   pub waits-struck : (s : ℕ) → y.effects ≡ (story.at (length past)).effects + 1 → doing_of m v ≡ Swapping s → doing_of n v ≡ Swapping s → has_effect m s ≡ false → has_effect n s ≡ true → (GoesWell m s → is_missed n s ≡ false)
-      → WaitsAlone n (doing_of n v) t (scene c (mark ∷ past) after v since later).past
+      → WaitsUndisturbed n (doing_of n v) t (scene c (mark ∷ past) after v since later).past
   waits-struck s more was now before done unnoted = record {
     others = h.others;
     counted = others-on c past mark story after v since opened later y h.others (made_of t + untold m (doing_of m v)) h.others (made_of t + untold n (doing_of n v)) 1 is l more (omega (arith, none-yet, one-now)) h.counted;
@@ -141,7 +141,7 @@ module _ (c : Config) (m n : SwapMemory) (past : List Mark) (mark : Mark) (story
       one-now = ap (untold n) now ∙ ap (λ (b : Bool). if b then 1 else 0) done
 
   -- or by an act that answers it
-  pub hears-on : (what : Seen) → y.effects ≡ (story.at (length past)).effects → untold m (doing_of m v) ≡ effects_in what → (DoesWell m (doing_of m v) → what ≢ seen.Swapped false) → HearsAlone t what (scene c (mark ∷ past) after v since later).past
+  pub hears-on : (what : Seen) → y.effects ≡ (story.at (length past)).effects → untold m (doing_of m v) ≡ effects_in what → (DoesWell m (doing_of m v) → what ≢ seen.Swapped false) → HearsUndisturbed t what (scene c (mark ∷ past) after v since later).past
   hears-on what same told wins = record {
     others = h.others;
     counted = others-on c past mark story after v since opened later y h.others (made_of t + untold m (doing_of m v)) h.others (made_of t + effects_in what) 0 is l (omega (arith, same)) (omega (arith, told)) h.counted;
@@ -150,7 +150,7 @@ module _ (c : Config) (m n : SwapMemory) (past : List Mark) (mark : Mark) (story
   }
 
 -- a task that is told something else than what came of a swap
-pub hears-now : OwnSwapsAreCounted → (t : AnyTask) (s : Scene) → IsScene s → s.past.config ≡ config_of t → facts_of t Waiting s → (what : Seen) → effects_in what ≡ 0 → what ≢ seen.Swapped false → HearsAlone t what s.past
+pub hears-now : OwnSwapsAreCounted → (t : AnyTask) (s : Scene) → IsScene s → s.past.config ≡ config_of t → facts_of t Waiting s → (what : Seen) → effects_in what ≡ 0 → what ≢ seen.Swapped false → HearsUndisturbed t what s.past
 hears-now law t s good config facts what none other =
     let told : (others : ℕ) × HasOthers others (made_of t) s.past = law t s good facts in
     record {

@@ -40,7 +40,7 @@ use Rattle.bz_world.specs.Inside.Acted.{IsActed, IsTold, HasWon}
 use Rattle.bz_world.specs.Inside.Alone.{untold, DoesWell}
 use Rattle.bz_world.specs.Inside.Exact.{answered_in, underway}
 use Rattle.bz_world.specs.Inside.Kept.{IsAwake}
-use Rattle.bz_world.specs.Inside.Lonely.{WhereLonely}
+use Rattle.bz_world.specs.Inside.Solitary.{WhereSolitary}
 use Rattle.bz_world.specs.WorldView.{mark_of}
 use Rattle.bz_world.specs.Inside.Serving.{IsServing, IsSlot, stage_in, MayGoOn, IsFinishing}
 use Rattle.bz_world.specs.declared.parts.Parts.{Parts}
@@ -49,8 +49,8 @@ use Rattle.bz_world.specs.Inside.Laws.{StepLaws}
 use Rattle.bz_story.proofs.Powered.{stored-since}
 use Rattle.bz_world.specs.Inside.Paid.{errand_of, no_extra, stock_of, IsPaidIn}
 use Rattle.bz_world.proofs.Alone.{hears-on, untold-by}
-use Rattle.bz_world.proofs.Lonely.{lonely-act}
-use Rattle.bz_world.proofs.LonelyActs.{own-acted, all-acted, reads-now}
+use Rattle.bz_world.proofs.Solitary.{solitary-act}
+use Rattle.bz_world.proofs.SolitaryActs.{own-acted, all-acted, reads-now}
 use Rattle.bz_world.proofs.Meant.{call-meant-on}
 use Rattle.bz_world.proofs.Powered.{begun-in, leaves-power}
 use Rattle.bz_world.proofs.Staying.{SameFor, Pays, Takes}
@@ -133,7 +133,7 @@ module _ (b : StepLaws) (old new : Parts) (w : ℕ) (x : OpenCall) (made : Act) 
   knows = its.tasked.laws.sound.stable (stage_in old.access (doing_of old.access w)) before later (sym its.tasked.config) its.facts later-seen.scene (lawful w its.call_open.look.since its.opened (begun-in k.living its.call_open))
 
   -- and it is to be told
-  pub be-told : (stage : Stage) (what : Seen) → answer ≢ done.Busy → facts_of x.task stage later → MayGoOn x ⊎ HasWon x what → Hears (asks_of x.task) what → Tells (asks_of x.task) stage what later → WhereLonely old.journal.past w x.call (λ key. stage ≡ Waiting)
+  pub be-told : (stage : Stage) (what : Seen) → answer ≢ done.Busy → facts_of x.task stage later → MayGoOn x ⊎ HasWon x what → Hears (asks_of x.task) what → Tells (asks_of x.task) stage what later → WhereSolitary old.journal.past w x.call (λ key. stage ≡ Waiting)
       → untold old.access (doing_of old.access w) ≡ effects_in what → underway (doing_of old.access w) ≡ answered_in what → (DoesWell old.access (doing_of old.access w) → what ≢ seen.Swapped false) → IsTold new w x what
   be-told stage what ne facts finished hears tells waits effects way wins = subst (λ p. IsTold p w x what) (sym a.rest) (record {
     between = answered b old new w x made answer k is-worker a after room ne living k.free others;
@@ -144,7 +144,7 @@ module _ (b : StepLaws) (old new : Parts) (w : ℕ) (x : OpenCall) (made : Act) 
     finished = finished;
     hears = hears;
     tells = tells;
-    lonely = λ key get lonely. (own-acted b old new w x made answer k is-worker a k.story.filled key get lonely, waits key get (lonely-act w w old.journal.past made lonely));
+    solitary = λ key get solitary. (own-acted b old new w x made answer k is-worker a k.story.filled key get solitary, waits key get (solitary-act w w old.journal.past made solitary));
     alone = hears-on old.config old.access new.access old.journal.past (mark_of w made) k.story after w its.call_open.look.since its.opened its.opened x.task (next_instant new.access (k.story.at (length old.journal.past))) refl its.call_open.look.by_now its.alone
         what refl effects wins;
     meant = call-meant-on x before.past later.past its.tasked.laws (lawful w its.call_open.look.since its.opened (begun-in k.living its.call_open)).continues its.meant;
@@ -187,7 +187,7 @@ module _ (b : StepLaws) (old new : Parts) (w : ℕ) (x : OpenCall) (made : Act) 
         (no-finish old.access w x (seen.Read v) (λ s f. absurd (cc (reads, f))) its.finishing)
         (subst (λ z. Hears z (seen.Read v)) (sym (its.asks ∙ ap Some asked)) tt)
         (subst (λ z. Tells z Waiting (seen.Read v) later) (sym (its.asks ∙ ap Some asked)) answers)
-        (λ key get lonely. refl) (ap (untold old.access) reads) (ap underway reads) (λ h e. absurd (cc e))
+        (λ key get solitary. refl) (ap (untold old.access) reads) (ap underway reads) (λ h e. absurd (cc e))
 
   -- a swap answers whether it took effect
   module _ (entries : List Entry) (t : ℕ) (won : Bool) (asked : its.asked ≡ todo.Swap entries) (swaps : doing_of old.access w ≡ Swapping t) (effect : has_effect new.access t ≡ won) where
@@ -219,9 +219,9 @@ module _ (b : StepLaws) (old new : Parts) (w : ℕ) (x : OpenCall) (made : Act) 
         (finishes won refl its.finishing)
         (subst (λ z. Hears z (seen.Swapped won)) (sym (its.asks ∙ ap Some asked)) tt)
         (subst (λ z. Tells z (if has_effect old.access t then Took else Waiting) (seen.Swapped won) later) (sym (its.asks ∙ ap Some asked)) (stage-by (has_effect old.access t) (sym (a.step.effect.swaps t) ∙ effect)))
-        (λ key get lonely. absurd (cc ((reads-now old k w x is-worker key get lonely).reads, swaps)))
+        (λ key get solitary. absurd (cc ((reads-now old k w x is-worker key get solitary).reads, swaps)))
         (ap (untold old.access) swaps ∙ told-by (has_effect old.access t) (sym (a.step.effect.swaps t) ∙ effect)) (ap underway swaps)
-        (λ h lost. let wins : won ≡ true = (b.lone.wins.answer old.access new.access w made None t won (subst (λ (z : Done). IsStep old.access w made z None new.access) e a.step) swaps (subst (DoesWell old.access) swaps h)).0 in absurd (cc (wins, lost)))
+        (λ h lost. let wins : won ≡ true = (b.solo.wins.answer old.access new.access w made None t won (subst (λ (z : Done). IsStep old.access w made z None new.access) e a.step) swaps (subst (DoesWell old.access) swaps h)).0 in absurd (cc (wins, lost)))
 
   -- a flush has been made
   module _ (line : ℕ) (asked : its.asked ≡ todo.Flush line) (flushes : doing_of old.access w ≡ Flushing line) (within : line * 8 < length old.access.cached) where
@@ -239,4 +239,4 @@ module _ (b : StepLaws) (old new : Parts) (w : ℕ) (x : OpenCall) (made : Act) 
         (no-finish old.access w x seen.Flushed (λ s f. absurd (cc (flushes, f))) its.finishing)
         (subst (λ z. Hears z seen.Flushed) (sym (its.asks ∙ ap Some asked)) tt)
         (subst (λ z. Tells z Took seen.Flushed later) (sym (its.asks ∙ ap Some asked)) tt)
-        (λ key get lonely. absurd (cc ((reads-now old k w x is-worker key get lonely).reads, flushes))) (ap (untold old.access) flushes) (ap underway flushes) (λ h e. absurd (cc e))
+        (λ key get solitary. absurd (cc ((reads-now old k w x is-worker key get solitary).reads, flushes))) (ap (untold old.access) flushes) (ap underway flushes) (λ h e. absurd (cc e))

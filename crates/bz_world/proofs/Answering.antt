@@ -18,7 +18,7 @@ use Rattle.bz_page.specs.Pages.{IsPageOf}
 use Rattle.bz_running.specs.Kinds as kinds
 use Rattle.bz_shape.specs.Order as order
 use Rattle.bz_slotted.specs.Readers.{found_of}
-use Rattle.bz_sound.specs.Lonely.{acts_since}
+use Rattle.bz_sound.specs.Solitary.{acts_since}
 use Rattle.bz_sound.specs.Memory.ImageLaws.{ReadsAt, ImageAnswersBy}
 use Rattle.bz_sound.specs.Memory.Moments.{image_at, IsAfterLoad}
 use Rattle.bz_sound.specs.Memory.Replies.{ends_after}
@@ -34,7 +34,7 @@ use Rattle.bz_task.specs.declared.view.LeafView.{LeafView}
 use Rattle.bz_world.specs.Inside.Acted.{IsBetween}
 use Rattle.bz_world.specs.Inside.Going.{MustGoOn, MustAnswer, MustAnswerKey, MustEnd, MustEndPage, HasRoomForEnd, known}
 use Rattle.bz_world.specs.Inside.Laws.{AnswerLaws}
-use Rattle.bz_world.specs.Inside.Lonely.{WhereLonely}
+use Rattle.bz_world.specs.Inside.Solitary.{WhereSolitary}
 use Rattle.bz_world.specs.Inside.Paid.{errand_of}
 use Rattle.bz_world.specs.declared.parts.Parts.{Parts}
 use Rattle.bz_world.specs.declared.serving.OpenCall.{OpenCall}
@@ -71,7 +71,7 @@ on-pages p w pairs on = record {
   fit = let f = on.fit in record { words = f.words; thawed = f.thawed };
   exact = on.exact;
   merges = on.merges;
-  lonely = λ key get lonely. let h = on.lonely key get lonely in record { get = let g = h.get in record { brief = g.brief; looks = g.looks; alone = g.alone; quiet = g.quiet; thawed = g.thawed }; stands = h.stands };
+  solitary = λ key get solitary. let h = on.solitary key get solitary in record { get = let g = h.get in record { brief = g.brief; looks = g.looks; alone = g.alone; quiet = g.quiet; thawed = g.thawed }; stands = h.stands };
 }
 
 -- the mark of a load, and the moment directly after it
@@ -154,24 +154,24 @@ module _ (b : AnswerLaws) (p : Parts) (w at : ℕ) (on : MustGoOn p w) (l : IsLo
   answers : ImageAnswersBy (IsSpent p.config p.journal.start p.journal.past w was.opened) p.config p.journal w was.opened at
   answers = b.answers p.config p.at_start p.journal w at was.opened was.sound reads
 
-  -- what is due where it is a lonely get
+  -- what is due where it is a solitary get
   abbrev pub IsFew : Type 0
-  IsFew = WhereLonely p.journal.past w on.serving.call (λ key. acts_since w p.journal.past ≤ 2 * get_reads p.config (image_at p.journal.start at p.journal.past) key)
+  IsFew = WhereSolitary p.journal.past w on.serving.call (λ key. acts_since w p.journal.past ≤ 2 * get_reads p.config (image_at p.journal.start at p.journal.past) key)
 
   pub value-right : IsFew → (key had : List ℕ) → called ≡ call.Get key → content_in p.config (past.at at).image key ≡ Some had → MustEnd p w (Value had) at
-  value-right few key had e has = record { on = on; merged = tt; right = answers.value key had (opened-is ∙ e) (ap (λ i. content_in p.config i key) (sym image-is) ∙ has); full = λ spent e. absurd (cc e); told = λ lonely room. tt; room = l.room; brief = few }
+  value-right few key had e has = record { on = on; merged = tt; right = answers.value key had (opened-is ∙ e) (ap (λ i. content_in p.config i key) (sym image-is) ∙ has); full = λ spent e. absurd (cc e); told = λ solitary room. tt; room = l.room; brief = few }
 
   pub missing-right : IsFew → (key : List ℕ) → called ≡ call.Get key → content_in p.config (past.at at).image key ≡ None → MustEnd p w Missing at
-  missing-right few key e has = record { on = on; merged = tt; right = answers.no_value key (opened-is ∙ e) (ap (λ i. content_in p.config i key) (sym image-is) ∙ has); full = λ spent e. absurd (cc e); told = λ lonely room. tt; room = l.room; brief = few }
+  missing-right few key e has = record { on = on; merged = tt; right = answers.no_value key (opened-is ∙ e) (ap (λ i. content_in p.config i key) (sym image-is) ∙ has); full = λ spent e. absurd (cc e); told = λ solitary room. tt; room = l.room; brief = few }
 
   pub exists-right : (key payload had : List ℕ) → called ≡ call.Insert key payload → content_in p.config (past.at at).image key ≡ Some had → MustEnd p w Exists at
-  exists-right key payload had e has = record { on = on; merged = tt; right = answers.exists key payload had (opened-is ∙ e) (ap (λ i. content_in p.config i key) (sym image-is) ∙ has); full = λ spent e. absurd (cc e); told = λ lonely room. tt; room = l.room; brief = λ other get lonely. absurd (cc (is, e, get)) }
+  exists-right key payload had e has = record { on = on; merged = tt; right = answers.exists key payload had (opened-is ∙ e) (ap (λ i. content_in p.config i key) (sym image-is) ∙ has); full = λ spent e. absurd (cc e); told = λ solitary room. tt; room = l.room; brief = λ other get solitary. absurd (cc (is, e, get)) }
 
   pub no-delete-right : (key : List ℕ) → called ≡ call.Delete key → content_in p.config (past.at at).image key ≡ None → MustEnd p w Missing at
-  no-delete-right key e has = record { on = on; merged = tt; right = answers.no_delete key (opened-is ∙ e) (ap (λ i. content_in p.config i key) (sym image-is) ∙ has); full = λ spent e. absurd (cc e); told = λ lonely room. tt; room = l.room; brief = λ other get lonely. absurd (cc (is, e, get)) }
+  no-delete-right key e has = record { on = on; merged = tt; right = answers.no_delete key (opened-is ∙ e) (ap (λ i. content_in p.config i key) (sym image-is) ∙ has); full = λ spent e. absurd (cc e); told = λ solitary room. tt; room = l.room; brief = λ other get solitary. absurd (cc (is, e, get)) }
 
   pub no-update-right : (key payload : List ℕ) → called ≡ call.Update key payload → content_in p.config (past.at at).image key ≡ None → MustEnd p w Missing at
-  no-update-right key payload e has = record { on = on; merged = tt; right = answers.no_update key payload (opened-is ∙ e) (ap (λ i. content_in p.config i key) (sym image-is) ∙ has); full = λ spent e. absurd (cc e); told = λ lonely room. tt; room = l.room; brief = λ other get lonely. absurd (cc (is, e, get)) }
+  no-update-right key payload e has = record { on = on; merged = tt; right = answers.no_update key payload (opened-is ∙ e) (ap (λ i. content_in p.config i key) (sym image-is) ∙ has); full = λ spent e. absurd (cc e); told = λ solitary room. tt; room = l.room; brief = λ other get solitary. absurd (cc (is, e, get)) }
 
   pub page-right : (from : List ℕ) (next : Option (List ℕ)) (pairs : List (List ℕ × List ℕ)) → called ≡ call.Page from → IsPageOf p.config (past.at at).image from pairs next → MustEndPage (record p { page = pairs }) w next at
   page-right from next pairs e page = record {

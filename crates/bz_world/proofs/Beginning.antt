@@ -42,7 +42,7 @@ use Rattle.bz_world.specs.Inside.Beginning.{MayBegin, HasBegun, world_view, page
 use Rattle.bz_world.specs.Inside.Due.{only_looks}
 use Rattle.bz_world.specs.Inside.Kept.{IsTabled, IsAwake}
 use Rattle.bz_world.specs.Inside.Laws.{EndLaws, StartLaws}
-use Rattle.bz_world.specs.Inside.Lonely.{WhereLonely, IsLonelyGet}
+use Rattle.bz_world.specs.Inside.Solitary.{WhereSolitary, IsSolitaryGet}
 use Rattle.bz_world.specs.Inside.Paid.{bound_in, begun_with, errand_of, stock_of, used_in, HasARoundAs}
 use Rattle.bz_world.specs.WorldView.{supply_by, are_closed, run_marks}
 use Rattle.bz_world.specs.Inside.Serving.{IsSlot, IsAtRest}
@@ -53,7 +53,7 @@ use Rattle.bz_story.proofs.Powered.{stored-since}
 use Rattle.bz_world.proofs.Alone.{waits-on}
 use Rattle.bz_world.proofs.Counting.{pairs-stay}
 use Rattle.bz_world.proofs.LeavesKept.{same-leaves}
-use Rattle.bz_world.proofs.Lonely.{acts-begin, all-idle}
+use Rattle.bz_world.proofs.Solitary.{acts-begin, all-idle}
 use Rattle.bz_world.proofs.Paid.{within-of, begin-runs, each-closed, second-of}
 use Rattle.bz_world.proofs.Powered.{is-on}
 use Rattle.bz_world.proofs.Spared.{seeks}
@@ -157,7 +157,7 @@ module _ (p : Parts) (k : IsAwake p) (w : ℕ) (call : Call) (may : MayBegin p w
           took = λ j. refl;
           filled = λ j e. e;
           alone = λ m o t l waits. waits-on p.config p.access p.access p.journal.past mark k.story after v m o o t (next_instant p.access (k.story.at (length p.journal.past))) refl l waits refl refl (λ j d. refl) (λ j d well. well);
-        }) (λ y t runs. absurd (ne (sym (begin-runs p.config w v n call p.journal.past runs)))) (none-takes-well p.config p.access p.access p.journal mark k.story after p.owners.items (stock_of p) (stock_of mid) v (λ lonely. ne (sym lonely.0))) (k.workers v))
+        }) (λ y t runs. absurd (ne (sym (begin-runs p.config w v n call p.journal.past runs)))) (none-takes-well p.config p.access p.access p.journal mark k.story after p.owners.items (stock_of p) (stock_of mid) v (λ solitary. ne (sym solitary.0))) (k.workers v))
 
     -- the tables
     own-count : (t : Bool) → t ≡ true → n ≡ (if t then begun_calls w p.journal.past + 1 else begun_calls w p.journal.past)
@@ -222,7 +222,7 @@ module _ (p : Parts) (k : IsAwake p) (w : ℕ) (call : Call) (may : MayBegin p w
       opened = opened;
       call_open = record { is_open = (b.calls w p.journal.past).own_begin n call; call = refl; effect = refl; look = record { since = suc (length p.journal.past); after_begin = omega arith; by_now = omega arith }; told = λ at e. absurd (cc e); wanted = λ quiet some. absurd (omega (arith, some, wants)) };
       idle = at-rest.idle;
-      due = λ quiet lonely. inr (record { looks = ap (only_looks call) kind; thawed = refl; same_taken = refl; same_left = refl });
+      due = λ quiet solitary. inr (record { looks = ap (only_looks call) kind; thawed = refl; same_taken = refl; same_left = refl });
       steps = λ v is. sym (begin-runs p.config w v n call p.journal.past is);
     }
 
@@ -244,22 +244,22 @@ module _ (p : Parts) (k : IsAwake p) (w : ℕ) (call : Call) (may : MayBegin p w
 
     -- of marks, whatever the others do
     marks-by : (b : Bool) → are_closed p.config.workers p.journal.past ≡ b → PaysForRound Marks p.access w (errand_of fresh) (used_in Marks mid w) (suc (length p.journal.past) + run_marks p.config b) here.past
-    marks-by true closed = s.lone.paid.first Marks p.access w (errand_of fresh) (used_in Marks mid w) (suc (length p.journal.past) + run_marks p.config true) here.past (all-idle p k (none-open closed)) unfrozen (omega (arith, s.lone.paid.idle p.access w (all-idle p k (none-open closed))))
-    marks-by false some = s.lone.paid.round p.config p.access w (errand_of fresh) (suc (length p.journal.past) + run_marks p.config false) here.past (record { config = k.tabled.config; size = k.tabled.crew; worker = may.worker; within = may.within; zero = k.taken.notes.zero }) unfrozen
-        (omega (arith, s.lone.paid.affordable p.config k.tabled.config))
+    marks-by true closed = s.solo.paid.first Marks p.access w (errand_of fresh) (used_in Marks mid w) (suc (length p.journal.past) + run_marks p.config true) here.past (all-idle p k (none-open closed)) unfrozen (omega (arith, s.solo.paid.idle p.access w (all-idle p k (none-open closed))))
+    marks-by false some = s.solo.paid.round p.config p.access w (errand_of fresh) (suc (length p.journal.past) + run_marks p.config false) here.past (record { config = k.tabled.config; size = k.tabled.crew; worker = may.worker; within = may.within; zero = k.taken.notes.zero }) unfrozen
+        (omega (arith, s.solo.paid.affordable p.config k.tabled.config))
 
     own : (w == w) ≡ true
     own = grind (arith, nat_tests)
 
     pays : HasARoundAs mid w (errand_of fresh) here.past
     pays Marks counted = subst (λ (own : Bool). PaysForRound Marks p.access w (errand_of fresh) (used_in Marks mid w) (suc (length p.journal.past) + run_marks p.config (own && are_closed p.config.workers p.journal.past)) here.past) (sym own) (marks-by (are_closed p.config.workers p.journal.past) refl)
-    pays Descriptors counted = s.lone.paid.first Descriptors p.access w (errand_of fresh) (used_in Descriptors mid w) (bound_in Descriptors mid w) here.past (all-idle p k (none-open (second-of (w == w) (are_closed p.config.workers p.journal.past) counted))) unfrozen (omega arith)
-    pays Slots counted = s.lone.paid.first Slots p.access w (errand_of fresh) (used_in Slots mid w) (bound_in Slots mid w) here.past (all-idle p k (none-open (second-of (w == w) (are_closed p.config.workers p.journal.past) counted))) unfrozen (omega arith)
+    pays Descriptors counted = s.solo.paid.first Descriptors p.access w (errand_of fresh) (used_in Descriptors mid w) (bound_in Descriptors mid w) here.past (all-idle p k (none-open (second-of (w == w) (are_closed p.config.workers p.journal.past) counted))) unfrozen (omega arith)
+    pays Slots counted = s.solo.paid.first Slots p.access w (errand_of fresh) (used_in Slots mid w) (bound_in Slots mid w) here.past (all-idle p k (none-open (second-of (w == w) (are_closed p.config.workers p.journal.past) counted))) unfrozen (omega arith)
 
     -- where no other call is open it is a brief look-up
-    lonely-begun : WhereLonely (mark ∷ p.journal.past) w call (IsLonelyGet (started p.access w (Reading 2)) (mark ∷ p.journal.past) after w fresh opened)
-    lonely-begun key get lonely = record {
-      brief = subst (λ acts. IsBrief (started p.access w (Reading 2)) w acts key None task) (sym (acts-begin w n p.journal.past call)) (b.lonely.brief.begins p.access w 2 key task (all-idle p k lonely.1) look reads);
+    solitary-begun : WhereSolitary (mark ∷ p.journal.past) w call (IsSolitaryGet (started p.access w (Reading 2)) (mark ∷ p.journal.past) after w fresh opened)
+    solitary-begun key get solitary = record {
+      brief = subst (λ acts. IsBrief (started p.access w (Reading 2)) w acts key None task) (sym (acts-begin w n p.journal.past call)) (b.solitary.brief.begins p.access w 2 key task (all-idle p k solitary.1) look reads);
       looks = brief;
       alone = refl;
       quiet = refl;
@@ -278,12 +278,12 @@ module _ (p : Parts) (k : IsAwake p) (w : ℕ) (call : Call) (may : MayBegin p w
         finished = inl (inl refl);
         facts = facts (scene p.config (mark ∷ p.journal.past) after w (suc (length p.journal.past)) opened) none-taken;
         covered = none-unfilled (k.story.took w) (k.story.filled w) (needs_of task) (omega (arith, laws.few, laws.most)) at-rest.filled;
-        lonely = lonely-begun;
+        solitary = solitary-begun;
         alone = record { others = 0; made = 0; counted = omega arith; stands = λ ends. absurd (cc ends) };
         meant = record { within = within-of task (λ a e. absurd (let other : kinds.Seek ≡ kinds.SplitLeaf a = sym kind ∙ e in cc other)); fit = record { words = few; thawed = λ froze. absurd (true≢false (sym froze)) }; look = λ quiet. subst (IsLookOf call) (sym kind) (seeks call); meant = λ quiet. inl (record { slots = wants; swaps = inl swaps }); later = λ at is. ap is_renewal kind; small = λ merge. absurd (let other : kinds.Seek ≡ kinds.Merge = sym kind ∙ merge in cc other); copied = λ copy. absurd (let other : kinds.Seek ≡ kinds.Copy = sym kind ∙ copy in cc other) };
-        merges = λ lonely. record { looking = λ quiet seek. omega arith; deleting = λ quiet delete on. absurd (cc (kind, delete)); merging = λ at is deletes. absurd (cc is) };
-        exact = λ lonely room. inl (record { quiet = refl; looks = seek-seeks (kind_of task) kind; thawed = refl; same_taken = refl; same_left = refl; first = refl; alone = omega arith });
-        paid = λ r counted. s.lone.rounds.begin r p.access w (errand_of fresh) task (used_in r mid w) (bound_in r mid w) 2 here.past here.past (begun here.past refl) (pays r counted);
+        merges = λ solitary. record { looking = λ quiet seek. omega arith; deleting = λ quiet delete on. absurd (cc (kind, delete)); merging = λ at is deletes. absurd (cc is) };
+        exact = λ solitary room. inl (record { quiet = refl; looks = seek-seeks (kind_of task) kind; thawed = refl; same_taken = refl; same_left = refl; first = refl; alone = omega arith });
+        paid = λ r counted. s.solo.rounds.begin r p.access w (errand_of fresh) task (used_in r mid w) (bound_in r mid w) 2 here.past here.past (begun here.past refl) (pays r counted);
       };
     }
 

@@ -21,8 +21,8 @@ use Rattle.bz_task.specs.declared.todo.Seen.TheVariants.{Start}
 use Rattle.bz_task.specs.declared.todo.Todo.{Todo}
 use Rattle.bz_task.specs.declared.todo.Todo.TheVariants.{Finish}
 use Rattle.bz_world.specs.Inside.Going.{MustTakeOn, MustChange, MustReadCrowded, IsChangeKind, known}
-use Rattle.bz_world.specs.Inside.Laws.{AloneLaws, RoundLaws}
-use Rattle.bz_world.specs.Inside.Lonely.{IsNotLonely}
+use Rattle.bz_world.specs.Inside.Laws.{UndisturbedLaws, RoundLaws}
+use Rattle.bz_world.specs.Inside.Solitary.{IsNotSolitary}
 use Rattle.bz_world.specs.Inside.Meant.{IsMeant}
 use Rattle.bz_world.specs.Inside.Paid.{bound_in, errand_of, used_in, HasToSpare}
 use Rattle.bz_world.specs.Inside.Telling.{MustStart, MustStartOf, HasToldIn, HasTold}
@@ -65,16 +65,16 @@ takes b p w had task m = record {
   asks = m.asks;
   facts = m.facts;
   wanted = none-wanted p w m.reads.on task m.wants;
-  lonely = λ key get lonely. absurd (m.reads.other key get lonely);
+  solitary = λ key get solitary. absurd (m.reads.other key get solitary);
   meant = change-meant p w had task m;
   paid = task-paid b p w m.reads.on task m.reads.on.serving.path had (kind_of task) refl m.tasked.laws m.asks m.made (change-meant p w had task m) (λ quiet merge. absurd (no-merge (kind_of task) m.kind merge)) (change-spares b p w had task m);
-  due = λ quiet lonely. inl (m.due lonely);
+  due = λ quiet solitary. inl (m.due solitary);
   exact = m.exact;
   merges = m.merges;
 }
 
 -- told to begin, it ends in no other way
-module _ (b : AloneLaws) (p : Parts) (w : ℕ) (had : Option (List ℕ)) (task : AnyTask) (m : MustChange p w had task) (q : Parts) (todo : Todo) (asks : MustStart q w todo) (moment : ℕ) (free left : FreeSlots) (h : HasHeard task Start moment free todo asks.serving.task left) where
+module _ (b : UndisturbedLaws) (p : Parts) (w : ℕ) (had : Option (List ℕ)) (task : AnyTask) (m : MustChange p w had task) (q : Parts) (todo : Todo) (asks : MustStart q w todo) (moment : ℕ) (free left : FreeSlots) (h : HasHeard task Start moment free todo asks.serving.task left) where
   abbrev here : Scene
   here = scene q.config q.journal.past asks.asking.between.story w asks.asking.between.call_open.look.since asks.asking.between.opened
 
@@ -115,16 +115,16 @@ has-heard x old q w todo asks moment free left is told =
     t.heard
 
 -- where it has ended so its leaf is to be read whole
-pub must-read-crowded : RoundLaws → (p : Parts) (w : ℕ) (todo : Todo) (m : MustStartOf p w todo) → end_of m.must.serving.task ≡ Some NeedsRoom → IsNotLonely p.journal.past w m.must.serving.call → MustReadCrowded p w
+pub must-read-crowded : RoundLaws → (p : Parts) (w : ℕ) (todo : Todo) (m : MustStartOf p w todo) → end_of m.must.serving.task ≡ Some NeedsRoom → IsNotSolitary p.journal.past w m.must.serving.call → MustReadCrowded p w
 must-read-crowded b p w todo m ended other = record {
   reads = must-read-whole p w todo m NeedsRoom ended other;
   write = writes;
   spares = λ r counted. b.leaves r p.access w (errand_of m.must.serving) (used_in r p w) (bound_in r p w) here.past (ap is_some m.knows.quiet) writes (λ alone. m.knows.lacks here means alone) (m.knows.spares r counted);
-  due = λ lonely. elim (m.must.asking.between.due m.knows.quiet lonely) [
+  due = λ solitary. elim (m.must.asking.between.due m.knows.quiet solitary) [
     | inl due ↦ due
     | inr none ↦ absurd (room-no-look (kind_of m.must.serving.task) (m.must.asking.tasked.laws.ends_of NeedsRoom here means) (looks-only m.must.serving.call (kind_of m.must.serving.task) none.looks))
   ];
-  again = λ lonely room. again-ended p w (must-read-whole p w todo m NeedsRoom ended other).on m.knows.quiet NeedsRoom ended (m.must.asking.tasked.laws.ends_of NeedsRoom here means) (λ e. e) (λ e. e) lonely room;
+  again = λ solitary room. again-ended p w (must-read-whole p w todo m NeedsRoom ended other).on m.knows.quiet NeedsRoom ended (m.must.asking.tasked.laws.ends_of NeedsRoom here means) (λ e. e) (λ e. e) solitary room;
 }
   where
     here : Scene

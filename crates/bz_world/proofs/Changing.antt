@@ -30,7 +30,7 @@ use Rattle.bz_slotted.specs.Readers.{live_of}
 use Rattle.bz_slotted.specs.ReadingLaws.{node_of}
 use Rattle.bz_slotted.specs.Records.{live_words}
 use Rattle.bz_sound.specs.Calls.{map_at, map_after}
-use Rattle.bz_sound.specs.Lonely.{IsLonely, LonelyCallsAreAlone}
+use Rattle.bz_sound.specs.Solitary.{IsSolitary, NoneIsOpenBesideASolitaryCall}
 use Rattle.bz_sound.specs.Memory.ImageLaws.{IsChangeOf}
 use Rattle.bz_sound.specs.Memory.Moments.{image_at, Decodes, map_at_start}
 use Rattle.bz_sound.specs.Memory.Spent.{TakesSlots}
@@ -53,7 +53,7 @@ use Rattle.bz_world.specs.Inside.Due.{IsDue}
 use Rattle.bz_world.specs.Inside.Exact.{puts, reach_idle, seeks}
 use Rattle.bz_world.specs.Inside.Going.{MustGoOn, MustAnswer, MustAnswerKey, MustChange, IsChangeKind, MayInsert, MayUpdate, known}
 use Rattle.bz_world.specs.Inside.Meant.{IsOfSettled}
-use Rattle.bz_world.specs.Inside.Laws.{AloneLaws, AnswerLaws, HasEnd}
+use Rattle.bz_world.specs.Inside.Laws.{UndisturbedLaws, AnswerLaws, HasEnd}
 use Rattle.bz_world.specs.Inside.Room.{LacksRoomFor}
 use Rattle.bz_world.specs.Inside.Paid.{stock_of}
 use Rattle.bz_world.specs.Inside.Serving.{IsChangeFor, IsToldBy, NeedsAtLeast, effect_reply, tells_of}
@@ -221,7 +221,7 @@ changes-map (call.Page from) None new map is = absurd is
 changes-map (call.Page from) (Some had) new map is = absurd is
 
 -- so a call whose key was looked up is to change the map, where it makes a change of what was found and no other call is open
-module _ (settled : LoadsAreSettled) (alone : LonelyCallsAreAlone) (p : Parts) (w : ℕ) (view : KeyView) (m : MustAnswerKey p w view) (lonely : IsLonely w p.journal.past) where
+module _ (settled : LoadsAreSettled) (alone : NoneIsOpenBesideASolitaryCall) (p : Parts) (w : ℕ) (view : KeyView) (m : MustAnswerKey p w view) (solitary : IsSolitary w p.journal.past) where
   abbrev map_then : Map
   map_then = map_at (map_at_start p.config p.journal.start) view.at p.journal.past
 
@@ -234,7 +234,7 @@ module _ (settled : LoadsAreSettled) (alone : LonelyCallsAreAlone) (p : Parts) (
       sym (decodes.content (key_of m.on.serving.call)) ∙ (ap (λ i. content_in p.config i (key_of m.on.serving.call)) (sym (m.on.between.living.images view.at viewed-since m.viewed.now)) ∙ content-is p w view m m.on.serving.call refl view.found refl)
 
   still-so : map_then ≡ map_after (map_at_start p.config p.journal.start) p.journal.past
-  still-so = map-still alone (map_at_start p.config p.journal.start) w view.at p.journal.past m.on.between.opened lonely m.on.between.call_open.is_open (m.on.between.call_open.effect ∙ m.quiet) (omega (arith, m.viewed.since, m.on.between.call_open.look.after_begin)) m.viewed.now
+  still-so = map-still alone (map_at_start p.config p.journal.start) w view.at p.journal.past m.on.between.opened solitary m.on.between.call_open.is_open (m.on.between.call_open.effect ∙ m.quiet) (omega (arith, m.viewed.since, m.on.between.call_open.look.after_begin)) m.viewed.now
 
   pub change-due : (had new : Option (List ℕ)) → payload_of view.found ≡ had → IsChangeOf m.on.serving.call had new → IsDue p.config p.journal m.on.serving.call
   change-due had new found change = subst (λ (map : Map). IsChange (apply map m.on.serving.call).reply) still-so (subst (λ (o : Option (List ℕ)). IsChange (apply_at o map_then m.on.serving.call).reply) (sym (gets-what-was-found ∙ found)) (changes-map m.on.serving.call had new map_then change))
@@ -256,9 +256,9 @@ put-seeks kinds.Find put seek = true≢false (sym put)
 put-seeks k put seek = true≢false (sym seek)
 
 -- where one link leads to its leaf, which was looked up while no other call was open, the tree was a leaf when that look-up began
-low-then : AloneLaws → (p : Parts) (w : ℕ) {view : KeyView} (m : MustAnswerKey p w view) → IsLonely w p.journal.past → (path : Path) → HasEnd path → m.on.serving.path ≡ Some path → path.depth ≤ 1 → (view_in p.config ((known p w m.on).past.at (known p w m.on).past.since).image).height ≡ 1
-low-then b p w m lonely path last is few =
-    let alone : HasOthers 0 0 (known p w m.on).past = (m.on.merges lonely).looking m.quiet (ap seeks m.kind) in
+low-then : UndisturbedLaws → (p : Parts) (w : ℕ) {view : KeyView} (m : MustAnswerKey p w view) → IsSolitary w p.journal.past → (path : Path) → HasEnd path → m.on.serving.path ≡ Some path → path.depth ≤ 1 → (view_in p.config ((known p w m.on).past.at (known p w m.on).past.since).image).height ≡ 1
+low-then b p w m solitary path last is few =
+    let alone : HasOthers 0 0 (known p w m.on).past = (m.on.merges solitary).looking m.quiet (ap seeks m.kind) in
     let good : IsScene (known p w m.on) = known-scene b.scenes p w m.on in
     let way : IsPath (key_of m.on.serving.call) path (known p w m.on).past = m.leads path is in
     let still = b.rounds.stand (known p w m.on) (known p w m.on).past.since (known p w m.on).past.since (length p.journal.past) (key_of m.on.serving.call) good (record { since = omega arith; now = good.begun; effects = omega (arith, alone) })
@@ -266,12 +266,12 @@ low-then b p w m lonely path last is few =
     sym still.height ∙ b.rounds.roots (key_of m.on.serving.call) path last.0 (known p w m.on) good (omega (arith, alone)) way last.1 (omega (arith, few, way.some))
 
 -- a task that makes the call's change may be begun, where its key was looked up; it ends for want of room only where the leaf lacks that
-pub must-change : AloneLaws → LonelyCallsAreAlone → (p : Parts) (w : ℕ) (view : KeyView) (m : MustAnswerKey p w view) (key : List ℕ) → key_of m.on.serving.call ≡ key → (task : AnyTask) (had : Option (List ℕ)) → payload_of view.found ≡ had → config_of task ≡ p.config → AreLaws task → IsChangeFor m.on.serving.call had (change_of task)
+pub must-change : UndisturbedLaws → NoneIsOpenBesideASolitaryCall → (p : Parts) (w : ℕ) (view : KeyView) (m : MustAnswerKey p w view) (key : List ℕ) → key_of m.on.serving.call ≡ key → (task : AnyTask) (had : Option (List ℕ)) → payload_of view.found ≡ had → config_of task ≡ p.config → AreLaws task → IsChangeFor m.on.serving.call had (change_of task)
     → ((way : Option Path) → IsLookup key way task) → asks_of task ≡ None → wants_of task ≡ 0 → 0 < change_swaps task → ((s : Scene) → s.past.config ≡ p.config → s.effected ≡ false → IsScene s → IsKeyView key view s.past → facts_of task Waiting s)
     → IsChangeKind (kind_of task) → made_of task ≡ 0 → ((s : Scene) → means_of task NeedsRoom s → LacksRoomFor m.on.serving.call view.status)
     → IsPutBy task (effect_reply m.on.serving.call had) → (kind_of task ≡ kinds.Delete → (path : Path) → m.on.serving.path ≡ Some path → HasEnd path) → MustChange p w had task
 must-change b alone p w view m key key-is task had found config laws change lookup asks wants swaps facts kind made lacks put ends = record {
-  reads = record { on = m.on; leads = m.leads; quiet = m.quiet; some = m.some; other = λ other get lonely. absurd (subst (λ called. IsChangeOf called had (change_of task).new) get change.is) };
+  reads = record { on = m.on; leads = m.leads; quiet = m.quiet; some = m.some; other = λ other get solitary. absurd (subst (λ called. IsChangeOf called had (change_of task).new) get change.is) };
   tasked = record { config = config; laws = laws; lookup = subst (λ k. IsLookup k m.on.serving.path task) (sym key-is) (lookup m.on.serving.path); change = inr change; wayless = λ none other. subst (λ k. IsLookup k other task) (sym key-is) (lookup other) };
   asks = asks;
   facts = facts (known p w m.on) refl (quiet-by m.on.between.opened.effect (m.on.between.call_open.effect ∙ m.quiet)) (known-scene b.scenes p w m.on) (subst (λ k. IsKeyView k view (known p w m.on).past) key-is m.viewed);
@@ -283,20 +283,20 @@ must-change b alone p w view m key key-is task had found config laws change look
   made = made;
   silent = not-silent task (changes (kind_of task) kind);
   lacks = λ z means none. lacks-stage m.on.serving.call view.status (known p w m.on) (b.rounds.key_stages (key_of m.on.serving.call) view (known p w m.on) (known-scene b.scenes p w m.on) none m.viewed) (lacks z means);
-  due = λ lonely. change-due b.settled alone p w view m lonely had (change_of task).new found change.is;
-  merges = λ lonely. record {
+  due = λ solitary. change-due b.settled alone p w view m solitary had (change_of task).new found change.is;
+  merges = λ solitary. record {
     looking = λ quiet seek. absurd (put-seeks (kind_of task) put.kind seek);
     deleting = λ quiet delete going. record {
-      alone = let none : 0 ≡ made_of task + 0 = omega (arith, made) in subst (λ k. HasOthers 0 k (known p w m.on).past) none ((m.on.merges lonely).looking m.quiet (ap seeks m.kind));
+      alone = let none : 0 ≡ made_of task + 0 = omega (arith, made) in subst (λ k. HasOthers 0 k (known p w m.on).past) none ((m.on.merges solitary).looking m.quiet (ap seeks m.kind));
       wants = wants;
       swaps = omega (arith, put.few, delete-swaps task delete);
       way = m.some;
-      low = λ path is few. low-then b p w m lonely path (ends delete path is) is few;
+      low = λ path is few. low-then b p w m solitary path (ends delete path is) is few;
     };
     merging = λ at is deletes. absurd (cc (m.quiet, is));
   };
-  exact = λ lonely room. (
-      let look = only-looked m.on.between.opened (known p w m.on).past (reach_idle p.access) (stock_of p) (tells_of m.on.serving) m.on.serving m.quiet (outcomes.Key view) m.ends.1 (λ e. e) (m.on.exact lonely room) in
+  exact = λ solitary room. (
+      let look = only-looked m.on.between.opened (known p w m.on).past (reach_idle p.access) (stock_of p) (tells_of m.on.serving) m.on.serving m.quiet (outcomes.Key view) m.ends.1 (λ e. e) (m.on.exact solitary room) in
       let goes : end_of task ≡ None = fresh-goes task laws asks in
       inr (inl (record {
         quiet = m.quiet;

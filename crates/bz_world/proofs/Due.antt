@@ -19,7 +19,7 @@ use Rattle.bz_mark.proofs.MomentLaws.{at_moment-now, at_moment-earlier}
 use Rattle.bz_running.specs.Kinds as kinds
 use Rattle.bz_running.specs.Kinds.{Kind, is_look}
 use Rattle.bz_sound.specs.Calls.{Open, open_call, with_effect, map_after, map_at, map_with}
-use Rattle.bz_sound.specs.Lonely.{IsLonely, LonelyCallsAreAlone}
+use Rattle.bz_sound.specs.Solitary.{IsSolitary, NoneIsOpenBesideASolitaryCall}
 use Rattle.bz_sound.specs.Memory.Moments.{IsAfterFlush, map_at_start}
 use Rattle.bz_world.specs.Inside.Due.{TakesRightly, only_looks}
 use Rattle.bz_world.specs.Inside.Paid.{Stock}
@@ -42,8 +42,8 @@ page-reads (call.Page from) is = refl
 page-reads called is = absurd (true≢false (sym is))
 
 -- beside an open call no other is alone
-pub not-lonely : LonelyCallsAreAlone → (w v : ℕ) (past : List Mark) (opened : Open) → open_call w past ≡ Some opened → v ≢ w → IsLonely v past → ⊥
-not-lonely alone w v past opened is-open ne lonely = let never : None ≡ Some opened = sym (alone v w past lonely (λ e. ne (sym e))) ∙ is-open in cc never
+pub not-solitary : NoneIsOpenBesideASolitaryCall → (w v : ℕ) (past : List Mark) (opened : Open) → open_call w past ≡ Some opened → v ≢ w → IsSolitary v past → ⊥
+not-solitary alone w v past opened is-open ne solitary = let never : None ≡ Some opened = sym (alone v w past solitary (λ e. ne (sym e))) ∙ is-open in cc never
 
 -- neither an act nor an eviction changes the map
 pub act-map : (w : ℕ) (made : Act) (past : List Mark) (start : Map) → map_after start (mark_of w made ∷ past) ≡ map_after start past
@@ -62,17 +62,17 @@ flush-map (Evict a) past flush start = refl
 flush-map mark past flush start = absurd flush
 
 -- nor begins a call
-pub flush-lonely : (w : ℕ) (mark : Mark) (past : List Mark) → IsAfterFlush (mark ∷ past) → IsLonely w (mark ∷ past) → IsLonely w past
-flush-lonely w (Flush v line) past flush lonely = lonely
-flush-lonely w (Ask v line) past flush lonely = lonely
-flush-lonely w (Fence v) past flush lonely = lonely
-flush-lonely w (Evict a) past flush lonely = lonely
-flush-lonely w mark past flush lonely = absurd flush
+pub flush-solitary : (w : ℕ) (mark : Mark) (past : List Mark) → IsAfterFlush (mark ∷ past) → IsSolitary w (mark ∷ past) → IsSolitary w past
+flush-solitary w (Flush v line) past flush solitary = solitary
+flush-solitary w (Ask v line) past flush solitary = solitary
+flush-solitary w (Fence v) past flush solitary = solitary
+flush-solitary w (Evict a) past flush solitary = solitary
+flush-solitary w mark past flush solitary = absurd flush
 
 -- a mark that does neither leaves what a call has taken
-pub rightly-on : (c : Config) (taken later : ℕ) (log : Log) (mark : Mark) (stock : Stock) (w : ℕ) (x : OpenCall) → later ≡ taken → ((start : Map) → map_after start (mark ∷ log.past) ≡ map_after start log.past) → (IsLonely w (mark ∷ log.past) → IsLonely w log.past)
+pub rightly-on : (c : Config) (taken later : ℕ) (log : Log) (mark : Mark) (stock : Stock) (w : ℕ) (x : OpenCall) → later ≡ taken → ((start : Map) → map_after start (mark ∷ log.past) ≡ map_after start log.past) → (IsSolitary w (mark ∷ log.past) → IsSolitary w log.past)
     → TakesRightly c taken log stock w x → TakesRightly c later (with_mark log mark) stock w x
-rightly-on c taken later log mark stock w x same map-same lonely-before rightly quiet lonely = elim (rightly quiet (lonely-before lonely)) [
+rightly-on c taken later log mark stock w x same map-same solitary-before rightly quiet solitary = elim (rightly quiet (solitary-before solitary)) [
   | inl due ↦ inl (subst (λ (map : Map). IsChange (apply map x.call).reply) (sym (map-same (map_at_start c log.start))) due)
   | inr none ↦ inr (record { looks = none.looks; thawed = none.thawed; same_taken = same ∙ none.same_taken; same_left = none.same_left })
 ]
@@ -97,9 +97,9 @@ open-effect true moment (Some was) opened e quiet = absurd (let same : with_effe
 
 -- of a call without effect beside which no other is open, the map is at each moment what it is now: where it was so before a mark, it is after it
 abbrev IsStill : Map → ℕ → ℕ → List Mark → Open → Type 0
-IsStill start w at past opened = IsLonely w past → open_call w past ≡ Some opened → at ≤ length past → map_after start (at_moment at past) ≡ map_after start past
+IsStill start w at past opened = IsSolitary w past → open_call w past ≡ Some opened → at ≤ length past → map_after start (at_moment at past) ≡ map_after start past
 
-still-by : LonelyCallsAreAlone → (start : Map) (w at : ℕ) (past : List Mark) (opened : Open) (m : Mark) → opened.effect ≡ None → opened.begun < at → IsStill start w at past opened → IsLonely w (m ∷ past) → open_call w (m ∷ past) ≡ Some opened → at ≤ length past
+still-by : NoneIsOpenBesideASolitaryCall → (start : Map) (w at : ℕ) (past : List Mark) (opened : Open) (m : Mark) → opened.effect ≡ None → opened.begun < at → IsStill start w at past opened → IsSolitary w (m ∷ past) → open_call w (m ∷ past) ≡ Some opened → at ≤ length past
     → map_after start (at_moment at past) ≡ map_after start (m ∷ past)
 still-by alone start w at past opened (Begin v n called) quiet after earlier was was-open l =
     let same : (v == w) ≡ true = grind (arith, nat_tests, was.0) in
@@ -121,10 +121,10 @@ still-by alone start w at past opened (Evict a) quiet after earlier was was-open
 still-by alone start w at past opened On quiet after earlier was was-open l = earlier was was-open l
 still-by alone start w at past opened Ready quiet after earlier was was-open l = earlier was was-open l
 
-pub map-still : LonelyCallsAreAlone → (start : Map) (w at : ℕ) (past : List Mark) (opened : Open) → IsLonely w past → open_call w past ≡ Some opened → opened.effect ≡ None → opened.begun < at → at ≤ length past → map_at start at past ≡ map_after start past
-map-still alone start w at [] opened lonely is-open quiet after before = absurd lonely
-map-still alone start w at (mark ∷ past) opened lonely is-open quiet after before = elim (cases_eq at (length (mark ∷ past))) [
+pub map-still : NoneIsOpenBesideASolitaryCall → (start : Map) (w at : ℕ) (past : List Mark) (opened : Open) → IsSolitary w past → open_call w past ≡ Some opened → opened.effect ≡ None → opened.begun < at → at ≤ length past → map_at start at past ≡ map_after start past
+map-still alone start w at [] opened solitary is-open quiet after before = absurd solitary
+map-still alone start w at (mark ∷ past) opened solitary is-open quiet after before = elim (cases_eq at (length (mark ∷ past))) [
   | inl now ↦ ap (λ k. map_at start k (mark ∷ past)) now ∙ ap (map_after start) (at_moment-now (mark ∷ past))
   | inr ne ↦ ap (map_after start) (at_moment-earlier at mark past (omega (arith, ne, before)))
-      ∙ still-by alone start w at past opened mark quiet after (λ was was-open l. map-still alone start w at past opened was was-open quiet after l) lonely is-open (omega (arith, ne, before))
+      ∙ still-by alone start w at past opened mark quiet after (λ was was-open l. map-still alone start w at past opened was was-open quiet after l) solitary is-open (omega (arith, ne, before))
 ]

@@ -24,23 +24,23 @@ use Rattle.bz_world.specs.Inside.Beginning.{supply_of}
 use Rattle.bz_world.specs.Inside.Going.{MustGoOn, MustEnd, MustEndPage, WentOn}
 use Rattle.bz_world.specs.Inside.Kept.{IsTabled, IsAwake}
 use Rattle.bz_world.specs.Inside.Laws.{EndLaws}
-use Rattle.bz_world.specs.Inside.Lonely.{IsLonelyIn}
+use Rattle.bz_world.specs.Inside.Solitary.{IsSolitaryIn}
 use Rattle.bz_world.specs.Inside.Serving.{IsSlot}
 use Rattle.bz_world.specs.declared.answers.Applied.TheVariants as applied
 use Rattle.bz_world.specs.declared.parts.Parts.{Parts}
 use Rattle.bz_world.specs.declared.serving.OpenCall.{OpenCall}
 use Rattle.bz_story.proofs.Powered.{stored-since}
 use Rattle.bz_lone.specs.FromCosts.Resources.{Marks}
-use Rattle.bz_swap.specs.Alone.{left_to}
+use Rattle.bz_swap.specs.Solo.{left_to}
 use Rattle.bz_world.specs.Inside.Paid.{Stock, begun_with, stock_of}
 use Rattle.bz_world.specs.Roomy.{HadRoom}
 use Rattle.bz_world.specs.WorldView.{TakesAsTold, deadline, tells_only}
 use Rattle.bz_world.proofs.Alone.{waits-on}
-use Rattle.bz_world.proofs.Due.{not-lonely}
+use Rattle.bz_world.proofs.Due.{not-solitary}
 use Rattle.bz_world.proofs.LeavesKept.{same-leaves}
 use Rattle.bz_world.proofs.PaidSteps.{keeps-supply}
-use Rattle.bz_world.proofs.Lonely.{none-in}
-use Rattle.bz_world.proofs.LonelyEnds.{ends-briefly}
+use Rattle.bz_world.proofs.Solitary.{none-in}
+use Rattle.bz_world.proofs.SolitaryEnds.{ends-briefly}
 use Rattle.bz_world.proofs.Staying.{none-takes-well, slot-stays}
 use Rattle.bz_world.proofs.Tabled.{tabled-plain}
 use Rattle.bz_world.proofs.Unspent.{nothing-taken}
@@ -65,8 +65,8 @@ slot-pages c m log pages story owners stock v (Some x) h = record {
   meant = h.meant;
   paid = h.paid;
   due = h.due;
-  exact = λ lonely room. h.exact lonely (record { writes = room.writes; room = room.room; enough = room.enough });
-  merges = λ lonely. duly-pages c log pages h.opened (scene c log.past story v h.call_open.look.since h.opened).past (reach_of m v) stock x (h.merges lonely);
+  exact = λ solitary room. h.exact solitary (record { writes = room.writes; room = room.room; enough = room.enough });
+  merges = λ solitary. duly-pages c log pages h.opened (scene c log.past story v h.call_open.look.since h.opened).past (reach_of m v) stock x (h.merges solitary);
 }
 
 living-pages : (c : Config) (m : SwapMemory) (log : Log) (pages : Pages) (story : Story) → IsLiving c m log story → IsLiving c m (record log { pages = pages }) story
@@ -142,7 +142,7 @@ module _ (b : EndLaws) (p : Parts) (w : ℕ) (on : MustGoOn p w) where
       took = λ j. refl;
       filled = λ j e. e;
       alone = λ m o t l waits. waits-on p.config p.access p.access p.journal.past mark was.story after v m o o t (next_instant p.access (was.story.at (length p.journal.past))) refl l waits refl refl (λ j d. refl) (λ j d well. well);
-    }) (λ y t steps. absurd (cc steps)) (none-takes-well p.config p.access p.access p.journal mark was.story after p.owners.items (stock_of p) (stock_of p) v (not-lonely b.lonely.alone w v p.journal.past was.opened was.call_open.is_open ne)) (was.others v ne)
+    }) (λ y t steps. absurd (cc steps)) (none-takes-well p.config p.access p.access p.journal mark was.story after p.owners.items (stock_of p) (stock_of p) v (not-solitary b.solitary.alone w v p.journal.past was.opened was.call_open.is_open ne)) (was.others v ne)
 
     module _ (pages : Pages) (sound : IsSound p.config p.at_start (record (with_mark p.journal mark) { pages = pages })) (room : length p.journal.past < p.config.marks) where
       abbrev done : Parts
@@ -157,11 +157,11 @@ module _ (b : EndLaws) (p : Parts) (w : ℕ) (on : MustGoOn p w) where
             (record { none_open = (b.calls w p.journal.past).own_end n at reply; idle = was.idle; filled = on.filled }))
       ]
 
-      -- beside the call that ended no get was lonely
-      none-lonely : (v : ℕ) → IsLonelyIn p.access (mark ∷ p.journal.past) after done.workers.items v
-      none-lonely v = elim (cases_eq v w) [
-        | inl e ↦ subst (IsLonelyIn p.access (mark ∷ p.journal.past) after done.workers.items) (sym e) (none-in p.access (mark ∷ p.journal.past) after done.workers.items w (get_or-set_same p.workers.items w None None (omega (arith, in-table, was.tabled.places))))
-        | inr ne ↦ λ x opened is is-open key get lonely. absurd (let never : None ≡ Some was.opened = sym (b.lonely.alone v w p.journal.past lonely (λ e. ne (sym e))) ∙ was.call_open.is_open in cc never)
+      -- beside the call that ended no get was solitary
+      none-solitary : (v : ℕ) → IsSolitaryIn p.access (mark ∷ p.journal.past) after done.workers.items v
+      none-solitary v = elim (cases_eq v w) [
+        | inl e ↦ subst (IsSolitaryIn p.access (mark ∷ p.journal.past) after done.workers.items) (sym e) (none-in p.access (mark ∷ p.journal.past) after done.workers.items w (get_or-set_same p.workers.items w None None (omega (arith, in-table, was.tabled.places))))
+        | inr ne ↦ λ x opened is is-open key get solitary. absurd (let never : None ≡ Some was.opened = sym (b.solitary.alone v w p.journal.past solitary (λ e. ne (sym e))) ∙ was.call_open.is_open in cc never)
       ]
 
       tabled : IsTabled done
@@ -178,7 +178,7 @@ module _ (b : EndLaws) (p : Parts) (w : ℕ) (on : MustGoOn p w) where
         leaves = (λ now. same-leaves _ _ _ _ refl, was.leaves);
         free = was.free;
         workers = slots;
-        lonely = none-lonely;
+        solitary = none-solitary;
       }
 
 -- by a reply that names no page
@@ -200,16 +200,16 @@ end-went b p w n reply at m number plain room = record {
   spends = record { taken = inl refl; fewer = omega arith; few = omega arith };
   full = λ number moment spent e. (m.full spent (cc e)).out;
   brief = ends-briefly p w n reply at m.on (with_mark p.journal (End w n reply at)) refl m.brief;
-  lone = in-time (m.room Marks tt);
+  solo = in-time (m.room Marks tt);
   begun = refl;
   supplied = keeps-supply p w m.room;
   little = λ whole number moment spent e. (m.full spent (cc e)).little whole;
-  unspent = λ number moment answer e tells lonely. nothing-taken b.lonely.alone p w m.on lonely p.journal.pages reply at (let same : reply ≡ answer = cc e in ap tells_only same ∙ tells) m.right;
-  exact = λ number moment answer opened e is-open lonely room. (
+  unspent = λ number moment answer e tells solitary. nothing-taken b.solitary.alone p w m.on solitary p.journal.pages reply at (let same : reply ≡ answer = cc e in ap tells_only same ∙ tells) m.right;
+  exact = λ number moment answer opened e is-open solitary room. (
       let same : reply ≡ answer = cc e in
       let both : Some m.on.between.opened ≡ Some opened = sym m.on.between.call_open.is_open ∙ is-open in
       let one : m.on.between.opened ≡ opened = cc both in
-      subst (TakesAsTold (begun_with p) (supply_of p)) same (m.told lonely (subst (HadRoom p.config p.journal.start p.journal.past) (sym one) room))
+      subst (TakesAsTold (begun_with p) (supply_of p)) same (m.told solitary (subst (HadRoom p.config p.journal.start p.journal.past) (sym one) room))
       );
   merged = λ number moment answer e. (let same : reply ≡ answer = cc e in subst (MergesFor p.config p.journal.start p.journal.past w) same m.merged);
 }
@@ -239,13 +239,13 @@ end-page-went b p w n page next at m number place room = record {
   others = λ v ne. refl;
   spends = record { taken = inl refl; fewer = omega arith; few = omega arith };
   full = λ number moment spent e. absurd (cc e);
-  brief = ends-briefly p w n (Page page next) at m.on (with_mark (with_page p.journal p.page) (End w n (Page page next) at)) refl (λ key get lonely. absurd (true≢false (sym m.asks ∙ ap is_page get)));
-  lone = in-time (m.room Marks tt);
+  brief = ends-briefly p w n (Page page next) at m.on (with_mark (with_page p.journal p.page) (End w n (Page page next) at)) refl (λ key get solitary. absurd (true≢false (sym m.asks ∙ ap is_page get)));
+  solo = in-time (m.room Marks tt);
   begun = refl;
   supplied = keeps-supply p w m.room;
   little = λ whole number moment spent e. absurd (cc e);
-  unspent = λ number moment answer e tells lonely. nothing-taken b.lonely.alone p w m.on lonely (p.journal.pages ++ p.page ∷ []) (Page (length p.journal.pages) next) at refl m.right;
-  exact = λ number moment answer opened e is-open lonely room. (let same : Page page next ≡ answer = cc e in subst (TakesAsTold (begun_with p) (supply_of p)) same tt);
+  unspent = λ number moment answer e tells solitary. nothing-taken b.solitary.alone p w m.on solitary (p.journal.pages ++ p.page ∷ []) (Page (length p.journal.pages) next) at refl m.right;
+  exact = λ number moment answer opened e is-open solitary room. (let same : Page page next ≡ answer = cc e in subst (TakesAsTold (begun_with p) (supply_of p)) same tt);
   merged = λ number moment answer e. (let same : Page page next ≡ answer = cc e in subst (MergesFor p.config p.journal.start p.journal.past w) same tt);
 }
   where

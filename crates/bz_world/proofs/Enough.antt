@@ -9,7 +9,7 @@ use Rattle.bz_content.specs.Content.{leaf_in, view_in}
 use Rattle.bz_running.specs.FromDescend.SeekFacts.{reads_through}
 use Rattle.bz_layout.specs.declared.config.Config.{Config}
 use Rattle.bz_layout.specs.declared.thresholds.TheConstants.{MERGE_BELOW}
-use Rattle.bz_lone.specs.FromAlone.Alone.{IsAlone}
+use Rattle.bz_lone.specs.FromAlone.Undisturbed.{IsUndisturbed}
 use Rattle.bz_lone.specs.FromAlone.Reads.{PathsReadFew, reads_above, way_reads}
 use Rattle.bz_lone.specs.FromRounds.Stands.{SameStage, StagesStand}
 use Rattle.bz_running.specs.Kinds.{is_look}
@@ -29,7 +29,7 @@ use Rattle.bz_task.specs.declared.view.LeafView.{LeafView}
 use Rattle.bz_world.specs.Inside.Exact.{HasStood}
 use Rattle.bz_world.specs.Inside.Going.{HadNoRoom, HasReadAfter, MustGoOn, known}
 use Rattle.bz_world.specs.Inside.Laws.{RoundLaws}
-use Rattle.bz_world.specs.Roomy.{KeepsEnough, StandsAlone}
+use Rattle.bz_world.specs.Roomy.{KeepsEnough, NeedsNoNeighbour}
 use Rattle.bz_world.specs.WorldView.{is_delete}
 use Rattle.bz_world.specs.declared.parts.Parts.{Parts}
 use Rattle.bz_world.proofs.Exactly.{has-effect, looks-after}
@@ -45,7 +45,7 @@ unfolding reads_through
 some-through links zero some = absurd (omega (arith, some))
 some-through links (suc n) some = omega arith
 
-low-path : PathsReadFew → (s : Scene) (key : List ℕ) (path : Path) (link : Link) → IsScene s → IsAlone 0 s.past → IsPath key path s.past → slice_get path.links (path.depth - 1) ≡ Some link → 2 ≤ path.depth → (view_in s.past.config (here s).image).height ≡ 1 → ⊥
+low-path : PathsReadFew → (s : Scene) (key : List ℕ) (path : Path) (link : Link) → IsScene s → IsUndisturbed 0 s.past → IsPath key path s.past → slice_get path.links (path.depth - 1) ≡ Some link → 2 ≤ path.depth → (view_in s.past.config (here s).image).height ≡ 1 → ⊥
 unfolding way_reads
 low-path few s key path link good alone p last deep high =
     let v : View = view_in s.past.config (here s).image in
@@ -53,16 +53,16 @@ low-path few s key path link good alone p last deep high =
     omega (arith, few s key path link s.past.now good alone p last (record { from = good.begun; to = omega arith }), none-above v (form v) (leaf_in s.past.config (here s).image key) (v.height - 1) none, some-through path.links (path.depth - 1) (omega (arith, deep)))
 
 -- of a delete, and only of one, its leaf keeps enough
-pub of-delete : (c : Config) (image : ℕ → ℕ) (called : Call) (more : ℕ) → is_delete called ≡ true → KeepsEnough c image called more → StandsAlone c image (key_of called) more
+pub of-delete : (c : Config) (image : ℕ → ℕ) (called : Call) (more : ℕ) → is_delete called ≡ true → KeepsEnough c image called more → NeedsNoNeighbour c image (key_of called) more
 of-delete c image (call.Delete key) more deletes keeps = keeps
 of-delete c image called more deletes keeps = absurd (true≢false (sym deletes))
 
-pub enough-by : (c : Config) (image : ℕ → ℕ) (called : Call) (more : ℕ) → (is_delete called ≡ true → StandsAlone c image (key_of called) more) → KeepsEnough c image called more
+pub enough-by : (c : Config) (image : ℕ → ℕ) (called : Call) (more : ℕ) → (is_delete called ≡ true → NeedsNoNeighbour c image (key_of called) more) → KeepsEnough c image called more
 enough-by c image (call.Delete key) more stands = stands refl
 enough-by c image called more stands = tt
 
 -- what it keeps at one moment it keeps at another, where the leaf is as it was
-pub stands-as : (c : Config) (x y : Instant) (key : List ℕ) (more : ℕ) → SameStage c x y key → StandsAlone c x.image key more → StandsAlone c y.image key more
+pub stands-as : (c : Config) (x y : Instant) (key : List ℕ) (more : ℕ) → SameStage c x y key → NeedsNoNeighbour c x.image key more → NeedsNoNeighbour c y.image key more
 stands-as c x y key more same (inl enough) = inl (omega (arith, enough, same.live))
 stands-as c x y key more same (inr high) = inr (same.height ∙ high)
 
@@ -88,11 +88,11 @@ stood-now scenes stand p w on stood = keeps-as p.config (on.between.story.at (su
 -- and its leaf, which was read since, is not to be merged
 pub small-no-room : ScenesAreSeen → RoundLaws → (p : Parts) (w at : ℕ) (view : LeafView) (path : Path) (link : Link) (r : HasReadAfter p w at view) → IsPath (key_of r.had.on.serving.call) path (known p w r.had.on).past
     → slice_get path.links (path.depth - 1) ≡ Some link → 2 ≤ path.depth → live_of (node_of view.image.0) < MERGE_BELOW → HadNoRoom p w r.had.on
-small-no-room scenes b p w at view path link r way last deep small lonely room =
+small-no-room scenes b p w at view path link r way last deep small solitary room =
     let on = r.had.on in
-    let after = looks-after on.between.opened (known p w on).past _ _ _ on.serving (has-effect p w at r.had) (ap is_look r.kind) (on.exact lonely room) in
+    let after = looks-after on.between.opened (known p w on).past _ _ _ on.serving (has-effect p w at r.had) (ap is_look r.kind) (on.exact solitary room) in
     let good : IsScene (known p w on) = known-scene scenes p w on in
-    let alone : IsAlone 0 (known p w on).past = omega (arith, after.alone) in
+    let alone : IsUndisturbed 0 (known p w on).past = omega (arith, after.alone) in
     let keeps : KeepsEnough p.config (here (known p w on)).image on.serving.call 0 = subst (λ called. KeepsEnough p.config (here (known p w on)).image called 0) on.between.call_open.call (stood-now scenes b.stand p w on after.counted.stood) in
     elim (of-delete p.config (here (known p w on)).image on.serving.call 0 r.deletes keeps) [
       | inl enough ↦ omega (arith, enough, b.live (key_of on.serving.call) view (known p w on) good alone r.viewed, small)

@@ -39,7 +39,7 @@ use Rattle.bz_world.proofs.Alone.{waits-on}
 use Rattle.bz_world.proofs.Due.{rightly-on}
 use Rattle.bz_world.proofs.Exact.{exact-on}
 use Rattle.bz_world.proofs.LeavesKept.{passed-leaves}
-use Rattle.bz_world.proofs.LonelyActs.{all-evicted}
+use Rattle.bz_world.proofs.SolitaryActs.{all-evicted}
 use Rattle.bz_world.proofs.Powered.{is-not-off, begun-in}
 use Rattle.bz_world.proofs.Owners.{pending-begun}
 use Rattle.bz_world.proofs.Stepped.{unused-by}
@@ -138,14 +138,14 @@ module _ (b : StepLaws) (sees : EvictionsAreSeen) (old new : Parts) (a : ℕ) (k
     took = λ j. refl;
     filled = λ j h. h;
     alone = λ since opened t l h. waits-on old.config old.access new.access old.journal.past (Evict a) k.story after v since opened opened t (next_instant new.access (k.story.at (length old.journal.past))) refl l h refl (same v).doing (same v).effects
-        (λ j d well. b.lone.wins.eviction old.access new.access v a None j k.living.seen.phase e.eviction d refl well);
+        (λ j d well. b.solo.wins.eviction old.access new.access v a None j k.living.seen.phase e.eviction d refl well);
   }) (λ y t steps. absurd (cc steps)) (λ y t. record {
     rightly = rightly-on old.config old.access.taken new.access.taken old.journal (Evict a) (stock_of old) v y (same v).taken (λ map. refl) (λ l. l) t.due;
     exactly = exact-on old.config old.journal (Evict a) k.story after v t.call_open.look.since t.opened (next_instant new.access (k.story.at (length old.journal.past))) refl t.call_open.look.by_now (omega (arith, t.call_open.look.after_begin, t.call_open.look.by_now)) refl
         (reach_of old.access v) (reach_of new.access v) (stock_of old) (tells_of y) y (reach-stays old.access new.access v (same v)) (λ l. l) t.exact;
-    duly = λ lonely. duly-later old.config old.journal (Evict a) (scene old.config old.journal.past k.story v t.call_open.look.since t.opened).past (scene old.config (Evict a ∷ old.journal.past) after v t.call_open.look.since t.opened).past
+    duly = λ solitary. duly-later old.config old.journal (Evict a) (scene old.config old.journal.past k.story v t.call_open.look.since t.opened).past (scene old.config (Evict a ∷ old.journal.past) after v t.call_open.look.since t.opened).past
         (b.quiet old.config old.access new.access old.journal k.story (Evict a) v t.call_open.look.since t.opened goes (sees.leaves old.access new.access a None e.eviction) (begun-in k.living t.call_open)).continues t.call_open.look.by_now refl
-        (still-effects k.story after (length old.journal.past) (next_instant new.access (k.story.at (length old.journal.past))) refl refl) b.lone.known (reach_of old.access v) (stock_of old) y t.opened (reach_of new.access v) (reach-stays old.access new.access v (same v)) (t.merges lonely);
+        (still-effects k.story after (length old.journal.past) (next_instant new.access (k.story.at (length old.journal.past))) refl refl) b.solo.known (reach_of old.access v) (stock_of old) y t.opened (reach_of new.access v) (reach-stays old.access new.access v (same v)) (t.merges solitary);
   }) (k.workers v)
 
   was : image_after old.journal.start old.journal.past ≡ (k.story.at (length old.journal.past)).image
@@ -170,7 +170,7 @@ module _ (b : StepLaws) (sees : EvictionsAreSeen) (old new : Parts) (a : ℕ) (k
     leaves = (passed-leaves b.ranges old.config old.at_start old.access new.access old.journal (Evict a) k.story after k.living living refl passed, k.leaves);
     free = k.free;
     workers = slots;
-    lonely = all-evicted b old new a k e;
+    solitary = all-evicted b old new a k e;
   })
 
 -- and it is seen, with the effect that came of it, if one did

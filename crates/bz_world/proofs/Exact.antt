@@ -22,7 +22,7 @@ use Rattle.bz_running.specs.Laws.{AreLaws}
 use Rattle.bz_running.specs.declared.running.AnyTask.{AnyTask}
 use Rattle.bz_running.specs.declared.running.AnyTask.TheVariants.{Deleting, Inserting, Updating}
 use Rattle.bz_sound.specs.Calls.{Open}
-use Rattle.bz_sound.specs.Lonely.{IsLonely}
+use Rattle.bz_sound.specs.Solitary.{IsSolitary}
 use Rattle.bz_sound.specs.Memory.Moments.{image_after}
 use Rattle.bz_stage.specs.Rooms.{has_room}
 use Rattle.bz_story.specs.Story.{Story, scene, and_then}
@@ -41,7 +41,7 @@ use Rattle.bz_world.specs.Roomy.{HadRoom, KeepsEnough, swaps_told}
 use Rattle.bz_world.specs.WorldView.{Supply, TakesAsTold}
 use Rattle.bz_world.specs.declared.serving.OpenCall.{OpenCall}
 use Rattle.bz_world.proofs.Alone.{others-on}
-use Rattle.bz_world.proofs.Lonely.{before-is, now-is}
+use Rattle.bz_world.proofs.Solitary.{before-is, now-is}
 
 -- a call that had room at its begin had it before a mark that came later
 pub had-room-on : (c : Config) (log : Log) (mark : Mark) (opened : Open) → opened.begun ≤ length log.past → HadRoom c log.start (mark ∷ log.past) opened → HadRoom c log.start log.past opened
@@ -206,11 +206,11 @@ exact-swaps opened p r z stock tells x taken none still way now goes swaps looks
 exact-swaps opened p r z stock tells x taken none still way now goes swaps looks (inr (inr (inr after))) = absurd (swaps (looks after.looks))
 
 -- whether its leaf is copied alone is nothing to it
-pub exact-alone : (opened : Open) (p : Past) (r : Reach) (stock : Stock) (tells : ℕ) (x : OpenCall) (alone : Bool) → IsExact opened p r stock tells x → IsExact opened p r stock tells (record x { alone = alone })
-exact-alone opened p r stock tells x alone (inl look) = inl (assumption look)
-exact-alone opened p r stock tells x alone (inr (inl ch)) = inr (inl (assumption ch))
-exact-alone opened p r stock tells x alone (inr (inr (inl done))) = inr (inr (inl (assumption done)))
-exact-alone opened p r stock tells x alone (inr (inr (inr after))) = inr (inr (inr (record { looks = after.looks; counted = assumption after.counted; alone = after.alone })))
+pub exact-unmerged : (opened : Open) (p : Past) (r : Reach) (stock : Stock) (tells : ℕ) (x : OpenCall) (alone : Bool) → IsExact opened p r stock tells x → IsExact opened p r stock tells (record x { alone = alone })
+exact-unmerged opened p r stock tells x alone (inl look) = inl (assumption look)
+exact-unmerged opened p r stock tells x alone (inr (inl ch)) = inr (inl (assumption ch))
+exact-unmerged opened p r stock tells x alone (inr (inr (inl done))) = inr (inr (inl (assumption done)))
+exact-unmerged opened p r stock tells x alone (inr (inr (inr after))) = inr (inr (inr (record { looks = after.looks; counted = assumption after.counted; alone = after.alone })))
 
 -- nor is whether its own freeze was the last to end, which comes after no look-up
 pub seeks-only : (called : Call) (k : Kind) → seeks k ≡ true → only_looks called k ≡ true
@@ -263,10 +263,10 @@ has-counted opened p taken stock x effected (inr (inr (inr after))) = after.coun
 
 module _ (c : Config) (log : Log) (mark : Mark) (story after : Story) (w since : ℕ) (opened : Open) (y : Instant) (is : after.at ≡ and_then story.at (length log.past) y) (l : since ≤ length log.past) (begun : opened.begun ≤ length log.past) where
   -- so by a mark at which no swap took effect
-  pub exact-on : y.effects ≡ (story.at (length log.past)).effects → (r z : Reach) (stock : Stock) (tells : ℕ) (x : OpenCall) → z ≡ r → (IsLonely w (mark ∷ log.past) → IsLonely w log.past)
+  pub exact-on : y.effects ≡ (story.at (length log.past)).effects → (r z : Reach) (stock : Stock) (tells : ℕ) (x : OpenCall) → z ≡ r → (IsSolitary w (mark ∷ log.past) → IsSolitary w log.past)
       → CountsExactly c log w opened (scene c log.past story w since opened).past r stock tells x → CountsExactly c (with_mark log mark) w opened (scene c (mark ∷ log.past) after w since opened).past z stock tells x
-  exact-on same r z stock tells x e lonely-before counts lonely room = subst (λ k. IsExact opened (scene c (mark ∷ log.past) after w since opened).past k stock tells x) (sym e)
+  exact-on same r z stock tells x e solitary-before counts solitary room = subst (λ k. IsExact opened (scene c (mark ∷ log.past) after w since opened).past k stock tells x) (sym e)
       (exact-still opened (scene c log.past story w since opened).past (scene c (mark ∷ log.past) after w since opened).past r stock tells x refl
       (λ k. others-on c log.past mark story after w since opened opened y 0 k 0 k 0 is l (omega (arith, same)) (omega arith))
       (stood-on c log.past mark story after w since opened y is same)
-      (counts (lonely-before lonely) (had-room-on c log mark opened begun room)))
+      (counts (solitary-before solitary) (had-room-on c log mark opened begun room)))

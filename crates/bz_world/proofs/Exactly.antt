@@ -11,7 +11,7 @@ use Rattle.bz_running.specs.Kinds as kinds
 use Rattle.bz_running.specs.Kinds.{Kind, is_look, kind_of}
 use Rattle.bz_running.specs.Laws.{AreLaws}
 use Rattle.bz_sound.specs.Calls.{Open}
-use Rattle.bz_sound.specs.Lonely.{IsLonely}
+use Rattle.bz_sound.specs.Solitary.{IsSolitary}
 use Rattle.bz_task.specs.Scene.{Past}
 use Rattle.bz_task.specs.declared.todo.Outcome.{Outcome}
 use Rattle.bz_task.specs.declared.todo.Outcome.TheVariants.{Path, Key, Restart}
@@ -74,53 +74,53 @@ has-effect p w at had none = let never : Some at ≡ None = sym had.effect ∙ n
 module _ (p : Parts) (w : ℕ) (on : MustGoOn p w) where
   -- so of a task of another kind
   pub again-kind : on.serving.effect ≡ None → (k : Kind) → kind_of on.serving.task ≡ k → seeks k ≡ false → puts k ≡ false → HadNoRoom p w on
-  again-kind quiet k is seek put lonely room = never-exact on.between.opened _ _ _ _ on.serving quiet (λ e. true≢false (sym e ∙ (ap seeks is ∙ seek))) (λ e. true≢false (sym e ∙ (ap puts is ∙ put))) (on.exact lonely room)
+  again-kind quiet k is seek put solitary room = never-exact on.between.opened _ _ _ _ on.serving quiet (λ e. true≢false (sym e ∙ (ap seeks is ∙ seek))) (λ e. true≢false (sym e ∙ (ap puts is ∙ put))) (on.exact solitary room)
 
   -- of one that ended in another way
   pub again-ended : on.serving.effect ≡ None → (o : Outcome) → end_of on.serving.task ≡ Some o → IsEndOf (kind_of on.serving.task) o → (EndsLooking o → ⊥) → (IsFull o → ⊥) → HadNoRoom p w on
-  again-ended quiet o ended is looking full lonely room = looking (seeks-ends (kind_of on.serving.task) o (only-looked on.between.opened _ _ _ _ on.serving quiet o ended full (on.exact lonely room)).looks is)
+  again-ended quiet o ended is looking full solitary room = looking (seeks-ends (kind_of on.serving.task) o (only-looked on.between.opened _ _ _ _ on.serving quiet o ended full (on.exact solitary room)).looks is)
 
   -- of one that is to begin again, but not where its worker was alone
   pub again-restart : on.serving.effect ≡ None → end_of on.serving.task ≡ Some Restart → (others made : ℕ) → HasOthers others made (known p w on).past → (others ≡ 0 → ⊥) → HadNoRoom p w on
-  again-restart quiet ended others made counted never lonely room =
-      let look = only-looked on.between.opened _ _ _ _ on.serving quiet Restart ended (λ full. full) (on.exact lonely room) in
+  again-restart quiet ended others made counted never solitary room =
+      let look = only-looked on.between.opened _ _ _ _ on.serving quiet Restart ended (λ full. full) (on.exact solitary room) in
       never (omega (arith, look.alone, counted))
 
   -- of one whose own freeze of its leaf was the last to end
   pub again-froze : on.serving.effect ≡ None → (o : Outcome) → end_of on.serving.task ≡ Some o → (IsFull o → ⊥) → on.serving.froze ≡ true → HadNoRoom p w on
-  again-froze quiet o ended full froze lonely room = true≢false (sym froze ∙ (only-looked on.between.opened _ _ _ _ on.serving quiet o ended full (on.exact lonely room)).thawed)
+  again-froze quiet o ended full froze solitary room = true≢false (sym froze ∙ (only-looked on.between.opened _ _ _ _ on.serving quiet o ended full (on.exact solitary room)).thawed)
 
   -- and of a call that changes nothing
   pub again-call : is_read on.serving.call ≡ true → HadNoRoom p w on
-  again-call reads lonely room = true≢false (sym reads ∙ (sym (ap is_read on.between.call_open.call) ∙ room.writes))
+  again-call reads solitary room = true≢false (sym reads ∙ (sym (ap is_read on.between.call_open.call) ∙ room.writes))
 
   -- so nothing is asked of it
   pub no-look-up : HadNoRoom p w on → LooksUpAgain p w on
-  no-look-up none lonely room = absurd (none lonely room)
+  no-look-up none solitary room = absurd (none solitary room)
 
   pub no-reading : HadNoRoom p w on → ReadsAgain p w on
-  no-reading none lonely room = absurd (none lonely room)
+  no-reading none solitary room = absurd (none solitary room)
 
   -- one that has made its change looks on
   pub counted : on.serving.effect ≢ None → LooksUpAgain p w on
-  counted effected lonely room = has-counted on.between.opened _ _ _ on.serving effected (on.exact lonely room)
+  counted effected solitary room = has-counted on.between.opened _ _ _ on.serving effected (on.exact solitary room)
 
   pub looks-on : on.serving.effect ≢ None → is_look (kind_of on.serving.task) ≡ true → ReadsAgain p w on
-  looks-on effected looks lonely room =
-      let after = looks-after on.between.opened _ _ _ _ on.serving effected looks (on.exact lonely room) in
+  looks-on effected looks solitary room =
+      let after = looks-after on.between.opened _ _ _ _ on.serving effected looks (on.exact solitary room) in
       (after.counted, after.alone)
 
   -- nor does its task end for want of slots, or because the tree is too high: it takes none
-  slotless : IsLonely w p.journal.past → HadRoom p.config p.journal.start p.journal.past on.between.opened → AreLaws on.serving.task → wants_of on.serving.task ≡ 0
-  slotless lonely room laws = elim (on.exact lonely room) [
+  slotless : IsSolitary w p.journal.past → HadRoom p.config p.journal.start p.journal.past on.between.opened → AreLaws on.serving.task → wants_of on.serving.task ≡ 0
+  slotless solitary room laws = elim (on.exact solitary room) [
     | inl look ↦ (laws.looks (seeks-look (kind_of on.serving.task) look.looks)).wants
     | inr (inl ch) ↦ ch.wants
     | inr (inr (inl done)) ↦ done.wants
     | inr (inr (inr after)) ↦ (laws.looks after.looks).wants
   ]
 
-  pub never-full : AreLaws on.serving.task → length p.slots.free < wants_of on.serving.task → IsLonely w p.journal.past → HadRoom p.config p.journal.start p.journal.past on.between.opened → ⊥
-  never-full laws fewer lonely room = omega (arith, slotless lonely room laws, fewer)
+  pub never-full : AreLaws on.serving.task → length p.slots.free < wants_of on.serving.task → IsSolitary w p.journal.past → HadRoom p.config p.journal.start p.journal.past on.between.opened → ⊥
+  never-full laws fewer solitary room = omega (arith, slotless solitary room laws, fewer)
 
-  pub never-high : AreLaws on.serving.task → wants_of on.serving.task ≡ SPLIT_SLOTS → IsLonely w p.journal.past → HadRoom p.config p.journal.start p.journal.past on.between.opened → ⊥
-  never-high laws wants lonely room = omega (arith, slotless lonely room laws, wants)
+  pub never-high : AreLaws on.serving.task → wants_of on.serving.task ≡ SPLIT_SLOTS → IsSolitary w p.journal.past → HadRoom p.config p.journal.start p.journal.past on.between.opened → ⊥
+  never-high laws wants solitary room = omega (arith, slotless solitary room laws, wants)

@@ -1,7 +1,7 @@
 -- A call that gets a split on the way up from its leaf.
 use Rattle.std.proofs.Common.{◌≡◌, ◌≢◌, ◌⊎◌, ℕ, ◌+◌, ◌-◌, ◌<◌, ◌≤◌, slice_get, true, false, List, arith, refl, sym, ap, subst, ◌∙◌, inl, inr, Some, None, is_some}
 use Rattle.std.proofs.lemmas.Bool.{true≢false}
-use Rattle.bz_lone.specs.FromAlone.Alone.{IsAlone}
+use Rattle.bz_lone.specs.FromAlone.Undisturbed.{IsUndisturbed}
 use Rattle.bz_running.specs.FromAscent.Ascents.{IsAscent, IsOneUp}
 use Rattle.bz_running.specs.FromAscent.Ascent.{Ascent}
 use Rattle.bz_call.specs.Map.{key_of}
@@ -28,15 +28,15 @@ use Rattle.bz_task.specs.declared.path.Path.{Path}
 use Rattle.bz_task.specs.declared.todo.Outcome.TheVariants.{NeedsRoom}
 use Rattle.bz_task.specs.declared.view.LeafView.{LeafView}
 use Rattle.bz_world.specs.Inside.Going.{MustTakeOn, MustGoUp, HasEnded, MayGoUp, StandsBelow, known}
-use Rattle.bz_world.specs.Inside.Laws.{AloneLaws}
-use Rattle.bz_world.specs.Inside.Lonely.{IsNotLonely}
+use Rattle.bz_world.specs.Inside.Laws.{UndisturbedLaws}
+use Rattle.bz_world.specs.Inside.Solitary.{IsNotSolitary}
 use Rattle.bz_world.specs.Inside.Meant.{IsMeant}
 use Rattle.bz_world.specs.Inside.Paid.{bound_in, crowded, errand_of, no_extra, used_in, IsPaidFor, HasARoundAs, HasToSpare}
 use Rattle.bz_world.specs.Inside.Serving.{NeedsAtLeast}
 use Rattle.bz_world.specs.declared.parts.Parts.{Parts}
 use Rattle.bz_world.proofs.Due.{looks-only}
 use Rattle.bz_world.proofs.Exactly.{again-ended}
-use Rattle.bz_world.proofs.LonelyEnds.{other-ended}
+use Rattle.bz_world.proofs.SolitaryEnds.{other-ended}
 use Rattle.bz_world.proofs.MakingAnew.{renewal-meant}
 use Rattle.bz_world.proofs.Meant.{split-meant}
 use Rattle.bz_world.proofs.Paid.{swaps-write, within-of}
@@ -77,16 +77,16 @@ lacks-room called (SplittingInner t a) s none ends meant f =
 lacks-room called (SplittingInnerRoot t a) s none ends meant f = absurd ends
 lacks-room called (Merging t) s none ends meant f = inl refl
 
--- the call is no lonely get, whose task ends by no want of room
-pub crowded-other : (p : Parts) (w : ℕ) (e : HasEnded p w NeedsRoom) → IsNotLonely p.journal.past w e.on.serving.call
+-- the call is no solitary get, whose task ends by no want of room
+pub crowded-other : (p : Parts) (w : ℕ) (e : HasEnded p w NeedsRoom) → IsNotSolitary p.journal.past w e.on.serving.call
 crowded-other p w e = other-ended p w e.on NeedsRoom e.end (λ path is. cc is) (λ view is. cc is)
 
-module _ (lone : AloneLaws) (p : Parts) (w : ℕ) (e : HasEnded p w NeedsRoom) where
+module _ (solo : UndisturbedLaws) (p : Parts) (w : ℕ) (e : HasEnded p w NeedsRoom) where
   abbrev here : Scene
   here = known p w e.on
 
   good : IsScene here
-  good = known-scene lone.scenes p w e.on
+  good = known-scene solo.scenes p w e.on
 
   lacked : (kind_of e.on.serving.task ≡ kinds.Merge) ⊎ IsOnTheWay e.on.serving.task (key_of e.on.serving.call) here.past
   lacked = lacks-room e.on.serving.call e.on.serving.task here (e.silent refl) (e.tasked.laws.ends_of NeedsRoom here (e.tasked.laws.sound.ends here NeedsRoom e.facts e.end).0) (e.meant.meant e.quiet) e.facts
@@ -100,20 +100,20 @@ module _ (lone : AloneLaws) (p : Parts) (w : ℕ) (e : HasEnded p w NeedsRoom) w
     above : HasOneUp o.at
     above = stands o.at o.is o.below
 
-    not-alone : IsAlone 0 here.past → ⊥
-    not-alone alone = none (record {
+    not-undisturbed : IsUndisturbed 0 here.past → ⊥
+    not-undisturbed alone = none (record {
       from = o.at;
       up = above.up;
       begun = o.is;
       one = above.one;
-      may = lone.rounds.up_due above.up here good alone (rises o.at above.up o.is above.one) (omega (arith, above.one.before, o.ascent.within, ap (λ (z : Path). z.depth) above.one.path_is));
+      may = solo.rounds.up_due above.up here good alone (rises o.at above.up o.is above.one) (omega (arith, above.one.before, o.ascent.within, ap (λ (z : Path). z.depth) above.one.path_is));
     })
 
     not-clean : may_swap_twice (kind_of e.on.serving.task) ≡ false → IsClean (errand_of e.on.serving) e.on.serving.task 0 here.past → ⊥
-    not-clean once clean = not-alone (subst (λ n. IsAlone n here.past) (clean.none once) clean.alone)
+    not-clean once clean = not-undisturbed (subst (λ n. IsUndisturbed n here.past) (clean.none once) clean.alone)
 
     again : may_swap_twice (kind_of e.on.serving.task) ≡ false → HasARoundAs p w (record (errand_of e.on.serving) { alone = false }) here.past
-    again once r counted = (lone.rounds.rounds r).crowded p.access w (errand_of e.on.serving) e.on.serving.task (used_in r p w) (bound_in r p w) here.past (ap is_some e.quiet) e.end (not-clean once) (e.paid r counted)
+    again once r counted = (solo.rounds.rounds r).crowded p.access w (errand_of e.on.serving) e.on.serving.task (used_in r p w) (bound_in r p w) here.past (ap is_some e.quiet) e.end (not-clean once) (e.paid r counted)
 
     split-again : HasARoundAs p w (crowded (errand_of e.on.serving) (kind_of e.on.serving.task)) here.past
     split-again = elim o.from [
@@ -125,18 +125,18 @@ module _ (lone : AloneLaws) (p : Parts) (w : ℕ) (e : HasEnded p w NeedsRoom) w
   pub crowded-pays : StandsBelow e.on.serving.task → (MayGoUp e.on.serving.task → ⊥) → HasARoundAs p w (crowded (errand_of e.on.serving) (kind_of e.on.serving.task)) here.past
   crowded-pays stands none = elim lacked [
     | inl merge ↦ subst (λ k. HasARoundAs p w (crowded (errand_of e.on.serving) k) here.past) (sym merge)
-        (λ r counted. (lone.rounds.rounds r).merge p.access w (errand_of e.on.serving) e.on.serving.task (used_in r p w) (bound_in r p w) here.past (ap is_some e.quiet) e.end merge (e.paid r counted))
+        (λ r counted. (solo.rounds.rounds r).merge p.access w (errand_of e.on.serving) e.on.serving.task (used_in r p w) (bound_in r p w) here.past (ap is_some e.quiet) e.end merge (e.paid r counted))
     | inr o ↦ split-again o stands none
   ]
 
 -- the split of the node above
-module _ (lone : AloneLaws) (p : Parts) (w : ℕ) (task : AnyTask) (m : MustGoUp p w task) where
+module _ (solo : UndisturbedLaws) (p : Parts) (w : ℕ) (task : AnyTask) (m : MustGoUp p w task) where
   abbrev now : Past
   now = (known p w m.ends.on).past
 
   -- the one that lacked the room is none that merges
   rising : IsOnTheWay m.ends.on.serving.task (key_of m.ends.on.serving.call) now
-  rising = elim (lacked lone p w m.ends) [
+  rising = elim (lacked solo p w m.ends) [
     | inl merge ↦ absurd (let none : None ≡ Some m.up.above.from = sym (kinds-tell-the-ascent m.ends.on.serving.task ∙ ap ascent_in merge) ∙ m.up.above.begun in cc none)
     | inr o ↦ o
   ]
@@ -182,14 +182,14 @@ module _ (lone : AloneLaws) (p : Parts) (w : ℕ) (task : AnyTask) (m : MustGoUp
   last-up : slice_get m.up.above.up.path.links (m.up.above.up.path.depth - 1) ≡ Some rising.foot.last
   last-up = subst (λ (z : Path). slice_get z.links (z.depth - 1) ≡ Some rising.foot.last) (sym one.path_is) rising.foot.is
 
-  below-stage : IsAlone 0 now → level_of m.up.above.up + 1 ≤ stage_now (errand_of m.ends.on.serving) now
+  below-stage : IsUndisturbed 0 now → level_of m.up.above.up + 1 ≤ stage_now (errand_of m.ends.on.serving) now
   below-stage alone = subst (λ k. level_of m.up.above.up + 1 ≤ stage_in now.config (now.at now.now).image k (words_asked m.ends.on.serving.call)) key-up
-      (lone.rounds.below m.up.above.up rising.foot.last rising.view (words_asked m.ends.on.serving.call) (known p w m.ends.on) (known-scene lone.scenes p w m.ends.on) alone
-      (rises lone p w m.ends m.up.above.from m.up.above.up m.up.above.begun m.up.above.one) last-up (subst (λ k. WasCrowded k rising.view now) (sym key-up) rising.leaf))
+      (solo.rounds.below m.up.above.up rising.foot.last rising.view (words_asked m.ends.on.serving.call) (known p w m.ends.on) (known-scene solo.scenes p w m.ends.on) alone
+      (rises solo p w m.ends m.up.above.from m.up.above.up m.up.above.begun m.up.above.one) last-up (subst (λ k. WasCrowded k rising.view now) (sym key-up) rising.leaf))
 
   up-spares : HasToSpare p w m.ends.on.serving now (λ r q. most_in r (kind_of task) + coming r q (errand_of m.ends.on.serving) (kind_of task))
   up-spares r counted = subst (λ n. Spares r p.access w (errand_of m.ends.on.serving) (used_in r p w) (bound_in r p w) now (λ q. n + coming r q (errand_of m.ends.on.serving) (kind_of task))) (most-kind r task)
-      (lone.rounds.ascents r p.access w (errand_of m.ends.on.serving) m.ends.on.serving.task task rising.at m.up.above.up (used_in r p w) (bound_in r p w) now (ap is_some m.ends.quiet) write is-above m.ends.end below-stage (m.ends.paid r counted))
+      (solo.rounds.ascents r p.access w (errand_of m.ends.on.serving) m.ends.on.serving.task task rising.at m.up.above.up (used_in r p w) (bound_in r p w) now (ap is_some m.ends.quiet) write is-above m.ends.end below-stage (m.ends.paid r counted))
 
   -- which is no split of a leaf, nor a merge
   up-within : IsWithinItsActs task
@@ -233,17 +233,17 @@ module _ (lone : AloneLaws) (p : Parts) (w : ℕ) (task : AnyTask) (m : MustGoUp
       (inr (inr (m.up.made_for (key_of m.ends.on.serving.call) (words_asked m.ends.on.serving.call) now (split-meant m.ends.on.serving.call m.ends.on.serving.task now m.up.wanted (m.ends.meant.meant m.ends.quiet)))))
 
   pub up-paid : AreLaws task → IsPaidFor p w (record m.ends.on.serving { task = task; path = None }) 0 no_extra now
-  up-paid laws = task-paid lone.rounds p w m.ends.on task None m.ends.on.serving.had (kind_of task) refl laws m.up.asks m.up.made up-meant (λ quiet merge. absurd (no-merge merge)) up-spares
+  up-paid laws = task-paid solo.rounds p w m.ends.on task None m.ends.on.serving.had (kind_of task) refl laws m.up.asks m.up.made up-meant (λ quiet merge. absurd (no-merge merge)) up-spares
 
   abbrev pub up-taken : AreLaws task → MustTakeOn p w task None m.ends.on.serving.had None
   up-taken laws =
       lookup-taken p w m.ends.on (inl m.ends.quiet) task None None (key_of m.ends.on.serving.call) (m.up.config ∙ m.ends.tasked.config) laws m.up.silent (m.up.ends (key_of m.ends.on.serving.call) m.ends.on.serving.path None m.ends.tasked.lookup) (λ none other. m.up.ends (key_of m.ends.on.serving.call) m.ends.on.serving.path other m.ends.tasked.lookup) refl m.up.asks
-      (m.up.facts (known p w m.ends.on) (sym m.ends.tasked.config) (known-scene lone.scenes p w m.ends.on) m.ends.facts m.ends.end)
+      (m.up.facts (known p w m.ends.on) (sym m.ends.tasked.config) (known-scene solo.scenes p w m.ends.on) m.ends.facts m.ends.end)
       (λ quiet some other. subst (NeedsAtLeast p.config p.journal.start p.journal.past m.ends.on.between.opened) (m.up.wanted ∙ sym m.up.wants) (m.ends.on.between.call_open.wanted quiet (omega (arith, m.up.wanted)) no-merge-before))
-      (λ key get lonely. absurd (crowded-other p w m.ends key get lonely)) up-meant (up-paid laws)
-      (λ quiet lonely. elim (m.ends.on.between.due quiet lonely) [
+      (λ key get solitary. absurd (crowded-other p w m.ends key get solitary)) up-meant (up-paid laws)
+      (λ quiet solitary. elim (m.ends.on.between.due quiet solitary) [
         | inl due ↦ inl due
         | inr none ↦ absurd (no-look (looks-only m.ends.on.serving.call (kind_of m.ends.on.serving.task) none.looks))
       ])
-      (λ lonely room. absurd (again-ended p w m.ends.on m.ends.quiet NeedsRoom m.ends.end (m.ends.tasked.laws.ends_of NeedsRoom (known p w m.ends.on) (m.ends.tasked.laws.sound.ends (known p w m.ends.on) NeedsRoom m.ends.facts m.ends.end).0) (λ e. e) (λ e. e) lonely room))
+      (λ solitary room. absurd (again-ended p w m.ends.on m.ends.quiet NeedsRoom m.ends.end (m.ends.tasked.laws.ends_of NeedsRoom (known p w m.ends.on) (m.ends.tasked.laws.sound.ends (known p w m.ends.on) NeedsRoom m.ends.facts m.ends.end).0) (λ e. e) (λ e. e) solitary room))
       (duly-other p w m.ends.on task None m.ends.quiet no-seek no-delete)

@@ -25,10 +25,10 @@ mod ToldShown
 mod ToldEnds
 mod Stepped
 mod Quiet
-mod Lonely
-mod LonelyActs
-mod LonelyTold
-mod LonelyEnds
+mod Solitary
+mod SolitaryActs
+mod SolitaryTold
+mod SolitaryEnds
 mod Finding
 mod Answered
 mod Stored
@@ -40,7 +40,7 @@ mod PaidSteps
 mod Spared
 mod Striking
 mod LeavesStruck
-mod LoneLeaves
+mod UndisturbedLeaves
 mod StruckQuietly
 mod Published
 mod ActStrikes

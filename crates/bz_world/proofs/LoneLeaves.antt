@@ -13,7 +13,7 @@ use Rattle.bz_mark.specs.declared.marks.Mark.{Mark}
 use Rattle.bz_mark.specs.declared.marks.Mark.TheVariants.{Begin}
 use Rattle.bz_shape.specs.Walk.{is_among}
 use Rattle.bz_sound.specs.Calls.{Open, open_call}
-use Rattle.bz_sound.specs.Lonely.{IsLonely, LonelyCallsAreAlone}
+use Rattle.bz_sound.specs.Solitary.{IsSolitary, NoneIsOpenBesideASolitaryCall}
 use Rattle.bz_sound.specs.Memory.Moments.{EachMark, image_after, image_at, map_at_start}
 use Rattle.bz_slotted.specs.Records.{live_words}
 use Rattle.bz_sound.specs.Memory.Spent.{is_reached_in}
@@ -21,8 +21,8 @@ use Rattle.bz_sound.specs.Power.Calls.{CallsOnce}
 use Rattle.bz_sound.specs.Power.Laws.{PowerTellsWhatFollows}
 use Rattle.bz_mark.specs.declared.power.Power.{Power}
 use Rattle.bz_world.specs.Leaves.{AddsALeaf, FollowsLeaves, FollowsTree, IsMomentOfCall, LeavesFollow, NoneComesBack, TakesALeaf, in_tree, leaves_after, live_at}
-use Rattle.bz_world.specs.LoneLeaves.{CountsItsLeaves, HasLeft, LonelyCallsCountLeaves, WasItsLeaf, WasMerged, WasSplit}
-use Rattle.bz_world.proofs.ToldEnds.{WasOpen, was-lonely, was-open}
+use Rattle.bz_world.specs.UndisturbedLeaves.{CountsItsLeaves, HasLeft, SolitaryCallsCountLeaves, WasItsLeaf, WasMerged, WasSplit}
+use Rattle.bz_world.proofs.ToldEnds.{WasOpen, was-solitary, was-open}
 
 among-cases : (a k : ℕ) (rest : List ℕ) → is_among (a ∷ rest) k ≡ true → (k ≡ a) ⊎ (is_among rest k ≡ true)
 among-cases a k rest e = by (a == k) refl e
@@ -77,11 +77,11 @@ module _ (c : Config) (start : List ℕ) (past : List Mark) (mark : Mark) (w : �
   merged-still slot s = record { was = itself slot s.was; few = omega (arith, live-earlier s.was.moment s.was.by_now, s.few); left = left-still slot s.left }
 
   -- the leaf that this mark splits or merges is one of the call's key
-  module _ (alone : LonelyCallsAreAlone) (lonely : IsLonely w past) (k : Counts c start past o.was) where
+  module _ (alone : NoneIsOpenBesideASolitaryCall) (solitary : IsSolitary w past) (k : Counts c start past o.was) where
     its : (m : IsMomentOfCall past) → m.opened ≡ o.was
     its m = elim (cases_eq m.worker w) [
       | inl e ↦ (let same : open_call w past ≡ Some m.opened = subst (λ (v : ℕ). open_call v past ≡ Some m.opened) e m.is_open in let is : open_call w past ≡ Some o.was = o.is_open in cc (same, is))
-      | inr ne ↦ absurd (let none : open_call m.worker past ≡ None = alone w m.worker past lonely ne in let some : open_call m.worker past ≡ Some m.opened = m.is_open in cc (none, some))
+      | inr ne ↦ absurd (let none : open_call m.worker past ≡ None = alone w m.worker past solitary ne in let some : open_call m.worker past ≡ Some m.opened = m.is_open in cc (none, some))
     ]
 
     abbrev leaf-new : (m : IsMomentOfCall past) (slot : ℕ) → leaf_in c (image_at start m.moment past) (key_of m.opened.call) ≡ slot → WasItsLeaf c start (mark ∷ past) opened slot
@@ -176,14 +176,14 @@ begins c start past v n w call opened its is = record {
     first : opened.begun ≡ length past
     first = ap (λ (z : Open). z.begun) (newest-open (v == w) (record { number = n; call = call; begun = length past; effect = None }) (open_call w past) opened (let t : (v == w) ≡ true = grind (arith, nat_tests, its) in t) is)
 
-module _ (tells : PowerTellsWhatFollows) (alone : LonelyCallsAreAlone) (c : Config) (at_start : Power) (map : Map) (start : List ℕ) (w : ℕ) where
-  counts : (past : List Mark) → CallsOnce at_start map past → EachMark (LeavesFollow c at_start start) past → (opened : Open) → open_call w past ≡ Some opened → IsLonely w past → Counts c start past opened
-  counts [] once kept opened is lonely = absurd lonely
-  counts (Begin v n call ∷ past) once kept opened is lonely = begins c start past v n w call opened lonely.0 is
-  counts (mark ∷ past) once kept opened is lonely =
+module _ (tells : PowerTellsWhatFollows) (alone : NoneIsOpenBesideASolitaryCall) (c : Config) (at_start : Power) (map : Map) (start : List ℕ) (w : ℕ) where
+  counts : (past : List Mark) → CallsOnce at_start map past → EachMark (LeavesFollow c at_start start) past → (opened : Open) → open_call w past ≡ Some opened → IsSolitary w past → Counts c start past opened
+  counts [] once kept opened is solitary = absurd solitary
+  counts (Begin v n call ∷ past) once kept opened is solitary = begins c start past v n w call opened solitary.0 is
+  counts (mark ∷ past) once kept opened is solitary =
       let o : WasOpen w past opened = was-open w past mark opened tt is in
       let follows : FollowsTree c start past mark = kept.0 ((tells at_start map past once.1).stays_open w o.was o.is_open) in
-      counted c start past mark w opened o follows.back alone (was-lonely w past mark tt lonely) (counts past once.1 kept.1 o.was o.is_open (was-lonely w past mark tt lonely)) follows.leaves
+      counted c start past mark w opened o follows.back alone (was-solitary w past mark tt solitary) (counts past once.1 kept.1 o.was o.is_open (was-solitary w past mark tt solitary)) follows.leaves
 
-pub lonely-calls-count : PowerTellsWhatFollows → LonelyCallsAreAlone → LonelyCallsCountLeaves
-lonely-calls-count tells alone c at_start log w opened sound kept is lonely = (counts tells alone c at_start (map_at_start c log.start) log.start w log.past sound.once kept opened is lonely).leaves
+pub solitary-calls-count : PowerTellsWhatFollows → NoneIsOpenBesideASolitaryCall → SolitaryCallsCountLeaves
+solitary-calls-count tells alone c at_start log w opened sound kept is solitary = (counts tells alone c at_start (map_at_start c log.start) log.start w log.past sound.once kept opened is solitary).leaves

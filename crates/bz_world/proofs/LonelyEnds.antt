@@ -1,7 +1,7 @@
--- A lonely get whose look-up has ended.
+-- A solitary get whose look-up has ended.
 use Rattle.std.proofs.Common.{◌≡◌, ◌≢◌, ℕ, ◌*◌, ◌≤◌, length, arith, refl, sym, ap, subst, ◌∙◌, List, ◌∷◌, Option, Some, None}
 use Rattle.std.specs.Prelude.{get_or}
-use Rattle.bz_lone.specs.FromAlone.Alone.{IsAlone}
+use Rattle.bz_lone.specs.FromAlone.Undisturbed.{IsUndisturbed}
 use Rattle.bz_lone.specs.FromAlone.Brief.{IsBrief, LooksFor}
 use Rattle.bz_lone.specs.FromAlone.Reads.{get_reads}
 use Rattle.bz_call.specs.Map.{key_of}
@@ -13,7 +13,7 @@ use Rattle.bz_running.specs.Duties.{end_of}
 use Rattle.bz_running.specs.LookingUp.{Look, ForWay, ForKey, NoLook, look_of, EndsAs}
 use Rattle.bz_running.specs.declared.running.AnyTask.{AnyTask}
 use Rattle.bz_sound.specs.Calls.{Open}
-use Rattle.bz_sound.specs.Lonely.{acts_since}
+use Rattle.bz_sound.specs.Solitary.{acts_since}
 use Rattle.bz_sound.specs.Memory.Moments.{image_at}
 use Rattle.bz_swap.specs.SwapMemory.{SwapMemory}
 use Rattle.bz_task.specs.Outcomes.{IsPath, IsKeyView}
@@ -23,11 +23,11 @@ use Rattle.bz_task.specs.declared.todo.Outcome.{Outcome}
 use Rattle.bz_task.specs.declared.todo.Outcome.TheVariants as outcome
 use Rattle.bz_task.specs.declared.view.KeyView.{KeyView}
 use Rattle.bz_world.specs.Inside.Going.{MustGoOn, MustAnswerKey, known}
-use Rattle.bz_world.specs.Inside.Laws.{LonelyLaws}
-use Rattle.bz_world.specs.Inside.Lonely.{WhereLonely, IsNotLonely, IsNotLonelyIn, HasLooked}
+use Rattle.bz_world.specs.Inside.Laws.{SolitaryLaws}
+use Rattle.bz_world.specs.Inside.Solitary.{WhereSolitary, IsNotSolitary, IsNotSolitaryIn, HasLooked}
 use Rattle.bz_world.specs.WorldView.{GetsBriefly}
 use Rattle.bz_world.specs.declared.parts.Parts.{Parts}
-use Rattle.bz_world.proofs.Lonely.{looks-some, alone-since}
+use Rattle.bz_world.proofs.Solitary.{looks-some, undisturbed-since}
 use Rattle.bz_world.proofs.TakingOn.{known-scene}
 
 -- it ends with the path, or with what was found of the key
@@ -40,9 +40,9 @@ look-ends ForKey outcome.Restart some e stands path view = stands refl
 look-ends ForWay o some e stands path view = e
 look-ends ForKey o some e stands path view = e
 
-pub other-ended : (p : Parts) (w : ℕ) (on : MustGoOn p w) (o : Outcome) → end_of on.serving.task ≡ Some o → ((path : Path) → o ≢ outcome.Path path) → ((view : KeyView) → o ≢ outcome.Key view) → IsNotLonely p.journal.past w on.serving.call
-other-ended p w on o end path view key get lonely =
-    let h = on.lonely key get lonely in
+pub other-ended : (p : Parts) (w : ℕ) (on : MustGoOn p w) (o : Outcome) → end_of on.serving.task ≡ Some o → ((path : Path) → o ≢ outcome.Path path) → ((view : KeyView) → o ≢ outcome.Key view) → IsNotSolitary p.journal.past w on.serving.call
+other-ended p w on o end path view key get solitary =
+    let h = on.solitary key get solitary in
     look-ends (look_of on.serving.task) o (looks-some key on.serving.path on.serving.task h.get.brief.looks) (h.get.looks.ends o end) (λ e. h.stands (end ∙ ap Some e)) path view
 
 -- with the latter, where the path was found
@@ -51,15 +51,15 @@ key-ends (outcome.Key found) e stands view = view found refl
 key-ends outcome.Restart e stands view = stands refl
 key-ends o e stands view = e
 
-pub other-found : (p : Parts) (w : ℕ) (on : MustGoOn p w) (o : Outcome) → end_of on.serving.task ≡ Some o → (path : Path) → on.serving.path ≡ Some path → ((view : KeyView) → o ≢ outcome.Key view) → IsNotLonely p.journal.past w on.serving.call
-other-found p w on o end path found view key get lonely =
-    let h = on.lonely key get lonely in
+pub other-found : (p : Parts) (w : ℕ) (on : MustGoOn p w) (o : Outcome) → end_of on.serving.task ≡ Some o → (path : Path) → on.serving.path ≡ Some path → ((view : KeyView) → o ≢ outcome.Key view) → IsNotSolitary p.journal.past w on.serving.call
+other-found p w on o end path found view key get solitary =
+    let h = on.solitary key get solitary in
     let looks : LooksFor key (Some path) on.serving.task = subst (λ z. LooksFor key z on.serving.task) found h.get.brief.looks in
     key-ends o (subst (λ l. EndsAs l o) looks.0 (h.get.looks.ends o end)) (λ e. h.stands (end ∙ ap Some e)) view
 
 -- what stands in the table is the call
-pub other-in : (p : Parts) (w : ℕ) (on : MustGoOn p w) → IsNotLonely p.journal.past w on.serving.call → IsNotLonelyIn p.journal.past w (get_or p.workers.items w None)
-other-in p w on other = subst (IsNotLonelyIn p.journal.past w) (sym on.is) other
+pub other-in : (p : Parts) (w : ℕ) (on : MustGoOn p w) → IsNotSolitary p.journal.past w on.serving.call → IsNotSolitaryIn p.journal.past w (get_or p.workers.items w None)
+other-in p w on other = subst (IsNotSolitaryIn p.journal.past w) (sym on.is) other
 
 -- the path was looked for before it was found
 pub no-way : (m : SwapMemory) (w acts : ℕ) (key : List ℕ) (way : Option Path) (t : AnyTask) (path : Path) → EndsAs (look_of t) (outcome.Path path) → IsBrief m w acts key way t → IsBrief m w acts key None t
@@ -76,23 +76,23 @@ some-way key None t view e l = absurd (subst (λ z. EndsAs z (outcome.Key view))
 some-way key (Some path) t view e l = record { path = path; is = refl }
 
 -- so its acts are few
-pub few-acts : LonelyLaws → (p : Parts) (w : ℕ) (view : KeyView) (m : MustAnswerKey p w view)
-    → WhereLonely p.journal.past w m.on.serving.call (λ key. acts_since w p.journal.past ≤ 2 * get_reads p.config (image_at p.journal.start view.at p.journal.past) key)
-few-acts b p w view m key get lonely = subst (λ i. acts_since w p.journal.past ≤ 2 * get_reads p.config i key) image few
+pub few-acts : SolitaryLaws → (p : Parts) (w : ℕ) (view : KeyView) (m : MustAnswerKey p w view)
+    → WhereSolitary p.journal.past w m.on.serving.call (λ key. acts_since w p.journal.past ≤ 2 * get_reads p.config (image_at p.journal.start view.at p.journal.past) key)
+few-acts b p w view m key get solitary = subst (λ i. acts_since w p.journal.past ≤ 2 * get_reads p.config i key) image few
   where
     here : Scene
     here = known p w m.on
 
     h : HasLooked p.access p.journal.past m.on.between.story w m.on.serving m.on.between.opened key
-    h = m.on.lonely key get lonely
+    h = m.on.solitary key get solitary
 
     way : HasWay m.on.serving.path
     way = some-way key m.on.serving.path m.on.serving.task view (h.get.looks.ends (outcome.Key view) m.ends.1) h.get.brief.looks
 
-    alone : IsAlone 0 here.past
+    alone : IsUndisturbed 0 here.past
     alone = omega (
       arith,
-      alone-since b.fall p.config m.on.between.story.at m.on.between.story.from (length p.journal.past) m.on.between.opened.begun m.on.between.call_open.look.since m.on.between.living.history
+      undisturbed-since b.fall p.config m.on.between.story.at m.on.between.story.from (length p.journal.past) m.on.between.opened.begun m.on.between.call_open.look.since m.on.between.living.history
           (m.on.between.living.begins w m.on.between.opened m.on.between.call_open.is_open) m.on.between.call_open.look.after_begin m.on.between.call_open.look.by_now h.get.alone,
     )
 
@@ -110,11 +110,11 @@ few-acts b p w view m key get lonely = subst (λ i. acts_since w p.journal.past 
 
 -- and its End says so
 pub ends-briefly : (p : Parts) (w n : ℕ) (reply : Reply) (at : ℕ) (on : MustGoOn p w) (new : Log) → new.past ≡ End w n reply at ∷ p.journal.past
-    → WhereLonely p.journal.past w on.serving.call (λ key. acts_since w p.journal.past ≤ 2 * get_reads p.config (image_at p.journal.start at p.journal.past) key) → GetsBriefly p.config p.journal w new
-ends-briefly p w n reply at on new is brief number moment answer opened key ends is-open get lonely =
+    → WhereSolitary p.journal.past w on.serving.call (λ key. acts_since w p.journal.past ≤ 2 * get_reads p.config (image_at p.journal.start at p.journal.past) key) → GetsBriefly p.config p.journal w new
+ends-briefly p w n reply at on new is brief number moment answer opened key ends is-open get solitary =
     let both : (End w n reply at ∷ p.journal.past) ≡ (End w number answer moment ∷ p.journal.past) = sym is ∙ ends in
     let when : at ≡ moment = cc both in
     let calls : Some on.between.opened ≡ Some opened = sym on.between.call_open.is_open ∙ is-open in
     let same : on.between.opened ≡ opened = cc calls in
     let called : on.serving.call ≡ call.Get key = sym on.between.call_open.call ∙ (ap (λ (o : Open). o.call) same ∙ get) in
-    subst (λ z. acts_since w p.journal.past ≤ 2 * get_reads p.config (image_at p.journal.start z p.journal.past) key) when (brief key called lonely)
+    subst (λ z. acts_since w p.journal.past ≤ 2 * get_reads p.config (image_at p.journal.start z p.journal.past) key) when (brief key called solitary)

@@ -81,8 +81,8 @@ module _ (scenes : ScenesAreSeen) (trees : TreesStand) (p : Parts) (w at : ℕ) 
         inl (omega (arith, d.leaves, stand, now, then))
 
   pub ended-merged : HasMergedIn p w at on
-  ended-merged lonely deletes may =
-      let m = (on.merges lonely).merging at effect deletes in
+  ended-merged solitary deletes may =
+      let m = (on.merges solitary).merging at effect deletes in
       let there : MayBeMerged p.config ((known p w on).past.at (suc at)).image (key_of on.serving.call) = subst (λ image. MayBeMerged p.config image (key_of on.serving.call)) (sym (image-then m.after_begin (suc at) (omega arith) m.by_now)) may in
       by-state m.after_begin m.by_now (m.merging there) there
 
@@ -102,14 +102,14 @@ merges-by c start past w (Deleted payload) merges = merges payload refl
 merges-by c start past w reply merges = tt
 
 pub reply-merged : (p : Parts) (w at : ℕ) (on : MustGoOn p w) → on.between.opened.effect ≡ Some at → HasMergedIn p w at on → MergesFor p.config p.journal.start p.journal.past w (effect_reply on.between.opened.call on.serving.had)
-reply-merged p w at on effect merged = merges-by p.config p.journal.start p.journal.past w (effect_reply on.between.opened.call on.serving.had) (λ payload e opened moment is-open lonely effected may. (
+reply-merged p w at on effect merged = merges-by p.config p.journal.start p.journal.past w (effect_reply on.between.opened.call on.serving.had) (λ payload e opened moment is-open solitary effected may. (
     let both : Some on.between.opened ≡ Some opened = sym on.between.call_open.is_open ∙ is-open in
     let same : on.between.opened ≡ opened = cc both in
     let when : Some at ≡ Some moment = sym effect ∙ (ap (λ (o : Open). o.effect) same ∙ effected) in
     let then : at ≡ moment = cc when in
     let key : key_of opened.call ≡ key_of on.serving.call = ap (λ (o : Open). key_of o.call) (sym same) ∙ ap key_of on.between.call_open.call in
     subst (IsMergedSince p.config p.journal.start p.journal.past) then
-    (merged lonely (sym (ap is_delete on.between.call_open.call) ∙ deletes-by on.between.opened.call on.serving.had payload e)
+    (merged solitary (sym (ap is_delete on.between.call_open.call) ∙ deletes-by on.between.opened.call on.serving.had payload e)
     (subst (λ m. MayBeMerged p.config (image_at p.journal.start (suc m) p.journal.past) (key_of on.serving.call)) (sym then) (subst (MayBeMerged p.config (image_at p.journal.start (suc moment) p.journal.past)) key may)))
     ))
 
@@ -123,11 +123,11 @@ no-way None never = refl
 no-way (Some path) never = absurd (never path refl)
 
 -- a delete beside which no other call was open, and which looks on, is not to begin again
-restarts-alone : (o : Outcome) → EndsLookingOn o → ((path : declared.Path) → o ≡ Path path → ⊥) → ((view : LeafView) → o ≡ View view → ⊥) → o ≡ Restart
-restarts-alone (Path path) on no-path no-view = absurd (no-path path refl)
-restarts-alone (View view) on no-path no-view = absurd (no-view view refl)
-restarts-alone Restart on no-path no-view = refl
-restarts-alone o on no-path no-view = absurd on
+restarts-solitary : (o : Outcome) → EndsLookingOn o → ((path : declared.Path) → o ≡ Path path → ⊥) → ((view : LeafView) → o ≡ View view → ⊥) → o ≡ Restart
+restarts-solitary (Path path) on no-path no-view = absurd (no-path path refl)
+restarts-solitary (View view) on no-path no-view = absurd (no-view view refl)
+restarts-solitary Restart on no-path no-view = refl
+restarts-solitary o on no-path no-view = absurd on
 
 module _ (p : Parts) (w at : ℕ) (o : Outcome) (e : HasEndedAfter p w at o) where
   looked-so : IsLookingOn (known p w e.had.on).past e.had.on.serving → EndsLookingOn o
@@ -139,7 +139,7 @@ module _ (p : Parts) (w at : ℕ) (o : Outcome) (e : HasEndedAfter p w at o) whe
     had = e.had;
     merged = ended-merged scenes trees p w at e.had.on e.had.effect o e.ends (λ full. absurd (e.swaps full)) (λ begun may s. elim s.task [
       | inl tells ↦ no-done (tells.ends o e.ends)
-      | inr look ↦ (let none : e.alone.others ≡ 0 = omega (arith, look.alone, e.alone.counted) in e.alone.stands none (restarts-alone o (looked-so look) no-path no-view))
+      | inr look ↦ (let none : e.alone.others ≡ 0 = omega (arith, look.alone, e.alone.counted) in e.alone.stands none (restarts-solitary o (looked-so look) no-path no-view))
     ]);
   }
 

@@ -47,16 +47,16 @@ module _ (p : Parts) (w : ℕ) (on : MustGoOn p w) where
   tells-by delete at (inr (inr d)) = absurd (cc (delete, d.kind))
 
   pub stands-looking : kind_of on.serving.task ≡ kinds.Delete → StandsForLooking p w on
-  stands-looking delete lonely at is deletes = let m = (on.merges lonely).merging at is deletes in (stood-by (λ merge. cc (delete, merge)) at m, λ may. tells-by delete at (m.merging may))
+  stands-looking delete solitary at is deletes = let m = (on.merges solitary).merging at is deletes in (stood-by (λ merge. cc (delete, merge)) at m, λ may. tells-by delete at (m.merging may))
 
   -- and nobody's swap took effect since it looks for its leaf
-  alone-by : looks_on (kind_of on.serving.task) ≡ true → (at : ℕ) → IsMerging p.config p.journal at (known p w on).past (reach_idle p.access) (stock_of p) on.serving → HasOthers 0 0 (known p w on).past
-  alone-by looks at (inl s) = elim s.task [
+  undisturbed-by : looks_on (kind_of on.serving.task) ≡ true → (at : ℕ) → IsMerging p.config p.journal at (known p w on).past (reach_idle p.access) (stock_of p) on.serving → HasOthers 0 0 (known p w on).past
+  undisturbed-by looks at (inl s) = elim s.task [
     | inl tells ↦ absurd (true≢false (sym looks ∙ ap looks_on tells.kind))
     | inr look ↦ look.alone
   ]
-  alone-by looks at (inr (inl u)) = absurd (true≢false (sym looks ∙ ap looks_on u.kind))
-  alone-by looks at (inr (inr d)) = absurd (true≢false (sym looks ∙ ap looks_on d.kind))
+  undisturbed-by looks at (inr (inl u)) = absurd (true≢false (sym looks ∙ ap looks_on u.kind))
+  undisturbed-by looks at (inr (inr d)) = absurd (true≢false (sym looks ∙ ap looks_on d.kind))
 
   pub stands-reading : looks_on (kind_of on.serving.task) ≡ true → StandsForReading p w on
-  stands-reading looks lonely at is deletes = let m = (on.merges lonely).merging at is deletes in (stood-by (λ merge. true≢false (sym looks ∙ ap looks_on merge)) at m, λ may. alone-by looks at (m.merging may))
+  stands-reading looks solitary at is deletes = let m = (on.merges solitary).merging at is deletes in (stood-by (λ merge. true≢false (sym looks ∙ ap looks_on merge)) at m, λ may. undisturbed-by looks at (m.merging may))

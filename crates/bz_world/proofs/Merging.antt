@@ -30,7 +30,7 @@ use Rattle.bz_world.specs.Inside.Merging.{taken_then, used_then, leaves_at, look
 use Rattle.bz_world.specs.Inside.Paid.{Stock}
 use Rattle.bz_world.specs.declared.serving.OpenCall.{OpenCall}
 use Rattle.bz_world.proofs.Exact.{seeks-look}
-use Rattle.bz_world.proofs.Lonely.{now-is}
+use Rattle.bz_world.proofs.Solitary.{now-is}
 
 -- what looks on is a look-up
 pub on-look : (k : Kind) → looks_on k ≡ true → is_look k ≡ true
@@ -240,16 +240,16 @@ module _ (c : Config) (log : Log) (p : Past) (r z : Reach) (stock : Stock) (x : 
   }
 
 -- whether its leaf is copied alone is nothing to it
-merging-alone : (c : Config) (log : Log) (at : ℕ) (p : Past) (r : Reach) (stock : Stock) (x : OpenCall) (alone : Bool) → IsMerging c log at p r stock x → IsMerging c log at p r stock (record x { alone = alone })
-merging-alone c log at p r stock x alone (inl s) = inl (record { standing = s.standing; task = elim s.task [ inl tells ↦ inl (assumption tells) | inr look ↦ inr (assumption look) ] })
-merging-alone c log at p r stock x alone (inr (inl u)) = inr (inl (record { kind = u.kind; moment = u.moment; after = u.after; stood = u.stood; leaves = u.leaves; alone = u.alone; knows = u.knows; seen = u.seen; seen_since = u.seen_since; seen_by_now = u.seen_by_now; may = u.may; wants = u.wants; left = u.left; taken = u.taken; before = u.before; ends = u.ends }))
-merging-alone c log at p r stock x alone (inr (inr d)) = inr (inr (record { kind = d.kind; moment = d.moment; after = d.after; stood = d.stood; leaves = d.leaves; waits = d.waits }))
+merging-unmerged : (c : Config) (log : Log) (at : ℕ) (p : Past) (r : Reach) (stock : Stock) (x : OpenCall) (alone : Bool) → IsMerging c log at p r stock x → IsMerging c log at p r stock (record x { alone = alone })
+merging-unmerged c log at p r stock x alone (inl s) = inl (record { standing = s.standing; task = elim s.task [ inl tells ↦ inl (assumption tells) | inr look ↦ inr (assumption look) ] })
+merging-unmerged c log at p r stock x alone (inr (inl u)) = inr (inl (record { kind = u.kind; moment = u.moment; after = u.after; stood = u.stood; leaves = u.leaves; alone = u.alone; knows = u.knows; seen = u.seen; seen_since = u.seen_since; seen_by_now = u.seen_by_now; may = u.may; wants = u.wants; left = u.left; taken = u.taken; before = u.before; ends = u.ends }))
+merging-unmerged c log at p r stock x alone (inr (inr d)) = inr (inr (record { kind = d.kind; moment = d.moment; after = d.after; stood = d.stood; leaves = d.leaves; waits = d.waits }))
 
-pub duly-alone : (c : Config) (log : Log) (opened : Open) (p : Past) (r : Reach) (stock : Stock) (x : OpenCall) (alone : Bool) → IsDuly c log opened p r stock x → IsDuly c log opened p r stock (record x { alone = alone })
-duly-alone c log opened p r stock x alone d = record {
+pub duly-unmerged : (c : Config) (log : Log) (opened : Open) (p : Past) (r : Reach) (stock : Stock) (x : OpenCall) (alone : Bool) → IsDuly c log opened p r stock x → IsDuly c log opened p r stock (record x { alone = alone })
+duly-unmerged c log opened p r stock x alone d = record {
   looking = d.looking;
   deleting = λ quiet kind on. assumption (d.deleting quiet kind on);
-  merging = λ at is deletes. let m = d.merging at is deletes in record { after_begin = m.after_begin; by_now = m.by_now; merging = λ may. merging-alone c log at p r stock x alone (m.merging may) };
+  merging = λ at is deletes. let m = d.merging at is deletes in record { after_begin = m.after_begin; by_now = m.by_now; merging = λ may. merging-unmerged c log at p r stock x alone (m.merging may) };
 }
 
 -- nor is whether its own freeze was the last task to end

@@ -93,13 +93,13 @@ module _ (c : Config) (log : Log) (opened : Open) (p : Past) (taken : ℕ) (stoc
         }
 
     module _ (u : IsMergingLeaf c log at p (reach taken (effects_in what) (answered_in what)) stock x) where
-      alone-now : HasOthers 0 (made_of x.task + effects_in what) p
-      alone-now = u.alone goes
+      undisturbed-now : HasOthers 0 (made_of x.task + effects_in what) p
+      undisturbed-now = u.alone goes
 
       ends-short : (o : Outcome) → EndsOrNeedsRoom o → end_of next ≡ Some o → EndsShort c log at (reach taken 0 0) o
       ends-short Done h' e = absurd (let none = u.before (omega (arith, h.goes.only_last e)) in omega (arith, none, ap effects_in (h.goes.done e)))
-      ends-short Restart h' e = absurd (not-again (omega (arith, alone-now, counted)) e)
-      ends-short NeedsRoom h' e = absurd (not-room u.kind u.knows u.seen u.seen_since u.seen_by_now u.may alone-now e)
+      ends-short Restart h' e = absurd (not-again (omega (arith, undisturbed-now, counted)) e)
+      ends-short NeedsRoom h' e = absurd (not-room u.kind u.knows u.seen u.seen_since u.seen_by_now u.may undisturbed-now e)
       ends-short (Full Nodes) h' e =
           let some : 0 < needs_of x.task = omega (arith, h.goes.full_nodes e) in
           omega (arith, h.goes.full_nodes e, held, u.left some, laws.few, u.wants)
@@ -114,7 +114,7 @@ module _ (c : Config) (log : Log) (opened : Open) (p : Past) (taken : ℕ) (stoc
         after = u.after;
         stood = u.stood;
         leaves = u.leaves;
-        alone = λ on. let sum : made_of x.task + effects_in what ≡ made_of next + 0 = omega (arith, h.goes.counted on) in subst (λ k. HasOthers 0 k p) sum alone-now;
+        alone = λ on. let sum : made_of x.task + effects_in what ≡ made_of next + 0 = omega (arith, h.goes.counted on) in subst (λ k. HasOthers 0 k p) sum undisturbed-now;
         knows = known.heard x.task next (key_of x.call) p u.knows h.goes.meant;
         seen = u.seen;
         seen_since = u.seen_since;

@@ -34,7 +34,7 @@ use Rattle.bz_swap.specs.SwapMemory.{SwapMemory, Working, Idle, idle, doing_of, 
 use Rattle.bz_swap.specs.TakenStatuses.{BegunAreTaken}
 use Rattle.bz_swap.specs.declared.phase.Phase.{Phase}
 use Rattle.bz_world.specs.Inside.Beginning.{world_view, supply_of, is_swap}
-use Rattle.bz_world.proofs.Lonely.{none-in}
+use Rattle.bz_world.proofs.Solitary.{none-in}
 use Rattle.bz_world.proofs.Powered.{kept-awake}
 use Rattle.bz_world.proofs.FreshSlots.{free-below, free-root, free-others}
 use Rattle.bz_world.specs.Inside.Kept.{IsTabled, KeepsNotes, AreTaken, AreFree, IsAwake, IsKept}
@@ -159,7 +159,7 @@ kept-open b p made slots = record {
   leaves = subst (λ (l : Log). AreLeavesKept p.config p.at_start l) (sym made.journal) tt;
   free = subst (λ log. AreFree p.config (image_at_on log.start log.past) p.slots (fresh_story p.config).took) (sym made.journal) (subst (λ free. AreFree p.config (slice_index (fresh_words p.config)) free (fresh_story p.config).took) (sym slots) (free-fresh b p.config made.config));
   workers = λ w. subst (λ xs. IsSlot p.config p.access p.journal (fresh_story p.config) p.owners.items (stock_of p) w (get_or xs w None)) (sym made.workers) (rest w (get_or (replicate 65 None) w None) (same-everywhere 65 w None));
-  lonely = λ w. none-in p.access p.journal.past (fresh_story p.config) p.workers.items w (ap (λ xs. get_or xs w None) made.workers ∙ same-everywhere 65 w None);
+  solitary = λ w. none-in p.access p.journal.past (fresh_story p.config) p.workers.items w (ap (λ xs. get_or xs w None) made.workers ∙ same-everywhere 65 w None);
 }
   where
     rest : (w : ℕ) (entry : Option OpenCall) → entry ≡ None → IsSlot p.config p.access p.journal (fresh_story p.config) p.owners.items (stock_of p) w entry

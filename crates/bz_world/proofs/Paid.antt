@@ -6,7 +6,7 @@ use Rattle.bz_acts.specs.declared.acted.Act.{Act}
 use Rattle.bz_acts.specs.declared.acted.Act.TheVariants.{Load, Store, Cas, Flush, Ask, Fence}
 use Rattle.bz_below.specs.Facts.{below_acts}
 use Rattle.bz_lone.specs.FromCosts.Laws.{AskedSwapsAreCounted}
-use Rattle.bz_lone.specs.FromCosts.Lone.{one_mark}
+use Rattle.bz_lone.specs.FromCosts.Solo.{one_mark}
 use Rattle.bz_lone.specs.FromCosts.Most.{IsWithinItsActs}
 use Rattle.bz_lone.specs.FromCosts.Resources.{Resource, Marks, Descriptors, Slots}
 use Rattle.bz_layout.specs.Slots.{FreeSlots}
@@ -41,10 +41,10 @@ use Rattle.bz_world.specs.Inside.Kept.{IsAwake}
 use Rattle.bz_world.specs.Inside.Laws.{PaidLaws}
 use Rattle.bz_world.specs.Inside.Paid.{bound_of, errand_of, no_extra, runner, stock_of, IsCounted, IsPaidIn}
 use Rattle.bz_world.specs.Inside.Serving.{IsServing}
-use Rattle.bz_world.specs.WorldView.{mark_of, stepper, is_stepper, before_run, are_closed, begins_alone, run_marks, deadline_from, deadline, RunsWhole}
+use Rattle.bz_world.specs.WorldView.{mark_of, stepper, is_stepper, before_run, are_closed, begins_solitary, run_marks, deadline_from, deadline, RunsWhole}
 use Rattle.bz_world.specs.declared.parts.Parts.{Parts}
 use Rattle.bz_world.specs.declared.serving.OpenCall.{OpenCall}
-use Rattle.bz_world.proofs.Lonely.{now-is}
+use Rattle.bz_world.proofs.Solitary.{now-is}
 
 -- the worker of an act steps
 pub act-steps : (w : ℕ) (made : Act) (past : List Mark) → stepper (mark_of w made ∷ past) ≡ Some w
@@ -130,7 +130,7 @@ closed-begin false v w ne = neither (v == w)
     neither true = refl
     neither false = refl
 
-begins-else : (c : Config) (w : ℕ) (past : List Mark) → runner c past ≢ Some w → begins_alone c w past ≡ false
+begins-else : (c : Config) (w : ℕ) (past : List Mark) → runner c past ≢ Some w → begins_solitary c w past ≡ false
 begins-else c w [] ne = refl
 begins-else c w (mark.Begin v n called ∷ past) ne = closed-begin (are_closed c.workers past) v w ne
 begins-else c w (m ∷ past) ne = refl
@@ -214,12 +214,12 @@ bound-on r c w m past is = refl
 
 pub counted-on : (r : Resource) (c : Config) (w : ℕ) (m : Mark) (past : List Mark) → stepper (m ∷ past) ≡ Some w → IsCounted r c w (m ∷ past) → IsCounted r c w past
 counted-on Marks c w m past is h = tt
-counted-on Descriptors c w m past is h = sym (ap (begins_alone c w) (before-on w m past is)) ∙ h
-counted-on Slots c w m past is h = sym (ap (begins_alone c w) (before-on w m past is)) ∙ h
+counted-on Descriptors c w m past is h = sym (ap (begins_solitary c w) (before-on w m past is)) ∙ h
+counted-on Slots c w m past is h = sym (ap (begins_solitary c w) (before-on w m past is)) ∙ h
 
 -- a run of one of which nothing is known yet does not follow the begin of its call
 pub not-whole : (c : Config) (w : ℕ) (past : List Mark) → runner c past ≢ Some w → RunsWhole c w past → ⊥
-not-whole c w past ne h = true≢false (sym h ∙ (ap (begins_alone c w) (run-now w past (λ is. ne (steps-run c w past is))) ∙ begins-else c w past ne))
+not-whole c w past ne h = true≢false (sym h ∙ (ap (begins_solitary c w) (run-now w past (λ is. ne (steps-run c w past is))) ∙ begins-else c w past ne))
 
 -- the call of a worker is paid for, whoever stepped last
 pub paid-here : PaidLaws → (p : Parts) (k : IsAwake p) (w : ℕ) (x : OpenCall) (s : IsServing p.config p.access p.journal k.story p.owners.items (stock_of p) w x) → 0 < w → w ≤ p.config.workers

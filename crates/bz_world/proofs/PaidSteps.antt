@@ -5,8 +5,8 @@ use Rattle.bz_layout.specs.Slots.{FreeSlots}
 use Rattle.bz_layout.specs.declared.config.Config.{Config}
 use Rattle.bz_layout.specs.declared.thresholds.TheConstants.{LEAF_RECORD_WORDS, SLOTS_PER_CALL, SWAPS_PER_CALL}
 use Rattle.bz_lone.specs.Errands.{Errand, words_asked}
-use Rattle.bz_lone.specs.FromAlone.Alone.{IsAlone}
-use Rattle.bz_lone.specs.FromCosts.Lone.{one_mark}
+use Rattle.bz_lone.specs.FromAlone.Undisturbed.{IsUndisturbed}
+use Rattle.bz_lone.specs.FromCosts.Solo.{one_mark}
 use Rattle.bz_lone.specs.FromCosts.Resources.{Resource, Marks, Descriptors, Slots}
 use Rattle.bz_lone.specs.FromCosts.Weights.{slots_gone, start_allows, start_takes, weigh}
 use Rattle.bz_lone.specs.Steps.{IsNext, IsOwnEffect, IsServing, effected_by, mark_of_effect}
@@ -17,7 +17,7 @@ use Rattle.bz_running.specs.Duties.{asks_of, end_of, made_of, publishing_of}
 use Rattle.bz_running.specs.Hearing.{HasHeard}
 use Rattle.bz_running.specs.Laws.{AreLaws}
 use Rattle.bz_running.specs.declared.running.AnyTask.{AnyTask}
-use Rattle.bz_swap.specs.Alone.{left_to}
+use Rattle.bz_swap.specs.Solo.{left_to}
 use Rattle.bz_swap.specs.SwapMemory.{SwapMemory}
 use Rattle.bz_task.specs.Instant.{Instant}
 use Rattle.bz_task.specs.Requests.{Hears, effects_in, swaps_in}
@@ -123,7 +123,7 @@ used-heard Descriptors m past free left stock w is = omega arith
 used-heard Slots m past free left stock w is = omega (arith, is)
 
 pub heard-in : PaidLaws → (c : Config) (m : SwapMemory) (past : List Mark) (stock : Stock) (w : ℕ) (e : Errand) (old new : AnyTask) (seen : Seen) (moment : ℕ) (free left : FreeSlots) (todo : Todo) (p : Past) → stock.left ≡ length free.free → HasHeard old seen moment free todo new left
-    → AreLaws old → AreLaws new → Hears (asks_of old) seen → (IsAlone (made_of old + effects_in seen) p → end_of new ≢ Some Restart) → IsPaidIn c m past stock w e old (effects_in seen) no_extra p
+    → AreLaws old → AreLaws new → Hears (asks_of old) seen → (IsUndisturbed (made_of old + effects_in seen) p → end_of new ≢ Some Restart) → IsPaidIn c m past stock w e old (effects_in seen) no_extra p
     → IsPaidIn c m past (record stock { left = length left.free }) w e new 0 (λ r. start_takes r todo) p
 heard-in b c m past stock w e old new seen moment free left todo p is heard before now hears stands h r counted =
     b.heard r m w e old new seen moment free left todo (used_of r m past stock w) (used_of r m past (record stock { left = length left.free }) w) (bound_of r c past w) p heard before now hears stands (used-heard r m past free left stock w is) (h r counted)

@@ -18,7 +18,7 @@ use Rattle.bz_sight.specs.Effects.{effect_instant}
 use Rattle.bz_sight.specs.Sight.{IsSeen, next_instant}
 use Rattle.bz_sight.specs.Starts.{Sees}
 use Rattle.bz_sound.specs.Calls.{Open, open_call, with_effect, map_after, map_at}
-use Rattle.bz_sound.specs.Lonely.{IsLonely}
+use Rattle.bz_sound.specs.Solitary.{IsSolitary}
 use Rattle.bz_sound.specs.Memory.ImageLaws.{IsChangeOf, ChangesKey, EffectFollows}
 use Rattle.bz_sound.specs.Memory.Moments.{image_after, map_at_start}
 use Rattle.bz_mark.specs.declared.power.Power.{Power}
@@ -32,15 +32,15 @@ use Rattle.bz_task.specs.Swaps.{Changes, ContentFollows}
 use Rattle.bz_task.specs.declared.todo.Todo.TheVariants as todo
 use Rattle.bz_world.specs.Inside.Acted.{IsStriking}
 use Rattle.bz_world.specs.Inside.Kept.{CountsPairs, IsAwake, IsTabled, AreTaken}
-use Rattle.bz_world.specs.Inside.Lonely.{IsLonelyIn}
+use Rattle.bz_world.specs.Inside.Solitary.{IsSolitaryIn}
 use Rattle.bz_world.specs.Inside.Serving.{IsServing, IsSlot, IsToldBy, effect_reply, size_after, pairs_after, tells_of}
 use Rattle.bz_world.specs.declared.parts.Parts.{Parts}
 use Rattle.bz_world.specs.declared.serving.OpenCall.{OpenCall}
 use Rattle.bz_story.proofs.Powered.{stored-since}
 use Rattle.bz_world.proofs.Alone.{waits-on}
-use Rattle.bz_world.proofs.Due.{flush-lonely}
+use Rattle.bz_world.proofs.Due.{flush-solitary}
 use Rattle.bz_world.proofs.Exact.{exact-published, had-room-on}
-use Rattle.bz_world.proofs.Lonely.{now-is}
+use Rattle.bz_world.proofs.Solitary.{now-is}
 use Rattle.bz_world.proofs.StruckEnough.{struck-enough, takes-away}
 use Rattle.bz_world.proofs.Counting.{pairs-change}
 use Rattle.bz_world.proofs.LeavesKept.{same-leaves}
@@ -48,7 +48,7 @@ use Rattle.bz_world.proofs.LeavesStruck.{struck-leaves}
 use Rattle.bz_world.proofs.Powered.{begun-in, flush-leaves, free-on}
 use Rattle.bz_lone.specs.Errands.{Errand}
 use Rattle.bz_lone.specs.Steps.{effected_by, mark_of_effect}
-use Rattle.bz_lone.specs.FromCosts.Lone.{one_mark}
+use Rattle.bz_lone.specs.FromCosts.Solo.{one_mark}
 use Rattle.bz_running.specs.declared.running.AnyTask.{AnyTask}
 use Rattle.bz_world.specs.Inside.Alone.{untold}
 use Rattle.bz_task.specs.Instant.{Instant}
@@ -61,8 +61,8 @@ use Rattle.bz_world.proofs.Paid.{flush-runs, next-is}
 use Rattle.bz_world.proofs.PaidSteps.{less-in, marks-in}
 use Rattle.bz_world.proofs.Staying.{Leaves, none-stays, serving-stays}
 use Rattle.bz_world.specs.Inside.Laws.{StrikeLaws}
-use Rattle.bz_world.proofs.Striking.{flush-calls, old, kept, w, x, its, owner, before, waits, good, after, living, opened, later, took, struck-alone, struck-meant, own-paid, other-paid, leaves, beside, goes-still, no-look}
-use Rattle.bz_world.proofs.LonelyActs.{none-struck}
+use Rattle.bz_world.proofs.Striking.{flush-calls, old, kept, w, x, its, owner, before, waits, good, after, living, opened, later, took, struck-undisturbed, struck-meant, own-paid, other-paid, leaves, beside, goes-still, no-look}
+use Rattle.bz_world.proofs.SolitaryActs.{none-struck}
 use Rattle.bz_world.proofs.StruckQuietly.{image-was, image-is, fault-is, stage-is, its-swap, its-asks, still-does}
 use Rattle.bz_world.proofs.Tabled.{tabled-marked}
 use Rattle.bz_running.specs.Kinds as kinds
@@ -70,7 +70,7 @@ use Rattle.bz_running.specs.Kinds.{kind_of}
 use Rattle.bz_mark.specs.Counts.{count_taken}
 use Rattle.bz_sound.specs.Power.Spent.{count_used}
 use Rattle.bz_mark.specs.Times.{since_on}
-use Rattle.bz_world.specs.Inside.Merging.{HasToMerge, IsDeletingAlone}
+use Rattle.bz_world.specs.Inside.Merging.{HasToMerge, IsDeletingSolitarily}
 use Rattle.bz_world.proofs.StruckFew.{changes-record, changing-delete, struck-few}
 use Rattle.bz_world.proofs.StruckShown.{shown-taken, shown-used}
 
@@ -206,9 +206,9 @@ module _ (b : StrikeLaws) (p : Parts) (s : ℕ) (h : IsStriking p s) (publishes 
       both (Some y) t = serving-stays b.scenes b.stay c p.access p.access with_flush effect_mark (after b p s h) told_story (old b p s h).owners.items (stock_of (old b p s h)) (stock_of (old b p s h)) v y lives (told-leaves v ne)
           (serving-stays b.scenes b.stay c (old b p s h).access p.access log h.mark (kept b p s h).story (after b p s h) (old b p s h).owners.items (stock_of (old b p s h)) (stock_of (old b p s h)) v y (living b p s h) (leaves b p s h v ne) t
           (λ runs. less-in b.paid c p.access with_flush.past (stock_of (old b p s h)) v (errand_of y) y.task (untold p.access (doing_of p.access v)) one_mark (scene c with_flush.past (after b p s h) v t.call_open.look.since t.opened).past (other-paid b p s h v ne y t (flush-runs c v with_flush.past h.flush runs)))
-          (record { rightly = λ quiet lonely. absurd (beside b p s h v ne lonely); exactly = λ lonely room. absurd (beside b p s h v ne lonely); duly = λ lonely. absurd (beside b p s h v ne lonely) }))
+          (record { rightly = λ quiet solitary. absurd (beside b p s h v ne solitary); exactly = λ solitary room. absurd (beside b p s h v ne solitary); duly = λ solitary. absurd (beside b p s h v ne solitary) }))
           (λ steps. marked v (errand_of y) y.task (untold p.access (doing_of p.access v)) t.call_open.look.since t.opened (begun-in (kept b p s h).living t.call_open) steps (other-paid b p s h v ne y t steps))
-          (record { rightly = λ quiet lonely. absurd (beside b p s h v ne lonely); exactly = λ lonely room. absurd (beside b p s h v ne lonely); duly = λ lonely. absurd (beside b p s h v ne lonely) })
+          (record { rightly = λ quiet solitary. absurd (beside b p s h v ne solitary); exactly = λ solitary room. absurd (beside b p s h v ne solitary); duly = λ solitary. absurd (beside b p s h v ne solitary) })
 
   -- the call, with its effect
   abbrev effected : Open
@@ -275,25 +275,25 @@ module _ (b : StrikeLaws) (p : Parts) (s : ℕ) (h : IsStriking p s) (publishes 
   }
 
   -- and a delete that leaves its leaf too small tells so, and all that was taken is shown
-  last-lonely : IsLonely worker (effect_mark ∷ h.mark ∷ log.past) → IsLonely worker (h.mark ∷ log.past)
-  last-lonely lonely = lonely
+  last-solitary : IsSolitary worker (effect_mark ∷ h.mark ∷ log.past) → IsSolitary worker (h.mark ∷ log.past)
+  last-solitary solitary = solitary
 
-  to-merge : IsLonely worker (effect_mark ∷ h.mark ∷ log.past) → (at : ℕ) → suc (length log.past) ≡ at → is_delete (x b p s h).call ≡ true
+  to-merge : IsSolitary worker (effect_mark ∷ h.mark ∷ log.past) → (at : ℕ) → suc (length log.past) ≡ at → is_delete (x b p s h).call ≡ true
       → HasToMerge c (with_mark with_flush effect_mark) effected at (scene c (effect_mark ∷ with_flush.past) told_story worker since effected).past (reach_of p.access worker) (stock_of (old b p s h)) with_moment
-  to-merge lonely at is deletes = subst (λ n. HasToMerge c (with_mark with_flush effect_mark) effected n (scene c (effect_mark ∷ with_flush.past) told_story worker since effected).past (reach_of p.access worker) (stock_of (old b p s h)) with_moment) is (record {
+  to-merge solitary at is deletes = subst (λ n. HasToMerge c (with_mark with_flush effect_mark) effected n (scene c (effect_mark ∷ with_flush.past) told_story worker since effected).past (reach_of p.access worker) (stock_of (old b p s h)) with_moment) is (record {
     after_begin = omega (arith, (its b p s h).call_open.look.after_begin, (its b p s h).call_open.look.by_now);
     by_now = omega arith;
     merging = λ may. inl (record {
       standing = record {
         stood = record { by_now = omega arith; still = refl };
-        taken = subst (λ (past : List Mark). p.access.taken ≤ count_taken c (since_on past)) (sym (at_moment-now (effect_mark ∷ h.mark ∷ log.past))) (shown-taken b p s h (last-lonely lonely) (delete-of deletes));
-        left = subst (λ (past : List Mark). c.nodes ≤ length (old b p s h).slots.free + count_used c log.start past) (sym (at_moment-now (effect_mark ∷ h.mark ∷ log.past))) (shown-used b p s h (last-lonely lonely) (delete-of deletes));
+        taken = subst (λ (past : List Mark). p.access.taken ≤ count_taken c (since_on past)) (sym (at_moment-now (effect_mark ∷ h.mark ∷ log.past))) (shown-taken b p s h (last-solitary solitary) (delete-of deletes));
+        left = subst (λ (past : List Mark). c.nodes ≤ length (old b p s h).slots.free + count_used c log.start past) (sym (at_moment-now (effect_mark ∷ h.mark ∷ log.past))) (shown-used b p s h (last-solitary solitary) (delete-of deletes));
       };
       task = inl (record {
         kind = delete-of deletes;
-        wants = (deleting lonely deletes).wants;
-        few = struck-few b p s h (delete-of deletes) is-change.0 (deleting lonely deletes) none-untold publishes (subst (λ (z : Instant). MayBeMerged c z.image (key_of its-open.call)) (now-is (after b p s h).at (suc (length log.past)) (next_instant p.access ((after b p s h).at (suc (length log.past))))) (subst (λ k. MayBeMerged c (told_story.at (suc (suc (length log.past)))).image k) (ap key_of (sym (its b p s h).call_open.call)) may));
-        waits = λ on. (ap (untold p.access) (still-does b p s h) ∙ ap (λ (z : Bool). if z then 1 else 0) h.takes.effect.done, (deleting lonely deletes).swaps);
+        wants = (deleting solitary deletes).wants;
+        few = struck-few b p s h (delete-of deletes) is-change.0 (deleting solitary deletes) none-untold publishes (subst (λ (z : Instant). MayBeMerged c z.image (key_of its-open.call)) (now-is (after b p s h).at (suc (length log.past)) (next_instant p.access ((after b p s h).at (suc (length log.past))))) (subst (λ k. MayBeMerged c (told_story.at (suc (suc (length log.past)))).image k) (ap key_of (sym (its b p s h).call_open.call)) may));
+        waits = λ on. (ap (untold p.access) (still-does b p s h) ∙ ap (λ (z : Bool). if z then 1 else 0) h.takes.effect.done, (deleting solitary deletes).swaps);
         ends = λ o e. absurd (cc (goes-still b p s h, e));
       });
     });
@@ -302,8 +302,8 @@ module _ (b : StrikeLaws) (p : Parts) (s : ℕ) (h : IsStriking p s) (publishes 
       delete-of : is_delete (x b p s h).call ≡ true → kind_of (x b p s h).task ≡ kinds.Delete
       delete-of deletes = changing-delete (x b p s h).task (changes-record (x b p s h).task publishes) (takes-away its-open.call (change_of (x b p s h).task).old (change_of (x b p s h).task).new (ap is_delete (its b p s h).call_open.call ∙ deletes) is-change.1)
 
-      deleting : IsLonely worker (effect_mark ∷ h.mark ∷ log.past) → is_delete (x b p s h).call ≡ true → IsDeletingAlone (before b p s h).past (reach_of (old b p s h).access worker) (x b p s h)
-      deleting lonely deletes = ((its b p s h).merges (flush-lonely worker h.mark log.past h.flush lonely)).deleting (sym (its b p s h).call_open.effect ∙ first) (delete-of deletes) (goes-still b p s h)
+      deleting : IsSolitary worker (effect_mark ∷ h.mark ∷ log.past) → is_delete (x b p s h).call ≡ true → IsDeletingSolitarily (before b p s h).past (reach_of (old b p s h).access worker) (x b p s h)
+      deleting solitary deletes = ((its b p s h).merges (flush-solitary worker h.mark log.past h.flush solitary)).deleting (sym (its b p s h).call_open.effect ∙ first) (delete-of deletes) (goes-still b p s h)
 
   serves-on : IsServing c p.access (with_mark with_flush effect_mark) told_story (old b p s h).owners.items (stock_of (old b p s h)) worker with_moment
   serves-on = record {
@@ -324,22 +324,22 @@ module _ (b : StrikeLaws) (p : Parts) (s : ℕ) (h : IsStriking p s) (publishes 
     finishing = inr (record { publishing = publishes; swap = s; doing = still-does b p s h });
     facts = subst (λ z. facts_of (x b p s h).task z (scene c (effect_mark ∷ h.mark ∷ log.past) told_story worker since effected)) (sym (stage-is b p s h)) knows;
     covered = (its b p s h).covered;
-    alone = waits-on c p.access p.access with_flush.past effect_mark (after b p s h) told_story worker since effected effected (x b p s h).task (next_instant p.access ((after b p s h).at (length with_flush.past))) refl (omega (arith, begun-its.by_now)) (struck-alone b p s h)
+    alone = waits-on c p.access p.access with_flush.past effect_mark (after b p s h) told_story worker since effected effected (x b p s h).task (next_instant p.access ((after b p s h).at (length with_flush.past))) refl (omega (arith, begun-its.by_now)) (struck-undisturbed b p s h)
         refl refl (λ t d. refl) (λ t d well. well);
     meant = let m = (struck-meant b p s h) in record { within = m.within; fit = record { words = m.fit.words; thawed = m.fit.thawed }; look = λ quiet. absurd (cc quiet); meant = λ quiet. absurd (cc quiet); later = λ at is. publishing-kind (x b p s h).task publishes; small = λ merge. absurd (publishing-no-merge (x b p s h).task publishes merge); copied = λ copy. absurd (publishing-no-copy (x b p s h).task publishes copy) };
     paid = λ steps. subst (λ u. IsPaidIn c p.access (effect_mark ∷ with_flush.past) (stock_of (old b p s h)) worker (errand_of with_moment) (x b p s h).task u no_extra (scene c (effect_mark ∷ with_flush.past) told_story worker since effected).past)
         (sym (ap (untold p.access) (still-does b p s h) ∙ ap (λ (z : Bool). if z then 1 else 0) h.takes.effect.done))
         (marked worker (errand_of with_moment) (x b p s h).task 1 since effected begun-its steps
         (subst (λ z. IsPaidIn c p.access with_flush.past (stock_of (old b p s h)) worker (effected_by z (errand_of (x b p s h))) (x b p s h).task 1 (λ r. mark_of_effect r z) (later b p s h).past) publishes (own-paid b p s h steps)));
-    due = λ quiet lonely. absurd (cc quiet);
-    merges = λ lonely. record {
+    due = λ quiet solitary. absurd (cc quiet);
+    merges = λ solitary. record {
       looking = λ quiet seek. absurd (cc quiet);
       deleting = λ quiet kind going. absurd (cc quiet);
-      merging = λ at is deletes. to-merge lonely at (let same : suc (length log.past) ≡ at = cc is in same) deletes;
+      merging = λ at is deletes. to-merge solitary at (let same : suc (length log.past) ≡ at = cc is in same) deletes;
     };
-    exact = λ lonely room. exact-published (its b p s h).opened effected (before b p s h).past (scene c (effect_mark ∷ with_flush.past) told_story worker since effected).past (reach_of (old b p s h).access worker) (reach_of p.access worker) (stock_of (old b p s h)) (tells_of (x b p s h)) (x b p s h) with_moment refl (λ none. absurd (cc none))
+    exact = λ solitary room. exact-published (its b p s h).opened effected (before b p s h).past (scene c (effect_mark ∷ with_flush.past) told_story worker since effected).past (reach_of (old b p s h).access worker) (reach_of p.access worker) (stock_of (old b p s h)) (tells_of (x b p s h)) (x b p s h) with_moment refl (λ none. absurd (cc none))
         h.work.taken (ap underway h.takes.effect.pending) (ap underway (still-does b p s h)) ((its b p s h).tasked.laws.last publishes) (goes-still b p s h) (no-look b p s h) (sym (its b p s h).call_open.effect ∙ first) (stood (room-at-begin room))
-        ((its b p s h).exact (flush-lonely worker h.mark log.past h.flush lonely) (room-at-begin room));
+        ((its b p s h).exact (flush-solitary worker h.mark log.past h.flush solitary) (room-at-begin room));
   }
 
   slots : (items : List (Option OpenCall)) → get_or items worker None ≡ Some with_moment → ((v : ℕ) → v ≢ worker → get_or items v None ≡ get_or (old b p s h).workers.items v None)
@@ -350,15 +350,15 @@ module _ (b : StrikeLaws) (p : Parts) (s : ℕ) (h : IsStriking p s) (publishes 
         (subst (IsSlot c p.access (with_mark with_flush effect_mark) told_story (old b p s h).owners.items (stock_of (old b p s h)) worker) (sym here-is) serves-on)
   ]
 
-  -- and no get is lonely then
-  none-lonely : (items : List (Option OpenCall)) → get_or items worker None ≡ Some with_moment → ((v : ℕ) → v ≢ worker → get_or items v None ≡ get_or (old b p s h).workers.items v None)
-      → (v : ℕ) → IsLonelyIn p.access (effect_mark ∷ h.mark ∷ log.past) told_story items v
-  none-lonely items here-is rest v y opened is is-open key get lonely = elim (cases_eq v worker) [
-    | inr ne ↦ absurd (none-struck b p s h v y (sym (rest v ne) ∙ is) key get lonely)
+  -- and no get is solitary then
+  none-solitary : (items : List (Option OpenCall)) → get_or items worker None ≡ Some with_moment → ((v : ℕ) → v ≢ worker → get_or items v None ≡ get_or (old b p s h).workers.items v None)
+      → (v : ℕ) → IsSolitaryIn p.access (effect_mark ∷ h.mark ∷ log.past) told_story items v
+  none-solitary items here-is rest v y opened is is-open key get solitary = elim (cases_eq v worker) [
+    | inr ne ↦ absurd (none-struck b p s h v y (sym (rest v ne) ∙ is) key get solitary)
     | inl e ↦ absurd (
         let both : Some with_moment ≡ Some y = sym here-is ∙ (ap (λ u. get_or items u None) (sym e) ∙ is) in
         let same : with_moment ≡ y = cc both in
-        none-struck b p s h worker (x b p s h) (owner b p s h).is key (ap (λ (z : OpenCall). z.call) same ∙ get) (subst (λ u. IsLonely u (h.mark ∷ log.past)) e lonely))
+        none-struck b p s h worker (x b p s h) (owner b p s h).is key (ap (λ (z : OpenCall). z.call) same ∙ get) (subst (λ u. IsSolitary u (h.mark ∷ log.past)) e solitary))
   ]
 
   -- and the map has as many pairs as that reply tells
@@ -387,5 +387,5 @@ module _ (b : StrikeLaws) (p : Parts) (s : ℕ) (h : IsStriking p s) (publishes 
     leaves = (λ now. same-leaves _ _ _ _ refl, (struck-leaves b p s h, (kept b p s h).leaves));
     free = free-on c log.start log.past h.mark (old b p s h).slots (after b p s h).took (flush-leaves h.mark log.past h.flush) (kept b p s h).free;
     workers = slots workers.items here-is rest;
-    lonely = none-lonely workers.items here-is rest;
+    solitary = none-solitary workers.items here-is rest;
   }

@@ -24,7 +24,7 @@ use Rattle.bz_task.specs.declared.todo.Todo.{Todo}
 use Rattle.bz_task.specs.declared.todo.Todo.TheVariants as todo
 use Rattle.bz_world.specs.Inside.Acted.{IsActed, IsBetween}
 use Rattle.bz_world.specs.Inside.Kept.{IsTabled, AreTaken, AreFree, IsAwake}
-use Rattle.bz_world.specs.Inside.Lonely.{IsLonelyIn}
+use Rattle.bz_world.specs.Inside.Solitary.{IsSolitaryIn}
 use Rattle.bz_world.specs.WorldView.{mark_of}
 use Rattle.bz_world.specs.Inside.Serving.{IsServing, IsDoing, IsSlot, stage_in, tells_of}
 use Rattle.bz_world.specs.declared.parts.Parts.{Parts}
@@ -37,10 +37,10 @@ use Rattle.bz_world.specs.Inside.Due.{TakesRightly}
 use Rattle.bz_world.specs.Inside.Exact.{CountsExactly, reach, reach_of, underway}
 use Rattle.bz_world.specs.Inside.Paid.{errand_of, no_extra, runner, stock_of, IsPaidIn}
 use Rattle.bz_world.proofs.Alone.{untold-by, waits-on, well-acted}
-use Rattle.bz_world.proofs.Due.{act-map, not-lonely, rightly-on}
+use Rattle.bz_world.proofs.Due.{act-map, not-solitary, rightly-on}
 use Rattle.bz_world.proofs.Exact.{exact-on, reach-same}
 use Rattle.bz_world.proofs.LeavesKept.{passed-leaves}
-use Rattle.bz_world.proofs.Lonely.{lonely-act}
+use Rattle.bz_world.proofs.Solitary.{solitary-act}
 use Rattle.bz_world.proofs.Paid.{act-steps, act-runs, one-steps, who-steps, paid-here, next-is}
 use Rattle.bz_world.proofs.PaidSteps.{StepsFurther, quiet-in}
 use Rattle.bz_world.proofs.Powered.{begun-in, looks-on, free-on, leaves-power, may-act}
@@ -152,7 +152,7 @@ module _ (b : StepLaws) (old new : Parts) (w : ℕ) (x : OpenCall) (made : Act) 
   further = record { left = a.step.one.spent; taken = a.step.one.others.taken }
 
   pub few-rivals : rivals new.access w ≤ rivals old.access w
-  few-rivals = let few : rivals new.access w + 0 ≤ rivals old.access w = b.lone.paid.rivals.step old.access new.access w made done None a.step in omega (arith, few)
+  few-rivals = let few : rivals new.access w + 0 ≤ rivals old.access w = b.solo.paid.rivals.step old.access new.access w made done None a.step in omega (arith, few)
 
   -- which is paid for
   pub quiet-paid : (after : Story) → IsLiving old.config new.access (with_mark old.journal (mark_of w made)) after → after.at ≡ and_then k.story.at (length old.journal.past) (next_instant new.access (k.story.at (length old.journal.past)))
@@ -160,11 +160,11 @@ module _ (b : StepLaws) (old new : Parts) (w : ℕ) (x : OpenCall) (made : Act) 
       → Continues (scene old.config old.journal.past k.story w t.call_open.look.since t.opened).past (scene old.config (mark_of w made ∷ old.journal.past) after w t.call_open.look.since t.opened).past
       → IsPaidIn old.config new.access (mark_of w made ∷ old.journal.past) (stock_of old) w (errand_of y) y.task (untold old.access (doing_of old.access w)) no_extra (scene old.config (mark_of w made ∷ old.journal.past) after w t.call_open.look.since t.opened).past
   quiet-paid after living at y t begun continues =
-      quiet-in b.lone.paid old.config old.access new.access old.journal.past (mark_of w made) (stock_of old) w (errand_of y) y.task (untold old.access (doing_of old.access w)) (scene old.config old.journal.past k.story w t.call_open.look.since t.opened).past
+      quiet-in b.solo.paid old.config old.access new.access old.journal.past (mark_of w made) (stock_of old) w (errand_of y) y.task (untold old.access (doing_of old.access w)) (scene old.config old.journal.past k.story w t.call_open.look.since t.opened).past
       (scene old.config (mark_of w made ∷ old.journal.past) after w t.call_open.look.since t.opened)
       (b.scenes old.config new.access (with_mark old.journal (mark_of w made)) after w t.call_open.look.since t.opened living begun).scene
       (next-is old.config old.journal.past (mark_of w made) k.story after w t.call_open.look.since t.opened t.opened (next_instant new.access (k.story.at (length old.journal.past))) 0 at t.call_open.look.by_now (omega arith) continues)
-      (act-steps w made old.journal.past) further few-rivals (paid-here b.lone.paid old k w y t (some-worker old k w x is-worker) (within-crew old k w x is-worker))
+      (act-steps w made old.journal.past) further few-rivals (paid-here b.solo.paid old k w y t (some-worker old k w x is-worker) (within-crew old k w x is-worker))
 
   -- and the others do not step
   pub none-pays : (after : Story) (v : ℕ) → v ≢ w → Pays old.config old.access old.journal (mark_of w made) k.story after old.owners.items (stock_of old) (stock_of old) new.access v
@@ -173,10 +173,10 @@ module _ (b : StepLaws) (old new : Parts) (w : ℕ) (x : OpenCall) (made : Act) 
   -- none of them is alone, and the worker itself has taken no more
   pub none-takes : (after : Story) (v : ℕ) → v ≢ w → Takes old.config old.access old.journal (mark_of w made) k.story after old.owners.items (stock_of old) (stock_of old) new.access v
   none-takes after v ne = none-takes-well old.config old.access new.access old.journal (mark_of w made) k.story after old.owners.items (stock_of old) (stock_of old) v
-      (not-lonely b.lonely.alone w v (mark_of w made ∷ old.journal.past) s.opened (act-calls w w old.journal.past made ∙ s.call_open.is_open) ne)
+      (not-solitary b.solitary.alone w v (mark_of w made ∷ old.journal.past) s.opened (act-calls w w old.journal.past made ∙ s.call_open.is_open) ne)
 
   pub own-rightly : (y : OpenCall) → IsServing old.config old.access old.journal k.story old.owners.items (stock_of old) w y → TakesRightly old.config new.access.taken (with_mark old.journal (mark_of w made)) (stock_of old) w y
-  own-rightly y t = rightly-on old.config old.access.taken new.access.taken old.journal (mark_of w made) (stock_of old) w y a.step.one.others.taken (act-map w made old.journal.past) (lonely-act w w old.journal.past made) t.due
+  own-rightly y t = rightly-on old.config old.access.taken new.access.taken old.journal (mark_of w made) (stock_of old) w y a.step.one.others.taken (act-map w made old.journal.past) (solitary-act w w old.journal.past made) t.due
 
   -- with as many of its swaps under way, and of its effects that it was not told
   pub own-exactly : (after : Story) → after.at ≡ and_then k.story.at (length old.journal.past) (next_instant new.access (k.story.at (length old.journal.past))) → (untold_now way : ℕ) → untold old.access (doing_of old.access w) ≡ untold_now → underway (doing_of old.access w) ≡ way
@@ -184,16 +184,16 @@ module _ (b : StepLaws) (old new : Parts) (w : ℕ) (x : OpenCall) (made : Act) 
       → CountsExactly old.config (with_mark old.journal (mark_of w made)) w t.opened (scene old.config (mark_of w made ∷ old.journal.past) after w t.call_open.look.since t.opened).past (reach new.access.taken untold_now way) (stock_of old) (tells_of y) y
   own-exactly after at untold_now way unheard under y t = exact-on old.config old.journal (mark_of w made) k.story after w t.call_open.look.since t.opened (next_instant new.access (k.story.at (length old.journal.past))) at t.call_open.look.by_now (omega (arith, t.call_open.look.after_begin, t.call_open.look.by_now)) refl
       (reach_of old.access w) (reach new.access.taken untold_now way) (stock_of old) (tells_of y) y (reach-same new.access.taken untold_now way old.access.taken (untold old.access (doing_of old.access w)) (underway (doing_of old.access w)) a.step.one.others.taken (sym unheard) (sym under))
-      (lonely-act w w old.journal.past made) t.exact
+      (solitary-act w w old.journal.past made) t.exact
 
   -- and the merge that is due as due
   pub own-duly : (after : Story) → after.at ≡ and_then k.story.at (length old.journal.past) (next_instant new.access (k.story.at (length old.journal.past))) → (untold_now way : ℕ) → untold old.access (doing_of old.access w) ≡ untold_now → underway (doing_of old.access w) ≡ way
       → (y : OpenCall) (t : IsServing old.config old.access old.journal k.story old.owners.items (stock_of old) w y)
       → Continues (scene old.config old.journal.past k.story w t.call_open.look.since t.opened).past (scene old.config (mark_of w made ∷ old.journal.past) after w t.call_open.look.since t.opened).past
       → MergesDuly old.config (with_mark old.journal (mark_of w made)) w t.opened (scene old.config (mark_of w made ∷ old.journal.past) after w t.call_open.look.since t.opened).past (reach new.access.taken untold_now way) (stock_of old) y
-  own-duly after at untold_now way unheard under y t continues lonely = duly-later old.config old.journal (mark_of w made) (scene old.config old.journal.past k.story w t.call_open.look.since t.opened).past (scene old.config (mark_of w made ∷ old.journal.past) after w t.call_open.look.since t.opened).past
-      continues t.call_open.look.by_now refl (still-effects k.story after (length old.journal.past) (next_instant new.access (k.story.at (length old.journal.past))) at refl) b.lone.known (reach_of old.access w) (stock_of old) y t.opened (reach new.access.taken untold_now way)
-      (reach-same new.access.taken untold_now way old.access.taken (untold old.access (doing_of old.access w)) (underway (doing_of old.access w)) a.step.one.others.taken (sym unheard) (sym under)) (t.merges (lonely-act w w old.journal.past made lonely))
+  own-duly after at untold_now way unheard under y t continues solitary = duly-later old.config old.journal (mark_of w made) (scene old.config old.journal.past k.story w t.call_open.look.since t.opened).past (scene old.config (mark_of w made ∷ old.journal.past) after w t.call_open.look.since t.opened).past
+      continues t.call_open.look.by_now refl (still-effects k.story after (length old.journal.past) (next_instant new.access (k.story.at (length old.journal.past))) at refl) b.solo.known (reach_of old.access w) (stock_of old) y t.opened (reach new.access.taken untold_now way)
+      (reach-same new.access.taken untold_now way old.access.taken (untold old.access (doing_of old.access w)) (underway (doing_of old.access w)) a.step.one.others.taken (sym unheard) (sym under)) (t.merges (solitary-act w w old.journal.past made solitary))
 
   pub own-takes : (after : Story) → after.at ≡ and_then k.story.at (length old.journal.past) (next_instant new.access (k.story.at (length old.journal.past))) → SameFor old.access new.access w
       → ((y : OpenCall) (t : IsServing old.config old.access old.journal k.story old.owners.items (stock_of old) w y) → Continues (scene old.config old.journal.past k.story w t.call_open.look.since t.opened).past (scene old.config (mark_of w made ∷ old.journal.past) after w t.call_open.look.since t.opened).past)
@@ -217,7 +217,7 @@ module _ (b : StepLaws) (old new : Parts) (w : ℕ) (x : OpenCall) (made : Act) 
     took = took;
     filled = filled;
     alone = λ since opened t l h. waits-on old.config old.access new.access old.journal.past (mark_of w made) k.story after v since opened opened t (next_instant new.access (k.story.at (length old.journal.past))) at l h refl same.doing same.effects
-        (λ j d well. well-acted b.lone.wins old.access new.access w made done j a.step well);
+        (λ j d well. well-acted b.solo.wins old.access new.access w made done j a.step well);
   }) pays takes (k.workers v)
 
   pub tabled : length old.journal.past < old.config.marks → IsTabled new
@@ -229,8 +229,8 @@ module _ (b : StepLaws) (old new : Parts) (w : ℕ) (x : OpenCall) (made : Act) 
 
   -- the world goes on
   pub goes-on : (after : Story) → length old.journal.past < old.config.marks → IsLiving old.config new.access (with_mark old.journal (mark_of w made)) after
-      → AreFree old.config (image_at_on old.journal.start old.journal.past) old.slots after.took → ((v : ℕ) → IsSlot old.config new.access (with_mark old.journal (mark_of w made)) after old.owners.items (stock_of old) v (get_or old.workers.items v None)) → ((v : ℕ) → IsLonelyIn new.access (mark_of w made ∷ old.journal.past) after old.workers.items v) → IsAwake new
-  goes-on after room living free slots lonely = subst IsAwake (sym a.rest) (record {
+      → AreFree old.config (image_at_on old.journal.start old.journal.past) old.slots after.took → ((v : ℕ) → IsSlot old.config new.access (with_mark old.journal (mark_of w made)) after old.owners.items (stock_of old) v (get_or old.workers.items v None)) → ((v : ℕ) → IsSolitaryIn new.access (mark_of w made ∷ old.journal.past) after old.workers.items v) → IsAwake new
+  goes-on after room living free slots solitary = subst IsAwake (sym a.rest) (record {
     on = k.on;
     story = after;
     tabled = subst IsTabled a.rest (tabled room);
@@ -240,7 +240,7 @@ module _ (b : StepLaws) (old new : Parts) (w : ℕ) (x : OpenCall) (made : Act) 
     leaves = (leaves, k.leaves);
     free = free-on old.config old.journal.start old.journal.past (mark_of w made) old.slots after.took (leaves-power w old.journal.past made) free;
     workers = slots;
-    lonely = lonely;
+    solitary = solitary;
   })
 
   -- and the worker, whose operation was answered, is to be told

@@ -7,7 +7,7 @@ use Rattle.bz_acts.specs.declared.acted.Act.{Act}
 use Rattle.bz_acts.specs.declared.acted.Act.TheVariants as act
 use Rattle.bz_call.specs.declared.replies.Reply.{Reply}
 use Rattle.bz_call.specs.declared.replies.Reply.TheVariants.{Full}
-use Rattle.bz_lone.specs.FromCosts.Lone.{begin_marks}
+use Rattle.bz_lone.specs.FromCosts.Solo.{begin_marks}
 use Rattle.bz_layout.specs.declared.config.Config.{Config}
 use Rattle.bz_layout.specs.declared.thresholds.TheConstants.{MARKS_PER_CALL}
 use Rattle.bz_mark.specs.Log.{Log}
@@ -17,8 +17,8 @@ use Rattle.bz_sound.specs.Calls.{Open, open_call, with_effect}
 use Rattle.bz_mark.specs.Times.{power_of}
 use Rattle.bz_mark.specs.declared.power.Power.{Power}
 use Rattle.bz_mark.specs.declared.power.Power.TheVariants as power
-use Rattle.bz_world.specs.Solo.{StepsOn, MayStep, EndsAlone, HasBegunAlone, IsFullOfLittle, RunsAlone}
-use Rattle.bz_world.specs.WorldView.{WorldView, Supply, power_in, is_short, step_refusal, step_by, mark_of, before_run, begins_alone, run_marks, deadline_from, HadFew, IsStruck, IsEnding, GoesOn, KeepsSupply, RunsWhole, Steps, StepsBy, Recovers, IsApplied}
+use Rattle.bz_world.specs.Solo.{StepsOn, MayStep, EndsAlone, HasBegunSolitary, IsFullOfLittle, RunsSolo}
+use Rattle.bz_world.specs.WorldView.{WorldView, Supply, power_in, is_short, step_refusal, step_by, mark_of, before_run, begins_solitary, run_marks, deadline_from, HadFew, IsStruck, IsEnding, GoesOn, KeepsSupply, RunsWhole, Steps, StepsBy, Recovers, IsApplied}
 use Rattle.bz_world.specs.declared.answers.Applied.{Applied}
 use Rattle.bz_world.specs.declared.answers.Applied.TheVariants as applied
 use Rattle.bz_world.specs.declared.answers.Event.TheVariants as event
@@ -70,7 +70,7 @@ struck-is at_start w made past struck (inr (v, (n, is))) = record {
 -- so few marks were added
 pub record IsInTime (old : WorldView) (w : ℕ) (lab : WorldView) : Type 0 where
   pub marks : length lab.log.past ≤ length old.log.past + MARKS_PER_CALL * (old.config.workers + 2)
-  pub whole : begins_alone old.config w old.log.past ≡ true → length lab.log.past + begin_marks ≤ length old.log.past + MARKS_PER_CALL
+  pub whole : begins_solitary old.config w old.log.past ≡ true → length lab.log.past + begin_marks ≤ length old.log.past + MARKS_PER_CALL
 
 begin-fits : begin_marks ≤ MARKS_PER_CALL
 begin-fits = omega arith
@@ -81,14 +81,14 @@ run-fits c true = omega arith
 run-fits c false = omega arith
 
 -- where it has just begun its call, with no other open, its run is still to begin
-begin-now : (c : Config) (w : ℕ) (past : List Mark) → begins_alone c w past ≡ true → before_run w past ≡ past
+begin-now : (c : Config) (w : ℕ) (past : List Mark) → begins_solitary c w past ≡ true → before_run w past ≡ past
 begin-now c w [] begins = refl
 begin-now c w (mark.Begin v n called ∷ past) begins = refl
 begin-now c w (m ∷ past) begins = absurd (true≢false (sym begins))
 
-in-time : (c : Config) (w now : ℕ) (past : List Mark) → now ≤ deadline_from c w (before_run w past) → (now ≤ length past + MARKS_PER_CALL * (c.workers + 2)) × (begins_alone c w past ≡ true → now + begin_marks ≤ length past + MARKS_PER_CALL)
+in-time : (c : Config) (w now : ℕ) (past : List Mark) → now ≤ deadline_from c w (before_run w past) → (now ≤ length past + MARKS_PER_CALL * (c.workers + 2)) × (begins_solitary c w past ≡ true → now + begin_marks ≤ length past + MARKS_PER_CALL)
 in-time c w now past l = (
-  omega (arith, l, run-fits c (begins_alone c w (before_run w past)), run-by-now w past),
+  omega (arith, l, run-fits c (begins_solitary c w (before_run w past)), run-by-now w past),
   λ begins.
       let by : deadline_from c w (before_run w past) ≡ length past + run_marks c true = ap (deadline_from c w) (begin-now c w past begins) ∙ ap (λ (b : Bool). length past + run_marks c b) begins in
       omega (arith, l, by, begin-fits),
@@ -101,10 +101,10 @@ pub record Alone (old : WorldView) (w : ℕ) (lab : WorldView) : Type 0 where
   pub run : before_run w lab.log.past ≡ before_run w old.log.past
   pub few : IsInTime old w lab
   pub at_begin : lab.at_begin ≡ old.at_begin
-  pub supplied : HasBegunAlone old w → KeepsSupply old.supply lab.supply
+  pub supplied : HasBegunSolitary old w → KeepsSupply old.supply lab.supply
 
-pub alone-at-first : (old : WorldView) (w : ℕ) → MayStep old w → Alone old w old
-alone-at-first old w may = record {
+pub solo-at-first : (old : WorldView) (w : ℕ) → MayStep old w → Alone old w old
+solo-at-first old w may = record {
   may = may;
   config = refl;
   run = refl;
@@ -141,16 +141,16 @@ within : (old last new : WorldView) (w : ℕ) (answer : Applied) → Alone old w
 within old last new w answer a s =
     let struck = struck-is last.at_start w s.made last.log.past s.struck s.effect in
     let bound : length new.log.past ≤ deadline_from old.config w (before_run w old.log.past) = subst (λ (before : List Mark). length new.log.past ≤ deadline_from old.config w before) (struck.run ∙ a.run)
-    (subst (λ (c : Config). length new.log.past ≤ deadline_from c w (before_run w s.struck)) (s.config ∙ a.config) s.lone) in
+    (subst (λ (c : Config). length new.log.past ≤ deadline_from c w (before_run w s.struck)) (s.config ∙ a.config) s.solo) in
     let both = in-time old.config w (length new.log.past) old.log.past bound in
     record { marks = both.0; whole = both.1 }
 
 -- and so is what it takes, where its run began at the begin of its call
-module _ (old last new : WorldView) (w : ℕ) (answer : Applied) (a : Alone old w last) (s : Steps last w answer new) (begins : HasBegunAlone old w) where
+module _ (old last new : WorldView) (w : ℕ) (answer : Applied) (a : Alone old w last) (s : Steps last w answer new) (begins : HasBegunSolitary old w) where
   runs-whole : RunsWhole new.config w s.struck
   runs-whole =
       let struck = struck-is last.at_start w s.made last.log.past s.struck s.effect in
-      subst (λ (c : Config). RunsWhole c w s.struck) (sym (s.config ∙ a.config)) (ap (begins_alone old.config w) (struck.run ∙ (a.run ∙ begin-now old.config w old.log.past begins.newest)) ∙ begins.newest)
+      subst (λ (c : Config). RunsWhole c w s.struck) (sym (s.config ∙ a.config)) (ap (begins_solitary old.config w) (struck.run ∙ (a.run ∙ begin-now old.config w old.log.past begins.newest)) ∙ begins.newest)
 
   supply-at : new.at_begin ≡ old.supply
   supply-at = s.at_begin ∙ (a.at_begin ∙ begins.supply)
@@ -175,8 +175,8 @@ no-end : (lab : WorldView) (w n at : ℕ) (reply : Reply) (before : List Mark) �
 no-end lab w n at reply before some is = not-ended (w == w) (open_call w before) (grind (arith, nat_tests)) (subst (λ (z : List Mark). open_call w z ≢ None) is some)
 
 -- its call goes on
-pub alone-on : (old last new : WorldView) (w : ℕ) → Alone old w last → IsApplied last (event.Step w) applied.Stepped new → Alone old w new
-alone-on old last new w a h = elim (stepped last w applied.Stepped new a.may h) [
+pub undisturbed-on : (old last new : WorldView) (w : ℕ) → Alone old w last → IsApplied last (event.Step w) applied.Stepped new → Alone old w new
+undisturbed-on old last new w a h = elim (stepped last w applied.Stepped new a.may h) [
   | inl short ↦ absurd (cc short.answered)
   | inr s ↦ (
       let struck = struck-is last.at_start w s.made last.log.past s.struck s.effect in
@@ -202,8 +202,8 @@ ended-or applied.Stepped log new w g s = absurd (s refl)
 ended-or (applied.Ended n) log new w g s = (n, refl)
 ended-or other log new w g s = absurd g
 
-pub alone-ends : (old last new : WorldView) (w : ℕ) (answer : Applied) → Alone old w last → IsApplied last (event.Step w) answer new → answer ≢ applied.Stepped → EndsAlone old w answer new
-alone-ends old last new w answer a h stops = elim (stepped last w answer new a.may h) [
+pub solo-ends : (old last new : WorldView) (w : ℕ) (answer : Applied) → Alone old w last → IsApplied last (event.Step w) answer new → answer ≢ applied.Stepped → EndsAlone old w answer new
+solo-ends old last new w answer a h stops = elim (stepped last w answer new a.may h) [
   | inl short ↦ record {
     answered = inr (short.answered, ap (λ (z : WorldView). is_short z.log) short.same ∙ short.short);
     marks = (few short.same).marks;
@@ -224,37 +224,37 @@ alone-ends old last new w answer a h stops = elim (stepped last w answer new a.m
     few same = subst (IsInTime old w) (sym same) a.few
 
 -- so far each step was answered Stepped
-pub record GoesOnAlone (old : WorldView) (w : ℕ) (new : WorldView) : Type 0 where
+pub record GoesOnSolo (old : WorldView) (w : ℕ) (new : WorldView) : Type 0 where
   pub steps : ℕ
   pub stepped : StepsOn steps old w new
   pub alone : MayStep old w → Alone old w new
 
 -- or the newest was not
 abbrev pub GoneOn : WorldView → ℕ → Applied → WorldView → Type 0
-GoneOn old w answer new = ((answer ≡ applied.Stepped) × GoesOnAlone old w new) ⊎ ((answer ≢ applied.Stepped) × RunsAlone old w answer new)
+GoneOn old w answer new = ((answer ≡ applied.Stepped) × GoesOnSolo old w new) ⊎ ((answer ≢ applied.Stepped) × RunsSolo old w answer new)
 
 pub no-step : (old : WorldView) (w : ℕ) → GoneOn old w applied.Stepped old
-no-step old w = inl (refl, record { steps = 0; stepped = refl; alone = alone-at-first old w })
+no-step old w = inl (refl, record { steps = 0; stepped = refl; alone = solo-at-first old w })
 
-ends-run : (old last new : WorldView) (w : ℕ) (answer : Applied) → GoesOnAlone old w last → IsApplied last (event.Step w) answer new → answer ≢ applied.Stepped → RunsAlone old w answer new
+ends-run : (old last new : WorldView) (w : ℕ) (answer : Applied) → GoesOnSolo old w last → IsApplied last (event.Step w) answer new → answer ≢ applied.Stepped → RunsSolo old w answer new
 ends-run old last new w answer g h stops = record {
   steps = g.steps;
   last = last;
   stepped = g.stepped;
   answered = h;
   stops = stops;
-  ends = λ may. alone-ends old last new w answer (g.alone may) h stops;
+  ends = λ may. solo-ends old last new w answer (g.alone may) h stops;
 }
 
-step-on : (old mid new : WorldView) (w : ℕ) (answer : Applied) → GoesOnAlone old w mid → IsApplied mid (event.Step w) answer new → GoneOn old w answer new
-step-on old mid new w applied.Stepped g h = inl (refl, record { steps = suc g.steps; stepped = (mid, (g.stepped, h)); alone = λ may. alone-on old mid new w (g.alone may) h })
+step-on : (old mid new : WorldView) (w : ℕ) (answer : Applied) → GoesOnSolo old w mid → IsApplied mid (event.Step w) answer new → GoneOn old w answer new
+step-on old mid new w applied.Stepped g h = inl (refl, record { steps = suc g.steps; stepped = (mid, (g.stepped, h)); alone = λ may. undisturbed-on old mid new w (g.alone may) h })
 step-on old mid new w answer g h = inr (λ e. absurd (cc e), ends-run old mid new w answer g h (λ e. absurd (cc e)))
 
 pub next-step : (old mid new : WorldView) (w : ℕ) (before answer : Applied) → before ≡ applied.Stepped → GoneOn old w before mid → IsApplied mid (event.Step w) answer new → GoneOn old w answer new
 next-step old mid new w before answer is (inl g) h = step-on old mid new w answer g.1 h
 next-step old mid new w before answer is (inr g) h = absurd (g.0 is)
 
-pub run-ends : (old new : WorldView) (w : ℕ) (answer : Applied) → answer ≢ applied.Stepped → GoneOn old w answer new → RunsAlone old w answer new
+pub run-ends : (old new : WorldView) (w : ℕ) (answer : Applied) → answer ≢ applied.Stepped → GoneOn old w answer new → RunsSolo old w answer new
 run-ends old new w answer stops (inl g) = absurd (stops g.0)
 run-ends old new w answer stops (inr g) = g.1
 

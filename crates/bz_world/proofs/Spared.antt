@@ -15,7 +15,7 @@ use Rattle.bz_task.specs.Outcomes.{IsView}
 use Rattle.bz_task.specs.declared.view.LeafView.{LeafView}
 use Rattle.bz_word.specs.Statuses.{status}
 use Rattle.bz_world.specs.Inside.Room.{LacksRoomFor, HasRoomFor}
-use Rattle.bz_lone.specs.FromAlone.Alone.{IsAlone}
+use Rattle.bz_lone.specs.FromAlone.Undisturbed.{IsUndisturbed}
 use Rattle.bz_call.specs.declared.replies.Spent.{Spent}
 use Rattle.bz_call.specs.declared.calls.Call.{Call}
 use Rattle.bz_call.specs.declared.calls.Call.TheVariants as call
@@ -41,7 +41,7 @@ use Rattle.bz_task.specs.declared.todo.Outcome.TheVariants.{Done}
 use Rattle.bz_task.specs.declared.todo.Todo.{Todo}
 use Rattle.bz_task.specs.declared.todo.Todo.TheVariants.{Finish}
 use Rattle.bz_world.specs.Inside.Going.{MustGoOn, MustFind, MustAnswer, HasEnded, HasRoomForEnd, known}
-use Rattle.bz_world.specs.Inside.Laws.{AloneLaws, RoundLaws}
+use Rattle.bz_world.specs.Inside.Laws.{UndisturbedLaws, RoundLaws}
 use Rattle.bz_world.specs.Inside.Meant.{IsMeant}
 use Rattle.bz_world.specs.Inside.Paid.{bound_in, errand_of, no_extra, used_in, IsPaidFor, HasARoundAs, HasToSpare}
 use Rattle.bz_world.specs.declared.parts.Parts.{Parts}
@@ -123,7 +123,7 @@ seeks (call.Get key) = inl refl
 seeks (call.Page key) = inl refl
 
 pub task-paid : RoundLaws → (p : Parts) (w : ℕ) (on : MustGoOn p w) (task : AnyTask) (way : Option Path) (had : Option (List ℕ)) (k : Kind) → kind_of task ≡ k → AreLaws task → asks_of task ≡ None → made_of task ≡ 0
-    → IsMeant (record on.serving { task = task; path = way; had = had }) (known p w on).past → (on.serving.effect ≡ None → k ≡ kinds.Merge → IsAlone 0 (known p w on).past → IsSmall (errand_of on.serving) (known p w on).past)
+    → IsMeant (record on.serving { task = task; path = way; had = had }) (known p w on).past → (on.serving.effect ≡ None → k ≡ kinds.Merge → IsUndisturbed 0 (known p w on).past → IsSmall (errand_of on.serving) (known p w on).past)
     → HasToSpare p w on.serving (known p w on).past (λ r q. most_in r k + coming r q (errand_of on.serving) k) → IsPaidFor p w (record on.serving { task = task; path = way; had = had }) 0 no_extra (known p w on).past
 task-paid b p w on task way had k kind laws asks made meant small spares r counted =
     b.tasks r p.access w (errand_of on.serving) task (used_in r p w) (bound_in r p w) (known p w on).past (no-end (end_of task) (asks_of task) laws.only asks) made meant.within (λ quiet. meant.look (none-of on.serving.effect quiet))
@@ -184,29 +184,29 @@ has-stage (call.Get key) st s w t h = absurd (cc w)
 has-stage (call.Page key) st s w t h = absurd (cc w)
 
 -- a leaf that was read whole, and has no room
-pub read-lacks : AloneLaws → (p : Parts) (w : ℕ) (view : LeafView) (m : MustAnswer p w view) → is_read m.on.serving.call ≡ false → LacksRoomFor m.on.serving.call view.status → HasToSpare p w m.on.serving (known p w m.on).past (λ r q. q.viewed)
+pub read-lacks : UndisturbedLaws → (p : Parts) (w : ℕ) (view : LeafView) (m : MustAnswer p w view) → is_read m.on.serving.call ≡ false → LacksRoomFor m.on.serving.call view.status → HasToSpare p w m.on.serving (known p w m.on).past (λ r q. q.viewed)
 read-lacks b p w view m write lacks r counted = (b.rounds.read r).lacks p.access w (errand_of m.on.serving) (used_in r p w) (bound_in r p w) (known p w m.on).past (ap is_some m.quiet) write
     (λ alone. lacks-stage m.on.serving.call view.status (known p w m.on) (b.rounds.stages (key_of m.on.serving.call) view (known p w m.on) (known-scene b.scenes p w m.on) alone m.viewed) lacks) (m.spares r counted)
 
 -- or has it, so that the key is looked up again
-pub read-has : AloneLaws → (p : Parts) (w : ℕ) (view : LeafView) (m : MustAnswer p w view) → is_read m.on.serving.call ≡ false → HasRoomFor m.on.serving.call view.status
+pub read-has : UndisturbedLaws → (p : Parts) (w : ℕ) (view : LeafView) (m : MustAnswer p w view) → is_read m.on.serving.call ≡ false → HasRoomFor m.on.serving.call view.status
     → HasARoundAs p w (after (errand_of m.on.serving) (kind_of m.on.serving.task)) (known p w m.on).past
 read-has b p w view m write has = subst (λ k. HasARoundAs p w (after (errand_of m.on.serving) k) (known p w m.on).past) (sym m.kind)
     (λ r counted. (b.rounds.read r).has p.access w (errand_of m.on.serving) (used_in r p w) (bound_in r p w) (known p w m.on).past (ap is_some m.quiet) write
     (λ alone. has-stage m.on.serving.call view.status (known p w m.on) write (b.rounds.stages (key_of m.on.serving.call) view (known p w m.on) (known-scene b.scenes p w m.on) alone m.viewed) has) (m.spares r counted))
 
 -- a frozen leaf that lacks the room is small, or large; one that is not is frozen first
-pub is-small : AloneLaws → (p : Parts) (w : ℕ) (on : MustGoOn p w) (view : LeafView) → IsView (key_of on.serving.call) view (known p w on).past → (status view.status).frozen ≡ true → live_of (node_of view.image.0) ≤ SPLIT_ABOVE → IsAlone 0 (known p w on).past → IsSmall (errand_of on.serving) (known p w on).past
+pub is-small : UndisturbedLaws → (p : Parts) (w : ℕ) (on : MustGoOn p w) (view : LeafView) → IsView (key_of on.serving.call) view (known p w on).past → (status view.status).frozen ≡ true → live_of (node_of view.image.0) ≤ SPLIT_ABOVE → IsUndisturbed 0 (known p w on).past → IsSmall (errand_of on.serving) (known p w on).past
 is-small b p w on view viewed frozen few alone =
     let t = b.rounds.views (key_of on.serving.call) view (known p w on) (known-scene b.scenes p w on) alone viewed in
     record { frozen = t.frozen ∙ frozen; few = t.crowded ∙ not-many (live_of (node_of view.image.0)) few }
 
-pub is-large : AloneLaws → (p : Parts) (w : ℕ) (on : MustGoOn p w) (view : LeafView) → IsView (key_of on.serving.call) view (known p w on).past → (status view.status).frozen ≡ true → SPLIT_ABOVE < live_of (node_of view.image.0) → IsAlone 0 (known p w on).past → IsLarge (errand_of on.serving) (known p w on).past
+pub is-large : UndisturbedLaws → (p : Parts) (w : ℕ) (on : MustGoOn p w) (view : LeafView) → IsView (key_of on.serving.call) view (known p w on).past → (status view.status).frozen ≡ true → SPLIT_ABOVE < live_of (node_of view.image.0) → IsUndisturbed 0 (known p w on).past → IsLarge (errand_of on.serving) (known p w on).past
 is-large b p w on view viewed frozen many alone =
     let t = b.rounds.views (key_of on.serving.call) view (known p w on) (known-scene b.scenes p w on) alone viewed in
     record { frozen = t.frozen ∙ frozen; many = t.crowded ∙ too-many (live_of (node_of view.image.0)) many }
 
-pub is-lacking : AloneLaws → (p : Parts) (w : ℕ) (on : MustGoOn p w) (view : LeafView) → IsView (key_of on.serving.call) view (known p w on).past → (status view.status).frozen ≡ false → LacksRoomFor on.serving.call view.status → IsAlone 0 (known p w on).past → IsLacking (errand_of on.serving) (known p w on).past
+pub is-lacking : UndisturbedLaws → (p : Parts) (w : ℕ) (on : MustGoOn p w) (view : LeafView) → IsView (key_of on.serving.call) view (known p w on).past → (status view.status).frozen ≡ false → LacksRoomFor on.serving.call view.status → IsUndisturbed 0 (known p w on).past → IsLacking (errand_of on.serving) (known p w on).past
 is-lacking b p w on view viewed thawed lacks alone =
     let t = b.rounds.views (key_of on.serving.call) view (known p w on) (known-scene b.scenes p w on) alone viewed in
     record { thawed = t.frozen ∙ thawed; lacks = lacks-stage on.serving.call view.status (known p w on) (b.rounds.stages (key_of on.serving.call) view (known p w on) (known-scene b.scenes p w on) alone viewed) lacks }

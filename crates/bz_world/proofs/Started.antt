@@ -72,21 +72,21 @@ module _ (b : StartLaws) (p : Parts) (w : ℕ) where
 
   pub read-kept : (a : ℕ) → MustStart p w (todo.Read a) → (new : SwapMemory) → new ≡ started p.access w (Reading a) → Holds new → IsAwake (record p { access = new })
   read-kept a m new is holds = subst (λ z. IsAwake (record p { access = z })) (sym is)
-      (started-kept b.lone b.starts b.begun b.lonely.alone p w (todo.Read a) m (Reading a) (subst Holds is holds) (starts-it p.access w (Reading a) (may-work p w (todo.Read a) m).within) refl (λ s e. absurd (cc e)) refl)
+      (started-kept b.solo b.starts b.begun b.solitary.alone p w (todo.Read a) m (Reading a) (subst Holds is holds) (starts-it p.access w (Reading a) (may-work p w (todo.Read a) m).within) refl (λ s e. absurd (cc e)) refl)
 
   pub store-kept : (a v : ℕ) → MustStart p w (todo.Store a v) → (new : SwapMemory) → new ≡ started p.access w (Storing a v) → Holds new → IsAwake (record p { access = new })
   store-kept a v m new is holds = subst (λ z. IsAwake (record p { access = z })) (sym is)
-      (started-kept b.lone b.starts b.begun b.lonely.alone p w (todo.Store a v) m (Storing a v) (subst Holds is holds) (starts-it p.access w (Storing a v) (may-work p w (todo.Store a v) m).within, store-within p.access w a v (may-work p w (todo.Store a v) m).some (may-store a v m)) refl (λ s e. absurd (cc e)) refl)
+      (started-kept b.solo b.starts b.begun b.solitary.alone p w (todo.Store a v) m (Storing a v) (subst Holds is holds) (starts-it p.access w (Storing a v) (may-work p w (todo.Store a v) m).within, store-within p.access w a v (may-work p w (todo.Store a v) m).some (may-store a v m)) refl (λ s e. absurd (cc e)) refl)
 
   pub flush-kept : (line : ℕ) → MustStart p w (todo.Flush line) → (new : SwapMemory) → new ≡ started p.access w (Flushing line) → Holds new → IsAwake (record p { access = new })
   flush-kept line m new is holds = subst (λ z. IsAwake (record p { access = z })) (sym is)
-      (started-kept b.lone b.starts b.begun b.lonely.alone p w (todo.Flush line) m (Flushing line) (subst Holds is holds) (starts-it p.access w (Flushing line) (may-work p w (todo.Flush line) m).within, flush-within p.access w line (may-work p w (todo.Flush line) m).some (may-flush line m)) refl (λ s e. absurd (cc e)) refl)
+      (started-kept b.solo b.starts b.begun b.solitary.alone p w (todo.Flush line) m (Flushing line) (subst Holds is holds) (starts-it p.access w (Flushing line) (may-work p w (todo.Flush line) m).within, flush-within p.access w line (may-work p w (todo.Flush line) m).some (may-flush line m)) refl (λ s e. absurd (cc e)) refl)
 
   -- a swap: its number is the next one, and the table names the worker
   pub swap-kept : (entries : List Entry) → MustStart p w (todo.Swap entries) → IsEntryList entries → p.access.taken < p.access.swaps → (new : SwapMemory) → new ≡ swapping p.access w entries → Holds new
       → IsAwake (record p { access = new; owners = with_item p.owners p.access.taken w })
   swap-kept entries m list room new is holds = subst (λ z. IsAwake (record p { access = z; owners = with_item p.owners p.access.taken w })) (sym is)
-      (swapping-kept b.lone b.starts b.scenes b.begun b.lonely.alone p w entries m (may-swap entries m) (asked-for (todo.Swap entries) m).askable (subst Holds is holds) list below (with_item p.owners p.access.taken w)
+      (swapping-kept b.solo b.starts b.scenes b.begun b.solitary.alone p w entries m (may-swap entries m) (asked-for (todo.Swap entries) m).askable (subst Holds is holds) list below (with_item p.owners p.access.taken w)
       (length-set p.owners.items p.access.taken w ∙ m.asking.between.tabled.owner_places)
       (get_or-set_same p.owners.items p.access.taken w 0 (omega (arith, below, m.asking.between.tabled.owner_places)))
       (λ s ne. get_or-set_other p.owners.items p.access.taken s w 0 ne))

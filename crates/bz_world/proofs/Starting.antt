@@ -7,7 +7,7 @@ use Rattle.bz_lone.specs.FromAlone.Counts.{HasOthers}
 use Rattle.bz_running.specs.Duties.{made_of, facts_of}
 use Rattle.bz_sight.specs.Sight.{IsSeen}
 use Rattle.bz_sight.specs.Starts.{StartsAreSeen, Sees}
-use Rattle.bz_sound.specs.Lonely.{LonelyCallsAreAlone}
+use Rattle.bz_sound.specs.Solitary.{NoneIsOpenBesideASolitaryCall}
 use Rattle.bz_story.specs.Living.{IsLiving}
 use Rattle.bz_story.specs.Story.{Story, scene}
 use Rattle.bz_task.specs.Requests.{IsAskable}
@@ -17,22 +17,22 @@ use Rattle.bz_swap.specs.SwapMemory.{SwapMemory, Doing, Working, Swapping, idle,
 use Rattle.bz_task.specs.Scene.{Scene, Waiting, IsScene}
 use Rattle.bz_task.specs.declared.todo.Todo.{Todo}
 use Rattle.bz_world.specs.Inside.Acted.{IsBetween}
-use Rattle.bz_world.specs.Inside.Alone.{WaitsAlone, untold}
+use Rattle.bz_world.specs.Inside.Alone.{WaitsUndisturbed, untold}
 use Rattle.bz_world.specs.Inside.Exact.{IsExact, underway}
 use Rattle.bz_world.specs.Inside.Merging.{IsDuly}
 use Rattle.bz_world.specs.Inside.Kept.{KeepsNotes, IsAwake}
-use Rattle.bz_world.specs.Inside.Laws.{AloneLaws, BegunLaws, StartLaws}
+use Rattle.bz_world.specs.Inside.Laws.{UndisturbedLaws, BegunLaws, StartLaws}
 use Rattle.bz_world.specs.Inside.Serving.{IsServing, IsDoing, IsSlot, stage_in, tells_of}
 use Rattle.bz_world.specs.Inside.Telling.{MustStart}
 use Rattle.bz_world.specs.declared.parts.Parts.{Parts}
 use Rattle.bz_lone.specs.FromCosts.Weights.{start_allows}
-use Rattle.bz_swap.specs.Alone.{allowed_by_kind, left_to}
+use Rattle.bz_swap.specs.Solo.{allowed_by_kind, left_to}
 use Rattle.bz_world.specs.Inside.Paid.{errand_of, no_extra, stock_of, IsPaidIn}
 use Rattle.bz_world.proofs.PaidSteps.{starts-in}
 use Rattle.bz_world.proofs.Alone.{none-untold, none-well}
-use Rattle.bz_world.proofs.Due.{not-lonely}
+use Rattle.bz_world.proofs.Due.{not-solitary}
 use Rattle.bz_world.proofs.Exact.{none-underway, reach-same}
-use Rattle.bz_world.proofs.Lonely.{in-place, only-own, started-lonely}
+use Rattle.bz_world.proofs.Solitary.{in-place, only-own, started-solitary}
 use Rattle.bz_world.proofs.Powered.{begun-in}
 use Rattle.bz_world.proofs.Staying.{SameFor, slot-same}
 use Rattle.bz_world.proofs.Tabled.{tabled-beside}
@@ -67,7 +67,7 @@ may-ask b p w todo m =
     }
 
 -- a read, a store or a flush
-module _ (lone : AloneLaws) (starts : StartsAreSeen) (begun : BegunLaws) (alone : LonelyCallsAreAlone) (p : Parts) (w : ℕ) (todo : Todo) (m : MustStart p w todo) (doing : Doing) (holds : Holds (started p.access w doing)) (does : IsDoing (started p.access w doing) p.owners.items w todo)
+module _ (solo : UndisturbedLaws) (starts : StartsAreSeen) (begun : BegunLaws) (alone : NoneIsOpenBesideASolitaryCall) (p : Parts) (w : ℕ) (todo : Todo) (m : MustStart p w todo) (doing : Doing) (holds : Holds (started p.access w doing)) (does : IsDoing (started p.access w doing) p.owners.items w todo)
     (waits : stage_in (started p.access w doing) doing ≡ Waiting) (no-swap : (s : ℕ) → doing ≢ Swapping s) (allows : allowed_by_kind doing ≡ start_allows todo) where
   abbrev between : IsBetween p w m.serving
   between = m.asking.between
@@ -87,10 +87,10 @@ module _ (lone : AloneLaws) (starts : StartsAreSeen) (begun : BegunLaws) (alone 
   none : (s : ℕ) → doing_of (started p.access w doing) w ≢ Swapping s
   none s e = no-swap s (sym (starts-it p.access w doing work.within) ∙ e)
 
-  waits-now : WaitsAlone (started p.access w doing) (doing_of (started p.access w doing) w) m.serving.task its-scene.past
+  waits-now : WaitsUndisturbed (started p.access w doing) (doing_of (started p.access w doing) w) m.serving.task its-scene.past
   waits-now =
-      let good : IsScene its-scene = (lone.scenes p.config p.access p.journal between.story w between.call_open.look.since between.opened between.living (begun-in between.living between.call_open)).scene in
-      let told : (others : ℕ) × HasOthers others (made_of m.serving.task) its-scene.past = lone.counted m.serving.task its-scene good m.asking.facts in
+      let good : IsScene its-scene = (solo.scenes p.config p.access p.journal between.story w between.call_open.look.since between.opened between.living (begun-in between.living between.call_open)).scene in
+      let told : (others : ℕ) × HasOthers others (made_of m.serving.task) its-scene.past = solo.counted m.serving.task its-scene good m.asking.facts in
       record {
         others = told.0;
         counted = omega (arith, told.1, none-untold (started p.access w doing) (doing_of (started p.access w doing) w) none);
@@ -100,10 +100,10 @@ module _ (lone : AloneLaws) (starts : StartsAreSeen) (begun : BegunLaws) (alone 
 
   -- its start is paid for
   pays : IsPaidIn p.config (started p.access w doing) p.journal.past (stock_of p) w (errand_of m.serving) m.serving.task 0 no_extra its-scene.past
-  pays = starts-in lone.paid p.config p.access (started p.access w doing) p.journal.past (stock_of p) w (errand_of m.serving) m.serving.task 0 todo its-scene.past (record {
-    left = let more : left_to (started p.access w doing) w ≤ left_to p.access w + allowed_by_kind doing = lone.paid.kinds.start p.access w doing in omega (arith, more, allows);
+  pays = starts-in solo.paid p.config p.access (started p.access w doing) p.journal.past (stock_of p) w (errand_of m.serving) m.serving.task 0 todo its-scene.past (record {
+    left = let more : left_to (started p.access w doing) w ≤ left_to p.access w + allowed_by_kind doing = solo.paid.kinds.start p.access w doing in omega (arith, more, allows);
     taken = omega arith;
-    rivals = lone.paid.rivals.start p.access w doing;
+    rivals = solo.paid.rivals.start p.access w doing;
   }) m.asking.paid
 
   serves-on : IsServing p.config (started p.access w doing) p.journal between.story p.owners.items (stock_of p) w m.serving
@@ -124,10 +124,10 @@ module _ (lone : AloneLaws) (starts : StartsAreSeen) (begun : BegunLaws) (alone 
     meant = m.asking.meant;
     paid = λ steps. subst (λ u. IsPaidIn p.config (started p.access w doing) p.journal.past (stock_of p) w (errand_of m.serving) m.serving.task u no_extra its-scene.past) (sym (none-untold (started p.access w doing) (doing_of (started p.access w doing) w) none)) pays;
     due = between.due;
-    merges = λ lonely. subst (λ r. IsDuly p.config p.journal between.opened its-scene.past r (stock_of p) m.serving) (sym (reach-same (started p.access w doing).taken (untold (started p.access w doing) (doing_of (started p.access w doing) w)) (underway (doing_of (started p.access w doing) w)) p.access.taken 0 0 refl
-        (none-untold (started p.access w doing) (doing_of (started p.access w doing) w) none) (none-underway (doing_of (started p.access w doing) w) none))) (m.asking.merges lonely);
-    exact = λ lonely room. subst (λ r. IsExact between.opened its-scene.past r (stock_of p) (tells_of m.serving) m.serving) (sym (reach-same (started p.access w doing).taken (untold (started p.access w doing) (doing_of (started p.access w doing) w)) (underway (doing_of (started p.access w doing) w)) p.access.taken 0 0 refl
-        (none-untold (started p.access w doing) (doing_of (started p.access w doing) w) none) (none-underway (doing_of (started p.access w doing) w) none))) (m.asking.exact lonely room);
+    merges = λ solitary. subst (λ r. IsDuly p.config p.journal between.opened its-scene.past r (stock_of p) m.serving) (sym (reach-same (started p.access w doing).taken (untold (started p.access w doing) (doing_of (started p.access w doing) w)) (underway (doing_of (started p.access w doing) w)) p.access.taken 0 0 refl
+        (none-untold (started p.access w doing) (doing_of (started p.access w doing) w) none) (none-underway (doing_of (started p.access w doing) w) none))) (m.asking.merges solitary);
+    exact = λ solitary room. subst (λ r. IsExact between.opened its-scene.past r (stock_of p) (tells_of m.serving) m.serving) (sym (reach-same (started p.access w doing).taken (untold (started p.access w doing) (doing_of (started p.access w doing) w)) (underway (doing_of (started p.access w doing) w)) p.access.taken 0 0 refl
+        (none-untold (started p.access w doing) (doing_of (started p.access w doing) w) none) (none-underway (doing_of (started p.access w doing) w) none))) (m.asking.exact solitary room);
   }
 
   same-other : (v : ℕ) → v ≢ w → SameFor p.access (started p.access w doing) v
@@ -135,7 +135,7 @@ module _ (lone : AloneLaws) (starts : StartsAreSeen) (begun : BegunLaws) (alone 
 
   slots : (v : ℕ) → IsSlot p.config (started p.access w doing) p.journal between.story p.owners.items (stock_of p) v (get_or p.workers.items v None)
   slots v = elim (cases_eq v w) [
-    | inr ne ↦ slot-same p.config p.access (started p.access w doing) p.journal between.story p.owners.items p.owners.items (stock_of p) (stock_of p) v (get_or p.workers.items v None) (same-other v ne) (λ s d well. record { unnoted = well.unnoted; stands = well.stands }) (λ s d. refl) (λ is. ne (between.steps v is)) (not-lonely alone w v p.journal.past between.opened between.call_open.is_open ne) (between.others v ne)
+    | inr ne ↦ slot-same p.config p.access (started p.access w doing) p.journal between.story p.owners.items p.owners.items (stock_of p) (stock_of p) v (get_or p.workers.items v None) (same-other v ne) (λ s d well. record { unnoted = well.unnoted; stands = well.stands }) (λ s d. refl) (λ is. ne (between.steps v is)) (not-solitary alone w v p.journal.past between.opened between.call_open.is_open ne) (between.others v ne)
     | inl e ↦ subst (λ u. IsSlot p.config (started p.access w doing) p.journal between.story p.owners.items (stock_of p) u (get_or p.workers.items u None)) (sym e)
         (subst (IsSlot p.config (started p.access w doing) p.journal between.story p.owners.items (stock_of p) w) (sym m.is) serves-on)
   ]
@@ -157,7 +157,7 @@ module _ (lone : AloneLaws) (starts : StartsAreSeen) (begun : BegunLaws) (alone 
     leaves = between.leaves;
     free = between.free;
     workers = slots;
-    lonely = only-own alone (started p.access w doing) p.journal.past between.story p.workers.items w between.opened between.call_open.is_open
+    solitary = only-own alone (started p.access w doing) p.journal.past between.story p.workers.items w between.opened between.call_open.is_open
         (in-place (started p.access w doing) p.journal.past between.story p.workers.items w m.serving between.opened m.is between.call_open.is_open
-        (λ key get lonely. started-lonely p.access p.journal.past between.story p.owners.items w m.serving between.opened key doing todo (m.asking.lonely key get lonely) does (starts-it p.access w doing work.within)));
+        (λ key get solitary. started-solitary p.access p.journal.past between.story p.owners.items w m.serving between.opened key doing todo (m.asking.solitary key get solitary) does (starts-it p.access w doing work.within)));
   }

@@ -14,7 +14,7 @@ use Rattle.bz_running.specs.Duties.{needs_of, wants_of, facts_of}
 use Rattle.bz_running.specs.declared.running.AnyTask.{AnyTask}
 use Rattle.bz_stage.specs.FromLeaves.Neighbours.{leaf_page}
 use Rattle.bz_sound.specs.Calls.{Open, open_call}
-use Rattle.bz_sound.specs.Lonely.{IsLonely}
+use Rattle.bz_sound.specs.Solitary.{IsSolitary}
 use Rattle.bz_sound.specs.Memory.Moments.{map_at_start, image_after}
 use Rattle.bz_sound.specs.Memory.OpenCallLaws.{EffectsStayOpen}
 use Rattle.bz_sound.specs.Memory.Spent.{NeedsSlots, TakesSlots}
@@ -25,7 +25,7 @@ use Rattle.bz_swap.specs.SwapMemory.{SwapMemory, Doing, Idle, Reading, Swapping,
 use Rattle.bz_task.specs.Scene.{Scene, IsLawful, Waiting, Took}
 use Rattle.bz_task.specs.declared.todo.Todo.{Todo}
 use Rattle.bz_task.specs.declared.todo.Todo.TheVariants as todo
-use Rattle.bz_world.specs.Inside.Alone.{WaitsAlone, untold}
+use Rattle.bz_world.specs.Inside.Alone.{WaitsUndisturbed, untold}
 use Rattle.bz_world.specs.Inside.Due.{TakesRightly}
 use Rattle.bz_world.specs.Inside.Exact.{CountsExactly, reach_of, underway}
 use Rattle.bz_world.specs.Inside.Meant.{IsMeant}
@@ -104,7 +104,7 @@ pub record Leaves (c : Config) (m n : SwapMemory) (log : Log) (mark : Mark) (sto
   pub lawful : (since : ℕ) (opened : Open) → HasBegun log story since → IsLawful (scene c log.past story v since opened) (scene c (mark ∷ log.past) after v since opened)
   pub took : (k : ℕ) → after.took v k ≡ story.took v k
   pub filled : (k : ℕ) → story.filled v k ≡ true → after.filled v k ≡ true
-  pub alone : (since : ℕ) (opened : Open) (t : AnyTask) → since ≤ length log.past → WaitsAlone m (doing_of m v) t (scene c log.past story v since opened).past → WaitsAlone n (doing_of n v) t (scene c (mark ∷ log.past) after v since opened).past
+  pub alone : (since : ℕ) (opened : Open) (t : AnyTask) → since ≤ length log.past → WaitsUndisturbed m (doing_of m v) t (scene c log.past story v since opened).past → WaitsUndisturbed n (doing_of n v) t (scene c (mark ∷ log.past) after v since opened).past
 
 -- the reply that tells its effect stays the map's
 pub told-stays : EffectsStayOpen → (c : Config) (log : Log) (mark : Mark) (w : ℕ) (opened : Open) (had : Option (List ℕ)) → open_call w log.past ≡ Some opened → IsToldBy c log opened had → IsToldBy c (with_mark log mark) opened had
@@ -142,8 +142,8 @@ abbrev pub Takes : Config → SwapMemory → Log → Mark → Story → Story �
 Takes c m log mark story after owners stock more n v = (x : OpenCall) (s : IsServing c m log story owners stock v x) → TakesWell c m n log mark story after owners stock more v x s
 
 -- of a call beside which another one is open nothing is to be known
-pub none-takes-well : (c : Config) (m n : SwapMemory) (log : Log) (mark : Mark) (story after : Story) (owners : List ℕ) (stock more : Stock) (v : ℕ) → (IsLonely v (mark ∷ log.past) → ⊥) → Takes c m log mark story after owners stock more n v
-none-takes-well c m n log mark story after owners stock more v never x s = record { rightly = λ quiet lonely. absurd (never lonely); exactly = λ lonely room. absurd (never lonely); duly = λ lonely. absurd (never lonely) }
+pub none-takes-well : (c : Config) (m n : SwapMemory) (log : Log) (mark : Mark) (story after : Story) (owners : List ℕ) (stock more : Stock) (v : ℕ) → (IsSolitary v (mark ∷ log.past) → ⊥) → Takes c m log mark story after owners stock more n v
+none-takes-well c m n log mark story after owners stock more v never x s = record { rightly = λ quiet solitary. absurd (never solitary); exactly = λ solitary room. absurd (never solitary); duly = λ solitary. absurd (never solitary) }
 
 unfoldable pub serving-stays : ScenesAreSeen → EffectsStayOpen → (c : Config) (m n : SwapMemory) (log : Log) (mark : Mark) (story after : Story) (owners : List ℕ) (stock more : Stock) (v : ℕ) (x : OpenCall) → IsLiving c n (with_mark log mark) after → Leaves c m n log mark story after v
     → (s : IsServing c m log story owners stock v x)
@@ -190,7 +190,7 @@ slot-stays seen stay c m n log mark story after owners stock more v (Some x) liv
 
 -- without a mark, in a memory in which a worker does the same
 pub slot-same : (c : Config) (m n : SwapMemory) (log : Log) (story : Story) (owners others : List ℕ) (stock more : Stock) (v : ℕ) (slot : Option OpenCall) → SameFor m n v → ((s : ℕ) → doing_of m v ≡ Swapping s → GoesWell m s → GoesWell n s) → ((s : ℕ) → doing_of m v ≡ Swapping s → slice_index others s ≡ slice_index owners s)
-    → (runner c log.past ≡ Some v → ⊥) → (IsLonely v log.past → ⊥) → IsSlot c m log story owners stock v slot → IsSlot c n log story others more v slot
+    → (runner c log.past ≡ Some v → ⊥) → (IsSolitary v log.past → ⊥) → IsSlot c m log story owners stock v slot → IsSlot c n log story others more v slot
 slot-same c m n log story owners others stock more v None same well table still beside s = record { none_open = s.none_open; idle = same.doing ∙ s.idle; filled = s.filled }
 slot-same c m n log story owners others stock more v (Some x) same well table still beside s = record {
   opened = s.opened;
@@ -205,9 +205,9 @@ slot-same c m n log story owners others stock more v (Some x) same well table st
   alone = waits-same m n v x.task (scene c log.past story v s.call_open.look.since s.opened).past same.doing same.effects well s.alone;
   meant = s.meant;
   paid = λ steps. absurd (still steps);
-  due = λ quiet lonely. absurd (beside lonely);
-  exact = λ lonely room. absurd (beside lonely);
-  merges = λ lonely. absurd (beside lonely);
+  due = λ quiet solitary. absurd (beside solitary);
+  exact = λ solitary room. absurd (beside solitary);
+  merges = λ solitary. absurd (beside solitary);
 }
   where
     doing-by : (m : SwapMemory) (owners others : List ℕ) (v : ℕ) (asked : Todo) → ((s : ℕ) → doing_of m v ≡ Swapping s → slice_index others s ≡ slice_index owners s) → IsDoing m owners v asked → IsDoing m others v asked
@@ -220,7 +220,7 @@ slot-same c m n log story owners others stock more v (Some x) same well table st
 
 -- in another story that tells a worker the same
 pub slot-scenes : (c : Config) (m : SwapMemory) (log : Log) (story after : Story) (owners : List ℕ) (stock more : Stock) (v : ℕ) (slot : Option OpenCall) (some : Open) → ((since : ℕ) (opened : Open) → scene c log.past after v since opened ≡ scene c log.past story v since opened)
-    → ((k : ℕ) → after.filled v k ≡ story.filled v k) → (runner c log.past ≡ Some v → ⊥) → (IsLonely v log.past → ⊥) → IsSlot c m log story owners stock v slot → IsSlot c m log after owners more v slot
+    → ((k : ℕ) → after.filled v k ≡ story.filled v k) → (runner c log.past ≡ Some v → ⊥) → (IsSolitary v log.past → ⊥) → IsSlot c m log story owners stock v slot → IsSlot c m log after owners more v slot
 slot-scenes c m log story after owners stock more v None some same filled still beside s = record { none_open = s.none_open; idle = s.idle; filled = λ k t. filled k ∙ s.filled k (sym (ap (λ (z : Scene). z.took k) (same zero some)) ∙ t) }
 slot-scenes c m log story after owners stock more v (Some x) some same filled still beside s = record {
   opened = s.opened;
@@ -232,10 +232,10 @@ slot-scenes c m log story after owners stock more v (Some x) some same filled st
   finishing = s.finishing;
   facts = subst (facts_of x.task (stage_in m (doing_of m v))) (sym (same s.call_open.look.since s.opened)) s.facts;
   covered = covered-stays (story.took v) (after.took v) (story.filled v) (after.filled v) (needs_of x.task) (λ k. ap (λ (z : Scene). z.took k) (same s.call_open.look.since s.opened)) (λ k e. filled k ∙ e) s.covered;
-  alone = subst (λ (z : Scene). WaitsAlone m (doing_of m v) x.task z.past) (sym (same s.call_open.look.since s.opened)) s.alone;
+  alone = subst (λ (z : Scene). WaitsUndisturbed m (doing_of m v) x.task z.past) (sym (same s.call_open.look.since s.opened)) s.alone;
   meant = subst (λ (z : Scene). IsMeant x z.past) (sym (same s.call_open.look.since s.opened)) s.meant;
   paid = λ steps. absurd (still steps);
-  due = λ quiet lonely. absurd (beside lonely);
-  exact = λ lonely room. absurd (beside lonely);
-  merges = λ lonely. absurd (beside lonely);
+  due = λ quiet solitary. absurd (beside solitary);
+  exact = λ solitary room. absurd (beside solitary);
+  merges = λ solitary. absurd (beside solitary);
 }

@@ -12,7 +12,7 @@ use Rattle.bz_mark.specs.declared.marks.Mark.TheVariants.{End}
 use Rattle.bz_sound.specs.Calls.{Open, open_call, with_effect}
 use Rattle.bz_swap.specs.SwapMemory.{Working, idle, worker_of, doing_of}
 use Rattle.bz_lone.specs.FromCosts.Resources.{Marks}
-use Rattle.bz_swap.specs.Alone.{left_to}
+use Rattle.bz_swap.specs.Solo.{left_to}
 use Rattle.bz_world.specs.Inside.Acted.{HasActed}
 use Rattle.bz_world.specs.Inside.Beginning.{world_view, is_swap, supply_of}
 use Rattle.bz_world.specs.Inside.Going.{WentOn}
@@ -97,12 +97,12 @@ stepped-on old new w was is some a taken = record {
   left_out = ap (λ (p : Parts). p.left_out.items) a.rest;
   others = λ v ne. flush-same old new v (a.others v ne);
   apart = λ v ne. swap-same old new v (a.others v ne);
-  lone = in-time new is w (struck-open w a.made old.journal.past new.journal.past some a.struck) (struck-steps w a.made old.journal.past new.journal.past a.struck);
+  solo = in-time new is w (struck-open w a.made old.journal.past new.journal.past some a.struck) (struck-steps w a.made old.journal.past new.journal.past a.struck);
   at_begin = ap begun_with a.rest;
   supplied = keeps-shown new is w (struck-open w a.made old.journal.past new.journal.past some a.struck);
   little = λ whole n at spent e. absurd (not-longer (End w n (Full spent) at) new.journal.past e);
-  unspent = λ n at reply e tells lonely. absurd (not-longer (End w n reply at) new.journal.past e);
-  exact = λ n at reply opened e is-open lonely room. absurd (not-longer (End w n reply at) new.journal.past e);
+  unspent = λ n at reply e tells solitary. absurd (not-longer (End w n reply at) new.journal.past e);
+  exact = λ n at reply opened e is-open solitary room. absurd (not-longer (End w n reply at) new.journal.past e);
   merged = λ n at reply e. absurd (not-longer (End w n reply at) new.journal.past e);
 }
   where
@@ -130,7 +130,7 @@ stepped-through old mid told new w answer was a taken rest fewer few went = reco
   left_out = ap (λ (flags : ArrayVec Bool). flags.items) (went.left_out ∙ (ap (λ (p : Parts). p.left_out) rest ∙ ap (λ (p : Parts). p.left_out) a.rest));
   others = λ v ne. flush-same old new v (went.others v ne ∙ (ap (λ (p : Parts). worker_of p.access v) rest ∙ a.others v ne));
   apart = λ v ne. swap-same old new v (went.others v ne ∙ (ap (λ (p : Parts). worker_of p.access v) rest ∙ a.others v ne));
-  lone = subst (λ (j : Log). length new.journal.past ≤ deadline new.config w j.past) journal went.lone;
+  solo = subst (λ (j : Log). length new.journal.past ≤ deadline new.config w j.past) journal went.solo;
   at_begin = went.begun ∙ (ap begun_with rest ∙ ap begun_with a.rest);
   supplied = λ whole. subst (KeepsSupply (begun_with new)) (sym (shown-on new went.kept.on)) (went.supplied (subst (λ (j : Log). RunsWhole new.config w j.past) (sym journal) whole));
   little = λ whole. subst (λ (j : Log). EndsFullOfLittle new.config j w new.journal (begun_with new)) journal (went.little (subst (λ (j : Log). RunsWhole new.config w j.past) (sym journal) whole));

@@ -36,8 +36,8 @@ use Rattle.bz_world.proofs.Powered.{begun-in}
 use Rattle.bz_world.proofs.Staying.{covered-stays}
 use Rattle.bz_world.proofs.Quiet.{some-worker, serves, sees, own, goes, same-other, stays, answered, quiet-paid, none-pays, none-takes, own-duly, own-exactly}
 use Rattle.bz_world.proofs.Answered.{no-finish}
-use Rattle.bz_world.proofs.Lonely.{lonely-act}
-use Rattle.bz_world.proofs.LonelyActs.{reads-now}
+use Rattle.bz_world.proofs.Solitary.{solitary-act}
+use Rattle.bz_world.proofs.SolitaryActs.{reads-now}
 
 module _ (b : StepLaws) (old new : Parts) (w : ℕ) (x : OpenCall) (made : Act) (answer : Done) (k : IsAwake old) (is-worker : get_or old.workers.items w None ≡ Some x) (a : IsActed old w made answer None new) (room : length old.journal.past < old.config.marks) where
   abbrev pub its : IsServing old.config old.access old.journal k.story old.owners.items (stock_of old) w x
@@ -93,7 +93,7 @@ module _ (b : StepLaws) (old new : Parts) (w : ℕ) (x : OpenCall) (made : Act) 
       finished = no-finish old.access w x seen.Stored (λ s f. absurd (cc (stores, f))) its.finishing;
       hears = subst (λ z. Hears z seen.Stored) (sym (its.asks ∙ ap Some asked)) tt;
       tells = subst (λ z. Tells z Took seen.Stored later) (sym (its.asks ∙ ap Some asked)) tt;
-      lonely = λ key get lonely. absurd (cc ((reads-now old k w x is-worker key get (lonely-act w w old.journal.past made lonely)).reads, stores));
+      solitary = λ key get solitary. absurd (cc ((reads-now old k w x is-worker key get (solitary-act w w old.journal.past made solitary)).reads, stores));
       alone = hears-on old.config old.access new.access old.journal.past (mark_of w made) k.story after w its.call_open.look.since its.opened its.opened x.task (next_instant new.access (k.story.at (length old.journal.past))) refl its.call_open.look.by_now its.alone
           seen.Stored refl (ap (untold old.access) stores) (λ h e. absurd (cc e));
       meant = call-meant-on x before.past later.past its.tasked.laws stored.continues its.meant;

@@ -12,7 +12,7 @@ use Rattle.bz_running.specs.Kinds.{is_look, kind_of}
 use Rattle.bz_sight.specs.Effects.{TookPlace, effect_instant}
 use Rattle.bz_sight.specs.Starts.{Sees}
 use Rattle.bz_sound.specs.Calls.{Open, open_call}
-use Rattle.bz_sound.specs.Lonely.{IsLonely}
+use Rattle.bz_sound.specs.Solitary.{IsSolitary}
 use Rattle.bz_sound.specs.Memory.Moments.{IsAfterFlush, image_after}
 use Rattle.bz_story.specs.Laws.{HasBegun, Strikes, strikes, opened_after}
 use Rattle.bz_story.specs.Living.{IsLiving}
@@ -22,23 +22,23 @@ use Rattle.bz_task.specs.Scene.{Scene, IsLawful, Waiting, Took, here}
 use Rattle.bz_task.specs.Swaps.{IsGoodSwap, SwapsTo, Takes}
 use Rattle.bz_task.specs.declared.todo.Todo.TheVariants as todo
 use Rattle.bz_world.specs.Inside.Acted.{IsStriking, StepsAt}
-use Rattle.bz_world.specs.Inside.Alone.{WaitsAlone}
+use Rattle.bz_world.specs.Inside.Alone.{WaitsUndisturbed}
 use Rattle.bz_world.specs.Inside.Kept.{IsAwake}
 use Rattle.bz_world.specs.Inside.Meant.{IsMeant}
 use Rattle.bz_world.specs.Inside.Serving.{IsServing, IsSlot, stage_in}
 use Rattle.bz_world.specs.declared.parts.Parts.{Parts}
 use Rattle.bz_world.specs.declared.serving.OpenCall.{OpenCall}
 use Rattle.bz_lone.specs.Steps.{IsServing as Serves, effected_by, mark_of_effect}
-use Rattle.bz_lone.specs.FromCosts.Lone.{one_mark}
+use Rattle.bz_lone.specs.FromCosts.Solo.{one_mark}
 use Rattle.bz_machine.specs.Allowed.{counted}
 use Rattle.bz_rivals.specs.Rivals.{is_own, rivals, foreign}
 use Rattle.bz_world.specs.Inside.Alone.{untold}
 use Rattle.bz_world.specs.Inside.Paid.{errand_of, no_extra, stock_of, IsPaidIn}
 use Rattle.bz_world.specs.WorldView.{stepper}
 use Rattle.bz_world.proofs.Alone.{untold-by, waits-beside, waits-struck}
-use Rattle.bz_world.proofs.Due.{not-lonely}
+use Rattle.bz_world.proofs.Due.{not-solitary}
 use Rattle.bz_world.proofs.Exact.{still-asks}
-use Rattle.bz_world.proofs.Lonely.{now-is}
+use Rattle.bz_world.proofs.Solitary.{now-is}
 use Rattle.bz_world.proofs.Meant.{call-meant-on, swaps-or-merges}
 use Rattle.bz_world.proofs.Paid.{none-of, flush-runs, paid-here, next-is, swapless, some-moment}
 use Rattle.bz_world.proofs.PaidSteps.{StepsFurther, foreign-in, less-in, own-in}
@@ -161,8 +161,8 @@ module _ (b : StrikeLaws) (p : Parts) (s : ℕ) (h : IsStriking p s) where
   took = its.tasked.laws.acts.took before later (entries_of old.access s) (sym its.tasked.config) waits before-seen.scene later-seen.scene owner.asks took-place.stand takes-effect
 
   -- it was its own, of which it waits for the answer
-  pub struck-alone : WaitsAlone p.access (doing_of p.access w) x.task later.past
-  struck-alone = waits-struck old.config old.access p.access old.journal.past h.mark kept.story after w its.call_open.look.since its.opened opened x.task (effect_instant old.config p.access (kept.story.at (length old.journal.past))) refl its.call_open.look.by_now its.alone
+  pub struck-undisturbed : WaitsUndisturbed p.access (doing_of p.access w) x.task later.past
+  struck-undisturbed = waits-struck old.config old.access p.access old.journal.past h.mark kept.story after w its.call_open.look.since its.opened opened x.task (effect_instant old.config p.access (kept.story.at (length old.journal.past))) refl its.call_open.look.by_now its.alone
       s refl h.takes.effect.pending (h.work.doing w ∙ h.takes.effect.pending) h.takes.effect.before h.takes.effect.done (h.unnoted s)
 
   pub struck-meant : IsMeant x later.past
@@ -259,8 +259,8 @@ module _ (b : StrikeLaws) (p : Parts) (s : ℕ) (h : IsStriking p s) where
   }
 
   -- none of the others is alone
-  pub beside : (v : ℕ) → v ≢ w → IsLonely v (h.mark ∷ old.journal.past) → ⊥
-  beside v ne lonely = not-lonely b.lonely.alone w v (h.mark ∷ old.journal.past) its.opened (flush-calls w h.mark old.journal.past h.flush ∙ its.call_open.is_open) ne lonely
+  pub beside : (v : ℕ) → v ≢ w → IsSolitary v (h.mark ∷ old.journal.past) → ⊥
+  beside v ne solitary = not-solitary b.solitary.alone w v (h.mark ∷ old.journal.past) its.opened (flush-calls w h.mark old.journal.past h.flush ∙ its.call_open.is_open) ne solitary
 
   pub others : (v : ℕ) → v ≢ w → IsSlot old.config p.access (with_mark old.journal h.mark) after old.owners.items (stock_of old) v (get_or old.workers.items v None)
   others v ne = slot-stays b.scenes b.stay old.config old.access p.access old.journal h.mark kept.story after old.owners.items (stock_of old) (stock_of old) v (get_or old.workers.items v None) living (leaves v ne)

@@ -33,7 +33,7 @@ kept-workers p workers k size same = record {
   leaves = k.leaves;
   free = k.free;
   workers = λ v. subst (IsSlot p.config p.access p.journal k.story p.owners.items (stock_of p) v) (sym (same v)) (k.workers v);
-  lonely = λ v x opened is. k.lonely v x opened (sym (same v) ∙ is);
+  solitary = λ v x opened is. k.solitary v x opened (sym (same v) ∙ is);
 }
 
 pub in-owners : (b : StrikeLaws) (p : Parts) (s : ℕ) (h : IsStriking p s) → s < length p.owners.items

@@ -26,7 +26,7 @@ use Rattle.bz_world.specs.Inside.Exact.{IsChanging, reach_of, puts}
 use Rattle.bz_world.specs.Inside.Laws.{StrikeLaws}
 use Rattle.bz_world.specs.Inside.Paid.{stock_of}
 use Rattle.bz_world.specs.Inside.Serving.{tells_of}
-use Rattle.bz_world.specs.Roomy.{HadRoom, KeepsEnough, StandsAlone}
+use Rattle.bz_world.specs.Roomy.{HadRoom, KeepsEnough, NeedsNoNeighbour}
 use Rattle.bz_world.specs.WorldView.{is_delete}
 use Rattle.bz_world.specs.declared.parts.Parts.{Parts}
 use Rattle.bz_world.proofs.Enough.{enough-by, keeps-as, of-delete}
@@ -54,7 +54,7 @@ delete-swaps (Deleting t) is = refl
 delete-swaps t is = absurd (cc is)
 
 -- the leaf loses no more than it had beyond enough
-less-enough : (c : Config) (x y : Instant) (key : List ℕ) → live_of_key c x key ≤ live_of_key c y key + LEAF_RECORD_WORDS → (view_in c y.image).height ≡ (view_in c x.image).height → StandsAlone c x.image key LEAF_RECORD_WORDS → StandsAlone c y.image key 0
+less-enough : (c : Config) (x y : Instant) (key : List ℕ) → live_of_key c x key ≤ live_of_key c y key + LEAF_RECORD_WORDS → (view_in c y.image).height ≡ (view_in c x.image).height → NeedsNoNeighbour c x.image key LEAF_RECORD_WORDS → NeedsNoNeighbour c y.image key 0
 less-enough c x y key live height (inl enough) =
     let was : own_live c x.image key ≡ live_of_key c x key = refl in
     let is : own_live c y.image key ≡ live_of_key c y key = refl in
@@ -92,7 +92,7 @@ module _ (b : StrikeLaws) (p : Parts) (s : ℕ) (h : IsStriking p s) (publishes 
     loses : LosesOneRecord (key_of called) (before b p s h) then
     loses = subst (λ key. LosesOneRecord key (before b p s h) then) stands-for.0 (b.deletes (x b p s h).task (entries_of (old b p s h).access s) (before b p s h) then (own-swap b p s h) kind)
 
-    after-it : StandsAlone c then.image (key_of called) 0
+    after-it : NeedsNoNeighbour c then.image (key_of called) 0
     after-it = less-enough c (here (before b p s h)) then (key_of called) loses.live loses.height (of-delete c (here (before b p s h)).image called LEAF_RECORD_WORDS deletes before-it)
 
   pub struck-enough : KeepsEnough c then.image called 0

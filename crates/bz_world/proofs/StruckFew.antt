@@ -22,7 +22,7 @@ use Rattle.bz_task.specs.declared.path.Path.{Path}
 use Rattle.bz_world.specs.Inside.Acted.{IsStriking}
 use Rattle.bz_world.specs.Inside.Exact.{reach_of}
 use Rattle.bz_world.specs.Inside.Laws.{StrikeLaws}
-use Rattle.bz_world.specs.Inside.Merging.{is_below, tells_few, IsDeletingAlone}
+use Rattle.bz_world.specs.Inside.Merging.{is_below, tells_few, IsDeletingSolitarily}
 use Rattle.bz_world.specs.declared.parts.Parts.{Parts}
 use Rattle.bz_world.proofs.LeavesStruck.{own-swap}
 use Rattle.bz_world.proofs.StruckEnough.{delete-swaps}
@@ -56,7 +56,7 @@ both-true true b e f = f
 both-true false b e f = absurd (true≢false (sym e))
 
 module _ (b : StrikeLaws) (p : Parts) (s : ℕ) (h : IsStriking p s) (delete : kind_of (x b p s h).task ≡ kinds.Delete) (key : (change_of (x b p s h).task).key ≡ key_of (its b p s h).opened.call)
-    (deleting : IsDeletingAlone (before b p s h).past (reach_of (old b p s h).access (w b p s h)) (x b p s h)) (untold : (reach_of (old b p s h).access (w b p s h)).untold ≡ 0) (publishes : publishing_of (x b p s h).task ≡ true) where
+    (deleting : IsDeletingSolitarily (before b p s h).past (reach_of (old b p s h).access (w b p s h)) (x b p s h)) (untold : (reach_of (old b p s h).access (w b p s h)).untold ≡ 0) (publishes : publishing_of (x b p s h).task ≡ true) where
   abbrev c : Config
   c = (old b p s h).config
 

@@ -26,17 +26,17 @@ use Rattle.bz_world.specs.Inside.Alone.{untold}
 use Rattle.bz_world.specs.Inside.Exact.{puts, reach_of, underway}
 use Rattle.bz_world.proofs.Alone.{others-on}
 use Rattle.bz_world.specs.Inside.Paid.{errand_of, no_extra, stock_of, IsPaidIn}
-use Rattle.bz_world.proofs.Due.{flush-lonely, flush-map, rightly-on}
+use Rattle.bz_world.proofs.Due.{flush-solitary, flush-map, rightly-on}
 use Rattle.bz_world.proofs.Exact.{exact-struck, had-room-on, puts-change}
 use Rattle.bz_world.proofs.Paid.{flush-runs}
 use Rattle.bz_world.proofs.LeavesStruck.{struck-leaves, own-swap}
-use Rattle.bz_world.proofs.LonelyActs.{none-struck}
+use Rattle.bz_world.proofs.SolitaryActs.{none-struck}
 use Rattle.bz_world.proofs.Powered.{looks-on, flush-leaves, free-on}
 use Rattle.bz_world.proofs.Staying.{told-stays, wanted-stays, finishing-stays}
-use Rattle.bz_world.proofs.Striking.{flush-calls, old, kept, w, x, its, owner, before, good, after, living, opened, later, took, struck-alone, struck-meant, own-paid, others, was-image, is-image, no-look, takes-effect, goes-still}
+use Rattle.bz_world.proofs.Striking.{flush-calls, old, kept, w, x, its, owner, before, good, after, living, opened, later, took, struck-undisturbed, struck-meant, own-paid, others, was-image, is-image, no-look, takes-effect, goes-still}
 use Rattle.bz_world.proofs.Merging.{duly-struck}
 use Rattle.bz_world.proofs.LeavesKept.{leaves-stand}
-use Rattle.bz_world.proofs.Lonely.{now-is}
+use Rattle.bz_world.proofs.Solitary.{now-is}
 use Rattle.bz_lone.specs.FromTally.Leaves.{leaves_in}
 use Rattle.bz_task.specs.Instant.{Instant}
 
@@ -132,14 +132,14 @@ module _ (b : StrikeLaws) (p : Parts) (s : ℕ) (h : IsStriking p s) where
       facts = subst (λ z. facts_of (x b p s h).task z (scene (old b p s h).config (h.mark ∷ (old b p s h).journal.past) (after b p s h) (w b p s h) (its b p s h).call_open.look.since (its b p s h).opened)) (sym stage-is)
           (subst (λ o. facts_of (x b p s h).task Took (scene (old b p s h).config (h.mark ∷ (old b p s h).journal.past) (after b p s h) (w b p s h) (its b p s h).call_open.look.since o)) opened-is (took b p s h));
       covered = (its b p s h).covered;
-      alone = struck-alone b p s h;
+      alone = struck-undisturbed b p s h;
       meant = struck-meant b p s h;
       paid = λ runs. let steps = flush-runs (old b p s h).config (w b p s h) (h.mark ∷ (old b p s h).journal.past) h.flush runs in
           subst (λ u. IsPaidIn (old b p s h).config p.access (h.mark ∷ (old b p s h).journal.past) (stock_of (old b p s h)) (w b p s h) (errand_of (x b p s h)) (x b p s h).task u no_extra (later b p s h).past)
           (sym (ap (untold p.access) still-does ∙ ap (λ (z : Bool). if z then 1 else 0) h.takes.effect.done))
           (subst (λ z. IsPaidIn (old b p s h).config p.access (h.mark ∷ (old b p s h).journal.past) (stock_of (old b p s h)) (w b p s h) (effected_by z (errand_of (x b p s h))) (x b p s h).task 1 (λ r. mark_of_effect r z) (later b p s h).past) silent (own-paid b p s h steps));
-      due = rightly-on (old b p s h).config (old b p s h).access.taken p.access.taken (old b p s h).journal h.mark (stock_of (old b p s h)) (w b p s h) (x b p s h) h.work.taken (flush-map h.mark (old b p s h).journal.past h.flush) (flush-lonely (w b p s h) h.mark (old b p s h).journal.past h.flush) (its b p s h).due;
-      merges = λ lonely. duly-struck (old b p s h).config (old b p s h).journal h.mark (before b p s h).past (scene (old b p s h).config (h.mark ∷ (old b p s h).journal.past) (after b p s h) (w b p s h) (its b p s h).call_open.look.since (its b p s h).opened).past
+      due = rightly-on (old b p s h).config (old b p s h).access.taken p.access.taken (old b p s h).journal h.mark (stock_of (old b p s h)) (w b p s h) (x b p s h) h.work.taken (flush-map h.mark (old b p s h).journal.past h.flush) (flush-solitary (w b p s h) h.mark (old b p s h).journal.past h.flush) (its b p s h).due;
+      merges = λ solitary. duly-struck (old b p s h).config (old b p s h).journal h.mark (before b p s h).past (scene (old b p s h).config (h.mark ∷ (old b p s h).journal.past) (after b p s h) (w b p s h) (its b p s h).call_open.look.since (its b p s h).opened).past
           (takes-effect b p s h).continues (its b p s h).call_open.look.by_now refl (ap (λ (z : Instant). z.effects) struck-now) b.known (reach_of (old b p s h).access (w b p s h)) (reach_of p.access (w b p s h)) (stock_of (old b p s h)) (x b p s h)
           none-yet one-now h.work.taken way-same (goes-still b p s h) (no-look b p s h)
           (λ merge few. ap (λ (z : Instant). leaves_in (old b p s h).config z.image + 1) struck-now ∙ (b.counts (x b p s h).task (entries_of (old b p s h).access s) (before b p s h) struck_memory (own-swap b p s h) merge).last few)
@@ -147,12 +147,12 @@ module _ (b : StrikeLaws) (p : Parts) (s : ℕ) (h : IsStriking p s) where
           (its b p s h).opened (λ at m begun after stood. leaves-stand b.trees (scene (old b p s h).config (old b p s h).journal.past (kept b p s h).story (w b p s h) m (its b p s h).opened) m
           (b.scenes (old b p s h).config (old b p s h).access (old b p s h).journal (kept b p s h).story (w b p s h) m (its b p s h).opened (kept b p s h).living (record { from = omega (arith, (kept b p s h).living.begins (w b p s h) (its b p s h).opened (its b p s h).call_open.is_open, begun, after); by_now = stood.by_now })).scene
           (record { since = omega arith; now = stood.by_now; effects = stood.still }))
-          ((its b p s h).merges (flush-lonely (w b p s h) h.mark (old b p s h).journal.past h.flush lonely));
-      exact = λ lonely room. let had = had-room-on (old b p s h).config (old b p s h).journal h.mark (its b p s h).opened begun-before room in
+          ((its b p s h).merges (flush-solitary (w b p s h) h.mark (old b p s h).journal.past h.flush solitary));
+      exact = λ solitary room. let had = had-room-on (old b p s h).config (old b p s h).journal h.mark (its b p s h).opened begun-before room in
           exact-struck (its b p s h).opened (before b p s h).past (scene (old b p s h).config (h.mark ∷ (old b p s h).journal.past) (after b p s h) (w b p s h) (its b p s h).call_open.look.since (its b p s h).opened).past
           (reach_of (old b p s h).access (w b p s h)) (reach_of p.access (w b p s h)) (stock_of (old b p s h)) (tells_of (x b p s h)) (x b p s h)
           h.work.taken none-yet one-now way-same (ap underway h.takes.effect.pending) refl one-more (no-look b p s h) earlier
-          ((its b p s h).exact (flush-lonely (w b p s h) h.mark (old b p s h).journal.past h.flush lonely) had);
+          ((its b p s h).exact (flush-solitary (w b p s h) h.mark (old b p s h).journal.past h.flush solitary) had);
     }
 
     slots : (v : ℕ) → IsSlot (old b p s h).config p.access (with_mark (old b p s h).journal h.mark) (after b p s h) (old b p s h).owners.items (stock_of (old b p s h)) v (get_or (old b p s h).workers.items v None)
@@ -173,5 +173,5 @@ module _ (b : StrikeLaws) (p : Parts) (s : ℕ) (h : IsStriking p s) where
       leaves = (struck-leaves b p s h, (kept b p s h).leaves);
       free = free-on (old b p s h).config (old b p s h).journal.start (old b p s h).journal.past h.mark (old b p s h).slots (after b p s h).took (flush-leaves h.mark (old b p s h).journal.past h.flush) (kept b p s h).free;
       workers = slots;
-      lonely = λ v y opened is is-open key get lonely. absurd (none-struck b p s h v y is key get lonely);
+      solitary = λ v y opened is is-open key get solitary. absurd (none-struck b p s h v y is key get solitary);
     })

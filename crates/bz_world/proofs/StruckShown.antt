@@ -12,7 +12,7 @@ use Rattle.bz_running.specs.Kinds as kinds
 use Rattle.bz_running.specs.Kinds.{kind_of}
 use Rattle.bz_running.specs.declared.running.AnyTask.{AnyTask}
 use Rattle.bz_sound.specs.Calls.{open_call}
-use Rattle.bz_sound.specs.Lonely.{IsLonely}
+use Rattle.bz_sound.specs.Solitary.{IsSolitary}
 use Rattle.bz_mark.specs.Counts.{count_taken}
 use Rattle.bz_sound.specs.Memory.Spent.{is_stored_into}
 use Rattle.bz_sound.specs.Power.Spent.{count_used}
@@ -38,7 +38,7 @@ delete-filled : (t : AnyTask) (entries : List Entry) (u : Scene) → kind_of t �
 unfolding kind_of view_of
 delete-filled t entries u is asks facts j took = grind arith
 
-module _ (b : StrikeLaws) (p : Parts) (s : ℕ) (h : IsStriking p s) (lonely : IsLonely (w b p s h) (h.mark ∷ (old b p s h).journal.past)) (deletes : kind_of (x b p s h).task ≡ kinds.Delete) where
+module _ (b : StrikeLaws) (p : Parts) (s : ℕ) (h : IsStriking p s) (solitary : IsSolitary (w b p s h) (h.mark ∷ (old b p s h).journal.past)) (deletes : kind_of (x b p s h).task ≡ kinds.Delete) where
   abbrev c : Config
   c = (old b p s h).config
 
@@ -53,7 +53,7 @@ module _ (b : StrikeLaws) (p : Parts) (s : ℕ) (h : IsStriking p s) (lonely : I
   rest v ne = by (get_or (old b p s h).workers.items v None) ((kept b p s h).workers v)
     where
       none : open_call v log.past ≡ None
-      none = sym (flush-calls v h.mark log.past h.flush) ∙ b.lonely.alone worker v (h.mark ∷ log.past) lonely ne
+      none = sym (flush-calls v h.mark log.past h.flush) ∙ b.solitary.alone worker v (h.mark ∷ log.past) solitary ne
 
       by : (slot : Option OpenCall) → IsSlot c (old b p s h).access log (kept b p s h).story (old b p s h).owners.items (stock_of (old b p s h)) v slot → IsAtRest (old b p s h).access log (kept b p s h).story v
       by None r = r

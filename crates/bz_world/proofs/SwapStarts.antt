@@ -6,13 +6,13 @@ use Rattle.std.proofs.lemmas.Bool.{cases_eq}
 use Rattle.std.proofs.lemmas.List.{length-set}
 use Rattle.std.proofs.Math.ListN.{get_or-append}
 use Rattle.std.proofs.Math.Seq.{get_or-append_seam}
-use Rattle.bz_lone.specs.FromAlone.Alone.{IsAlone}
+use Rattle.bz_lone.specs.FromAlone.Undisturbed.{IsUndisturbed}
 use Rattle.bz_lone.specs.FromAlone.Counts.{HasOthers}
 use Rattle.bz_running.specs.Duties.{made_of, facts_of}
 use Rattle.bz_running.specs.Kinds.{kind_of}
 use Rattle.bz_sight.specs.Sight.{IsHidden, IsSeen}
 use Rattle.bz_sight.specs.Starts.{StartsAreSeen, Sees, StoresAreHidden, OwnWordsAreHidden}
-use Rattle.bz_sound.specs.Lonely.{LonelyCallsAreAlone}
+use Rattle.bz_sound.specs.Solitary.{NoneIsOpenBesideASolitaryCall}
 use Rattle.bz_story.specs.Laws.{ScenesAreSeen}
 use Rattle.bz_story.specs.Living.{IsLiving}
 use Rattle.bz_story.specs.Story.{scene}
@@ -26,10 +26,10 @@ use Rattle.bz_task.specs.declared.todo.Todo.{Todo}
 use Rattle.bz_task.specs.declared.todo.Todo.TheVariants as todo
 use Rattle.bz_word.specs.declared.entry.Entry.{Entry}
 use Rattle.bz_world.specs.Inside.Acted.{IsBetween}
-use Rattle.bz_world.specs.Inside.Alone.{untold, DoesWell, WaitsAlone}
+use Rattle.bz_world.specs.Inside.Alone.{untold, DoesWell, WaitsUndisturbed}
 use Rattle.bz_world.specs.Inside.Exact.{reach_idle, reach_of, underway}
 use Rattle.bz_world.specs.Inside.Kept.{IsAwake}
-use Rattle.bz_world.specs.Inside.Laws.{AloneLaws, BegunLaws}
+use Rattle.bz_world.specs.Inside.Laws.{UndisturbedLaws, BegunLaws}
 use Rattle.bz_world.specs.Inside.Serving.{IsServing, IsDoing, IsSlot, stage_in, tells_of}
 use Rattle.bz_world.specs.Inside.Telling.{MustStart}
 use Rattle.bz_world.specs.declared.parts.Parts.{Parts}
@@ -38,10 +38,10 @@ use Rattle.bz_world.specs.Inside.Paid.{errand_of, no_extra, stock_of, IsPaidIn}
 use Rattle.bz_world.proofs.PaidSteps.{starts-in}
 use Rattle.bz_world.proofs.Alone.{waits-same}
 use Rattle.bz_world.proofs.AloneStarts.{stands-now, starts-well, well-beside}
-use Rattle.bz_world.proofs.Due.{looks-only, not-lonely}
+use Rattle.bz_world.proofs.Due.{looks-only, not-solitary}
 use Rattle.bz_world.proofs.Exact.{exact-swaps, still-asks}
 use Rattle.bz_world.proofs.Merging.{duly-swaps}
-use Rattle.bz_world.proofs.Lonely.{in-place, only-own}
+use Rattle.bz_world.proofs.Solitary.{in-place, only-own}
 use Rattle.bz_world.proofs.Paid.{swapless}
 use Rattle.bz_world.proofs.Powered.{begun-in}
 use Rattle.bz_world.proofs.Starting.{starts-it, starts-others}
@@ -79,7 +79,7 @@ module _ (scenes : ScenesAreSeen) (hidden : OwnWordsAreHidden) (p : Parts) (w : 
   ]
 
 -- the swap has the number of the next descriptor, and the table names its worker
-module _ (lone : AloneLaws) (starts : StartsAreSeen) (scenes : ScenesAreSeen) (begun : BegunLaws) (alone : LonelyCallsAreAlone) (p : Parts) (w : ℕ) (entries : List Entry) (m : MustStart p w (todo.Swap entries)) (may : MaySwap p.access w entries) (ask : All (IsEntryToAsk (scene p.config p.journal.past m.asking.between.story w m.asking.between.call_open.look.since m.asking.between.opened)) entries)
+module _ (solo : UndisturbedLaws) (starts : StartsAreSeen) (scenes : ScenesAreSeen) (begun : BegunLaws) (alone : NoneIsOpenBesideASolitaryCall) (p : Parts) (w : ℕ) (entries : List Entry) (m : MustStart p w (todo.Swap entries)) (may : MaySwap p.access w entries) (ask : All (IsEntryToAsk (scene p.config p.journal.past m.asking.between.story w m.asking.between.call_open.look.since m.asking.between.opened)) entries)
     (holds : Holds (swapping p.access w entries)) (list : IsEntryList entries) (room : p.access.taken < p.config.swaps) (owners : Vec ℕ) (size : length owners.items ≡ p.config.swaps) (mine : slice_index owners.items p.access.taken ≡ w)
     (rest : (s : ℕ) → s ≢ p.access.taken → slice_index owners.items s ≡ slice_index p.owners.items s) where
   abbrev was : IsBetween p w m.serving
@@ -119,13 +119,13 @@ module _ (lone : AloneLaws) (starts : StartsAreSeen) (scenes : ScenesAreSeen) (b
   none-yet = ap (untold new) does ∙ ap (λ (z : Bool). if z then 1 else 0) (was.taken.unused p.access.taken (omega arith))
 
   -- while nobody else's swap took effect since its look-up began, it goes well
-  waits-now : WaitsAlone new (doing_of new w) m.serving.task its-scene.past
+  waits-now : WaitsUndisturbed new (doing_of new w) m.serving.task its-scene.past
   waits-now = record {
     others = told.0;
     counted = omega (arith, told.1, none-yet);
     well = λ none. subst (DoesWell new) (sym does) (starts-well p.access w entries was.taken.notes.noted own-entries
-        (stands-now lone.stand p.config (was.story.at (length p.journal.past)) p.access w entries was.living.seen may
-        ((lone.goes_on m.serving.task its-scene (sym m.asking.tasked.config) good m.asking.facts (alone-by none)).stands entries m.asking.asks)));
+        (stands-now solo.stand p.config (was.story.at (length p.journal.past)) p.access w entries was.living.seen may
+        ((solo.goes_on m.serving.task its-scene (sym m.asking.tasked.config) good m.asking.facts (undisturbed-by none)).stands entries m.asking.asks)));
     waited = record { scene = its-scene; config = sym m.asking.tasked.config; facts = m.asking.facts };
   }
     where
@@ -133,15 +133,15 @@ module _ (lone : AloneLaws) (starts : StartsAreSeen) (scenes : ScenesAreSeen) (b
       good = (scenes p.config p.access p.journal was.story w was.call_open.look.since was.opened was.living (begun-in was.living was.call_open)).scene
 
       told : (others : ℕ) × HasOthers others (made_of m.serving.task) its-scene.past
-      told = lone.counted m.serving.task its-scene good m.asking.facts
+      told = solo.counted m.serving.task its-scene good m.asking.facts
 
-      alone-by : told.0 ≡ 0 → IsAlone (made_of m.serving.task) its-scene.past
-      alone-by none = omega (arith, told.1, none)
+      undisturbed-by : told.0 ≡ 0 → IsUndisturbed (made_of m.serving.task) its-scene.past
+      undisturbed-by none = omega (arith, told.1, none)
 
   -- its start is paid for
   pays : IsPaidIn p.config new p.journal.past (stock_of p) w (errand_of m.serving) m.serving.task 0 no_extra its-scene.past
-  pays = starts-in lone.paid p.config p.access new p.journal.past (stock_of p) w (errand_of m.serving) m.serving.task 0 (todo.Swap entries) its-scene.past
-      (record { left = lone.paid.steps.swap p.access w entries; taken = omega arith; rivals = lone.paid.rivals.swap p.access w entries }) m.asking.paid
+  pays = starts-in solo.paid p.config p.access new p.journal.past (stock_of p) w (errand_of m.serving) m.serving.task 0 (todo.Swap entries) its-scene.past
+      (record { left = solo.paid.steps.swap p.access w entries; taken = omega arith; rivals = solo.paid.rivals.swap p.access w entries }) m.asking.paid
 
   serves-on : IsServing p.config new p.journal was.story owners.items (stock_of p) w m.serving
   serves-on = record {
@@ -161,15 +161,15 @@ module _ (lone : AloneLaws) (starts : StartsAreSeen) (scenes : ScenesAreSeen) (b
     meant = m.asking.meant;
     paid = λ steps. subst (λ u. IsPaidIn p.config new p.journal.past (stock_of p) w (errand_of m.serving) m.serving.task u no_extra its-scene.past) (sym none-yet) pays;
     -- what only looks asks for no swap
-    due = λ quiet lonely. elim (was.due quiet lonely) [
+    due = λ quiet solitary. elim (was.due quiet solitary) [
       | inl due ↦ inl due
-      | inr none ↦ absurd (swapless lone.paid.asked m.serving.task entries m.asking.asks (m.asking.tasked.laws.looks (looks-only m.serving.call (kind_of m.serving.task) none.looks)).swaps)
+      | inr none ↦ absurd (swapless solo.paid.asked m.serving.task entries m.asking.asks (m.asking.tasked.laws.looks (looks-only m.serving.call (kind_of m.serving.task) none.looks)).swaps)
     ];
-    merges = λ lonely. duly-swaps p.config p.journal its-scene.past (reach_idle p.access) (reach_of new w) (stock_of p) m.serving (omega arith) refl none-yet refl (ap underway does)
-        (still-asks m.serving.task m.asking.tasked.laws (todo.Swap entries) m.asking.asks (λ ends. absurd (cc ends))) (swapless lone.paid.asked m.serving.task entries m.asking.asks) (λ looks. (m.asking.tasked.laws.looks looks).swaps) was.opened (m.asking.merges lonely);
-    exact = λ lonely room. exact-swaps was.opened its-scene.past (reach_idle p.access) (reach_of new w) (stock_of p) (tells_of m.serving) m.serving (omega arith) refl none-yet refl (ap underway does)
+    merges = λ solitary. duly-swaps p.config p.journal its-scene.past (reach_idle p.access) (reach_of new w) (stock_of p) m.serving (omega arith) refl none-yet refl (ap underway does)
+        (still-asks m.serving.task m.asking.tasked.laws (todo.Swap entries) m.asking.asks (λ ends. absurd (cc ends))) (swapless solo.paid.asked m.serving.task entries m.asking.asks) (λ looks. (m.asking.tasked.laws.looks looks).swaps) was.opened (m.asking.merges solitary);
+    exact = λ solitary room. exact-swaps was.opened its-scene.past (reach_idle p.access) (reach_of new w) (stock_of p) (tells_of m.serving) m.serving (omega arith) refl none-yet refl (ap underway does)
         (still-asks m.serving.task m.asking.tasked.laws (todo.Swap entries) m.asking.asks (λ ends. absurd (cc ends)))
-        (swapless lone.paid.asked m.serving.task entries m.asking.asks) (λ looks. (m.asking.tasked.laws.looks looks).swaps) (m.asking.exact lonely room);
+        (swapless solo.paid.asked m.serving.task entries m.asking.asks) (λ looks. (m.asking.tasked.laws.looks looks).swaps) (m.asking.exact solitary room);
   }
 
   -- the others do what they did
@@ -204,9 +204,9 @@ module _ (lone : AloneLaws) (starts : StartsAreSeen) (scenes : ScenesAreSeen) (b
             (λ s d well. well-beside p.access w s entries (other-entries s (other-begun v (Some x) h s d)) well) h.alone;
         meant = h.meant;
         paid = λ steps. absurd (ne (was.steps v steps));
-        due = λ quiet lonely. absurd (not-lonely alone w v p.journal.past was.opened was.call_open.is_open ne lonely);
-        merges = λ lonely. absurd (not-lonely alone w v p.journal.past was.opened was.call_open.is_open ne lonely);
-        exact = λ lonely room. absurd (not-lonely alone w v p.journal.past was.opened was.call_open.is_open ne lonely);
+        due = λ quiet solitary. absurd (not-solitary alone w v p.journal.past was.opened was.call_open.is_open ne solitary);
+        merges = λ solitary. absurd (not-solitary alone w v p.journal.past was.opened was.call_open.is_open ne solitary);
+        exact = λ solitary room. absurd (not-solitary alone w v p.journal.past was.opened was.call_open.is_open ne solitary);
       }
         where
           same-stage : (d : Doing) → stage_in new d ≡ stage_in p.access d
@@ -258,6 +258,6 @@ module _ (lone : AloneLaws) (starts : StartsAreSeen) (scenes : ScenesAreSeen) (b
     leaves = was.leaves;
     free = was.free;
     workers = slots;
-    lonely = only-own alone new p.journal.past was.story p.workers.items w was.opened was.call_open.is_open
-        (in-place new p.journal.past was.story p.workers.items w m.serving was.opened m.is was.call_open.is_open (λ key get lonely. absurd (m.asking.lonely key get lonely)));
+    solitary = only-own alone new p.journal.past was.story p.workers.items w was.opened was.call_open.is_open
+        (in-place new p.journal.past was.story p.workers.items w m.serving was.opened m.is was.call_open.is_open (λ key get solitary. absurd (m.asking.solitary key get solitary)));
   }

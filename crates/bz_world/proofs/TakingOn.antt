@@ -16,7 +16,7 @@ use Rattle.bz_running.specs.Duties.{config_of, asks_of, end_of, made_of, needs_o
 use Rattle.bz_running.specs.Hearing.{IsLookup}
 use Rattle.bz_running.specs.Laws.{AreLaws}
 use Rattle.bz_running.specs.declared.running.AnyTask.{AnyTask}
-use Rattle.bz_sound.specs.Lonely.{IsLonely}
+use Rattle.bz_sound.specs.Solitary.{IsSolitary}
 use Rattle.bz_story.specs.Laws.{ScenesAreSeen}
 use Rattle.bz_swap.specs.SwapMemory.{SwapMemory, worker_of}
 use Rattle.bz_task.specs.Outcomes.{IsPath}
@@ -42,13 +42,13 @@ use Rattle.bz_world.specs.Inside.Beginning.{supply_of}
 use Rattle.bz_world.specs.Inside.Due.{TakesRightly, only_looks}
 use Rattle.bz_world.specs.Inside.Exact.{CountsExactly, HasStood, IsExact, reach_idle, seeks}
 use Rattle.bz_world.specs.Inside.Kept.{IsAwake}
-use Rattle.bz_world.specs.Inside.Laws.{AloneLaws}
-use Rattle.bz_world.specs.Inside.Lonely.{WhereLonely, IsNotLonely, IsNotLonelyIn, IsLonelyGet, HasLooked, AsksBriefly}
-use Rattle.bz_lone.specs.FromAlone.Alone.{IsAlone}
+use Rattle.bz_world.specs.Inside.Laws.{UndisturbedLaws}
+use Rattle.bz_world.specs.Inside.Solitary.{WhereSolitary, IsNotSolitary, IsNotSolitaryIn, IsSolitaryGet, HasLooked, AsksBriefly}
+use Rattle.bz_lone.specs.FromAlone.Undisturbed.{IsUndisturbed}
 use Rattle.bz_layout.specs.declared.thresholds.TheConstants.{SWAPS_PER_CALL}
 use Rattle.bz_lone.specs.FromCosts.Resources.{Resource, Marks, Descriptors}
 use Rattle.bz_lone.specs.FromCosts.Weights.{start_takes, weigh}
-use Rattle.bz_swap.specs.Alone.{left_to}
+use Rattle.bz_swap.specs.Solo.{left_to}
 use Rattle.bz_layout.specs.declared.config.Config.{Config}
 use Rattle.bz_lone.specs.FromCosts.Most.{most_of_leaf}
 use Rattle.bz_lone.specs.Errands.{Errand, is_read, is_freeze, after}
@@ -74,14 +74,14 @@ use Rattle.bz_world.specs.declared.parts.Parts.{Parts}
 use Rattle.bz_world.specs.declared.serving.OpenCall.{OpenCall}
 use Rattle.bz_world.proofs.Alone.{hears-now}
 use Rattle.bz_world.proofs.Due.{freezes-no-look}
-use Rattle.bz_world.proofs.Exact.{exact-alone, exact-anew, exact-froze, full-told, seeks-look, seeks-only}
+use Rattle.bz_world.proofs.Exact.{exact-unmerged, exact-anew, exact-froze, full-told, seeks-look, seeks-only}
 use Rattle.bz_world.proofs.Powered.{begun-in}
 use Rattle.bz_world.proofs.Staying.{none-unfilled}
 use Rattle.bz_world.proofs.Supplies.{not-longer}
 use Rattle.bz_world.proofs.Tabled.{tabled-beside}
 use Rattle.bz_task.specs.declared.todo.Seen.{Seen}
 use Rattle.bz_world.specs.Inside.Merging.{looks_on, IsDuly, IsLookingOn, IsStanding, IsTellingFew, MergesDuly}
-use Rattle.bz_world.proofs.Merging.{duly-alone, duly-froze}
+use Rattle.bz_world.proofs.Merging.{duly-unmerged, duly-froze}
 use Rattle.bz_world.proofs.MergeEnds.{ended-merged, looks-on-ends}
 use Rattle.bz_stage.specs.FromLeaves.Neighbours.{MayBeMerged}
 
@@ -94,8 +94,8 @@ pub serving-is : (p : Parts) (w : ℕ) (todo : Todo) (m : MustStart p w todo) (s
 serving-is p w todo m slot e = get_or_read_under p.workers.items w (length p.workers.items) slot None e (omega (arith, m.asking.between.within, m.asking.between.tabled.places, m.asking.between.tabled.config.workers_in_range.at_most)) refl ∙ m.is
 
 -- a task that has ended, so that its call goes on
-abbrev pub must-go-on : (p : Parts) (w : ℕ) (todo : Todo) (m : MustStart p w todo) (outcome : Outcome) → end_of m.serving.task ≡ Some outcome → WhereLonely p.journal.past w m.serving.call (HasLooked p.access p.journal.past m.asking.between.story w m.serving m.asking.between.opened) → MustGoOn p w
-must-go-on p w todo m outcome ended lonely = record {
+abbrev pub must-go-on : (p : Parts) (w : ℕ) (todo : Todo) (m : MustStart p w todo) (outcome : Outcome) → end_of m.serving.task ≡ Some outcome → WhereSolitary p.journal.past w m.serving.call (HasLooked p.access p.journal.past m.asking.between.story w m.serving m.asking.between.opened) → MustGoOn p w
+must-go-on p w todo m outcome ended solitary = record {
   serving = m.serving;
   is = m.is;
   between = m.asking.between;
@@ -103,19 +103,19 @@ must-go-on p w todo m outcome ended lonely = record {
   fit = m.asking.meant.fit;
   exact = m.asking.exact;
   merges = m.asking.merges;
-  lonely = lonely;
+  solitary = solitary;
 }
 
 pub ended-by : (p : Parts) (w : ℕ) (todo : Todo) (m : MustStart p w todo) (outcome : Outcome) → end_in (get_or p.workers.items w None) ≡ Some outcome → end_of m.serving.task ≡ Some outcome
 ended-by p w todo m outcome ended = subst (λ z. end_in z ≡ Some outcome) m.is ended
 
--- a lonely get asks for no swap
-no-swap : (p : Parts) (w : ℕ) (todo : Todo) (m : MustStart p w todo) → LacksDescriptor p todo → IsNotLonely p.journal.past w m.serving.call
-no-swap p w todo m lacks key get lonely = subst (AsksBriefly p.access p.journal.past m.asking.between.story w m.serving m.asking.between.opened key) lacks.is (m.asking.lonely key get lonely)
+-- a solitary get asks for no swap
+no-swap : (p : Parts) (w : ℕ) (todo : Todo) (m : MustStart p w todo) → LacksDescriptor p todo → IsNotSolitary p.journal.past w m.serving.call
+no-swap p w todo m lacks key get solitary = subst (AsksBriefly p.access p.journal.past m.asking.between.story w m.serving m.asking.between.opened key) lacks.is (m.asking.solitary key get solitary)
 
 -- a task that asks for a swap, for which there is no descriptor, is told so
-pub lacks-told : AloneLaws → (p : Parts) (w : ℕ) (todo : Todo) → MustStart p w todo → LacksDescriptor p todo → MustTell p w NoSwap
-lacks-told lone p w todo m lacks = record {
+pub lacks-told : UndisturbedLaws → (p : Parts) (w : ℕ) (todo : Todo) → MustStart p w todo → LacksDescriptor p todo → MustTell p w NoSwap
+lacks-told solo p w todo m lacks = record {
   serving = m.serving;
   is = m.is;
   told = record {
@@ -130,29 +130,29 @@ lacks-told lone p w todo m lacks = record {
     ];
     hears = subst (λ z. Hears z NoSwap) (sym (m.asking.asks ∙ ap Some lacks.is)) tt;
     tells = subst (λ z. Tells z Waiting NoSwap (scene p.config p.journal.past m.asking.between.story w m.asking.between.call_open.look.since m.asking.between.opened)) (sym (m.asking.asks ∙ ap Some lacks.is)) tt;
-    lonely = λ key get lonely. absurd (no-swap p w todo m lacks key get lonely);
-    alone = hears-now lone.counted m.serving.task (scene p.config p.journal.past m.asking.between.story w m.asking.between.call_open.look.since m.asking.between.opened)
-        (lone.scenes p.config p.access p.journal m.asking.between.story w m.asking.between.call_open.look.since m.asking.between.opened m.asking.between.living (begun-in m.asking.between.living m.asking.between.call_open)).scene
+    solitary = λ key get solitary. absurd (no-swap p w todo m lacks key get solitary);
+    alone = hears-now solo.counted m.serving.task (scene p.config p.journal.past m.asking.between.story w m.asking.between.call_open.look.since m.asking.between.opened)
+        (solo.scenes p.config p.access p.journal m.asking.between.story w m.asking.between.call_open.look.since m.asking.between.opened m.asking.between.living (begun-in m.asking.between.living m.asking.between.call_open)).scene
         (sym m.asking.tasked.config) m.asking.facts NoSwap refl (λ e. absurd (cc e));
     meant = m.asking.meant;
     exact = m.asking.exact;
     merges = m.asking.merges;
-    paid = less-in lone.paid p.config p.access p.journal.past (stock_of p) w (errand_of m.serving) m.serving.task 0 (λ r. start_takes r todo) (scene p.config p.journal.past m.asking.between.story w m.asking.between.call_open.look.since m.asking.between.opened).past m.asking.paid;
+    paid = less-in solo.paid p.config p.access p.journal.past (stock_of p) w (errand_of m.serving) m.serving.task 0 (λ r. start_takes r todo) (scene p.config p.journal.past m.asking.between.story w m.asking.between.call_open.look.since m.asking.between.opened).past m.asking.paid;
   };
 }
 
 -- nor is it one then
 pub lacks-other : (p : Parts) (w : ℕ) (todo then : Todo) (m : MustStart p w todo) → LacksDescriptor p todo → (q : Parts) (moment : ℕ) (free left : FreeSlots) → q ≡ record p { slots = q.slots; workers = q.workers } → (asks : MustStart q w then)
-    → HasToldIn (get_or p.workers.items w None) NoSwap moment free then (get_or q.workers.items w None) left → IsNotLonely q.journal.past w asks.serving.call
-lacks-other p w todo then m lacks q moment free left rest asks told key get lonely =
+    → HasToldIn (get_or p.workers.items w None) NoSwap moment free then (get_or q.workers.items w None) left → IsNotSolitary q.journal.past w asks.serving.call
+lacks-other p w todo then m lacks q moment free left rest asks told key get solitary =
     let heard : HasTold m.serving NoSwap moment free then asks.serving left = subst (λ z. HasToldIn z NoSwap moment free then (Some asks.serving) left) m.is (subst (λ z. HasToldIn (get_or p.workers.items w None) NoSwap moment free then z left) asks.is told) in
-    no-swap p w todo m lacks key (sym (ap (λ (z : OpenCall). z.call) heard.rest) ∙ get) (subst (IsLonely w) (ap (λ (z : Parts). z.journal.past) rest) lonely)
+    no-swap p w todo m lacks key (sym (ap (λ (z : OpenCall). z.call) heard.rest) ∙ get) (subst (IsSolitary w) (ap (λ (z : Parts). z.journal.past) rest) solitary)
 
 -- and then it has ended
 pub lacks-swap : RoundLaws → (p : Parts) (w : ℕ) (todo then : Todo) (m : MustStart p w todo) → LacksDescriptor p todo → (q : Parts) (moment : ℕ) (free left : FreeSlots) → q ≡ record p { slots = q.slots; workers = q.workers } → MustStart q w then
     → HasToldIn (get_or p.workers.items w None) NoSwap moment free then (get_or q.workers.items w None) left → LacksSwap q w
 lacks-swap b p w todo then m lacks q moment free left rest asks told = record {
-  on = must-go-on q w then asks (Full Swaps) (heard.heard.goes.no_swap refl) (λ key get lonely. absurd (lacks-other p w todo then m lacks q moment free left rest asks told key get lonely));
+  on = must-go-on q w then asks (Full Swaps) (heard.heard.goes.no_swap refl) (λ key get solitary. absurd (lacks-other p w todo then m lacks q moment free left rest asks told key get solitary));
   spent = ap (λ (z : Parts). z.access.taken) rest ∙ (lacks.spent ∙ sym (ap (λ (z : Parts). z.config.swaps) rest));
   little = λ whole. omega (
     arith,
@@ -164,9 +164,9 @@ lacks-swap b p w todo then m lacks q moment free left rest asks told = record {
   room = room-of b q w asks.serving 0 (λ r. start_takes r then) (scene q.config q.journal.past asks.asking.between.story w asks.asking.between.call_open.look.since asks.asking.between.opened).past asks.asking.paid;
   write = λ quiet. subst (λ (x : OpenCall). is_read x.call ≡ false) (sym heard.rest) (swaps-write m.serving.call (kind_of m.serving.task) (m.asking.meant.look (sym (ap (λ (x : OpenCall). x.effect) heard.rest) ∙ quiet))
       (λ look. swapless b.asked m.serving.task lacks.entries (m.asking.asks ∙ ap Some lacks.is) (m.asking.tasked.laws.looks look).swaps));
-  told = λ quiet lonely room. full-told asks.asking.between.opened (scene q.config q.journal.past asks.asking.between.story w asks.asking.between.call_open.look.since asks.asking.between.opened).past q.access.taken (stock_of q) asks.serving quiet (heard.heard.goes.no_swap refl)
-      (λ looks. swapless b.asked m.serving.task lacks.entries (m.asking.asks ∙ ap Some lacks.is) (m.asking.tasked.laws.looks (seeks-look (kind_of m.serving.task) (sym (ap seeks heard.heard.kind) ∙ looks))).swaps) (asks.asking.exact lonely room);
-  merged = λ at is. ended-merged b.scenes b.trees q w at (must-go-on q w then asks (Full Swaps) (heard.heard.goes.no_swap refl) (λ key get lonely. absurd (lacks-other p w todo then m lacks q moment free left rest asks told key get lonely))) is (Full Swaps) (heard.heard.goes.no_swap refl)
+  told = λ quiet solitary room. full-told asks.asking.between.opened (scene q.config q.journal.past asks.asking.between.story w asks.asking.between.call_open.look.since asks.asking.between.opened).past q.access.taken (stock_of q) asks.serving quiet (heard.heard.goes.no_swap refl)
+      (λ looks. swapless b.asked m.serving.task lacks.entries (m.asking.asks ∙ ap Some lacks.is) (m.asking.tasked.laws.looks (seeks-look (kind_of m.serving.task) (sym (ap seeks heard.heard.kind) ∙ looks))).swaps) (asks.asking.exact solitary room);
+  merged = λ at is. ended-merged b.scenes b.trees q w at (must-go-on q w then asks (Full Swaps) (heard.heard.goes.no_swap refl) (λ key get solitary. absurd (lacks-other p w todo then m lacks q moment free left rest asks told key get solitary))) is (Full Swaps) (heard.heard.goes.no_swap refl)
       (λ full. ap (λ (z : Parts). z.access.taken) rest ∙ (lacks.spent ∙ sym (ap (λ (z : Parts). z.config.swaps) rest)))
       (λ begun may s. never-full s.task);
 }
@@ -250,8 +250,8 @@ duly-anew p w on stands over = record {
 -- so it goes on
 abbrev pub looks-anew : (p : Parts) (w : ℕ) (on : MustGoOn p w) → LooksUpAgain p w on → StandsForLooking p w on → (kind_of on.serving.task ≡ kinds.Delete → end_of on.serving.task ≢ None) → MustGoOn p w
 looks-anew p w on again stands over = record on {
-  merges = λ lonely. duly-anew p w on (stands lonely) over;
-  exact = λ lonely room. exact-anew on.between.opened (known p w on).past (anew-past p w on) (reach_idle p.access) (stock_of p) (tells_of on.serving) on.serving (again lonely room).effected (stood-anew p w on) (omega arith) (on.exact lonely room);
+  merges = λ solitary. duly-anew p w on (stands solitary) over;
+  exact = λ solitary room. exact-anew on.between.opened (known p w on).past (anew-past p w on) (reach_idle p.access) (stock_of p) (tells_of on.serving) on.serving (again solitary room).effected (stood-anew p w on) (omega arith) (on.exact solitary room);
   between = record on.between {
     call_open = record on.between.call_open {
       look = let l = on.between.call_open.look in record { since = length p.journal.past; after_begin = omega (arith, l.after_begin, l.by_now); by_now = omega arith };
@@ -260,19 +260,19 @@ looks-anew p w on again stands over = record on {
 }
 
 -- so does that of a delete which looks once more at its leaf
-pub look-after : (p : Parts) (w : ℕ) (on : MustGoOn p w) (again : LooksUpAgain p w on) (stands : StandsForLooking p w on) (over : kind_of on.serving.task ≡ kinds.Delete → end_of on.serving.task ≢ None) → IsLonely w p.journal.past → HadRoom p.config p.journal.start p.journal.past on.between.opened → (task : AnyTask) → is_look (kind_of task) ≡ true
+pub look-after : (p : Parts) (w : ℕ) (on : MustGoOn p w) (again : LooksUpAgain p w on) (stands : StandsForLooking p w on) (over : kind_of on.serving.task ≡ kinds.Delete → end_of on.serving.task ≢ None) → IsSolitary w p.journal.past → HadRoom p.config p.journal.start p.journal.past on.between.opened → (task : AnyTask) → is_look (kind_of task) ≡ true
     → IsExact on.between.opened (known p w (looks-anew p w on again stands over)).past (reach_idle p.access) (stock_of p) (tells_of on.serving) (record on.serving { task = task; path = None })
-look-after p w on again stands over lonely room task looks =
-    let was = again lonely room in
+look-after p w on again stands over solitary room task looks =
+    let was = again solitary room in
     inr (inr (inr (record { looks = looks; counted = record { effected = was.effected; same_taken = was.same_taken; same_left = was.same_left; stood = stood-anew p w on was.stood }; alone = omega arith })))
 
 -- and its look-up goes on with the merge that is due
 pub duly-looks : (p : Parts) (w : ℕ) (on : MustGoOn p w) (again : LooksUpAgain p w on) (stands : StandsForLooking p w on) (over : kind_of on.serving.task ≡ kinds.Delete → end_of on.serving.task ≢ None) (task : AnyTask) → kind_of task ≡ kinds.Seek
     → MergesDuly p.config p.journal w on.between.opened (known p w (looks-anew p w on again stands over)).past (reach_idle p.access) (stock_of p) (record on.serving { task = task; path = None })
-duly-looks p w on again stands over task kind lonely = record {
+duly-looks p w on again stands over task kind solitary = record {
   looking = λ quiet seek. omega arith;
   deleting = λ quiet delete going. absurd (cc (kind, delete));
-  merging = λ at is deletes. let s = (stands lonely at is deletes).0 in record { after_begin = s.after_begin; by_now = s.by_now; merging = λ may. inl (record { standing = still-stands p w on at (s.standing may); task = inr (record { looks = ap looks_on kind; alone = omega arith }) }) };
+  merging = λ at is deletes. let s = (stands solitary at is deletes).0 in record { after_begin = s.after_begin; by_now = s.by_now; merging = λ may. inl (record { standing = still-stands p w on at (s.standing may); task = inr (record { looks = ap looks_on kind; alone = omega arith }) }) };
 }
 
 -- a task that takes no slot needs no reason
@@ -285,7 +285,7 @@ has-way path none = absurd (cc none)
 
 -- a look-up takes nothing, and what was taken before was taken rightly
 pub looks-right : (p : Parts) (w : ℕ) (on : MustGoOn p w) (task : AnyTask) (way : Option Path) → only_looks on.serving.call (kind_of task) ≡ true → TakesRightly p.config p.access.taken p.journal (stock_of p) w (record on.serving { task = task; path = way })
-looks-right p w on task way looks quiet lonely = elim (on.between.due quiet lonely) [
+looks-right p w on task way looks quiet solitary = elim (on.between.due quiet solitary) [
   | inl due ↦ inl due
   | inr none ↦ inr (record { looks = looks; thawed = none.thawed; same_taken = none.same_taken; same_left = none.same_left })
 ]
@@ -303,18 +303,18 @@ no-key key task looks view s means = let some : 0 < 0 = ((looks (Some bogus)).le
 -- a task that makes no change, for the call's key
 abbrev pub lookup-taken : (p : Parts) (w : ℕ) (on : MustGoOn p w) → MayGoOn on.serving → (task : AnyTask) (way : Option Path) (asked : Option Todo) (key : List ℕ) → config_of task ≡ p.config → AreLaws task → makes_no_change task ≡ true → IsLookup key way task → (way ≡ None → (other : Option Path) → IsLookup key other task) → key ≡ key_of on.serving.call
     → asks_of task ≡ asked → facts_of task Waiting (known p w on) → IsWanted p.config p.journal on.between.opened task
-    → WhereLonely p.journal.past w on.serving.call (IsLonelyGet p.access p.journal.past on.between.story w (record on.serving { task = task; path = way }) on.between.opened) → IsMeant (record on.serving { task = task; path = way }) (known p w on).past → IsPaidFor p w (record on.serving { task = task; path = way }) 0 (taken_for asked) (known p w on).past
+    → WhereSolitary p.journal.past w on.serving.call (IsSolitaryGet p.access p.journal.past on.between.story w (record on.serving { task = task; path = way }) on.between.opened) → IsMeant (record on.serving { task = task; path = way }) (known p w on).past → IsPaidFor p w (record on.serving { task = task; path = way }) 0 (taken_for asked) (known p w on).past
     → TakesRightly p.config p.access.taken p.journal (stock_of p) w (record on.serving { task = task; path = way }) → CountsExactly p.config p.journal w on.between.opened (known p w on).past (reach_idle p.access) (stock_of p) (tells_of (record on.serving { task = task; path = way })) (record on.serving { task = task; path = way })
     → MergesDuly p.config p.journal w on.between.opened (known p w on).past (reach_idle p.access) (stock_of p) (record on.serving { task = task; path = way })
     → MustTakeOn p w task way on.serving.had asked
-lookup-taken p w on may task way asked key config laws looks lookup wayless same asks facts wanted lonely meant paid due exact merges = record {
+lookup-taken p w on may task way asked key config laws looks lookup wayless same asks facts wanted solitary meant paid due exact merges = record {
   on = on;
   may = may;
   tasked = record { config = config; laws = laws; lookup = subst (λ k. IsLookup k way task) same lookup; change = inl looks; wayless = λ none other. subst (λ k. IsLookup k other task) same (wayless none other) };
   asks = asks;
   facts = facts;
   wanted = wanted;
-  lonely = lonely;
+  solitary = solitary;
   meant = meant;
   paid = paid;
   due = due;
@@ -325,41 +325,41 @@ lookup-taken p w on may task way asked key config laws looks lookup wayless same
 -- a task of a call without effect that neither looks its key up nor deletes it
 pub duly-other : (p : Parts) (w : ℕ) (on : MustGoOn p w) (task : AnyTask) (way : Option Path) → on.serving.effect ≡ None → (seeks (kind_of task) ≡ true → ⊥) → (kind_of task ≡ kinds.Delete → ⊥)
     → MergesDuly p.config p.journal w on.between.opened (known p w on).past (reach_idle p.access) (stock_of p) (record on.serving { task = task; path = way })
-duly-other p w on task way quiet seek delete lonely = record { looking = λ none looks. absurd (seek looks); deleting = λ none kind going. absurd (delete kind); merging = λ at is deletes. absurd (cc (quiet, is)) }
+duly-other p w on task way quiet seek delete solitary = record { looking = λ none looks. absurd (seek looks); deleting = λ none kind going. absurd (delete kind); merging = λ at is deletes. absurd (cc (quiet, is)) }
 
 -- the way by which its leaf was read since is one of its key
 pub read-way : (p : Parts) (w at : ℕ) (view : LeafView) (r : HasReadAfter p w at view) (slot : Option OpenCall) → slot ≡ get_or p.workers.items w slot → (way : Option Path) → way ≡ path_in slot → (path : Path) → way ≡ Some path → IsPath (key_of r.had.on.serving.call) path (known p w r.had.on).past
 read-way p w at view r slot e way named path is = r.leads path (ap path_in (sym (slot-is p w r.had.on slot e)) ∙ (sym named ∙ is))
 
 -- whether its leaf is copied alone is nothing to what is known
-pub said-alone : (p : Parts) (w : ℕ) (on : MustGoOn p w) → IsNotLonely p.journal.past w on.serving.call → (alone : Bool) (slot : Option OpenCall) → slot ≡ Some (record on.serving { alone = alone }) → MustGoOn (record p { workers = with_item p.workers w slot }) w
+pub said-unmerged : (p : Parts) (w : ℕ) (on : MustGoOn p w) → IsNotSolitary p.journal.past w on.serving.call → (alone : Bool) (slot : Option OpenCall) → slot ≡ Some (record on.serving { alone = alone }) → MustGoOn (record p { workers = with_item p.workers w slot }) w
 unfolding between-tasks
-said-alone p w on other alone slot is = record {
+said-unmerged p w on other alone slot is = record {
   serving = record on.serving { alone = alone };
   is = get_or-set_same p.workers.items w slot None (omega (arith, on.between.within, on.between.tabled.places, on.between.tabled.config.workers_in_range.at_most)) ∙ is;
   between = between-tasks p w on.serving (record on.serving { alone = alone }) on.between (with_item p.workers w slot) (length-set p.workers.items w slot) (λ v ne. get_or-set_other p.workers.items w v slot None ne)
       (assumption on.between.call_open) on.between.due;
   filled = on.filled;
   fit = record { words = on.fit.words; thawed = on.fit.thawed };
-  lonely = λ key get lonely. absurd (other key get lonely);
-  merges = λ lonely. duly-alone p.config p.journal on.between.opened (known p w on).past (reach_idle p.access) (stock_of p) on.serving alone (on.merges lonely);
-  exact = λ lonely room. exact-alone on.between.opened (known p w on).past (reach_idle p.access) (stock_of p) (tells_of on.serving) on.serving alone (on.exact lonely room);
+  solitary = λ key get solitary. absurd (other key get solitary);
+  merges = λ solitary. duly-unmerged p.config p.journal on.between.opened (known p w on).past (reach_idle p.access) (stock_of p) on.serving alone (on.merges solitary);
+  exact = λ solitary room. exact-unmerged on.between.opened (known p w on).past (reach_idle p.access) (stock_of p) (tells_of on.serving) on.serving alone (on.exact solitary room);
 }
 
 pub said-may : (p : Parts) (w : ℕ) (m : MustLookUpAs p w crowded) (alone : Bool) → alone ≡ is_merge (kind_of m.on.serving.task) → (slot : Option OpenCall) → slot ≡ Some (record m.on.serving { alone = alone }) → MustLookUp (record p { workers = with_item p.workers w slot }) w
-unfolding said-alone between-tasks
+unfolding said-unmerged between-tasks
 said-may p w m alone merges slot is = record {
-  on = said-alone p w m.on m.other alone slot is;
+  on = said-unmerged p w m.on m.other alone slot is;
   may = m.may;
   other = m.other;
   pays = subst (λ (a : Bool). HasARoundAs p w (record (errand_of m.on.serving) { alone = a }) (known p w m.on).past) (sym merges) m.pays;
-  stands = λ lonely at is deletes. let s = m.stands lonely at is deletes in (assumption s.0, λ may. assumption (s.1 may));
+  stands = λ solitary at is deletes. let s = m.stands solitary at is deletes in (assumption s.0, λ may. assumption (s.1 may));
   over = m.over;
-  again = λ lonely room. assumption (m.again lonely room);
+  again = λ solitary room. assumption (m.again solitary room);
 }
 
 -- nor is whether its own freeze of its leaf was the last to end
-pub said-froze : (p : Parts) (w : ℕ) (on : MustGoOn p w) → IsNotLonely p.journal.past w on.serving.call → (froze : Bool) → (froze ≡ true → is_read on.serving.call ≡ false) → (froze ≡ true → only_looks on.serving.call (kind_of on.serving.task) ≡ true → ⊥) → (slot : Option OpenCall) → slot ≡ Some (record on.serving { froze = froze }) → MustGoOn (record p { workers = with_item p.workers w slot }) w
+pub said-froze : (p : Parts) (w : ℕ) (on : MustGoOn p w) → IsNotSolitary p.journal.past w on.serving.call → (froze : Bool) → (froze ≡ true → is_read on.serving.call ≡ false) → (froze ≡ true → only_looks on.serving.call (kind_of on.serving.task) ≡ true → ⊥) → (slot : Option OpenCall) → slot ≡ Some (record on.serving { froze = froze }) → MustGoOn (record p { workers = with_item p.workers w slot }) w
 unfolding between-tasks
 said-froze p w on other froze thawed freezes slot is = record {
   serving = record on.serving { froze = froze };
@@ -368,9 +368,9 @@ said-froze p w on other froze thawed freezes slot is = record {
       (assumption on.between.call_open) right;
   filled = on.filled;
   fit = record { words = on.fit.words; thawed = thawed };
-  lonely = λ key get lonely. absurd (other key get lonely);
-  merges = λ lonely. duly-froze p.config p.journal on.between.opened (known p w on).past (reach_idle p.access) (stock_of p) on.serving froze (on.merges lonely);
-  exact = λ lonely room. exact-froze on.between.opened (known p w on).past (reach_idle p.access) (stock_of p) (tells_of on.serving) on.serving froze (λ f looks. freezes f (seeks-only on.serving.call (kind_of on.serving.task) looks)) (on.exact lonely room);
+  solitary = λ key get solitary. absurd (other key get solitary);
+  merges = λ solitary. duly-froze p.config p.journal on.between.opened (known p w on).past (reach_idle p.access) (stock_of p) on.serving froze (on.merges solitary);
+  exact = λ solitary room. exact-froze on.between.opened (known p w on).past (reach_idle p.access) (stock_of p) (tells_of on.serving) on.serving froze (λ f looks. freezes f (seeks-only on.serving.call (kind_of on.serving.task) looks)) (on.exact solitary room);
 }
   where
     unfrozen : only_looks on.serving.call (kind_of on.serving.task) ≡ true → (f : Bool) → froze ≡ f → froze ≡ false
@@ -378,7 +378,7 @@ said-froze p w on other froze thawed freezes slot is = record {
     unfrozen looks false e = e
 
     right : TakesRightly p.config p.access.taken p.journal (stock_of p) w (record on.serving { froze = froze })
-    right quiet lonely = elim (on.between.due quiet lonely) [
+    right quiet solitary = elim (on.between.due quiet solitary) [
       | inl due ↦ inl due
       | inr none ↦ inr (record { looks = none.looks; thawed = unfrozen none.looks froze refl; same_taken = none.same_taken; same_left = none.same_left })
     ]
@@ -390,15 +390,15 @@ froze-may p w m froze freezes slot is = record {
   may = m.may;
   other = m.other;
   pays = subst (λ (f : Bool). HasARoundAs p w (record (errand_of m.on.serving) { froze = f }) (known p w m.on).past) (sym freezes) m.pays;
-  stands = λ lonely at is deletes. let s = m.stands lonely at is deletes in (assumption s.0, λ may. assumption (s.1 may));
+  stands = λ solitary at is deletes. let s = m.stands solitary at is deletes in (assumption s.0, λ may. assumption (s.1 may));
   over = m.over;
-  again = λ lonely room. assumption (m.again lonely room);
+  again = λ solitary room. assumption (m.again solitary room);
 }
 
 thawed-spares : (r : Resource) (m : SwapMemory) (w : ℕ) (e : Errand) (used by : ℕ) (p : Past) → Spares r m w e used by p (λ q. most_of_leaf r + coming r q e kinds.ReadWhole) → Spares r m w (record e { froze = false }) used by p (λ q. most_of_leaf r + coming r q (record e { froze = false }) kinds.ReadWhole)
 thawed-spares r m w e used by p s = by-round s.round s.alone s.affords
   where
-    by-round : (round : Round) → (round ≡ Clean → IsAlone 0 p) → Affords r m w e used by (reserve r round + (most_of_leaf r + coming r (prices_of r round e p) e kinds.ReadWhole)) → Spares r m w (record e { froze = false }) used by p (λ q. most_of_leaf r + coming r q (record e { froze = false }) kinds.ReadWhole)
+    by-round : (round : Round) → (round ≡ Clean → IsUndisturbed 0 p) → Affords r m w e used by (reserve r round + (most_of_leaf r + coming r (prices_of r round e p) e kinds.ReadWhole)) → Spares r m w (record e { froze = false }) used by p (λ q. most_of_leaf r + coming r q (record e { froze = false }) kinds.ReadWhole)
     by-round Disturbed alone a = record { round = Disturbed; alone = alone; thawed = λ f. absurd (true≢false (sym f)); affords = record { enough = a.enough } }
     by-round Clean alone a = record { round = Clean; alone = alone; thawed = λ f. absurd (true≢false (sym f)); affords = record { enough = a.enough } }
 
@@ -411,8 +411,8 @@ thawed-read p w path m slot is = record {
   other = m.other;
   look = m.look;
   due = m.due;
-  stands = λ lonely at is deletes. let s = m.stands lonely at is deletes in (assumption s.0, s.1);
-  again = λ lonely room. assumption (m.again lonely room);
+  stands = λ solitary at is deletes. let s = m.stands solitary at is deletes in (assumption s.0, s.1);
+  again = λ solitary room. assumption (m.again solitary room);
   spares = λ r counted. thawed-spares r p.access w (errand_of m.on.serving) (used_in r p w) (bound_in r p w) (known p w m.on).past (m.spares r counted);
 }
 
@@ -420,7 +420,7 @@ thawed-read p w path m slot is = record {
 pub record IsSpared (p : Parts) (w : ℕ) (on : MustGoOn p w) (task : AnyTask) : Type 0 where
   pub slotless : needs_of task ≡ 0
   pub spares : HasToSpare p w on.serving (known p w on).past (λ r q. coming r q (errand_of on.serving) kinds.Find)
-  pub lacks : (z : Scene) → means_of task outcomes.NeedsRoom z → IsAlone 0 (known p w on).past → 0 < stage_now (errand_of on.serving) (known p w on).past
+  pub lacks : (z : Scene) → means_of task outcomes.NeedsRoom z → IsUndisturbed 0 (known p w on).past → 0 < stage_now (errand_of on.serving) (known p w on).past
 
 module _ (p : Parts) (w : ℕ) (task : AnyTask) (had : Option (List ℕ)) (asked : Option Todo) (path : Option Path) (m : MustTakeOn p w task path had asked) (slot : Option OpenCall) (is : slot ≡ Some (record m.on.serving { task = task; path = path; had = had })) (told : IsToldBy p.config p.journal m.on.between.opened had) where
   abbrev pub next : OpenCall
@@ -437,13 +437,13 @@ module _ (p : Parts) (w : ℕ) (task : AnyTask) (had : Option (List ℕ)) (asked
   here-is = get_or-set_same p.workers.items w slot None (omega (arith, m.on.between.within, m.on.between.tabled.places, m.on.between.tabled.config.workers_in_range.at_most)) ∙ is
 
   -- the swaps of others since its look-up began, by what its task knows
-  counts-now : AloneLaws → (others : ℕ) × HasOthers others (made_of task) (known p w m.on).past
-  counts-now lone = lone.counted task (known p w m.on) (known-scene lone.scenes p w m.on) m.facts
+  counts-now : UndisturbedLaws → (others : ℕ) × HasOthers others (made_of task) (known p w m.on).past
+  counts-now solo = solo.counted task (known p w m.on) (known-scene solo.scenes p w m.on) m.facts
 
   -- which asks for something already
-  pub taken-asks : AloneLaws → IsNotLonely p.journal.past w m.on.serving.call → (todo : Todo) → todo ≢ Finish → asked ≡ Some todo → MustStart taken w todo
+  pub taken-asks : UndisturbedLaws → IsNotSolitary p.journal.past w m.on.serving.call → (todo : Todo) → todo ≢ Finish → asked ≡ Some todo → MustStart taken w todo
   unfolding between between-tasks
-  taken-asks lone other todo more e = record {
+  taken-asks solo other todo more e = record {
     serving = next;
     is = here-is;
     asking = record {
@@ -453,8 +453,8 @@ module _ (p : Parts) (w : ℕ) (task : AnyTask) (had : Option (List ℕ)) (asked
       finished = inl m.may;
       facts = m.facts;
       covered = none-unfilled (m.on.between.story.took w) (m.on.between.story.filled w) (needs_of task) (omega (arith, m.tasked.laws.few, m.tasked.laws.most)) m.on.filled;
-      lonely = λ key get lonely. absurd (other key get lonely);
-      alone = record { others = (counts-now lone).0; made = made_of task; counted = (counts-now lone).1; stands = λ ends. absurd (more ends) };
+      solitary = λ key get solitary. absurd (other key get solitary);
+      alone = record { others = (counts-now solo).0; made = made_of task; counted = (counts-now solo).1; stands = λ ends. absurd (more ends) };
       meant = m.meant;
       exact = m.exact;
       merges = m.merges;
@@ -463,9 +463,9 @@ module _ (p : Parts) (w : ℕ) (task : AnyTask) (had : Option (List ℕ)) (asked
   }
 
   -- or is to be told to begin
-  pub taken-begins : AloneLaws → asked ≡ None → MustTell taken w Start
+  pub taken-begins : UndisturbedLaws → asked ≡ None → MustTell taken w Start
   unfolding between between-tasks
-  taken-begins lone e = record {
+  taken-begins solo e = record {
     serving = next;
     is = here-is;
     told = record {
@@ -477,8 +477,8 @@ module _ (p : Parts) (w : ℕ) (task : AnyTask) (had : Option (List ℕ)) (asked
       finished = inl m.may;
       hears = subst (λ z. Hears z Start) (sym (m.asks ∙ e)) tt;
       tells = subst (λ z. Tells z Waiting Start (known p w m.on)) (sym (m.asks ∙ e)) (has-filled p w m.on);
-      lonely = λ key get lonely. (m.lonely key get lonely, refl);
-      alone = hears-now lone.counted task (known p w m.on) (known-scene lone.scenes p w m.on) (sym m.tasked.config) m.facts Start refl (λ e. absurd (cc e));
+      solitary = λ key get solitary. (m.solitary key get solitary, refl);
+      alone = hears-now solo.counted task (known p w m.on) (known-scene solo.scenes p w m.on) (sym m.tasked.config) m.facts Start refl (λ e. absurd (cc e));
       meant = m.meant;
       exact = m.exact;
       merges = m.merges;
@@ -486,24 +486,24 @@ module _ (p : Parts) (w : ℕ) (task : AnyTask) (had : Option (List ℕ)) (asked
     };
   }
 
-  -- where the call is no lonely get
-  pub task-begins : AloneLaws → IsNotLonely p.journal.past w m.on.serving.call → asked ≡ None → makes_no_change task ≡ true → kind_of task ≢ kinds.Find → MustBegin taken w
+  -- where the call is no solitary get
+  pub task-begins : UndisturbedLaws → IsNotSolitary p.journal.past w m.on.serving.call → asked ≡ None → makes_no_change task ≡ true → kind_of task ≢ kinds.Find → MustBegin taken w
   unfolding taken-begins between between-tasks
-  task-begins lone other e silent kind = record { tell = taken-begins lone e; other = other; silent = silent; kind = kind }
+  task-begins solo other e silent kind = record { tell = taken-begins solo e; other = other; silent = silent; kind = kind }
 
   -- and the way to its leaf is known as before
-  pub begins-knowing : (lone : AloneLaws) (e : asked ≡ None) → ((way : Path) → m.on.serving.path ≡ Some way → IsPath (key_of m.on.serving.call) way (known p w m.on).past) → m.on.serving.effect ≡ None → m.on.serving.path ≢ None → path ≡ m.on.serving.path → (pays : IsSpared p w m.on task) → MustTellOf taken w Start
+  pub begins-knowing : (solo : UndisturbedLaws) (e : asked ≡ None) → ((way : Path) → m.on.serving.path ≡ Some way → IsPath (key_of m.on.serving.call) way (known p w m.on).past) → m.on.serving.effect ≡ None → m.on.serving.path ≢ None → path ≡ m.on.serving.path → (pays : IsSpared p w m.on task) → MustTellOf taken w Start
   unfolding taken-begins between between-tasks
-  begins-knowing lone e leads quiet some same pays = record {
-    must = taken-begins lone e;
+  begins-knowing solo e leads quiet some same pays = record {
+    must = taken-begins solo e;
     knows = record { leads = λ way is. leads way (sym same ∙ is); quiet = quiet; some = λ none. some (sym same ∙ none); slotless = pays.slotless; spares = pays.spares; lacks = pays.lacks };
   }
 
   -- or has just been found
-  pub begins-found : (lone : AloneLaws) (e : asked ≡ None) (found : Path) → path ≡ Some found → IsPath (key_of m.on.serving.call) found (known p w m.on).past → m.on.serving.effect ≡ None → (pays : IsSpared p w m.on task) → MustTellOf taken w Start
+  pub begins-found : (solo : UndisturbedLaws) (e : asked ≡ None) (found : Path) → path ≡ Some found → IsPath (key_of m.on.serving.call) found (known p w m.on).past → m.on.serving.effect ≡ None → (pays : IsSpared p w m.on task) → MustTellOf taken w Start
   unfolding taken-begins between between-tasks
-  begins-found lone e found at leads quiet pays = record {
-    must = taken-begins lone e;
+  begins-found solo e found at leads quiet pays = record {
+    must = taken-begins solo e;
     knows = record {
       leads = λ way is. let both : Some found ≡ Some way = sym at ∙ is in let same : found ≡ way = cc both in subst (λ z. IsPath (key_of m.on.serving.call) z (known p w m.on).past) same leads;
       quiet = quiet;
@@ -520,9 +520,9 @@ told-may (Some x) (Some y) seen moment free todo left h may = subst MayGoOn (sym
 told-may None slot seen moment free todo left h may = absurd may
 told-may (Some x) None seen moment free todo left h may = absurd h
 
--- and of one that is no lonely get, or whose path was found
-pub told-other : (old slot : Option OpenCall) (seen : Seen) (moment : ℕ) (free : FreeSlots) (todo : Todo) (left : FreeSlots) → HasToldIn old seen moment free todo slot left → (past : List Mark) (w : ℕ) → IsNotLonelyIn past w old → IsNotLonelyIn past w slot
-told-other (Some x) (Some y) seen moment free todo left h past w other = subst (λ (z : OpenCall). IsNotLonely past w z.call) (sym h.rest) other
+-- and of one that is no solitary get, or whose path was found
+pub told-other : (old slot : Option OpenCall) (seen : Seen) (moment : ℕ) (free : FreeSlots) (todo : Todo) (left : FreeSlots) → HasToldIn old seen moment free todo slot left → (past : List Mark) (w : ℕ) → IsNotSolitaryIn past w old → IsNotSolitaryIn past w slot
+told-other (Some x) (Some y) seen moment free todo left h past w other = subst (λ (z : OpenCall). IsNotSolitary past w z.call) (sym h.rest) other
 told-other None slot seen moment free todo left h past w other = absurd h
 told-other (Some x) None seen moment free todo left h past w other = absurd h
 
@@ -542,8 +542,8 @@ never-ends None slot moment free todo left h x is silent kind ends = absurd h
 never-ends (Some y) None moment free todo left h x is silent kind ends = absurd h
 
 -- where its task has ended the leaf may be read whole
-abbrev pub must-read-whole : (p : Parts) (w : ℕ) (todo : Todo) (m : MustStartOf p w todo) (outcome : Outcome) → end_of m.must.serving.task ≡ Some outcome → IsNotLonely p.journal.past w m.must.serving.call → MustReadWhole p w
-must-read-whole p w todo m outcome ended other = record { on = must-go-on p w todo m.must outcome ended (λ key get lonely. absurd (other key get lonely)); leads = m.knows.leads; quiet = m.knows.quiet; other = other; some = m.knows.some }
+abbrev pub must-read-whole : (p : Parts) (w : ℕ) (todo : Todo) (m : MustStartOf p w todo) (outcome : Outcome) → end_of m.must.serving.task ≡ Some outcome → IsNotSolitary p.journal.past w m.must.serving.call → MustReadWhole p w
+must-read-whole p w todo m outcome ended other = record { on = must-go-on p w todo m.must outcome ended (λ key get solitary. absurd (other key get solitary)); leads = m.knows.leads; quiet = m.knows.quiet; other = other; some = m.knows.some }
 
 -- a call that went on from parts with other slots and tasks
 pub told-went : (old mid : Parts) (w : ℕ) (answer : Applied) (new : Parts) → mid ≡ record old { slots = mid.slots; workers = mid.workers } → length mid.slots.free ≤ length old.slots.free → length old.slots.free ≤ length new.slots.free + SPLIT_SLOTS
@@ -558,7 +558,7 @@ told-went old mid w answer new rest fewer few went = record {
   };
   full = subst (λ j. EndsFullRightly new.config j w new.journal (supply_of new)) (ap (λ (p : Parts). p.journal) rest) went.full;
   brief = subst (λ j. GetsBriefly new.config j w new.journal) (ap (λ (p : Parts). p.journal) rest) went.brief;
-  lone = subst (λ (j : Log). length new.journal.past ≤ deadline new.config w j.past) (ap (λ (p : Parts). p.journal) rest) went.lone;
+  solo = subst (λ (j : Log). length new.journal.past ≤ deadline new.config w j.past) (ap (λ (p : Parts). p.journal) rest) went.solo;
   begun = went.begun ∙ ap begun_with rest;
   supplied = λ whole. went.supplied (subst (λ (j : Log). RunsWhole new.config w j.past) (sym (ap (λ (p : Parts). p.journal) rest)) whole);
   little = λ whole. subst (λ (j : Log). EndsFullOfLittle new.config j w new.journal (begun_with new)) (ap (λ (p : Parts). p.journal) rest) (went.little (subst (λ (j : Log). RunsWhole new.config w j.past) (sym (ap (λ (p : Parts). p.journal) rest)) whole));
@@ -583,7 +583,7 @@ went-anew p workers page w answer new went = record {
   left_out = went.left_out;
   others = went.others;
   brief = went.brief;
-  lone = went.lone;
+  solo = went.solo;
   begun = went.begun;
   supplied = went.supplied;
   little = went.little;
@@ -609,13 +609,13 @@ went-started p workers w new kept rest taken others room x here = record {
   at_start = ap (λ (z : Parts). z.at_start) rest;
   left_out = ap (λ (z : Parts). z.left_out) rest;
   others = others;
-  lone = let l : length new.journal.past ≡ length p.journal.past = ap (λ (z : Parts). length z.journal.past) rest in subst (λ (c : Config). length new.journal.past ≤ deadline c w p.journal.past) (sym (ap (λ (z : Parts). z.config) rest)) (in-time l (room Marks tt));
+  solo = let l : length new.journal.past ≡ length p.journal.past = ap (λ (z : Parts). length z.journal.past) rest in subst (λ (c : Config). length new.journal.past ≤ deadline c w p.journal.past) (sym (ap (λ (z : Parts). z.config) rest)) (in-time l (room Marks tt));
   begun = ap begun_with rest;
   supplied = λ whole. kept-supply new kept w x (subst (λ (z : Parts). get_or z.workers.items w None ≡ Some x) (sym rest) here) (subst (λ (j : Log). RunsWhole new.config w j.past) (sym (ap (λ (z : Parts). z.journal) rest)) whole);
   little = λ whole n at spent e. absurd (not-longer (End w n (reply.Full spent) at) p.journal.past (sym (ap (λ (z : Parts). z.journal.past) rest) ∙ e));
-  unspent = λ n at answer e tells lonely. absurd (not-longer (End w n answer at) p.journal.past (sym (ap (λ (z : Parts). z.journal.past) rest) ∙ e));
+  unspent = λ n at answer e tells solitary. absurd (not-longer (End w n answer at) p.journal.past (sym (ap (λ (z : Parts). z.journal.past) rest) ∙ e));
   merged = λ n at answer e. absurd (not-longer (End w n answer at) p.journal.past (sym (ap (λ (z : Parts). z.journal.past) rest) ∙ e));
-  exact = λ n at answer opened e is-open lonely room. absurd (not-longer (End w n answer at) p.journal.past (sym (ap (λ (z : Parts). z.journal.past) rest) ∙ e));
+  exact = λ n at answer opened e is-open solitary room. absurd (not-longer (End w n answer at) p.journal.past (sym (ap (λ (z : Parts). z.journal.past) rest) ∙ e));
 }
   where
     in-time : length new.journal.past ≡ length p.journal.past → length p.journal.past + left_to p.access w + 1 ≤ deadline p.config w p.journal.past → length new.journal.past ≤ deadline p.config w p.journal.past

@@ -9,7 +9,7 @@ use Rattle.bz_call.specs.Map.{key_of}
 use Rattle.bz_call.specs.declared.replies.Spent.TheVariants.{Nodes, Swaps}
 use Rattle.bz_layout.specs.Slots.{FreeSlots}
 use Rattle.bz_layout.specs.declared.config.Config.{Config}
-use Rattle.bz_lone.specs.FromAlone.Alone.{IsAlone}
+use Rattle.bz_lone.specs.FromAlone.Undisturbed.{IsUndisturbed}
 use Rattle.bz_running.specs.Duties.{asks_of, end_of, made_of, needs_of, facts_of, differs_of}
 use Rattle.bz_running.specs.Hearing.{IsLookup, HasHeard}
 use Rattle.bz_running.specs.declared.running.AnyTask.{AnyTask}
@@ -28,12 +28,12 @@ use Rattle.bz_task.specs.declared.todo.Seen.{Seen}
 use Rattle.bz_task.specs.declared.todo.Seen.TheVariants.{NoSwap}
 use Rattle.bz_task.specs.declared.todo.Todo.{Todo}
 use Rattle.bz_world.specs.Inside.Acted.{IsTold, IsAsking, MustTell}
-use Rattle.bz_world.specs.Inside.Alone.{HasWaited, AsksAlone}
+use Rattle.bz_world.specs.Inside.Alone.{HasWaited, AsksUndisturbed}
 use Rattle.bz_world.specs.Inside.Due.{IsDue, TakesRightly, only_looks}
 use Rattle.bz_world.specs.Inside.Exact.{CountsExactly, IsExact, reach_idle}
 use Rattle.bz_world.specs.Inside.Going.{end_in, wants_in}
-use Rattle.bz_world.specs.Inside.Laws.{AloneLaws, LonelyLaws, RoundLaws}
-use Rattle.bz_world.specs.Inside.Lonely.{WhereLonely, AsksBriefly}
+use Rattle.bz_world.specs.Inside.Laws.{UndisturbedLaws, SolitaryLaws, RoundLaws}
+use Rattle.bz_world.specs.Inside.Solitary.{WhereSolitary, AsksBriefly}
 use Rattle.bz_layout.specs.declared.thresholds.TheConstants.{SLOTS_PER_CALL}
 use Rattle.bz_lone.specs.FromCosts.Resources.{Slots}
 use Rattle.bz_lone.specs.FromCosts.Weights.{start_takes}
@@ -52,9 +52,9 @@ use Rattle.bz_world.specs.declared.parts.Parts.{Parts}
 use Rattle.bz_world.specs.declared.serving.OpenCall.{OpenCall}
 use Rattle.bz_sound.specs.Power.Times.{image_at_on}
 use Rattle.bz_world.proofs.Alone.{cause-none}
-use Rattle.bz_world.proofs.Due.{looks-only, not-lonely}
+use Rattle.bz_world.proofs.Due.{looks-only, not-solitary}
 use Rattle.bz_world.proofs.ExactTold.{exact-told}
-use Rattle.bz_world.proofs.LonelyTold.{told-lonely, took-lonely}
+use Rattle.bz_world.proofs.SolitaryTold.{told-solitary, took-solitary}
 use Rattle.bz_world.proofs.Meant.{call-meant-told}
 use Rattle.bz_world.proofs.PaidSteps.{heard-in}
 use Rattle.bz_world.proofs.Powered.{begun-in}
@@ -117,7 +117,7 @@ looks-still old new seen moment free todo left key way l h = record {
   ascent = λ a is. l.ascent a (sym h.ascent ∙ is);
 }
 
-module _ (scenes : ScenesAreSeen) (slots : SlotsAreTaken) (laws : LonelyLaws) (lone : AloneLaws) (p : Parts) (w : ℕ) (seen : Seen) (m : MustTell p w seen) where
+module _ (scenes : ScenesAreSeen) (slots : SlotsAreTaken) (laws : SolitaryLaws) (solo : UndisturbedLaws) (p : Parts) (w : ℕ) (seen : Seen) (m : MustTell p w seen) where
   abbrev x : OpenCall
   x = m.serving
 
@@ -183,24 +183,24 @@ module _ (scenes : ScenesAreSeen) (slots : SlotsAreTaken) (laws : LonelyLaws) (l
     covered = covered-stays (λ k. told.between.story.took w k || is_gained p.slots left k) (after.took w) (told.between.story.filled w) (told.between.story.filled w) (needs_of y.task) (λ k. ap (λ (z : Scene). z.took k) later) (λ k e. e)
         (covered-taken (told.between.story.took w) (told.between.story.filled w) (needs_of x.task) (needs_of y.task) p.slots left h.heard.goes.slots told.covered)
 
-    lonely : WhereLonely p.journal.past w y.call (λ key. AsksBriefly p.access p.journal.past after w y told.between.opened key todo)
-    lonely key get alone = took-lonely p.access p.journal.past told.between.story w y told.between.opened key p.slots left todo (told-lonely laws p w x seen told sees.scene (length p.journal.past) todo left y h key get alone)
+    solitary : WhereSolitary p.journal.past w y.call (λ key. AsksBriefly p.access p.journal.past after w y told.between.opened key todo)
+    solitary key get alone = took-solitary p.access p.journal.past told.between.story w y told.between.opened key p.slots left todo (told-solitary laws p w x seen told sees.scene (length p.journal.past) todo left y h key get alone)
 
     -- where nobody else's swap took effect it has not ended to begin again
     not-again : told.alone.others ≡ 0 → end_of y.task ≢ Some outcome.Restart
     not-again none ends = told.alone.wins none (elim (h.heard.goes.restart ends) [
       | inl lost ↦ lost
-      | inr differs ↦ (lone.refused x.task y.task seen (length p.journal.past) p.slots left todo told.stage here h.heard ends (sym told.tasked.config) sees.scene told.facts told.tells (alone-by none differs)).answer
+      | inr differs ↦ (solo.refused x.task y.task seen (length p.journal.past) p.slots left todo told.stage here h.heard ends (sym told.tasked.config) sees.scene told.facts told.tells (undisturbed-by none differs)).answer
     ])
       where
-        alone-by : told.alone.others ≡ 0 → differs_of x.task seen → IsAlone (made_of x.task) here.past
-        alone-by none differs =
+        undisturbed-by : told.alone.others ≡ 0 → differs_of x.task seen → IsUndisturbed (made_of x.task) here.past
+        undisturbed-by none differs =
             let waited : HasWaited x.task = told.alone.waited in
             let untold : effects_in seen ≡ 0 = cause-none (asks_of x.task) seen waited.scene (told.tasked.laws.sound.cause waited.scene seen waited.config waited.facts differs) in
             omega (arith, told.alone.counted, none, untold)
 
-    asks-alone : AsksAlone y.task todo here.past
-    asks-alone = record { others = told.alone.others; made = made_of x.task + effects_in seen; counted = told.alone.counted; stands = λ ends none. not-again none }
+    asks-undisturbed : AsksUndisturbed y.task todo here.past
+    asks-undisturbed = record { others = told.alone.others; made = made_of x.task + effects_in seen; counted = told.alone.counted; stands = λ ends none. not-again none }
 
     -- and it is meant for what it was
     still-meant : IsMeant y here.past
@@ -209,7 +209,7 @@ module _ (scenes : ScenesAreSeen) (slots : SlotsAreTaken) (laws : LonelyLaws) (l
     -- the start of its next act is paid for
     still-paid : IsPaidIn p.config p.access p.journal.past (record (stock_of p) { left = length left.free }) w (errand_of y) y.task 0 (λ r. start_takes r todo) here.past
     still-paid = subst (λ (e : Errand). IsPaidIn p.config p.access p.journal.past (record (stock_of p) { left = length left.free }) w e y.task 0 (λ r. start_takes r todo) here.past) (sym (ap errand_of h.rest))
-        (heard-in lone.paid p.config p.access p.journal.past (stock_of p) w (errand_of x) x.task y.task seen (length p.journal.past) p.slots left todo here.past refl h.heard told.tasked.laws h.laws told.hears
+        (heard-in solo.paid p.config p.access p.journal.past (stock_of p) w (errand_of x) x.task y.task seen (length p.journal.past) p.slots left todo here.past refl h.heard told.tasked.laws h.laws told.hears
         (λ alone. not-again (omega (arith, told.alone.counted, alone))) told.paid)
 
     living : IsLiving p.config p.access p.journal after
@@ -220,7 +220,7 @@ module _ (scenes : ScenesAreSeen) (slots : SlotsAreTaken) (laws : LonelyLaws) (l
 
     -- a look-up has taken nothing more
     still-right : TakesRightly p.config p.access.taken p.journal (record (stock_of p) { left = length left.free }) w y
-    still-right quiet lonely = elim (told.between.due (sym (ap (λ (z : OpenCall). z.effect) h.rest) ∙ quiet) lonely) [
+    still-right quiet solitary = elim (told.between.due (sym (ap (λ (z : OpenCall). z.effect) h.rest) ∙ quiet) solitary) [
       | inl due ↦ inl (subst (λ (z : OpenCall). IsDue p.config p.journal z.call) (sym h.rest) due)
       | inr none ↦ inr (record {
         looks = ap (λ (z : OpenCall). only_looks z.call (kind_of y.task)) h.rest ∙ (ap (only_looks x.call) h.heard.kind ∙ none.looks);
@@ -232,22 +232,22 @@ module _ (scenes : ScenesAreSeen) (slots : SlotsAreTaken) (laws : LonelyLaws) (l
 
     -- the way of its change to a leaf with room
     still-exact : CountsExactly p.config p.journal w told.between.opened here.past (reach_idle p.access) (record (stock_of p) { left = length left.free }) (tells_of y) y
-    still-exact lonely room = subst (λ (z : OpenCall). IsExact told.between.opened here.past (reach_idle p.access) (record (stock_of p) { left = length left.free }) (tells_of z) z) (sym h.rest)
+    still-exact solitary room = subst (λ (z : OpenCall). IsExact told.between.opened here.past (reach_idle p.access) (record (stock_of p) { left = length left.free }) (tells_of z) z) (sym h.rest)
         (exact-told told.between.opened here.past p.access.taken (stock_of p) (tells_of x) x y.task seen (length p.journal.past) p.slots todo left h.heard told.tasked.laws h.laws told.hears told.alone.others told.alone.counted not-again
         (λ o e. (scene p.config p.journal.past after w told.between.call_open.look.since told.between.opened, (h.laws.sound.ends (scene p.config p.journal.past after w told.between.call_open.look.since told.between.opened) o facts e).0)) refl
-        (λ none. slots-same (needs_of x.task) (needs_of y.task) p.slots left none h.heard.goes.slots) (told.exact lonely room))
+        (λ none. slots-same (needs_of x.task) (needs_of y.task) p.slots left none h.heard.goes.slots) (told.exact solitary room))
 
     -- and the merge that is due: it does not lack a neighbour, and no slots but for a split
     good : IsScene (scene p.config p.journal.past after w told.between.call_open.look.since told.between.opened)
-    good = (lone.scenes p.config p.access p.journal after w told.between.call_open.look.since told.between.opened living (record { from = (begun-in told.between.living told.between.call_open).from; by_now = told.between.call_open.look.by_now })).scene
+    good = (solo.scenes p.config p.access p.journal after w told.between.call_open.look.since told.between.opened living (record { from = (begun-in told.between.living told.between.call_open).from; by_now = told.between.call_open.look.by_now })).scene
 
     still-duly : MergesDuly p.config p.journal w told.between.opened here.past (reach_idle p.access) (record (stock_of p) { left = length left.free }) y
-    still-duly lonely = subst (λ (z : OpenCall). IsDuly p.config p.journal told.between.opened here.past (reach_idle p.access) (record (stock_of p) { left = length left.free }) z) (sym h.rest)
+    still-duly solitary = subst (λ (z : OpenCall). IsDuly p.config p.journal told.between.opened here.past (reach_idle p.access) (record (stock_of p) { left = length left.free }) z) (sym h.rest)
         (duly-told p.config p.journal told.between.opened here.past p.access.taken (stock_of p) x y.task seen (length p.journal.past) p.slots todo left h.heard told.tasked.laws h.laws told.hears told.alone.others told.alone.counted not-again
-        (λ o e. (scene p.config p.journal.past after w told.between.call_open.look.since told.between.opened, (h.laws.sound.ends (scene p.config p.journal.past after w told.between.call_open.look.since told.between.opened) o facts e).0)) refl lone.known
+        (λ o e. (scene p.config p.journal.past after w told.between.call_open.look.since told.between.opened, (h.laws.sound.ends (scene p.config p.journal.past after w told.between.call_open.look.since told.between.opened) o facts e).0)) refl solo.known
         (λ e. (h.laws.height (scene p.config p.journal.past after w told.between.call_open.look.since told.between.opened) good facts e).0)
-        (λ kind knows i since by_now may counted e. lone.room x.task y.task seen (length p.journal.past) p.slots left todo (key_of x.call) i (scene p.config p.journal.past after w told.between.call_open.look.since told.between.opened) h.heard kind good facts (omega (arith, counted)) knows
-        (record { from = since; to = by_now }) may e) (told.merges lonely))
+        (λ kind knows i since by_now may counted e. solo.room x.task y.task seen (length p.journal.past) p.slots left todo (key_of x.call) i (scene p.config p.journal.past after w told.between.call_open.look.since told.between.opened) h.heard kind good facts (omega (arith, counted)) knows
+        (record { from = since; to = by_now }) may e) (told.merges solitary))
 
     pub is-asking : (workers : Vec (Option OpenCall)) → length workers.items ≡ length p.workers.items → ((v : ℕ) → v ≢ w → get_or workers.items v None ≡ get_or p.workers.items v None) → IsAsking (record p { slots = left; workers = workers }) w y todo
     is-asking workers size rest = record {
@@ -261,7 +261,7 @@ module _ (scenes : ScenesAreSeen) (slots : SlotsAreTaken) (laws : LonelyLaws) (l
         leaves = told.between.leaves;
         free = still-free p.config (image_at_on p.journal.start p.journal.past) told.between.story w (needs_of x.task) (needs_of y.task) p.slots left h.heard.goes.slots told.between.free;
         others = λ v ne. subst (IsSlot p.config p.access p.journal after p.owners.items (record (stock_of p) { left = length left.free }) v) (sym (rest v ne))
-            (slot-scenes p.config p.access p.journal told.between.story after p.owners.items (stock_of p) (record (stock_of p) { left = length left.free }) v (get_or p.workers.items v None) told.between.opened (other v ne) (λ k. refl) (λ is. ne (told.between.steps v is)) (not-lonely laws.alone w v p.journal.past told.between.opened told.between.call_open.is_open ne) (told.between.others v ne));
+            (slot-scenes p.config p.access p.journal told.between.story after p.owners.items (stock_of p) (record (stock_of p) { left = length left.free }) v (get_or p.workers.items v None) told.between.opened (other v ne) (λ k. refl) (λ is. ne (told.between.steps v is)) (not-solitary laws.alone w v p.journal.past told.between.opened told.between.call_open.is_open ne) (told.between.others v ne));
         worker = told.between.worker;
         within = told.between.within;
         opened = told.between.opened;
@@ -278,8 +278,8 @@ module _ (scenes : ScenesAreSeen) (slots : SlotsAreTaken) (laws : LonelyLaws) (l
       ];
       facts = facts;
       covered = covered;
-      lonely = lonely;
-      alone = asks-alone;
+      solitary = solitary;
+      alone = asks-undisturbed;
       meant = still-meant;
       paid = still-paid;
       exact = still-exact;

@@ -14,7 +14,7 @@ use Rattle.bz_mark.proofs.MomentLaws.{at_moment-earlier, at_moment-before}
 use Rattle.bz_mark.specs.declared.marks.Mark.{Mark}
 use Rattle.bz_mark.specs.declared.marks.Mark.TheVariants.{Begin, End, Load, Store, Cas, Flush, Ask, Fence, Evict, Cut, On, Ready, Effect}
 use Rattle.bz_sound.specs.Calls.{Open, open_call, with_effect}
-use Rattle.bz_sound.specs.Lonely.{IsLonely, LonelyCallsAreAlone}
+use Rattle.bz_sound.specs.Solitary.{IsSolitary, NoneIsOpenBesideASolitaryCall}
 use Rattle.bz_mark.specs.Times.{power_of}
 use Rattle.bz_mark.specs.declared.power.Power.{Power}
 use Rattle.bz_mark.specs.declared.power.Power.TheVariants as power
@@ -101,22 +101,22 @@ was-open w past (Evict a) opened none is = still-open w past opened is
 was-open w past On opened none is = still-open w past opened is
 was-open w past Ready opened none is = still-open w past opened is
 
-pub was-lonely : (w : ℕ) (past : List Mark) (mark : Mark) → BeginsNone mark → IsLonely w (mark ∷ past) → IsLonely w past
-was-lonely w past (Begin v n called) none lonely = absurd none
-was-lonely w past mark none lonely = lonely
+pub was-solitary : (w : ℕ) (past : List Mark) (mark : Mark) → BeginsNone mark → IsSolitary w (mark ∷ past) → IsSolitary w past
+was-solitary w past (Begin v n called) none solitary = absurd none
+was-solitary w past mark none solitary = solitary
 
 -- so what the journal told at its begin it tells still
 began-on : (c : Config) (start : List ℕ) (past : List Mark) (mark : Mark) (supply : Supply) → BeginsNone mark → BeganAsTold c start past supply → BeganAsTold c start (mark ∷ past) supply
 began-on c start past mark supply none b = record {
-  by_now = λ w opened is lonely. omega (arith, few w opened is lonely);
-  told = λ w opened is lonely.
+  by_now = λ w opened is solitary. omega (arith, few w opened is solitary);
+  told = λ w opened is solitary.
       let o = was-open w past mark opened none is in
-      b.told w o.was o.is_open (was-lonely w past mark none lonely)
-      ∙ (ap (λ (n : ℕ). supply_told c start (at_moment n past)) o.begun ∙ ap (supply_told c start) (sym (at_moment-earlier opened.begun mark past (few w opened is lonely))));
+      b.told w o.was o.is_open (was-solitary w past mark none solitary)
+      ∙ (ap (λ (n : ℕ). supply_told c start (at_moment n past)) o.begun ∙ ap (supply_told c start) (sym (at_moment-earlier opened.begun mark past (few w opened is solitary))));
 }
   where
-    few : (w : ℕ) (opened : Open) → open_call w (mark ∷ past) ≡ Some opened → IsLonely w (mark ∷ past) → opened.begun ≤ length past
-    few w opened is lonely = let o = was-open w past mark opened none is in omega (arith, o.begun, b.by_now w o.was o.is_open (was-lonely w past mark none lonely))
+    few : (w : ℕ) (opened : Open) → open_call w (mark ∷ past) ≡ Some opened → IsSolitary w (mark ∷ past) → opened.begun ≤ length past
+    few w opened is solitary = let o = was-open w past mark opened none is in omega (arith, o.begun, b.by_now w o.was o.is_open (was-solitary w past mark none solitary))
 
 plain-on : (c : Config) (start : List ℕ) (past : List Mark) (mark : Mark) (supply : Supply) → IsPlain mark → TellsEnds c start past supply → TellsEnds c start (mark ∷ past) supply
 plain-on c start past mark supply plain t = record { ends = (plain-follows c start past mark plain, t.ends); merges = (plain-merges c start past mark plain, t.merges); began = began-on c start past mark supply (plain-begins mark plain) t.began }
@@ -139,22 +139,22 @@ as-told c start past supply shown = λ t. record { taken = shown.taken t; left =
 
 -- where nothing has happened
 pub tells-at-first : (c : Config) (start : List ℕ) (supply : Supply) → TellsEnds c start [] supply
-tells-at-first c start supply = record { ends = tt; merges = tt; began = record { by_now = λ w opened is lonely. absurd lonely; told = λ w opened is lonely. absurd lonely } }
+tells-at-first c start supply = record { ends = tt; merges = tt; began = record { by_now = λ w opened is solitary. absurd solitary; told = λ w opened is solitary. absurd solitary } }
 
 power-struck : (at_start : Power) (past new : List Mark) → IsStruck past new → power_of at_start new ≡ power_of at_start past
 power-struck at_start past new (inl same) = ap (power_of at_start) same
 power-struck at_start past new (inr effect) = ap (power_of at_start) effect.1.1
 
 -- after the end of a call beside which no other was open none is
-none-left : LonelyCallsAreAlone → (w n at : ℕ) (reply : Reply) (past : List Mark) → IsLonely w past → NoneOpen (End w n reply at ∷ past)
-none-left alone w n at reply past lonely v = by (w == v) (λ other. alone w v past lonely (λ same. true≢false (sym (let t : (w == v) ≡ true = grind (arith, nat_tests, same) in t) ∙ other)))
+none-left : NoneIsOpenBesideASolitaryCall → (w n at : ℕ) (reply : Reply) (past : List Mark) → IsSolitary w past → NoneOpen (End w n reply at ∷ past)
+none-left alone w n at reply past solitary v = by (w == v) (λ other. alone w v past solitary (λ same. true≢false (sym (let t : (w == v) ≡ true = grind (arith, nat_tests, same) in t) ∙ other)))
   where
     by : (t : Bool) → (t ≡ false → open_call v past ≡ None) → (if t then None else open_call v past) ≡ None
     by true other = refl
     by false other = other refl
 
 -- a step with the power on
-module _ (alone : LonelyCallsAreAlone) (old : WorldView) (w : ℕ) (answer : Applied) (new : WorldView) (s : Steps old w answer new) (shown : TellsAsShown new) (is-on : power_in old ≡ power.On) (told : TellsEndsIn old) where
+module _ (alone : NoneIsOpenBesideASolitaryCall) (old : WorldView) (w : ℕ) (answer : Applied) (new : WorldView) (s : Steps old w answer new) (shown : TellsAsShown new) (is-on : power_in old ≡ power.On) (told : TellsEndsIn old) where
   mid : TellsEnds old.config old.log.start s.struck old.at_begin
   mid = struck-on old.config old.log.start (mark_of w s.made ∷ old.log.past) s.struck old.at_begin s.effect (plain-on old.config old.log.start old.log.past (mark_of w s.made) old.at_begin (act-plain w s.made) told)
 
@@ -163,22 +163,22 @@ module _ (alone : LonelyCallsAreAlone) (old : WorldView) (w : ℕ) (answer : App
 
   -- the call ends
   module _ (n at : ℕ) (reply : Reply) (start : new.log.start ≡ old.log.start) (past : new.log.past ≡ End w n reply at ∷ s.struck) where
-    module _ (opened : Open) (is-open : open_call w s.struck ≡ Some opened) (lonely : IsLonely w s.struck) where
+    module _ (opened : Open) (is-open : open_call w s.struck ≡ Some opened) (solitary : IsSolitary w s.struck) where
       on-now : power_in new ≡ power.On
       on-now = ap (λ (z : Power). power_of z new.log.past) s.at_start ∙ (ap (power_of old.at_start) past ∙ on-struck)
 
       supply-is : new.supply ≡ supply_told old.config old.log.start s.struck
-      supply-is = as-told new.config new.log.start new.log.past new.supply (shown on-now (subst NoneOpen (sym past) (none-left alone w n at reply s.struck lonely)))
+      supply-is = as-told new.config new.log.start new.log.past new.supply (shown on-now (subst NoneOpen (sym past) (none-left alone w n at reply s.struck solitary)))
           ∙ (ap (λ (z : Config). supply_told z new.log.start new.log.past) s.config ∙ (ap (λ (z : List ℕ). supply_told old.config z new.log.past) start ∙ ap (supply_told old.config old.log.start) past))
 
       begun-is : new.at_begin ≡ supply_told old.config old.log.start (at_moment opened.begun s.struck)
-      begun-is = s.at_begin ∙ mid.began.told w opened is-open lonely
+      begun-is = s.at_begin ∙ mid.began.told w opened is-open solitary
 
       takes : TakesWhatItTells old.config old.log.start s.struck opened reply
       takes = record {
-        unspent = λ tells. sym supply-is ∙ (s.unspent n at reply past tells lonely ∙ begun-is);
+        unspent = λ tells. sym supply-is ∙ (s.unspent n at reply past tells solitary ∙ begun-is);
         exact = λ room. subst (λ (z : Supply). TakesAsTold z (supply_told old.config old.log.start s.struck) reply) begun-is (subst (λ (z : Supply). TakesAsTold new.at_begin z reply) supply-is
-            (s.exact n at reply opened past is-open lonely (subst (λ (z : Config). HadRoom z old.log.start s.struck opened) (sym s.config) room)));
+            (s.exact n at reply opened past is-open solitary (subst (λ (z : Config). HadRoom z old.log.start s.struck opened) (sym s.config) room)));
       }
 
     ended : TellsEnds old.config old.log.start (End w n reply at ∷ s.struck) old.at_begin
@@ -220,7 +220,7 @@ off-refuses old w none off = by (nat_lt old.config.workers w) (view.is_short old
     by false false power.On e h = absurd (cc e)
     by false false power.Recovering e h = absurd (cc e)
 
-module _ (alone : LonelyCallsAreAlone) (old : WorldView) (answer : Applied) (new : WorldView) (shown : TellsAsShown new) (told : TellsEndsIn old) where
+module _ (alone : NoneIsOpenBesideASolitaryCall) (old : WorldView) (answer : Applied) (new : WorldView) (shown : TellsAsShown new) (told : TellsEndsIn old) where
   refused : (refusal : Applied) → (answer ≡ refusal) × (new ≡ old) → TellsEndsIn new
   refused refusal h = subst TellsEndsIn (sym h.1) told
 
@@ -270,14 +270,14 @@ newest-open false new o opened is e = absurd (true≢false (sym is))
 module _ (old : WorldView) (w : ℕ) (called : Call) (shown : TellsAsShown old) (told : TellsEndsIn old) where
   begin-began : (n : ℕ) → power_in old ≡ power.On → BeganAsTold old.config old.log.start (Begin w n called ∷ old.log.past) old.supply
   begin-began n on = record {
-    by_now = λ v opened is lonely. omega (arith, first v opened is lonely);
-    told = λ v opened is lonely.
-        as-told old.config old.log.start old.log.past old.supply (shown on lonely.1)
-        ∙ ap (supply_told old.config old.log.start) (sym (ap (λ (k : ℕ). at_moment k (Begin w n called ∷ old.log.past)) (first v opened is lonely) ∙ at_moment-before (Begin w n called) old.log.past));
+    by_now = λ v opened is solitary. omega (arith, first v opened is solitary);
+    told = λ v opened is solitary.
+        as-told old.config old.log.start old.log.past old.supply (shown on solitary.1)
+        ∙ ap (supply_told old.config old.log.start) (sym (ap (λ (k : ℕ). at_moment k (Begin w n called ∷ old.log.past)) (first v opened is solitary) ∙ at_moment-before (Begin w n called) old.log.past));
   }
     where
-      first : (v : ℕ) (opened : Open) → open_call v (Begin w n called ∷ old.log.past) ≡ Some opened → IsLonely v (Begin w n called ∷ old.log.past) → opened.begun ≡ length old.log.past
-      first v opened is lonely = newest-open (w == v) (record { number = n; call = called; begun = length old.log.past; effect = None }) (open_call v old.log.past) opened (let t : (w == v) ≡ true = grind (arith, nat_tests, lonely.0) in t) is
+      first : (v : ℕ) (opened : Open) → open_call v (Begin w n called ∷ old.log.past) ≡ Some opened → IsSolitary v (Begin w n called ∷ old.log.past) → opened.begun ≡ length old.log.past
+      first v opened is solitary = newest-open (w == v) (record { number = n; call = called; begun = length old.log.past; effect = None }) (open_call v old.log.past) opened (let t : (w == v) ≡ true = grind (arith, nat_tests, solitary.0) in t) is
 
   begins-by : (answer : Begun) → answer ≡ view.begin_answer old w called → TellsEndsIn (view.after_begin old w called answer)
   begins-by (begun.Begun n) is = record { ends = (tt, told.ends); merges = (tt, told.merges); began = begin-began n (begins-on old w n called is) }

@@ -8,7 +8,7 @@ use Rattle.bz_call.specs.declared.calls.Call.TheVariants as call
 use Rattle.bz_call.specs.declared.replies.Reply.{Reply}
 use Rattle.bz_call.specs.declared.replies.Reply.TheVariants as reply
 use Rattle.bz_sound.specs.Calls.{map_after, map_at}
-use Rattle.bz_sound.specs.Lonely.{IsLonely, LonelyCallsAreAlone}
+use Rattle.bz_sound.specs.Solitary.{IsSolitary, NoneIsOpenBesideASolitaryCall}
 use Rattle.bz_sound.specs.Memory.Moments.{map_at_start}
 use Rattle.bz_sound.specs.Memory.Replies.{IsAnswerBy}
 use Rattle.bz_sound.specs.Power.Replies.{IsRightReply}
@@ -41,7 +41,7 @@ page-changes-none : (found : Option (List ℕ)) (map : Map) (from : List ℕ) �
 page-changes-none None map from change = change
 page-changes-none (Some had) map from change = change
 
-module _ (alone : LonelyCallsAreAlone) (p : Parts) (w : ℕ) (on : MustGoOn p w) (lonely : IsLonely w p.journal.past) where
+module _ (alone : NoneIsOpenBesideASolitaryCall) (p : Parts) (w : ℕ) (on : MustGoOn p w) (solitary : IsSolitary w p.journal.past) where
   abbrev called : Call
   called = on.between.opened.call
 
@@ -54,7 +54,7 @@ module _ (alone : LonelyCallsAreAlone) (p : Parts) (w : ℕ) (on : MustGoOn p w)
   never-due pages r at tells quiet after before answer due = by-reply r tells answer
     where
       still : map_at (map_at_start p.config p.journal.start) at p.journal.past ≡ now
-      still = map-still alone (map_at_start p.config p.journal.start) w at p.journal.past on.between.opened lonely on.between.call_open.is_open quiet after before
+      still = map-still alone (map_at_start p.config p.journal.start) w at p.journal.past on.between.opened solitary on.between.call_open.is_open quiet after before
 
       -- what it answered at that moment it answers now
       not-so : (r : Reply) → tells_only r ≡ true → (apply (map_at (map_at_start p.config p.journal.start) at p.journal.past) called).reply ≡ Some r → ⊥
@@ -88,7 +88,7 @@ module _ (alone : LonelyCallsAreAlone) (p : Parts) (w : ℕ) (on : MustGoOn p w)
 
       by-effect : (o : Option ℕ) → on.between.opened.effect ≡ o → supply_of p ≡ begun_with p
       by-effect (Some effect) is = absurd (never-effective pages r at effect tells is (answers (Some effect) is))
-      by-effect None is = elim (on.between.due (sym on.between.call_open.effect ∙ is) lonely) [
+      by-effect None is = elim (on.between.due (sym on.between.call_open.effect ∙ is) solitary) [
         | inl due ↦ absurd (never-due pages r at tells is right.after_begin right.before_end (answers None is) (subst (λ (z : Call). IsChange (apply now z).reply) (sym on.between.call_open.call) due))
         | inr none ↦ same-supply none.same_taken none.same_left
       ]

@@ -38,7 +38,7 @@ use Rattle.bz_world.specs.WorldView as lab
 use Rattle.bz_world.specs.Inside.Serving.{IsSlot}
 use Rattle.bz_world.specs.declared.parts.Parts.{Parts}
 use Rattle.bz_world.specs.declared.serving.OpenCall.{OpenCall}
-use Rattle.bz_world.proofs.Lonely.{none-in}
+use Rattle.bz_world.proofs.Solitary.{none-in}
 use Rattle.bz_world.proofs.Recovered.{Learns}
 use Rattle.bz_world.proofs.Supplies.{shown-off}
 use Rattle.bz_world.proofs.Contained.{among-contains, contains-among}
@@ -154,7 +154,7 @@ module _ (b : Ends) (p : Parts) (k : MustWake p) (order : IsInOrder p.slots) (ho
       others = λ j l f. inl (held j l f);
     };
     workers = λ w. slot-by w (get_or p.workers.items w None) (k.recovering.dark.none w);
-    lonely = λ w. none-in (renewed p.access) (Ready ∷ p.journal.past) life p.workers.items w (k.recovering.dark.none w);
+    solitary = λ w. none-in (renewed p.access) (Ready ∷ p.journal.past) life p.workers.items w (k.recovering.dark.none w);
   }
 
   -- so they are as many as it leaves

@@ -6,7 +6,7 @@ pub mod Due
 pub mod Exact
 pub mod Merging
 pub mod Serving
-pub mod Lonely
+pub mod Solitary
 pub mod Kept
 pub mod Acted
 pub mod Laws

@@ -4,7 +4,7 @@ pub mod Leaves
 pub mod Recoveries
 pub mod Roomy
 pub mod Taken
-pub mod LoneLeaves
+pub mod UndisturbedLeaves
 pub mod Merges
 pub mod Numbers
 pub mod Inside

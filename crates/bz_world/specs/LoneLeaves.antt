@@ -10,7 +10,7 @@ use Rattle.bz_mark.specs.Moments.{at_moment}
 use Rattle.bz_mark.specs.declared.marks.Mark.{Mark}
 use Rattle.bz_shape.specs.Walk.{is_among}
 use Rattle.bz_sound.specs.Calls.{Open, open_call}
-use Rattle.bz_sound.specs.Lonely.{IsLonely}
+use Rattle.bz_sound.specs.Solitary.{IsSolitary}
 use Rattle.bz_sound.specs.Memory.Moments.{image_at}
 use Rattle.bz_sound.specs.Memory.Spent.{is_reached_in}
 use Rattle.bz_sound.specs.Power.Sound.{IsSound}
@@ -59,7 +59,7 @@ pub record CountsItsLeaves (c : Config) (start : List ℕ) (past : List Mark) (o
   pub count : leaves_after c start past + length merged ≡ leaves_after c start (at_moment opened.begun past) + length split
 
 -- so it is of each call beside which no other is open, in a sound journal of which what becomes of leaves is known mark by mark
-abbrev pub LonelyCallsCountLeaves : Type 0
-LonelyCallsCountLeaves =
-    (c : Config) (at_start : Power) (log : Log) (w : ℕ) (opened : Open) → IsSound c at_start log → AreLeavesKept c at_start log → open_call w log.past ≡ Some opened → IsLonely w log.past →
+abbrev pub SolitaryCallsCountLeaves : Type 0
+SolitaryCallsCountLeaves =
+    (c : Config) (at_start : Power) (log : Log) (w : ℕ) (opened : Open) → IsSound c at_start log → AreLeavesKept c at_start log → open_call w log.past ≡ Some opened → IsSolitary w log.past →
     CountsItsLeaves c log.start log.past opened

@@ -11,7 +11,7 @@ use Rattle.bz_mark.specs.Moments.{at_moment}
 use Rattle.bz_mark.specs.declared.marks.Mark.{Mark}
 use Rattle.bz_mark.specs.declared.marks.Mark.TheVariants.{End}
 use Rattle.bz_sound.specs.Calls.{Open, open_call}
-use Rattle.bz_sound.specs.Lonely.{IsLonely}
+use Rattle.bz_sound.specs.Solitary.{IsSolitary}
 use Rattle.bz_sound.specs.Memory.Moments.{EachMark, image_at}
 use Rattle.bz_mark.specs.Counts.{count_taken}
 use Rattle.bz_sound.specs.Power.Spent.{count_used}
@@ -30,7 +30,7 @@ IsMergedSince c start past at = (leaves_after c start past + 1 ≡ leaves_after 
 -- so it is where a worker's delete ends that had its effect at this moment, and whose leaf might be merged directly after that
 abbrev pub MergesFor : Config → List ℕ → List Mark → ℕ → Reply → Type 0
 MergesFor c start past w (Deleted had) =
-    (opened : Open) (at : ℕ) → open_call w past ≡ Some opened → IsLonely w past → opened.effect ≡ Some at → MayBeMerged c (image_at start (suc at) past) (key_of opened.call) → IsMergedSince c start past at
+    (opened : Open) (at : ℕ) → open_call w past ≡ Some opened → IsSolitary w past → opened.effect ≡ Some at → MayBeMerged c (image_at start (suc at) past) (key_of opened.call) → IsMergedSince c start past at
 MergesFor c start past w reply = Unit {0}
 
 -- at each End

@@ -17,12 +17,12 @@ use Rattle.bz_sound.specs.Memory.Moments.{image_at}
 use Rattle.bz_stage.specs.Rooms.{has_room}
 
 -- the leaf of the key has enough live words to stand alone, and so many more; or it is the root, which has no neighbour
-abbrev pub StandsAlone : Config → (ℕ → ℕ) → List ℕ → ℕ → Type 0
-StandsAlone c image key more = (MERGE_BELOW + more ≤ own_live c image key) ⊎ ((view_in c image).height ≡ 1)
+abbrev pub NeedsNoNeighbour : Config → (ℕ → ℕ) → List ℕ → ℕ → Type 0
+NeedsNoNeighbour c image key more = (MERGE_BELOW + more ≤ own_live c image key) ⊎ ((view_in c image).height ≡ 1)
 
 -- so the leaf of a delete's key
 abbrev pub KeepsEnough : Config → (ℕ → ℕ) → Call → ℕ → Type 0
-KeepsEnough c image (call.Delete key) more = StandsAlone c image key more
+KeepsEnough c image (call.Delete key) more = NeedsNoNeighbour c image key more
 KeepsEnough c image (call.Insert key payload) more = Unit {0}
 KeepsEnough c image (call.Update key payload) more = Unit {0}
 KeepsEnough c image (call.Upsert key payload) more = Unit {0}

@@ -7,7 +7,7 @@ use Rattle.bz_mark.specs.Moments.{at_moment}
 use Rattle.bz_mark.specs.declared.marks.Mark.{Mark}
 use Rattle.bz_mark.specs.declared.marks.Mark.TheVariants.{End}
 use Rattle.bz_sound.specs.Calls.{Open, open_call}
-use Rattle.bz_sound.specs.Lonely.{IsLonely}
+use Rattle.bz_sound.specs.Solitary.{IsSolitary}
 use Rattle.bz_sound.specs.Memory.Moments.{EachMark}
 use Rattle.bz_mark.specs.Counts.{count_taken}
 use Rattle.bz_sound.specs.Power.Spent.{count_used}
@@ -40,7 +40,7 @@ pub record TakesWhatItTells (c : Config) (start : List ℕ) (past : List Mark) (
 
 -- of each End of a call beside which no other was open
 abbrev pub EndFollows : Config → List ℕ → List Mark → Mark → Type 0
-EndFollows c start past (End w n reply at) = (opened : Open) → open_call w past ≡ Some opened → IsLonely w past → TakesWhatItTells c start past opened reply
+EndFollows c start past (End w n reply at) = (opened : Open) → open_call w past ≡ Some opened → IsSolitary w past → TakesWhatItTells c start past opened reply
 EndFollows c start past mark = Unit {0}
 
 abbrev pub AreEndsTold : Config → List ℕ → List Mark → Type 0

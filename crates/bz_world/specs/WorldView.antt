@@ -13,7 +13,7 @@ use Rattle.bz_call.specs.declared.replies.Reply.TheVariants.{Deleted, Exists, In
 use Rattle.bz_call.specs.declared.replies.Spent.{Spent}
 use Rattle.bz_call.specs.declared.replies.Spent.TheVariants.{Nodes, Swaps, Height}
 use Rattle.bz_content.specs.Content.{image_fault}
-use Rattle.bz_lone.specs.FromCosts.Lone.{begin_marks}
+use Rattle.bz_lone.specs.FromCosts.Solo.{begin_marks}
 use Rattle.bz_layout.specs.Addresses.{words_of}
 use Rattle.bz_layout.specs.Config.{IsConfig, IsFirstOutOfRange}
 use Rattle.bz_layout.specs.Fresh.{fresh_words}
@@ -26,7 +26,7 @@ use Rattle.bz_recover.specs.Places.{MOST_ACTS}
 use Rattle.bz_mark.specs.declared.power.Power.{Power}
 use Rattle.bz_mark.specs.declared.power.Power.TheVariants as power
 use Rattle.bz_sound.specs.Calls.{Open, open_call, begun_calls, map_after}
-use Rattle.bz_sound.specs.Lonely.{IsLonely, acts_since}
+use Rattle.bz_sound.specs.Solitary.{IsSolitary, acts_since}
 use Rattle.bz_sound.specs.Memory.Moments.{map_at_start, image_after, image_at}
 use Rattle.bz_sound.specs.Memory.Spent.{NeedsSlots, is_reached_in}
 use Rattle.bz_mark.specs.Times.{power_of, since_on}
@@ -265,9 +265,9 @@ are_closed zero past = is_none (open_call 0 past)
 are_closed (suc w) past = is_none (open_call (suc w) past) && are_closed w past
 
 -- the newest mark is the begin of a call of this worker, and no call was open before it
-abbrev pub begins_alone : Config → ℕ → List Mark → Bool
-begins_alone c w (Begin v n called ∷ past) = (v == w) && are_closed c.workers past
-begins_alone c w other = false
+abbrev pub begins_solitary : Config → ℕ → List Mark → Bool
+begins_solitary c w (Begin v n called ∷ past) = (v == w) && are_closed c.workers past
+begins_solitary c w other = false
 
 -- how many marks a run may take until its call has ended: one that follows directly the begin of its call, with no other call open; and any
 abbrev pub run_marks : Config → Bool → ℕ
@@ -276,11 +276,11 @@ run_marks c false = MARKS_PER_CALL * (c.workers + 2)
 
 -- by how many marks the call of a worker has ended, if it steps alone after these
 abbrev pub deadline_from : Config → ℕ → List Mark → ℕ
-deadline_from c w before = length before + run_marks c (begins_alone c w before)
+deadline_from c w before = length before + run_marks c (begins_solitary c w before)
 
 -- its present run follows directly the begin of its call, with no other call open
 abbrev pub RunsWhole : Config → ℕ → List Mark → Type 0
-RunsWhole c w past = begins_alone c w (before_run w past) ≡ true
+RunsWhole c w past = begins_solitary c w (before_run w past) ≡ true
 
 -- and from the begin of its present run on
 abbrev pub deadline : Config → ℕ → List Mark → ℕ
@@ -342,11 +342,11 @@ HadFew config begun Height = Unit {0}
 abbrev pub EndsFullOfLittle : Config → Log → ℕ → Log → Supply → Type 0
 EndsFullOfLittle config old w new begun = (n at : ℕ) (spent : Spent) → new.past ≡ End w n (Full spent) at ∷ old.past → HadFew config begun spent
 
--- a lonely get, during which no other call was open, ends after at most twice as many acts as the reads that a get may ask for: of the
+-- a solitary get, during which no other call was open, ends after at most twice as many acts as the reads that a get may ask for: of the
 -- inner nodes above the leaf of its key and of that leaf, in the image of the moment that its reply is of. So none reads its leaf whole
 abbrev pub GetsBriefly : Config → Log → ℕ → Log → Type 0
 GetsBriefly config old w new =
-    (n at : ℕ) (reply : Reply) (opened : Open) (key : List ℕ) → new.past ≡ End w n reply at ∷ old.past → open_call w old.past ≡ Some opened → opened.call ≡ call.Get key → IsLonely w old.past →
+    (n at : ℕ) (reply : Reply) (opened : Open) (key : List ℕ) → new.past ≡ End w n reply at ∷ old.past → open_call w old.past ≡ Some opened → opened.call ≡ call.Get key → IsSolitary w old.past →
     acts_since w old.past ≤ 2 * get_reads config (image_at old.start at old.past) key
 
 -- a reply that tells of no change, and of no want
@@ -362,7 +362,7 @@ tells_only (Full spent) = false
 
 -- a call that is answered so, and beside which no other was open, has taken neither descriptors nor slots since its begin
 abbrev pub EndsUnspent : Log → ℕ → Log → Supply → Supply → Type 0
-EndsUnspent old w new begun supply = (n at : ℕ) (reply : Reply) → new.past ≡ End w n reply at ∷ old.past → tells_only reply ≡ true → IsLonely w old.past → supply ≡ begun
+EndsUnspent old w new begun supply = (n at : ℕ) (reply : Reply) → new.past ≡ End w n reply at ∷ old.past → tells_only reply ≡ true → IsSolitary w old.past → supply ≡ begun
 
 -- so many descriptors were taken, and no slot, where the leaf had room; a Full is of no other than descriptors then, and at most one was taken
 abbrev pub TakesAsTold : Supply → Supply → Reply → Type 0
@@ -379,14 +379,14 @@ TakesAsTold begun supply (Page page next) = Unit {0}
 
 -- so is a call answered beside which no other was open, and whose leaf had room when it began
 abbrev pub EndsAsTold : Config → Log → ℕ → Log → Supply → Supply → Type 0
-EndsAsTold c old w new begun supply = (n at : ℕ) (reply : Reply) (opened : Open) → new.past ≡ End w n reply at ∷ old.past → open_call w old.past ≡ Some opened → IsLonely w old.past → HadRoom c old.start old.past opened → TakesAsTold begun supply reply
+EndsAsTold c old w new begun supply = (n at : ℕ) (reply : Reply) (opened : Open) → new.past ≡ End w n reply at ∷ old.past → open_call w old.past ≡ Some opened → IsSolitary w old.past → HadRoom c old.start old.past opened → TakesAsTold begun supply reply
 
 -- and of a delete beside which no other was open the leaf is merged, where that has too few live words then and a neighbour has room; unless slots or descriptors are short
 abbrev pub EndsMerged : Config → Log → ℕ → Log → Type 0
 EndsMerged c old w new = (n at : ℕ) (reply : Reply) → new.past ≡ End w n reply at ∷ old.past → MergesFor c old.start old.past w reply
 
 -- a step of a worker: exactly one act of it, a flush exactly where that was said before; at most one effect; at most its
--- call's End, which is a Full only where what that names has run out, and that of a lonely get only after few acts. At most as many
+-- call's End, which is a Full only where what that names has run out, and that of a solitary get only after few acts. At most as many
 -- slots are taken as a split takes: a task that this act ends takes none, and where it goes on no other task comes. What the next acts of
 -- the others are stays, and which of them have a swap under way.
 pub record Steps (old : WorldView) (w : ℕ) (answer : Applied) (new : WorldView) : Type 0 where
@@ -405,7 +405,7 @@ pub record Steps (old : WorldView) (w : ℕ) (answer : Applied) (new : WorldView
   pub brief : GetsBriefly new.config (record old.log { past = struck }) w new.log
   -- a worker that steps alone ends its call within so many marks, whatever the others have come to: their swaps under way, and words that
   -- they reserved; and within fewer where it has done so since the call's begin, and no other call was open then
-  pub lone : length new.log.past ≤ deadline new.config w struck
+  pub solo : length new.log.past ≤ deadline new.config w struck
   -- and then it takes no more descriptors and slots than are promised for each call, and is Full of them only where there were fewer at its begin
   pub at_begin : new.at_begin ≡ old.at_begin
   pub supplied : RunsWhole new.config w struck → KeepsSupply new.at_begin new.supply

@@ -4,7 +4,7 @@ ghost use Rattle.bz_call.specs.Map.{key_of as key_in};
 ghost use Rattle.bz_sound.specs.Memory.Replies.{IsWrite};
 ghost use Rattle.bz_task.specs.declared.todo.Todo.TheVariants.{Finish};
 ghost use Rattle.bz_world.specs.Inside.Merging.{is_below as leads_below};
-ghost use Rattle.bz_world.specs.Inside.Going.{call_in, end_in, asks_in, path_in as way_in, had_in as payload_in, effect_in as moment_in, page_in, froze_in, alone_in, freezes_in, merges_in, few_in, DeletesIn, CanGoUpIn, MayGoUpIn, StandsBelowIn, GoesUpIn, with_task, with_change, with_alone, with_froze};
+ghost use Rattle.bz_world.specs.Inside.Going.{call_in, end_in, asks_in, path_in as way_in, had_in as payload_in, effect_in as moment_in, page_in, froze_in, unmerged_in, freezes_in, merges_in, few_in, DeletesIn, CanGoUpIn, MayGoUpIn, StandsBelowIn, GoesUpIn, with_task, with_change, with_unmerged, with_froze};
 
 use crate::serving::OpenCall;
 use bz_call::Call;
@@ -124,8 +124,8 @@ pub(crate) fn asks_page(slot: &Option<OpenCall>) -> bool
 }
 
 /// Whether its leaf is to be copied alone.
-pub(crate) fn is_alone(slot: &Option<OpenCall>) -> bool
-    ensures { result ≡ alone_in slot.now }
+pub(crate) fn is_unmerged(slot: &Option<OpenCall>) -> bool
+    ensures { result ≡ unmerged_in slot.now }
 {
     match slot {
         Some(serving) => serving.alone,
@@ -187,8 +187,8 @@ fn is_below(path: &Option<Path>) -> bool
 }
 
 /// Says whether its leaf is to be copied alone.
-pub(crate) fn set_alone(slot: &mut Option<OpenCall>, alone: bool)
-    ensures { slot.new ≡ with_alone slot.old alone }
+pub(crate) fn set_unmerged(slot: &mut Option<OpenCall>, alone: bool)
+    ensures { slot.new ≡ with_unmerged slot.old alone }
 {
     if let Some(serving) = slot {
         serving.alone = alone;

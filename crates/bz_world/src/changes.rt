@@ -5,14 +5,14 @@ ghost use Rattle.bz_task.specs.Outcomes.{payload_of};
 ghost use Rattle.bz_task.specs.declared.todo.Outcome.TheVariants.{NeedsRoom};
 ghost use Rattle.bz_task.specs.declared.todo.Todo.TheVariants.{Finish};
 ghost use Rattle.bz_world.specs.Inside.Going.{MustAnswerKey, MustReadCrowded, MustChange, MustInsert, MustUpdate, MustDelete, WentOn, call_in, end_in};
-ghost use Rattle.bz_world.specs.Inside.Lonely.{IsNotLonelyIn};
+ghost use Rattle.bz_world.specs.Inside.Solitary.{IsNotSolitaryIn};
 ghost use Rattle.bz_world.specs.Inside.Telling.{MustStartOf};
 
 use crate::answers::Applied;
 use crate::calls::{ended_in, found_path, set_change};
 use crate::end::end;
 use crate::going::go_on;
-use crate::laws::{alone_laws, answer_laws, paths_end, round_laws, start_laws};
+use crate::laws::{answer_laws, paths_end, round_laws, start_laws, undisturbed_laws};
 use crate::lookups::read_leaf;
 use crate::parts::Parts;
 use crate::serving::OpenCall;
@@ -47,7 +47,7 @@ fn read_whole(parts: &mut Parts, w: u8) -> Applied
 fn go_on_changing(parts: &mut Parts, w: u8, todo: Todo) -> Applied
     requires asks { MustStartOf parts.old w todo }
     requires ends { todo ≡ Finish → end_in (get_or parts.old.workers.items w None) ≡ Some NeedsRoom }
-    requires other { IsNotLonelyIn parts.old.journal.past w (get_or parts.old.workers.items w None) }
+    requires other { IsNotSolitaryIn parts.old.journal.past w (get_or parts.old.workers.items w None) }
     requires room { length parts.old.journal.past < parts.old.config.marks }
     ensures { WentOn parts.old w result parts.new }
 {
@@ -65,7 +65,7 @@ fn begin_change(parts: &mut Parts, w: u8, had: Option<Payload>, task: AnyTask) -
     requires room { length parts.old.journal.past < parts.old.config.marks }
     ensures { WentOn parts.old w result parts.new }
 {
-    alone_laws();
+    undisturbed_laws();
     set_change(&mut parts.workers[w as usize], task, had);
     let todo = tell(parts, w, Seen::Start);
     go_on_changing(parts, w, todo)

@@ -3,14 +3,14 @@ ghost use Rattle.std.specs.Prelude.{◌≡◌, ◌≢◌, ◌<◌, ◌≤◌, �
 ghost use Rattle.bz_task.specs.declared.todo.Todo.TheVariants.{Finish};
 ghost use Rattle.bz_call.specs.Pages.{names_page};
 ghost use Rattle.bz_world.specs.Inside.Going.{MustLookUp, HasToEnd, LacksSwap, IsShort, WentOn, end_in, needs_in};
-ghost use Rattle.bz_world.specs.Inside.Lonely.{IsNotLonelyIn};
+ghost use Rattle.bz_world.specs.Inside.Solitary.{IsNotSolitaryIn};
 ghost use Rattle.bz_world.specs.Inside.Serving.{effect_reply as reply_in};
 ghost use Rattle.bz_world.specs.Inside.Telling.{MustBegin, MustStart};
 
 use crate::answers::Applied;
 use crate::calls::{called, effect_in, ended_in, had_in, key_of, set_task};
 use crate::end::end;
-use crate::laws::{alone_laws, start_laws};
+use crate::laws::{start_laws, undisturbed_laws};
 use crate::parts::Parts;
 use crate::start::start;
 use crate::tell::tell;
@@ -63,7 +63,7 @@ pub(crate) fn end_effective(parts: &mut Parts, w: u8, at: u32) -> Applied
 /// Ends a call without effect, which makes a change, for want of what was spent.
 pub(crate) fn end_full(parts: &mut Parts, w: u8, spent: Spent) -> Applied
     requires short { IsShort parts.old w spent }
-    requires other { IsNotLonelyIn parts.old.journal.past w (get_or parts.old.workers.items w None) }
+    requires other { IsNotSolitaryIn parts.old.journal.past w (get_or parts.old.workers.items w None) }
     requires room { length parts.old.journal.past < parts.old.config.marks }
     ensures went { WentOn parts.old w result parts.new }
     ensures slots { parts.new.slots ≡ parts.old.slots }
@@ -75,7 +75,7 @@ pub(crate) fn end_full(parts: &mut Parts, w: u8, spent: Spent) -> Applied
 // Ends a call for want of a descriptor.
 fn end_swapless(parts: &mut Parts, w: u8) -> Applied
     requires lacks { LacksSwap parts.old w }
-    requires other { IsNotLonelyIn parts.old.journal.past w (get_or parts.old.workers.items w None) }
+    requires other { IsNotSolitaryIn parts.old.journal.past w (get_or parts.old.workers.items w None) }
     requires room { length parts.old.journal.past < parts.old.config.marks }
     ensures went { WentOn parts.old w result parts.new }
     ensures slots { parts.new.slots ≡ parts.old.slots }
@@ -109,7 +109,7 @@ pub(crate) fn go_on(parts: &mut Parts, w: u8, todo: Todo) -> Applied
     if start(parts, w, todo) {
         Applied::Stepped
     } else {
-        alone_laws();
+        undisturbed_laws();
         let _ = tell(parts, w, Seen::NoSwap);
         end_swapless(parts, w)
     }

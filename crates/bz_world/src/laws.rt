@@ -1,9 +1,9 @@
 //! The laws on which the world's acts stand, from the crates below. Each function does nothing.
 ghost use Rattle.std.specs.Prelude.{◌≤◌};
 ghost use Rattle.bz_layout.specs.declared.thresholds.TheConstants.{MAX_LEVELS};
-ghost use Rattle.bz_world.specs.Inside.Laws.{HasEnd, AloneLaws, BegunLaws, LonelyLaws, PaidLaws, RoundLaws, StepLaws, StrikeLaws, StartLaws, EndLaws, AnswerLaws};
+ghost use Rattle.bz_world.specs.Inside.Laws.{HasEnd, UndisturbedLaws, BegunLaws, SolitaryLaws, PaidLaws, RoundLaws, StepLaws, StrikeLaws, StartLaws, EndLaws, AnswerLaws};
 
-use bz_lone::laws as lone;
+use bz_lone::laws as solo;
 use bz_rivals::laws as rivals;
 use bz_sight::laws as sight;
 use bz_sound::{memory_laws as calls, power_laws as sound};
@@ -21,16 +21,16 @@ pub(crate) fn begun_laws()
     rivals::notes_are_of_begun();
 }
 
-/// Those of a lonely get.
-pub(crate) fn lonely_laws()
-    ensures { LonelyLaws }
+/// Those of a solitary get.
+pub(crate) fn solitary_laws()
+    ensures { SolitaryLaws }
 {
-    sound::lonely_calls_are_alone();
-    lone::look_ups_are_brief();
-    lone::ways_are_brief();
-    lone::brief_look_ups_go_on();
-    lone::gets_are_brief();
-    lone::effects_never_fall();
+    sound::none_is_open_beside_a_solitary_call();
+    solo::look_ups_are_brief();
+    solo::ways_are_brief();
+    solo::brief_look_ups_go_on();
+    solo::gets_are_brief();
+    solo::effects_never_fall();
     story::scenes_are_seen();
 }
 
@@ -38,73 +38,73 @@ pub(crate) fn lonely_laws()
 pub(crate) fn paid_laws()
     ensures { PaidLaws }
 {
-    lone::lone_calls_are_affordable();
-    lone::any_call_is_paid();
-    lone::any_round_is_paid();
-    lone::first_rounds_are_paid();
-    lone::quiet_steps_are_paid();
-    lone::foreign_effects_are_paid();
-    lone::effect_marks_are_paid();
-    lone::less_is_paid();
-    lone::own_effects_are_paid();
-    lone::hearings_are_paid();
-    lone::starts_are_paid();
-    lone::idle_memories_allow_nothing();
-    lone::asked_swaps_are_counted();
+    solo::solo_calls_are_affordable();
+    solo::any_call_is_paid();
+    solo::any_round_is_paid();
+    solo::first_rounds_are_paid();
+    solo::quiet_steps_are_paid();
+    solo::foreign_effects_are_paid();
+    solo::effect_marks_are_paid();
+    solo::less_is_paid();
+    solo::own_effects_are_paid();
+    solo::hearings_are_paid();
+    solo::starts_are_paid();
+    solo::idle_memories_allow_nothing();
+    solo::asked_swaps_are_counted();
     rivals::rivals_fall();
-    swap::lone_steps_are_allowed();
-    swap::lone_steps_are_allowed_by_kind();
+    swap::solo_steps_are_allowed();
+    swap::solo_steps_are_allowed_by_kind();
 }
 
 /// Those of what comes after a task.
 pub(crate) fn round_laws()
     ensures { RoundLaws }
 {
-    lone::less_is_spared();
-    lone::ends_are_afforded();
-    lone::ends_are_paid();
-    lone::ways_are_paid();
-    lone::changes_are_paid();
-    lone::leaves_are_read();
-    lone::read_leaves_are_paid();
-    lone::tasks_may_begin();
-    lone::rounds_begin();
-    lone::disturbed_rounds_are_paid();
-    lone::ends_leave_a_round();
-    lone::renewals_are_paid();
-    lone::ascents_are_paid();
-    lone::asked_swaps_are_counted();
-    lone::lone_views_tell_the_leaf();
-    lone::lone_views_tell_the_stage();
-    lone::lone_key_views_tell_the_stage();
-    lone::lone_leaves_are_due();
-    lone::lone_ascents_are_due();
-    lone::lone_ascents_are_below_the_stage();
+    solo::less_is_spared();
+    solo::ends_are_afforded();
+    solo::ends_are_paid();
+    solo::ways_are_paid();
+    solo::changes_are_paid();
+    solo::leaves_are_read();
+    solo::read_leaves_are_paid();
+    solo::tasks_may_begin();
+    solo::rounds_begin();
+    solo::disturbed_rounds_are_paid();
+    solo::ends_leave_a_round();
+    solo::renewals_are_paid();
+    solo::ascents_are_paid();
+    solo::asked_swaps_are_counted();
+    solo::undisturbed_views_tell_the_leaf();
+    solo::undisturbed_views_tell_the_stage();
+    solo::undisturbed_key_views_tell_the_stage();
+    solo::undisturbed_leaves_are_due();
+    solo::undisturbed_ascents_are_due();
+    solo::undisturbed_ascents_are_below_the_stage();
     stage::lacking_leaves_say();
-    lone::stages_stand();
-    lone::lone_views_tell_the_live_words();
-    lone::paths_read_few();
+    solo::stages_stand();
+    solo::undisturbed_views_tell_the_live_words();
+    solo::paths_read_few();
     story::scenes_are_seen();
-    lone::trees_stand();
-    lone::neighbours_stand();
-    lone::lone_merges_are_due();
-    lone::merges_know_their_leaf();
-    lone::lone_root_leaves_are_the_tree();
+    solo::trees_stand();
+    solo::neighbours_stand();
+    solo::undisturbed_merges_are_due();
+    solo::merges_know_their_leaf();
+    solo::undisturbed_root_leaves_are_the_tree();
 }
 
 /// Those of a worker that is alone.
-pub(crate) fn alone_laws()
-    ensures { AloneLaws }
+pub(crate) fn undisturbed_laws()
+    ensures { UndisturbedLaws }
 {
-    lone::own_swaps_are_counted();
-    lone::loners_go_on();
-    lone::lone_restarts_are_refusals();
+    solo::own_swaps_are_counted();
+    solo::undisturbed_tasks_go_on();
+    solo::undisturbed_restarts_are_refusals();
     rivals::own_swaps_win();
     rivals::expected_stand();
     story::scenes_are_seen();
     sound::loads_are_settled();
-    lone::known_leaves_stay();
-    lone::lone_merges_do_not_lack_room();
+    solo::known_leaves_stay();
+    solo::undisturbed_merges_do_not_lack_room();
     paid_laws();
     round_laws();
 }
@@ -113,8 +113,8 @@ pub(crate) fn alone_laws()
 pub(crate) fn step_laws()
     ensures { StepLaws }
 {
-    lonely_laws();
-    alone_laws();
+    solitary_laws();
+    undisturbed_laws();
     sight::acts_pass();
     sight::quiet_steps_pass();
     sight::steps_leave_caches();
@@ -139,16 +139,16 @@ pub(crate) fn step_laws()
 pub(crate) fn strike_laws()
     ensures { StrikeLaws }
 {
-    lonely_laws();
+    solitary_laws();
     paid_laws();
-    lone::leaves_come_and_go();
-    lone::deletes_take_one_record();
-    lone::stages_stand();
-    lone::known_leaves_stay();
-    lone::merges_count_at_last();
-    lone::trees_stand();
-    lone::deletes_tell_of_merges();
-    lone::mergeable_leaves_stand_below();
+    solo::leaves_come_and_go();
+    solo::deletes_take_one_record();
+    solo::stages_stand();
+    solo::known_leaves_stay();
+    solo::merges_count_at_last();
+    solo::trees_stand();
+    solo::deletes_tell_of_merges();
+    solo::mergeable_leaves_stand_below();
     bz_content::laws::well_formed_images_have_no_fault();
     bz_task::laws::fronts_stay();
     bz_page::laws::views_say_what_images_say();
@@ -171,8 +171,8 @@ pub(crate) fn strike_laws()
 pub(crate) fn start_laws()
     ensures { StartLaws }
 {
-    lonely_laws();
-    alone_laws();
+    solitary_laws();
+    undisturbed_laws();
     sight::own_words_are_hidden();
     sight::tasks_may_start();
     sight::starts_are_seen();
@@ -184,7 +184,7 @@ pub(crate) fn start_laws()
 pub(crate) fn end_laws()
     ensures { EndLaws }
 {
-    lonely_laws();
+    solitary_laws();
     story::scenes_are_seen();
     story::lives_go_on();
     story::quiet_marks_are_lawful();
@@ -201,7 +201,7 @@ pub(crate) fn end_laws()
 pub(crate) fn answer_laws()
     ensures { AnswerLaws }
 {
-    lonely_laws();
+    solitary_laws();
     sound::answers_come_from_the_image();
     sound::pages_come_from_the_image();
     sound::spent_answers_full();

@@ -5,7 +5,7 @@ ghost use Rattle.bz_word.specs.Statuses.{status};
 ghost use Rattle.bz_world.specs.Inside.Going.{MustRestructure, MustMakeAnew, MustCopy, MustMerge, MustSplit, MustSplitBelow, MustGoUp, WentOn};
 
 use crate::answers::Applied;
-use crate::calls::{called, found_path, is_alone, key_of, set_task};
+use crate::calls::{called, found_path, is_unmerged, key_of, set_task};
 use crate::going::{begin_task, look_up};
 use crate::laws::{answer_laws, start_laws};
 use crate::parts::Parts;
@@ -103,7 +103,7 @@ fn merge_or_copy(parts: &mut Parts, w: u8, path: Path, view: &LeafView) -> Appli
     ensures { WentOn parts.old w result parts.new }
 {
     start_laws();
-    if is_alone(&parts.workers[w as usize]) {
+    if is_unmerged(&parts.workers[w as usize]) {
         return consolidate(parts, w, path, view);
     }
     if is_due_beside(&path, view) {

@@ -11,7 +11,7 @@ ghost use Rattle.bz_world.specs.Inside.Telling.{MustStart, MustStartFound};
 use crate::answers::Applied;
 use crate::calls::{
     above, asks_page, called, effect_in, has_frozen, is_freezing, is_merging, key_of, leaves_few,
-    path_in, set_alone, set_froze, set_task,
+    path_in, set_froze, set_task, set_unmerged,
 };
 use crate::changes::{answer_delete, answer_insert, answer_update, answer_upsert};
 use crate::end::{end, end_page};
@@ -171,12 +171,12 @@ fn settle_full(parts: &mut Parts, w: u8, spent: Spent) -> Applied
 }
 
 // Looks the call's key up again. Where its leaf was to be merged, no neighbour had room for it, and it is copied then.
-fn look_up_alone(parts: &mut Parts, w: u8) -> Applied
+fn look_up_unmerged(parts: &mut Parts, w: u8) -> Applied
     requires { MustLookUpAs parts.old w crowded }
     ensures { WentOn parts.old w result parts.new }
 {
     let alone = is_merging(&parts.workers[w as usize]);
-    set_alone(&mut parts.workers[w as usize], alone);
+    set_unmerged(&mut parts.workers[w as usize], alone);
     look_up(parts, w)
 }
 
@@ -200,7 +200,7 @@ fn settle_crowded(parts: &mut Parts, w: u8) -> Applied
     start_laws();
     match above(&parts.workers[w as usize], &parts.config) {
         Some(task) => split_above(parts, w, task),
-        None => look_up_alone(parts, w),
+        None => look_up_unmerged(parts, w),
     }
 }
 

@@ -5,7 +5,7 @@ ghost use Rattle.bz_world.specs.Inside.Acted.{MustTell};
 ghost use Rattle.bz_world.specs.Inside.Going.{IsFullRightly, HasNotLackedSwaps, HasNotLackedRoom};
 ghost use Rattle.bz_world.specs.Inside.Telling.{CanHear, HasToldIn, MustStart, MustTellOf, MustStartOf};
 
-use crate::laws::{alone_laws, lonely_laws};
+use crate::laws::{solitary_laws, undisturbed_laws};
 use crate::parts::Parts;
 use crate::serving::OpenCall;
 use bz_layout::Slots;
@@ -42,8 +42,8 @@ pub(crate) fn tell(parts: &mut Parts, w: u8, seen: Seen) -> Todo
     ensures knows { MustTellOf parts.old w seen → MustStartOf parts.new w result }
     ensures rest { parts.new ≡ record parts.old { slots = parts.new.slots; workers = parts.new.workers } }
 {
-    lonely_laws();
-    alone_laws();
+    solitary_laws();
+    undisturbed_laws();
     let moment = parts.journal.length();
     hear_task(
         &mut parts.workers[w as usize],

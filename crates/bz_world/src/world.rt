@@ -53,7 +53,7 @@ impl World {
     ghost use Rattle.bz_world.specs.WorldView.{WorldView, IsWorker, new_view, image_view, IsOpenFault, IsBootFault, power_in, begin_answer, after_begin, flush_of, open_number, reply_of, pairs_in, recovery_acts, recovery_most, AreFinishing, IsApplied, KeepsApart, count_in};
     ghost use Rattle.bz_world.specs.Numbers.{AreNumbersKept};
     ghost use Rattle.bz_world.specs.Taken.{TellsAsShown};
-    ghost use Rattle.bz_world.specs.Solo.{RunsAlone};
+    ghost use Rattle.bz_world.specs.Solo.{RunsSolo};
 
     /// A world over fresh memory, in which nothing has happened.
     pub fn open(alloc: Global, config: &Config) -> Result<World, OpenError>
@@ -99,7 +99,7 @@ impl World {
     /// the power on, ends it so, whatever the others have come to: within a number of marks that the configuration tells, and
     /// with a limit only where the journal has fewer than three places left.
     pub fn solo(&mut self, w: u8) -> Applied
-        ensures { RunsAlone self.old w result self.new }
+        ensures { RunsSolo self.old w result self.new }
     {
         let mut answer = Applied::Stepped;
         while goes_on(&answer) {

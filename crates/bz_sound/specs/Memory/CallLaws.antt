@@ -43,8 +43,8 @@ abbrev pub OpenCallsAreLast : Type 0
 OpenCallsAreLast = (c : Config) (log : Log) (w : ℕ) (opened : Open) → IsSound c log → open_call w log.past ≡ Some opened → IsLastCall log.past w opened
 
 -- while calls run one after the other no two of them are open
-abbrev pub ApartCallsAreAlone : Type 0
-ApartCallsAreAlone = (past : List Mark) (v w : ℕ) (a b : Open) → IsApart past → open_call v past ≡ Some a → open_call w past ≡ Some b → v ≡ w
+abbrev pub ApartCallsAreSolitary : Type 0
+ApartCallsAreSolitary = (past : List Mark) (v w : ℕ) (a b : Open) → IsApart past → open_call v past ≡ Some a → open_call w past ≡ Some b → v ≡ w
 
 -- an act is one of a worker whose call is open
 pub record ActsTell (c : Config) (log : Log) (moment w : ℕ) : Type 0 where

@@ -4,7 +4,7 @@ use Rattle.bz_machine.specs.declared.place.Place.{Place}
 use Rattle.bz_machine.specs.declared.place.Place.TheVariants as place
 use Rattle.bz_machine.specs.Allowed.{for_worker}
 use Rattle.bz_swap.specs.declared.allowance.Allowance.{Allowance}
-use Rattle.bz_swap.specs.Alone.{steps_left}
+use Rattle.bz_swap.specs.Solo.{steps_left}
 
 -- worker w, which did nothing, has started what allows so much
 abbrev pub after_start : Allowance → ℕ → ℕ → Allowance

@@ -24,7 +24,7 @@ use Rattle.bz_story.specs.Laws.{IsMarked}
 use Rattle.bz_story.specs.Living.{IsLiving}
 use Rattle.bz_marked.specs.Past.{SamePast}
 use Rattle.bz_story.specs.Story.{Story, scene}
-use Rattle.bz_swap.specs.Alone.{left_to}
+use Rattle.bz_swap.specs.Solo.{left_to}
 use Rattle.bz_swap.specs.Evictions.{IsEviction}
 use Rattle.bz_swap.specs.Held.{Holds}
 use Rattle.bz_swap.specs.Steps.{IsStep}
@@ -36,11 +36,11 @@ use Rattle.bz_task.specs.declared.todo.Seen.{Seen}
 use Rattle.bz_task.specs.declared.todo.Seen.TheVariants as heard
 use Rattle.bz_task.specs.declared.todo.Todo.{Todo}
 use Rattle.bz_task.specs.declared.todo.Todo.TheVariants.{Finish}
-use Rattle.bz_world.specs.Inside.Alone.{HearsAlone, AsksAlone}
+use Rattle.bz_world.specs.Inside.Alone.{HearsUndisturbed, AsksUndisturbed}
 use Rattle.bz_world.specs.Inside.Due.{TakesRightly}
 use Rattle.bz_world.specs.Inside.Exact.{CountsExactly, reach_at, reach_idle}
 use Rattle.bz_world.specs.Inside.Kept.{IsTabled, AreTaken, AreFree, IsAwake}
-use Rattle.bz_world.specs.Inside.Lonely.{WhereLonely, IsLonelyGet, AsksBriefly}
+use Rattle.bz_world.specs.Inside.Solitary.{WhereSolitary, IsSolitaryGet, AsksBriefly}
 use Rattle.bz_world.specs.Inside.Merging.{MergesDuly}
 use Rattle.bz_world.specs.Inside.Meant.{IsMeant}
 use Rattle.bz_world.specs.Inside.Paid.{no_extra, runner, stock_of, IsPaidFor}
@@ -129,8 +129,8 @@ pub record IsTold (p : Parts) (w : ℕ) (x : OpenCall) (seen : Seen) : Type 0 wh
   pub finished : MayGoOn x ⊎ HasWon x seen
   pub hears : Hears (asks_of x.task) seen
   pub tells : Tells (asks_of x.task) stage seen (scene p.config p.journal.past between.story w between.call_open.look.since between.opened)
-  pub lonely : WhereLonely p.journal.past w x.call (λ key. IsLonelyGet p.access p.journal.past between.story w x between.opened key × (stage ≡ Waiting))
-  pub alone : HearsAlone x.task seen (scene p.config p.journal.past between.story w between.call_open.look.since between.opened).past
+  pub solitary : WhereSolitary p.journal.past w x.call (λ key. IsSolitaryGet p.access p.journal.past between.story w x between.opened key × (stage ≡ Waiting))
+  pub alone : HearsUndisturbed x.task seen (scene p.config p.journal.past between.story w between.call_open.look.since between.opened).past
   pub meant : IsMeant x (scene p.config p.journal.past between.story w between.call_open.look.since between.opened).past
   pub paid : IsPaidFor p w x (effects_in seen) no_extra (scene p.config p.journal.past between.story w between.call_open.look.since between.opened).past
   pub exact : CountsExactly p.config p.journal w between.opened (scene p.config p.journal.past between.story w between.call_open.look.since between.opened).past (reach_at p.access seen) (stock_of p) (tells_of x) x
@@ -144,8 +144,8 @@ pub record IsAsking (p : Parts) (w : ℕ) (x : OpenCall) (todo : Todo) : Type 0 
   pub finished : MayGoOn x ⊎ (todo ≡ Finish)
   pub facts : facts_of x.task Waiting (scene p.config p.journal.past between.story w between.call_open.look.since between.opened)
   pub covered : IsCovered (between.story.took w) (between.story.filled w) (needs_of x.task)
-  pub lonely : WhereLonely p.journal.past w x.call (λ key. AsksBriefly p.access p.journal.past between.story w x between.opened key todo)
-  pub alone : AsksAlone x.task todo (scene p.config p.journal.past between.story w between.call_open.look.since between.opened).past
+  pub solitary : WhereSolitary p.journal.past w x.call (λ key. AsksBriefly p.access p.journal.past between.story w x between.opened key todo)
+  pub alone : AsksUndisturbed x.task todo (scene p.config p.journal.past between.story w between.call_open.look.since between.opened).past
   pub meant : IsMeant x (scene p.config p.journal.past between.story w between.call_open.look.since between.opened).past
   pub paid : IsPaidFor p w x 0 (λ r. start_takes r todo) (scene p.config p.journal.past between.story w between.call_open.look.since between.opened).past
   pub exact : CountsExactly p.config p.journal w between.opened (scene p.config p.journal.past between.story w between.call_open.look.since between.opened).past (reach_idle p.access) (stock_of p) (tells_of x) x

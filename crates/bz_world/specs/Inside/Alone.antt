@@ -32,21 +32,21 @@ pub record HasWaited (t : AnyTask) : Type 0 where
   pub facts : facts_of t Waiting scene
 
 -- while it waits: so many swaps of others took effect since its look-up began, beside its own
-pub record WaitsAlone (m : SwapMemory) (doing : Doing) (t : AnyTask) (p : Past) : Type 0 where
+pub record WaitsUndisturbed (m : SwapMemory) (doing : Doing) (t : AnyTask) (p : Past) : Type 0 where
   pub others : ℕ
   pub counted : HasOthers others (made_of t + untold m doing) p
   pub well : others ≡ 0 → DoesWell m doing
   pub waited : HasWaited t
 
 -- when it is to be told this: no swap of a worker that was alone is answered with false
-pub record HearsAlone (t : AnyTask) (seen : Seen) (p : Past) : Type 0 where
+pub record HearsUndisturbed (t : AnyTask) (seen : Seen) (p : Past) : Type 0 where
   pub others : ℕ
   pub counted : HasOthers others (made_of t + effects_in seen) p
   pub wins : others ≡ 0 → seen ≢ Swapped false
   pub waited : HasWaited t
 
 -- once it was told and asks for this: where it has ended, and its worker was alone, that is not to begin again
-pub record AsksAlone (t : AnyTask) (todo : Todo) (p : Past) : Type 0 where
+pub record AsksUndisturbed (t : AnyTask) (todo : Todo) (p : Past) : Type 0 where
   pub others : ℕ
   pub made : ℕ
   pub counted : HasOthers others made p

@@ -8,7 +8,7 @@ use Rattle.bz_mark.specs.Log.{Log}
 use Rattle.bz_running.specs.Kinds as kinds
 use Rattle.bz_running.specs.Kinds.{Kind, is_look, kind_of}
 use Rattle.bz_sound.specs.Calls.{map_after}
-use Rattle.bz_sound.specs.Lonely.{IsLonely}
+use Rattle.bz_sound.specs.Solitary.{IsSolitary}
 use Rattle.bz_sound.specs.Memory.Moments.{map_at_start}
 use Rattle.bz_world.specs.Inside.Paid.{Stock}
 use Rattle.bz_world.specs.declared.serving.OpenCall.{OpenCall}
@@ -19,7 +19,7 @@ IsDue c log called = IsChange (apply (map_after (map_at_start c log.start) log.p
 
 -- where no other call is open
 abbrev pub IsDueAlone : Config → Log → ℕ → Call → Type 0
-IsDueAlone c log w called = IsLonely w log.past → IsDue c log called
+IsDueAlone c log w called = IsSolitary w log.past → IsDue c log called
 
 -- a task of this kind only looks: a leaf is read whole for a page, and else to be made anew
 abbrev pub only_looks : Call → Kind → Bool
@@ -35,4 +35,4 @@ pub record HasTakenNothing (taken : ℕ) (stock : Stock) (called : Call) (kind :
 
 -- until it has had its effect one of the two holds, where no other call is open
 abbrev pub TakesRightly : Config → ℕ → Log → Stock → ℕ → OpenCall → Type 0
-TakesRightly c taken log stock w x = x.effect ≡ None → IsLonely w log.past → IsDue c log x.call ⊎ HasTakenNothing taken stock x.call (kind_of x.task) x.froze
+TakesRightly c taken log stock w x = x.effect ≡ None → IsSolitary w log.past → IsDue c log x.call ⊎ HasTakenNothing taken stock x.call (kind_of x.task) x.froze

@@ -9,7 +9,7 @@ use Rattle.bz_running.specs.Duties.{end_of, made_of, swaps_of, wants_of, change_
 use Rattle.bz_running.specs.Kinds as kinds
 use Rattle.bz_running.specs.Kinds.{Kind, is_look, kind_of}
 use Rattle.bz_sound.specs.Calls.{Open}
-use Rattle.bz_sound.specs.Lonely.{IsLonely}
+use Rattle.bz_sound.specs.Solitary.{IsSolitary}
 use Rattle.bz_swap.specs.SwapMemory.{SwapMemory, Doing, Swapping, doing_of}
 use Rattle.bz_task.specs.Requests.{effects_in}
 use Rattle.bz_task.specs.Scene.{Past, Scene}
@@ -133,4 +133,4 @@ IsExact opened p r stock tells x = IsLookingUp opened p r stock x ⊎ (IsChangin
 
 -- where no other call is open, and there was room
 abbrev pub CountsExactly : Config → Log → ℕ → Open → Past → Reach → Stock → ℕ → OpenCall → Type 0
-CountsExactly c log w opened p r stock tells x = IsLonely w log.past → HadRoom c log.start log.past opened → IsExact opened p r stock tells x
+CountsExactly c log w opened p r stock tells x = IsSolitary w log.past → HadRoom c log.start log.past opened → IsExact opened p r stock tells x

@@ -11,7 +11,7 @@ use Rattle.bz_call.specs.declared.replies.Spent.TheVariants.{Nodes, Swaps}
 use Rattle.bz_running.specs.FromBelow.Facts.{IsThawedAbove}
 use Rattle.bz_running.specs.FromConsol.Facts.{LeadsTo}
 use Rattle.bz_lone.specs.FromCosts.Most.{most_of_leaf, most_of_merge}
-use Rattle.bz_lone.specs.FromCosts.Lone.{one_mark}
+use Rattle.bz_lone.specs.FromCosts.Solo.{one_mark}
 use Rattle.bz_lone.specs.FromCosts.Resources.{Resource}
 use Rattle.bz_lone.specs.FromCosts.Weights.{start_takes}
 use Rattle.bz_layout.specs.declared.config.Config.{Config}
@@ -20,7 +20,7 @@ use Rattle.bz_lone.specs.Prices.{coming}
 use Rattle.bz_lone.specs.Rounds.{stage_now}
 use Rattle.bz_lone.specs.Sum.{IsThawed}
 use Rattle.bz_layout.specs.declared.thresholds.TheConstants.{SPLIT_ABOVE, SPLIT_SLOTS, MERGE_BELOW}
-use Rattle.bz_lone.specs.FromAlone.Alone.{IsAlone}
+use Rattle.bz_lone.specs.FromAlone.Undisturbed.{IsUndisturbed}
 use Rattle.bz_lone.specs.FromAlone.Counts.{HasOthers}
 use Rattle.bz_lone.specs.FromAlone.Reads.{get_reads}
 use Rattle.bz_running.specs.Duties.{config_of, asks_of, end_of, made_of, ascent_of, change_swaps, needs_of, wants_of, facts_of, means_of, makes_no_change}
@@ -33,7 +33,7 @@ use Rattle.bz_running.specs.declared.running.AnyTask.{AnyTask}
 use Rattle.bz_slotted.specs.Readers.{live_of}
 use Rattle.bz_slotted.specs.ReadingLaws.{node_of}
 use Rattle.bz_stage.specs.FromLeaves.Neighbours.{MayBeMerged}
-use Rattle.bz_sound.specs.Lonely.{IsLonely, acts_since}
+use Rattle.bz_sound.specs.Solitary.{IsSolitary, acts_since}
 use Rattle.bz_sound.specs.Memory.Moments.{image_at}
 use Rattle.bz_sound.specs.Power.Replies.{IsRightReply}
 use Rattle.bz_sound.specs.Power.Spent.{IsSpent}
@@ -59,7 +59,7 @@ use Rattle.bz_world.specs.Inside.Merging.{tells_few, IsStanding, IsTellingFew, M
 use Rattle.bz_world.specs.Merges.{IsMergedSince, MergesFor}
 use Rattle.bz_world.specs.Inside.Paid.{begun_with, bound_in, errand_of, is_merge, no_extra, stock_of, used_in, IsCounted, IsFit, IsPaidFor, HasToSpare, HasARound, HasARoundAs}
 use Rattle.bz_world.specs.Inside.Room.{LacksRoomFor}
-use Rattle.bz_world.specs.Inside.Lonely.{WhereLonely, IsNotLonely, IsLonelyGet, HasLooked}
+use Rattle.bz_world.specs.Inside.Solitary.{WhereSolitary, IsNotSolitary, IsSolitaryGet, HasLooked}
 use Rattle.bz_world.specs.WorldView.{deadline, GoesOn, Spends, HadFew, HasRunOut, EndsFullOfLittle, EndsFullRightly, EndsAsTold, EndsMerged, EndsUnspent, GetsBriefly, KeepsSupply, RunsWhole, TakesAsTold, is_delete}
 use Rattle.bz_world.specs.Inside.Serving.{IsTasked, IsWanted, NeedsAtLeast, MayGoOn, tells_of}
 use Rattle.bz_world.specs.Roomy.{HadRoom}
@@ -74,7 +74,7 @@ pub record MustGoOn (p : Parts) (w : ℕ) : Type 0 where
   pub between : IsBetween p w serving
   pub filled : (k : ℕ) → between.story.took w k ≡ true → between.story.filled w k ≡ true
   pub fit : IsFit serving
-  pub lonely : WhereLonely p.journal.past w serving.call (HasLooked p.access p.journal.past between.story w serving between.opened)
+  pub solitary : WhereSolitary p.journal.past w serving.call (HasLooked p.access p.journal.past between.story w serving between.opened)
   pub exact : CountsExactly p.config p.journal w between.opened (scene p.config p.journal.past between.story w between.call_open.look.since between.opened).past (reach_idle p.access) (stock_of p) (tells_of serving) serving
   pub merges : MergesDuly p.config p.journal w between.opened (scene p.config p.journal.past between.story w between.call_open.look.since between.opened).past (reach_idle p.access) (stock_of p) serving
 
@@ -94,18 +94,18 @@ known p w m = scene p.config p.journal.past m.between.story w m.between.call_ope
 
 -- of a call whose leaf had room, where no other call is open: it does not come to this
 abbrev pub HadNoRoom : (p : Parts) (w : ℕ) → MustGoOn p w → Type 0
-HadNoRoom p w m = IsLonely w p.journal.past → HadRoom p.config p.journal.start p.journal.past m.between.opened → ⊥
+HadNoRoom p w m = IsSolitary w p.journal.past → HadRoom p.config p.journal.start p.journal.past m.between.opened → ⊥
 
 -- none looks its key up again, but for a delete that has made its change
 abbrev pub HasCountedAll : (p : Parts) (w : ℕ) → MustGoOn p w → Type 0
 HasCountedAll p w m = HasCounted m.between.opened (known p w m).past (reach_idle p.access) (stock_of p) (tells_of m.serving) m.serving
 
 abbrev pub LooksUpAgain : (p : Parts) (w : ℕ) → MustGoOn p w → Type 0
-LooksUpAgain p w m = IsLonely w p.journal.past → HadRoom p.config p.journal.start p.journal.past m.between.opened → HasCountedAll p w m
+LooksUpAgain p w m = IsSolitary w p.journal.past → HadRoom p.config p.journal.start p.journal.past m.between.opened → HasCountedAll p w m
 
 -- nor reads one its leaf whole, but for such a delete, since whose look-up nobody's swap took effect
 abbrev pub ReadsAgain : (p : Parts) (w : ℕ) → MustGoOn p w → Type 0
-ReadsAgain p w m = IsLonely w p.journal.past → HadRoom p.config p.journal.start p.journal.past m.between.opened → HasCountedAll p w m × HasOthers 0 0 (known p w m).past
+ReadsAgain p w m = IsSolitary w p.journal.past → HadRoom p.config p.journal.start p.journal.past m.between.opened → HasCountedAll p w m × HasOthers 0 0 (known p w m).past
 
 -- what stands of a delete that has had its effect, beside which no other call is open, where its leaf might be merged directly after that
 pub record StoodFor (p : Parts) (w : ℕ) (on : MustGoOn p w) (at : ℕ) : Type 0 where
@@ -115,17 +115,17 @@ pub record StoodFor (p : Parts) (w : ℕ) (on : MustGoOn p w) (at : ℕ) : Type 
 
 -- that it leaves little was told before its key is looked up again
 abbrev pub StandsForLooking : (p : Parts) (w : ℕ) → MustGoOn p w → Type 0
-StandsForLooking p w on = IsLonely w p.journal.past → (at : ℕ) → on.serving.effect ≡ Some at → is_delete on.serving.call ≡ true → StoodFor p w on at × (MayBeMerged p.config ((known p w on).past.at (suc at)).image (key_of on.serving.call) → IsTellingFew (reach_idle p.access) on.serving)
+StandsForLooking p w on = IsSolitary w p.journal.past → (at : ℕ) → on.serving.effect ≡ Some at → is_delete on.serving.call ≡ true → StoodFor p w on at × (MayBeMerged p.config ((known p w on).past.at (suc at)).image (key_of on.serving.call) → IsTellingFew (reach_idle p.access) on.serving)
 
 -- and nobody's swap took effect since it looks for its leaf
 abbrev pub StandsForReading : (p : Parts) (w : ℕ) → MustGoOn p w → Type 0
-StandsForReading p w on = IsLonely w p.journal.past → (at : ℕ) → on.serving.effect ≡ Some at → is_delete on.serving.call ≡ true → StoodFor p w on at × (MayBeMerged p.config ((known p w on).past.at (suc at)).image (key_of on.serving.call) → HasOthers 0 0 (known p w on).past)
+StandsForReading p w on = IsSolitary w p.journal.past → (at : ℕ) → on.serving.effect ≡ Some at → is_delete on.serving.call ≡ true → StoodFor p w on at × (MayBeMerged p.config ((known p w on).past.at (suc at)).image (key_of on.serving.call) → HasOthers 0 0 (known p w on).past)
 
--- and it may look its key up, or have its leaf changed: it is no lonely get, which is never looked up again
+-- and it may look its key up, or have its leaf changed: it is no solitary get, which is never looked up again
 pub record MustLookUp (p : Parts) (w : ℕ) : Type 0 where
   pub on : MustGoOn p w
   pub may : MayGoOn on.serving
-  pub other : IsNotLonely p.journal.past w on.serving.call
+  pub other : IsNotSolitary p.journal.past w on.serving.call
   pub pays : HasARound p w on.serving (known p w on).past
   pub stands : StandsForLooking p w on
   pub over : kind_of on.serving.task ≡ kinds.Delete → end_of on.serving.task ≢ None
@@ -135,7 +135,7 @@ pub record MustLookUp (p : Parts) (w : ℕ) : Type 0 where
 pub record MustLookUpAs (p : Parts) (w : ℕ) (change : Errand → Kind → Errand) : Type 0 where
   pub on : MustGoOn p w
   pub may : MayGoOn on.serving
-  pub other : IsNotLonely p.journal.past w on.serving.call
+  pub other : IsNotSolitary p.journal.past w on.serving.call
   pub pays : HasARoundAs p w (change (errand_of on.serving) (kind_of on.serving.task)) (known p w on).past
   pub stands : StandsForLooking p w on
   pub over : kind_of on.serving.task ≡ kinds.Delete → end_of on.serving.task ≢ None
@@ -171,9 +171,9 @@ froze_in None = false
 froze_in (Some x) = x.froze
 
 -- whether its leaf is to be copied alone; whether its task freezes or merges a leaf; that it is a delete
-abbrev pub alone_in : Option OpenCall → Bool
-alone_in None = false
-alone_in (Some x) = x.alone
+abbrev pub unmerged_in : Option OpenCall → Bool
+unmerged_in None = false
+unmerged_in (Some x) = x.alone
 
 abbrev pub freezes_in : Option OpenCall → Bool
 freezes_in None = false
@@ -270,8 +270,8 @@ abbrev pub with_change : Option OpenCall → AnyTask → Option (List ℕ) → O
 with_change slot task had = option_map (λ (x : OpenCall). record x { task = task; had = had }) slot
 
 -- or it is said whether its leaf is copied alone
-abbrev pub with_alone : Option OpenCall → Bool → Option OpenCall
-with_alone slot alone = option_map (λ (x : OpenCall). record x { alone = alone }) slot
+abbrev pub with_unmerged : Option OpenCall → Bool → Option OpenCall
+with_unmerged slot alone = option_map (λ (x : OpenCall). record x { alone = alone }) slot
 
 -- and whether its own freeze of its leaf was the last to end
 abbrev pub with_froze : Option OpenCall → Bool → Option OpenCall
@@ -291,7 +291,7 @@ pub record MustTakeOn (p : Parts) (w : ℕ) (task : AnyTask) (way : Option Path)
   pub asks : asks_of task ≡ asked
   pub facts : facts_of task Waiting (known p w on)
   pub wanted : IsWanted p.config p.journal on.between.opened task
-  pub lonely : WhereLonely p.journal.past w on.serving.call (IsLonelyGet p.access p.journal.past on.between.story w (record on.serving { task = task; path = way; had = had }) on.between.opened)
+  pub solitary : WhereSolitary p.journal.past w on.serving.call (IsSolitaryGet p.access p.journal.past on.between.story w (record on.serving { task = task; path = way; had = had }) on.between.opened)
   pub meant : IsMeant (record on.serving { task = task; path = way; had = had }) (known p w on).past
   pub paid : IsPaidFor p w (record on.serving { task = task; path = way; had = had }) 0 (taken_for asked) (known p w on).past
   pub due : TakesRightly p.config p.access.taken p.journal (stock_of p) w (record on.serving { task = task; path = way; had = had })
@@ -303,11 +303,11 @@ pub record MustRead (p : Parts) (w : ℕ) (path : Path) : Type 0 where
   pub on : MustGoOn p w
   pub may : MayGoOn on.serving
   pub leads : IsPath (key_of on.serving.call) path (known p w on).past
-  pub other : IsNotLonely p.journal.past w on.serving.call
+  pub other : IsNotSolitary p.journal.past w on.serving.call
   pub spares : HasToSpare p w on.serving (known p w on).past (λ r q. most_of_leaf r + coming r q (errand_of on.serving) kinds.ReadWhole)
   pub look : on.serving.effect ≡ None → IsLookOf on.serving.call kinds.ReadWhole
   -- for a page, or to make it anew
-  pub due : on.serving.effect ≡ None → IsLonely w p.journal.past → (is_page on.serving.call ≡ true) ⊎ IsDue p.config p.journal on.serving.call
+  pub due : on.serving.effect ≡ None → IsSolitary w p.journal.past → (is_page on.serving.call ≡ true) ⊎ IsDue p.config p.journal on.serving.call
   pub stands : StandsForReading p w on
   pub again : ReadsAgain p w on
 
@@ -351,7 +351,7 @@ pub record MustAnswer (p : Parts) (w : ℕ) (view : LeafView) : Type 0 where
   pub viewed : IsView (key_of on.serving.call) view (known p w on).past
   pub leads : (path : Path) → on.serving.path ≡ Some path → IsPath (key_of on.serving.call) path (known p w on).past
   pub quiet : on.serving.effect ≡ None
-  pub other : IsNotLonely p.journal.past w on.serving.call
+  pub other : IsNotSolitary p.journal.past w on.serving.call
   pub some : on.serving.path ≢ None
   pub spares : HasToSpare p w on.serving (known p w on).past (λ r q. coming r q (errand_of on.serving) kinds.ReadWhole)
   pub look : IsLookOf on.serving.call kinds.ReadWhole
@@ -374,7 +374,7 @@ pub record MustReadWhole (p : Parts) (w : ℕ) : Type 0 where
   pub on : MustGoOn p w
   pub leads : (path : Path) → on.serving.path ≡ Some path → IsPath (key_of on.serving.call) path (known p w on).past
   pub quiet : on.serving.effect ≡ None
-  pub other : IsNotLonely p.journal.past w on.serving.call
+  pub other : IsNotSolitary p.journal.past w on.serving.call
   pub some : on.serving.path ≢ None
 
 -- a change of a record
@@ -403,7 +403,7 @@ pub record MustChange (p : Parts) (w : ℕ) (had : Option (List ℕ)) (task : An
   pub made : made_of task ≡ 0
   pub silent : makes_no_change task ≡ false
   -- it ends for want of room only where there is none, in a clean round
-  pub lacks : (z : Scene) → means_of task outcomes.NeedsRoom z → IsAlone 0 (known p w reads.on).past → 0 < stage_now (errand_of reads.on.serving) (known p w reads.on).past
+  pub lacks : (z : Scene) → means_of task outcomes.NeedsRoom z → IsUndisturbed 0 (known p w reads.on).past → 0 < stage_now (errand_of reads.on.serving) (known p w reads.on).past
   pub due : IsDueAlone p.config p.journal w reads.on.serving.call
   pub exact : CountsExactly p.config p.journal w reads.on.between.opened (known p w reads.on).past (reach_idle p.access) (stock_of p) (tells_of (record reads.on.serving { task = task; path = reads.on.serving.path; had = had })) (record reads.on.serving { task = task; path = reads.on.serving.path; had = had })
   pub merges : MergesDuly p.config p.journal w reads.on.between.opened (known p w reads.on).past (reach_idle p.access) (stock_of p) (record reads.on.serving { task = task; path = reads.on.serving.path; had = had })
@@ -456,7 +456,7 @@ pub record MustMerge (p : Parts) (w : ℕ) (path : Path) (view : LeafView) : Typ
   pub small : live_of (node_of view.image.0) < MERGE_BELOW
   pub leads : LeadsTo path view.slot
   pub thawed : IsThawedAbove path
-  pub other : IsNotLonely p.journal.past w on.serving.call
+  pub other : IsNotSolitary p.journal.past w on.serving.call
   pub frozen : on.serving.effect ≡ None → (status view.status).frozen ≡ true
   pub write : on.serving.effect ≡ None → is_read on.serving.call ≡ false
   pub thawed_call : IsThawed (errand_of on.serving)
@@ -508,7 +508,7 @@ pub record HadEffect (p : Parts) (w at : ℕ) : Type 0 where
 -- of a delete beside which no other call was open: its leaf was merged, if it might be directly after its effect, or slots or descriptors were not left
 abbrev pub HasMergedIn : (p : Parts) (w at : ℕ) → MustGoOn p w → Type 0
 HasMergedIn p w at on =
-    IsLonely w p.journal.past → is_delete on.serving.call ≡ true → MayBeMerged p.config (image_at p.journal.start (suc at) p.journal.past) (key_of on.serving.call) → IsMergedSince p.config p.journal.start p.journal.past at
+    IsSolitary w p.journal.past → is_delete on.serving.call ≡ true → MayBeMerged p.config (image_at p.journal.start (suc at) p.journal.past) (key_of on.serving.call) → IsMergedSince p.config p.journal.start p.journal.past at
 
 pub record HasToEnd (p : Parts) (w at : ℕ) : Type 0 where
   pub had : HadEffect p w at
@@ -546,7 +546,7 @@ pub record LacksSwap (p : Parts) (w : ℕ) : Type 0 where
   pub little : RunsWhole p.config w p.journal.past → HadFew p.config (begun_with p) Swaps
   pub room : HasRoomForEnd p w
   pub write : on.serving.effect ≡ None → is_read on.serving.call ≡ false
-  pub told : on.serving.effect ≡ None → IsLonely w p.journal.past → HadRoom p.config p.journal.start p.journal.past on.between.opened → TakesAsTold (begun_with p) (supply_of p) (Full Swaps)
+  pub told : on.serving.effect ≡ None → IsSolitary w p.journal.past → HadRoom p.config p.journal.start p.journal.past on.between.opened → TakesAsTold (begun_with p) (supply_of p) (Full Swaps)
   pub merged : (at : ℕ) → on.serving.effect ≡ Some at → HasMergedIn p w at on
 
 -- fewer slots are left than its task takes, because the leaf of its key had to be made anew; and the call had no effect
@@ -565,16 +565,16 @@ pub record IsShort (p : Parts) (w : ℕ) (spent : Spent) : Type 0 where
   pub room : HasRoomForEnd p w
   pub cause : IsSpent p.config p.journal.start p.journal.past w on.between.opened spent
   pub out : RunsOut p w spent
-  pub told : IsLonely w p.journal.past → HadRoom p.config p.journal.start p.journal.past on.between.opened → TakesAsTold (begun_with p) (supply_of p) (Full spent)
+  pub told : IsSolitary w p.journal.past → HadRoom p.config p.journal.start p.journal.past on.between.opened → TakesAsTold (begun_with p) (supply_of p) (Full spent)
 
--- this is a right reply to it, at this moment; a Full only where what it names has run out; and where it is a lonely get, after few acts
+-- this is a right reply to it, at this moment; a Full only where what it names has run out; and where it is a solitary get, after few acts
 pub record MustEnd (p : Parts) (w : ℕ) (reply : Reply) (at : ℕ) : Type 0 where
   pub on : MustGoOn p w
   pub right : IsRightReply p.config p.journal.start p.journal.pages p.journal.past (record { worker = w; opened = on.between.opened; reply = reply; at = at })
   pub full : (spent : Spent) → reply ≡ Full spent → RunsOut p w spent
-  pub told : IsLonely w p.journal.past → HadRoom p.config p.journal.start p.journal.past on.between.opened → TakesAsTold (begun_with p) (supply_of p) reply
+  pub told : IsSolitary w p.journal.past → HadRoom p.config p.journal.start p.journal.past on.between.opened → TakesAsTold (begun_with p) (supply_of p) reply
   pub room : HasRoomForEnd p w
-  pub brief : WhereLonely p.journal.past w on.serving.call (λ key. acts_since w p.journal.past ≤ 2 * get_reads p.config (image_at p.journal.start at p.journal.past) key)
+  pub brief : WhereSolitary p.journal.past w on.serving.call (λ key. acts_since w p.journal.past ≤ 2 * get_reads p.config (image_at p.journal.start at p.journal.past) key)
   pub merged : MergesFor p.config p.journal.start p.journal.past w reply
 
 -- the page that was put together is the right one, up to this key
@@ -584,7 +584,7 @@ pub record MustEndPage (p : Parts) (w : ℕ) (next : Option (List ℕ)) (at : �
   pub right : IsRightReply p.config p.journal.start (p.journal.pages ++ p.page ∷ []) p.journal.past (record { worker = w; opened = on.between.opened; reply = Page (length p.journal.pages) next; at = at })
   pub room : HasRoomForEnd p w
 
--- the call went on without an act: at most its End was added, a Full only where what it names has run out, and that of a lonely get
+-- the call went on without an act: at most its End was added, a Full only where what it names has run out, and that of a solitary get
 -- only after few acts; at most one descriptor was taken, and the slots of at most one task; and what the other workers do is the same
 pub record WentOn (old : Parts) (w : ℕ) (answer : Applied) (new : Parts) : Type 0 where
   pub kept : IsAwake new
@@ -596,7 +596,7 @@ pub record WentOn (old : Parts) (w : ℕ) (answer : Applied) (new : Parts) : Typ
   pub left_out : new.left_out ≡ old.left_out
   pub others : (v : ℕ) → v ≢ w → worker_of new.access v ≡ worker_of old.access v
   pub brief : GetsBriefly new.config old.journal w new.journal
-  pub lone : length new.journal.past ≤ deadline new.config w old.journal.past
+  pub solo : length new.journal.past ≤ deadline new.config w old.journal.past
   pub begun : begun_with new ≡ begun_with old
   pub supplied : RunsWhole new.config w old.journal.past → KeepsSupply (begun_with new) (supply_of new)
   pub little : RunsWhole new.config w old.journal.past → EndsFullOfLittle new.config old.journal w new.journal (begun_with new)

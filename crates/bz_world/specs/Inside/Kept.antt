@@ -25,7 +25,7 @@ use Rattle.bz_story.specs.Reviving as reviving
 use Rattle.bz_story.specs.Story.{Story}
 use Rattle.bz_swap.specs.SwapMemory.{SwapMemory, has_effect, memory_words}
 use Rattle.bz_swap.specs.TakenStatuses.{IsTaken, BegunAreTaken}
-use Rattle.bz_world.specs.Inside.Lonely.{IsLonelyIn}
+use Rattle.bz_world.specs.Inside.Solitary.{IsSolitaryIn}
 use Rattle.bz_world.specs.Inside.Paid.{stock_of}
 use Rattle.bz_world.specs.Inside.Serving.{IsSlot}
 use Rattle.bz_world.specs.Leaves.{AreLeavesKept}
@@ -93,7 +93,7 @@ pub record IsAwake (p : Parts) : Type 0 where
   pub leaves : AreLeavesKept p.config p.at_start p.journal
   pub free : AreFree p.config (image_at_on p.journal.start p.journal.past) p.slots story.took
   pub workers : (w : ℕ) → IsSlot p.config p.access p.journal story p.owners.items (stock_of p) w (get_or p.workers.items w None)
-  pub lonely : (w : ℕ) → IsLonelyIn p.access p.journal.past story p.workers.items w
+  pub solitary : (w : ℕ) → IsSolitaryIn p.access p.journal.past story p.workers.items w
 
 -- what holds from a power cut until the power is on again: no call is open, and nothing is said of which slots are free
 pub record IsDark (p : Parts) : Type 0 where

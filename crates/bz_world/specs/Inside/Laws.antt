@@ -4,9 +4,9 @@ use Rattle.bz_lone.specs.FromAlone.Brief.{LookUpsAreBrief, WaysAreBrief, BriefLo
 use Rattle.bz_lone.specs.FromAlone.Counts.{OwnSwapsAreCounted}
 use Rattle.bz_lone.specs.FromAlone.Quiet.{EffectsNeverFall}
 use Rattle.bz_lone.specs.FromAlone.Reads.{PathsReadFew}
-use Rattle.bz_lone.specs.FromAlone.Restarts.{LoneRestartsAreRefusals}
-use Rattle.bz_lone.specs.FromAlone.Tasks.{LonersGoOn}
-use Rattle.bz_lone.specs.FromCosts.Costs.{LoneCallsAreAffordable}
+use Rattle.bz_lone.specs.FromAlone.Restarts.{UndisturbedRestartsAreRefusals}
+use Rattle.bz_lone.specs.FromAlone.Tasks.{UndisturbedTasksGoOn}
+use Rattle.bz_lone.specs.FromCosts.Costs.{SoloCallsAreAffordable}
 use Rattle.bz_lone.specs.FromCosts.Laws.{AskedSwapsAreCounted}
 use Rattle.bz_lone.specs.FromCosts.Resources.{Resource}
 use Rattle.bz_lone.specs.Renewals.{RenewalsArePaid, AscentsArePaid}
@@ -19,19 +19,19 @@ use Rattle.bz_rivals.specs.Notes.{NotesAreOfBegun, ZeroSwapsNothing}
 use Rattle.bz_rivals.specs.Wins.{OwnSwapsWin, ExpectedStand}
 use Rattle.bz_lone.specs.FromAlone.Trees.{TreesStand}
 use Rattle.bz_content.specs.Laws.{WellFormedImagesHaveNoFault}
-use Rattle.bz_lone.specs.FromJoined.DueMerges.{LoneMergesAreDue, LoneViewsTellTheLiveWords}
-use Rattle.bz_lone.specs.FromJoined.Neighbours.{KnownLeavesStay, LoneMergesDoNotLackRoom, MergesKnowTheirLeaf, NeighboursStand}
-use Rattle.bz_lone.specs.FromJoined.SmallLeaves.{DeletesTellOfMerges, LoneRootLeavesAreTheTree, MergeableLeavesStandBelow}
-use Rattle.bz_lone.specs.FromRounds.Due.{LoneLeavesAreDue, LoneAscentsAreDue}
-use Rattle.bz_lone.specs.FromRounds.Levels.{LoneAscentsAreBelowTheStage}
-use Rattle.bz_lone.specs.FromRounds.Stands.{LoneViewsTellTheLeaf, StagesStand}
+use Rattle.bz_lone.specs.FromJoined.DueMerges.{UndisturbedMergesAreDue, UndisturbedViewsTellTheLiveWords}
+use Rattle.bz_lone.specs.FromJoined.Neighbours.{KnownLeavesStay, UndisturbedMergesDoNotLackRoom, MergesKnowTheirLeaf, NeighboursStand}
+use Rattle.bz_lone.specs.FromJoined.SmallLeaves.{DeletesTellOfMerges, UndisturbedRootLeavesAreTheTree, MergeableLeavesStandBelow}
+use Rattle.bz_lone.specs.FromRounds.Due.{UndisturbedLeavesAreDue, UndisturbedAscentsAreDue}
+use Rattle.bz_lone.specs.FromRounds.Levels.{UndisturbedAscentsAreBelowTheStage}
+use Rattle.bz_lone.specs.FromRounds.Stands.{UndisturbedViewsTellTheLeaf, StagesStand}
 use Rattle.bz_lone.specs.FromTally.Laws.{LeavesComeAndGo, MergesCountAtLast}
-use Rattle.bz_lone.specs.FromRounds.Viewed.{LoneViewsTellTheStage, LoneKeyViewsTellTheStage}
+use Rattle.bz_lone.specs.FromRounds.Viewed.{UndisturbedViewsTellTheStage, UndisturbedKeyViewsTellTheStage}
 use Rattle.bz_sight.specs.Acts.{FlushingStepsFlush, QuietStepsPass, StepsLeaveCaches, StoringStepsStore}
 use Rattle.bz_sight.specs.Effects.{EffectsTakePlace}
 use Rattle.bz_sight.specs.Passing.{ActsPass}
 use Rattle.bz_sight.specs.Starts.{OwnWordsAreHidden, TasksMayStart, StartsAreSeen}
-use Rattle.bz_sound.specs.Lonely.{LonelyCallsAreAlone}
+use Rattle.bz_sound.specs.Solitary.{NoneIsOpenBesideASolitaryCall}
 use Rattle.bz_sound.specs.Memory.CallLaws.{OpenCallsAreKept}
 use Rattle.bz_sound.specs.Memory.OpenCallLaws.{EffectsStayOpen}
 use Rattle.bz_sound.specs.Power.CallLaws.{OpenCallsAreLast, OpenCallsLeaveRoom}
@@ -39,7 +39,7 @@ use Rattle.bz_sound.specs.Power.Growth.{BeginsFollow, EffectsFollowActs, EndsFol
 use Rattle.bz_sound.specs.Power.ImageLaws.{AnswersComeFromTheImage, ChangesFollow, PagesComeFromTheImage, SameContentDecodes, SpentAnswersFull}
 use Rattle.bz_stage.specs.Laws.{LackingLeavesSay}
 use Rattle.bz_story.specs.Laws.{EffectsAreTold, FlushesAreTold, LivesGoOn, QuietMarksAreLawful, ScenesAreSeen, StoresAreTold}
-use Rattle.bz_swap.specs.LoneRuns.{LoneStepsAreAllowed, LoneStepsAreAllowedByKind}
+use Rattle.bz_swap.specs.SoloRuns.{SoloStepsAreAllowed, SoloStepsAreAllowedByKind}
 use Rattle.bz_swap.specs.TakenStatuses.{BegunStayTaken, TakenStatusesStay}
 use Rattle.bz_task.specs.declared.path.Link.{Link}
 use Rattle.bz_task.specs.declared.path.Path.{Path}
@@ -56,9 +56,9 @@ pub record JournalLaws : Type 0 where
   pub flush : FlushesFollow
   pub same : SameContentDecodes
 
--- by which a lonely get is brief
-pub record LonelyLaws : Type 0 where
-  pub alone : LonelyCallsAreAlone
+-- by which a solitary get is brief
+pub record SolitaryLaws : Type 0 where
+  pub alone : NoneIsOpenBesideASolitaryCall
   pub brief : LookUpsAreBrief
   pub ways : WaysAreBrief
   pub goes_on : BriefLookUpsGoOn
@@ -74,7 +74,7 @@ pub record BegunLaws : Type 0 where
 
 -- by which the call of a worker that steps alone is paid for
 pub record PaidLaws : Type 0 where
-  pub affordable : LoneCallsAreAffordable
+  pub affordable : SoloCallsAreAffordable
   pub any : AnyCallIsPaid
   pub round : AnyRoundIsPaid
   pub first : (r : Resource) → FirstRoundsArePaid r
@@ -87,8 +87,8 @@ pub record PaidLaws : Type 0 where
   pub starts : (r : Resource) → StartsArePaid r
   pub idle : IdleMemoriesAllowNothing
   pub asked : AskedSwapsAreCounted
-  pub steps : LoneStepsAreAllowed
-  pub kinds : LoneStepsAreAllowedByKind
+  pub steps : SoloStepsAreAllowed
+  pub kinds : SoloStepsAreAllowedByKind
   pub rivals : RivalsFall
 
 -- and what comes after a task
@@ -107,28 +107,28 @@ pub record RoundLaws : Type 0 where
   pub renewals : (r : Resource) → RenewalsArePaid r
   pub ascents : (r : Resource) → AscentsArePaid r
   pub asked : AskedSwapsAreCounted
-  pub views : LoneViewsTellTheLeaf
-  pub stages : LoneViewsTellTheStage
-  pub key_stages : LoneKeyViewsTellTheStage
-  pub due : LoneLeavesAreDue
-  pub up_due : LoneAscentsAreDue
-  pub below : LoneAscentsAreBelowTheStage
+  pub views : UndisturbedViewsTellTheLeaf
+  pub stages : UndisturbedViewsTellTheStage
+  pub key_stages : UndisturbedKeyViewsTellTheStage
+  pub due : UndisturbedLeavesAreDue
+  pub up_due : UndisturbedAscentsAreDue
+  pub below : UndisturbedAscentsAreBelowTheStage
   pub lacking : LackingLeavesSay
   pub stand : StagesStand
-  pub live : LoneViewsTellTheLiveWords
+  pub live : UndisturbedViewsTellTheLiveWords
   pub low : PathsReadFew
   pub scenes : ScenesAreSeen
   pub trees : TreesStand
   pub neighbours : NeighboursStand
-  pub merges_due : LoneMergesAreDue
+  pub merges_due : UndisturbedMergesAreDue
   pub knows : MergesKnowTheirLeaf
-  pub roots : LoneRootLeavesAreTheTree
+  pub roots : UndisturbedRootLeavesAreTheTree
 
 -- by which a worker that is alone does not begin again
-pub record AloneLaws : Type 0 where
+pub record UndisturbedLaws : Type 0 where
   pub counted : OwnSwapsAreCounted
-  pub goes_on : LonersGoOn
-  pub refused : LoneRestartsAreRefusals
+  pub goes_on : UndisturbedTasksGoOn
+  pub refused : UndisturbedRestartsAreRefusals
   pub wins : OwnSwapsWin
   pub stand : ExpectedStand
   pub scenes : ScenesAreSeen
@@ -136,7 +136,7 @@ pub record AloneLaws : Type 0 where
   pub rounds : RoundLaws
   pub settled : LoadsAreSettled
   pub known : KnownLeavesStay
-  pub room : LoneMergesDoNotLackRoom
+  pub room : UndisturbedMergesDoNotLackRoom
 
 -- by which an act without effect leads on
 pub record StepLaws : Type 0 where
@@ -156,8 +156,8 @@ pub record StepLaws : Type 0 where
   pub taken : TakenStatusesStay
   pub begun : BegunLaws
   pub stay : EffectsStayOpen
-  pub lonely : LonelyLaws
-  pub lone : AloneLaws
+  pub solitary : SolitaryLaws
+  pub solo : UndisturbedLaws
 
 -- and by which the effect of a swap does
 pub record StrikeLaws : Type 0 where
@@ -185,7 +185,7 @@ pub record StrikeLaws : Type 0 where
   pub formed : WellFormedImagesHaveNoFault
   pub fronts : FrontsStay
   pub said : ViewsSayWhatImagesSay
-  pub lonely : LonelyLaws
+  pub solitary : SolitaryLaws
   pub paid : PaidLaws
 
 -- and by which a start leaves the world as it should be
@@ -195,8 +195,8 @@ pub record StartLaws : Type 0 where
   pub may : TasksMayStart
   pub starts : StartsAreSeen
   pub begun : BegunLaws
-  pub lonely : LonelyLaws
-  pub lone : AloneLaws
+  pub solitary : SolitaryLaws
+  pub solo : UndisturbedLaws
 
 -- and by which the journal takes the marks of calls
 pub record EndLaws : Type 0 where
@@ -210,7 +210,7 @@ pub record EndLaws : Type 0 where
   pub pages : PageEndsFollow
   pub begins : BeginsFollow
   pub stay : EffectsStayOpen
-  pub lonely : LonelyLaws
+  pub solitary : SolitaryLaws
 
 -- and by which a view answers a call
 pub record AnswerLaws : Type 0 where
@@ -219,4 +219,4 @@ pub record AnswerLaws : Type 0 where
   pub spent : SpentAnswersFull
   pub views : ViewsShowLeaves
   pub said : ViewsSayWhatImagesSay
-  pub lonely : LonelyLaws
+  pub solitary : SolitaryLaws

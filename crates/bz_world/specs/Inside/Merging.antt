@@ -16,7 +16,7 @@ use Rattle.bz_running.specs.Duties.{end_of, leaves_few_of, made_of, needs_of, sw
 use Rattle.bz_running.specs.Kinds as kinds
 use Rattle.bz_running.specs.Kinds.{Kind, kind_of}
 use Rattle.bz_sound.specs.Calls.{Open}
-use Rattle.bz_sound.specs.Lonely.{IsLonely}
+use Rattle.bz_sound.specs.Solitary.{IsSolitary}
 use Rattle.bz_mark.specs.Counts.{count_taken}
 use Rattle.bz_sound.specs.Power.Spent.{count_used}
 use Rattle.bz_mark.specs.Times.{since_on}
@@ -127,7 +127,7 @@ pub record HasToMerge (c : Config) (log : Log) (opened : Open) (at : ℕ) (p : P
   pub merging : MayBeMerged c (p.at (suc at)).image (key_of x.call) → IsMerging c log at p r stock x
 
 -- a delete that has not: where one link leads to its leaf the tree was a leaf when its look-up began
-pub record IsDeletingAlone (p : Past) (r : Reach) (x : OpenCall) : Type 0 where
+pub record IsDeletingSolitarily (p : Past) (r : Reach) (x : OpenCall) : Type 0 where
   pub alone : HasOthers 0 (made_of x.task + r.untold) p
   pub wants : wants_of x.task ≡ 0
   pub swaps : swaps_of x.task ≤ DELETE_SWAPS
@@ -137,8 +137,8 @@ pub record IsDeletingAlone (p : Past) (r : Reach) (x : OpenCall) : Type 0 where
 -- what is known of its task: whose look-up nobody's swap has disturbed, up to its effect; and what comes then
 pub record IsDuly (c : Config) (log : Log) (opened : Open) (p : Past) (r : Reach) (stock : Stock) (x : OpenCall) : Type 0 where
   pub looking : x.effect ≡ None → seeks (kind_of x.task) ≡ true → HasOthers 0 0 p
-  pub deleting : x.effect ≡ None → kind_of x.task ≡ kinds.Delete → end_of x.task ≡ None → IsDeletingAlone p r x
+  pub deleting : x.effect ≡ None → kind_of x.task ≡ kinds.Delete → end_of x.task ≡ None → IsDeletingSolitarily p r x
   pub merging : (at : ℕ) → x.effect ≡ Some at → is_delete x.call ≡ true → HasToMerge c log opened at p r stock x
 
 abbrev pub MergesDuly : Config → Log → ℕ → Open → Past → Reach → Stock → OpenCall → Type 0
-MergesDuly c log w opened p r stock x = IsLonely w log.past → IsDuly c log opened p r stock x
+MergesDuly c log w opened p r stock x = IsSolitary w log.past → IsDuly c log opened p r stock x

@@ -29,7 +29,7 @@ use Rattle.bz_task.specs.declared.path.Path.{Path}
 use Rattle.bz_task.specs.declared.todo.Todo.{Todo}
 use Rattle.bz_task.specs.declared.todo.Todo.TheVariants as todo
 use Rattle.bz_word.specs.declared.entry.Entry.{Entry}
-use Rattle.bz_world.specs.Inside.Alone.{WaitsAlone, untold}
+use Rattle.bz_world.specs.Inside.Alone.{WaitsUndisturbed, untold}
 use Rattle.bz_world.specs.Inside.Due.{TakesRightly}
 use Rattle.bz_world.specs.Inside.Exact.{CountsExactly, reach_of}
 use Rattle.bz_world.specs.Inside.Meant.{IsMeant}
@@ -163,7 +163,7 @@ pub record IsServing (c : Config) (m : SwapMemory) (log : Log) (story : Story) (
   pub finishing : MayGoOn x ⊎ IsFinishing m w x
   pub facts : facts_of x.task (stage_in m (doing_of m w)) (scene c log.past story w call_open.look.since opened)
   pub covered : IsCovered (story.took w) (story.filled w) (needs_of x.task)
-  pub alone : WaitsAlone m (doing_of m w) x.task (scene c log.past story w call_open.look.since opened).past
+  pub alone : WaitsUndisturbed m (doing_of m w) x.task (scene c log.past story w call_open.look.since opened).past
   pub meant : IsMeant x (scene c log.past story w call_open.look.since opened).past
   pub paid : runner c log.past ≡ Some w → IsPaidIn c m log.past stock w (errand_of x) x.task (untold m (doing_of m w)) no_extra (scene c log.past story w call_open.look.since opened).past
   pub due : TakesRightly c m.taken log stock w x

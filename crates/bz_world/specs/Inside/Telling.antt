@@ -4,7 +4,7 @@ use Rattle.bz_call.specs.Map.{key_of}
 use Rattle.bz_layout.specs.Slots.{FreeSlots}
 use Rattle.bz_running.specs.Duties.{config_of, asks_of, needs_of, facts_of, means_of, makes_no_change}
 use Rattle.bz_running.specs.Hearing.{HasHeard}
-use Rattle.bz_lone.specs.FromAlone.Alone.{IsAlone}
+use Rattle.bz_lone.specs.FromAlone.Undisturbed.{IsUndisturbed}
 use Rattle.bz_lone.specs.Prices.{coming}
 use Rattle.bz_lone.specs.Rounds.{stage_now}
 use Rattle.bz_running.specs.Kinds as kinds
@@ -23,7 +23,7 @@ use Rattle.bz_task.specs.declared.todo.Todo.{Todo}
 use Rattle.bz_task.specs.declared.todo.Todo.TheVariants.{Swap}
 use Rattle.bz_word.specs.declared.entry.Entry.{Entry}
 use Rattle.bz_world.specs.Inside.Acted.{IsBetween, IsAsking, MustTell}
-use Rattle.bz_world.specs.Inside.Lonely.{IsNotLonely}
+use Rattle.bz_world.specs.Inside.Solitary.{IsNotSolitary}
 use Rattle.bz_world.specs.Inside.Paid.{errand_of, HasToSpare}
 use Rattle.bz_world.specs.declared.parts.Parts.{Parts}
 use Rattle.bz_world.specs.declared.serving.OpenCall.{OpenCall}
@@ -66,7 +66,7 @@ pub record KnowsWay (p : Parts) (w : ℕ) (x : OpenCall) (between : IsBetween p 
   pub slotless : needs_of x.task ≡ 0
   pub spares : HasToSpare p w x (scene p.config p.journal.past between.story w between.call_open.look.since between.opened).past (λ r q. coming r q (errand_of x) kinds.Find)
   -- its task ends for want of room only where there is none, in a clean round
-  pub lacks : (z : Scene) → means_of x.task NeedsRoom z → IsAlone 0 (scene p.config p.journal.past between.story w between.call_open.look.since between.opened).past
+  pub lacks : (z : Scene) → means_of x.task NeedsRoom z → IsUndisturbed 0 (scene p.config p.journal.past between.story w between.call_open.look.since between.opened).past
       → 0 < stage_now (errand_of x) (scene p.config p.journal.past between.story w between.call_open.look.since between.opened).past
 
 -- a task that is to be told this, with such a way
@@ -79,10 +79,10 @@ pub record MustStartOf (p : Parts) (w : ℕ) (todo : Todo) : Type 0 where
   pub must : MustStart p w todo
   pub knows : KnowsWay p w must.serving must.asking.between
 
--- the task of a call is to be told to begin, and that call is no lonely get
+-- the task of a call is to be told to begin, and that call is no solitary get
 pub record MustBegin (p : Parts) (w : ℕ) : Type 0 where
   pub tell : MustTell p w Start
-  pub other : IsNotLonely p.journal.past w tell.serving.call
+  pub other : IsNotSolitary p.journal.past w tell.serving.call
   -- it makes no change, and looks no key up in its leaf: so it does not end as it begins
   pub silent : makes_no_change tell.serving.task ≡ true
   pub kind : kind_of tell.serving.task ≢ kinds.Find

@@ -4,7 +4,7 @@ use Rattle.bz_layout.specs.declared.config.Config.{Config}
 use Rattle.bz_mark.specs.Moments.{at_moment}
 use Rattle.bz_mark.specs.declared.marks.Mark.{Mark}
 use Rattle.bz_sound.specs.Calls.{Open, open_call}
-use Rattle.bz_sound.specs.Lonely.{IsLonely}
+use Rattle.bz_sound.specs.Solitary.{IsSolitary}
 use Rattle.bz_world.specs.Inside.Beginning.{world_view}
 use Rattle.bz_world.specs.Inside.Kept.{IsKept}
 use Rattle.bz_world.specs.Merges.{AreMergesMade}
@@ -15,8 +15,8 @@ use Rattle.bz_world.specs.declared.parts.Parts.{Parts}
 
 -- what was taken and left at the newest begin is what the journal told then, as long as that call is open and no other
 pub record BeganAsTold (c : Config) (start : List ℕ) (past : List Mark) (begun : Supply) : Type 0 where
-  pub by_now : (w : ℕ) (opened : Open) → open_call w past ≡ Some opened → IsLonely w past → opened.begun ≤ length past
-  pub told : (w : ℕ) (opened : Open) → open_call w past ≡ Some opened → IsLonely w past → begun ≡ supply_told c start (at_moment opened.begun past)
+  pub by_now : (w : ℕ) (opened : Open) → open_call w past ≡ Some opened → IsSolitary w past → opened.begun ≤ length past
+  pub told : (w : ℕ) (opened : Open) → open_call w past ≡ Some opened → IsSolitary w past → begun ≡ supply_told c start (at_moment opened.begun past)
 
 -- so each End can be told
 pub record TellsEnds (c : Config) (start : List ℕ) (past : List Mark) (begun : Supply) : Type 0 where

@@ -14,7 +14,7 @@ make_act-progress-requires-clause-busy c = is-busy c.args.parts.now c.requires.k
 pub mark_effect-requires-clause-striking : goal.mark_effect-requires-clause-striking
 mark_effect-requires-clause-striking c =
     let served = is-served c.args.parts.now c.requires.kept c.args.w c.requires.open in
-    act-strikes effect_steps_take_place effects_stay_inside c.step_laws.ensures.taken c.step_laws.ensures.begun c.step_laws.ensures.lone.wins c.step_laws.ensures.lone.paid.rivals c.args.parts.now c.make_act-progress.new.parts c.args.w c.in-Some.swap served.serving
+    act-strikes effect_steps_take_place effects_stay_inside c.step_laws.ensures.taken c.step_laws.ensures.begun c.step_laws.ensures.solo.wins c.step_laws.ensures.solo.paid.rivals c.args.parts.now c.make_act-progress.new.parts c.args.w c.in-Some.swap served.serving
     c.make_act-progress.result.act c.make_act-progress.result.done c.requires.kept served.is
     (subst (λ o. IsActed c.args.parts.now c.args.w c.make_act-progress.result.act c.make_act-progress.result.done o c.make_act-progress.new.parts) c.in-Some.is c.make_act-progress.ensures) (omega (arith, c.requires.room))
 

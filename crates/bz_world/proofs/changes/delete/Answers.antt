@@ -11,7 +11,7 @@ use Rattle.bz_world.proofs.changes.delete.Goals as goal
 
 pub begin_change-requires-clause-change : goal.begin_change-requires-clause-change
 begin_change-requires-clause-change c =
-    must-change c.start_laws.ensures.lone c.start_laws.ensures.lonely.alone c.args.parts.now c.args.w c.args.view.now c.requires.must.answer c.args.key (ap key_of c.requires.must.may)
+    must-change c.start_laws.ensures.solo c.start_laws.ensures.solitary.alone c.args.parts.now c.args.w c.args.view.now c.requires.must.answer c.args.key (ap key_of c.requires.must.may)
     c.delete-task.result (Some c.args.had) c.requires.present c.delete-task.ensures.config c.laws.ensures
     (delete-changes c.requires.must.answer.on.serving.call c.args.key c.args.had _ c.requires.must.may (c.delete-task.ensures.change ∙ ap (λ old. record { key = c.args.key; old = old; new = None }) c.requires.present)) c.delete-task.ensures.ends c.delete-task.ensures.asks c.delete-task.ensures.wants (omega (arith, c.delete-task.ensures.takes)) c.delete-task.ensures.facts
     (inr (inr c.delete-task.ensures.kind)) c.delete-task.ensures.made (λ s means. subst (λ called. LacksRoomFor called c.args.view.now.status) (sym c.requires.must.may) (c.delete-task.ensures.needs_room s means))

@@ -8,7 +8,7 @@ use Rattle.bz_world.proofs.changes.insert.Goals as goal
 
 pub begin_change-requires-clause-change : goal.begin_change-requires-clause-change
 begin_change-requires-clause-change c =
-    must-change c.start_laws.ensures.lone c.start_laws.ensures.lonely.alone c.args.parts.now c.args.w c.args.view.now c.requires.must.answer c.args.key (insert-key c.requires.must.answer.on.serving.call c.args.key c.args.payload c.requires.must.may)
+    must-change c.start_laws.ensures.solo c.start_laws.ensures.solitary.alone c.args.parts.now c.args.w c.args.view.now c.requires.must.answer c.args.key (insert-key c.requires.must.answer.on.serving.call c.args.key c.args.payload c.requires.must.may)
     c.insert-task.result None (ap payload_of c.requires.absent) c.insert-task.ensures.config c.laws.ensures
     (insert-changes c.requires.must.answer.on.serving.call c.args.key c.args.payload _ c.requires.must.may c.insert-task.ensures.change) c.insert-task.ensures.ends c.insert-task.ensures.asks c.insert-task.ensures.wants (omega (arith, c.insert-task.ensures.takes)) c.insert-task.ensures.facts
     (inl c.insert-task.ensures.kind) c.insert-task.ensures.made (λ s means. insert-lacks c.requires.must.answer.on.serving.call c.args.key c.args.payload c.args.view.now.status c.requires.must.may (c.insert-task.ensures.needs_room s means))

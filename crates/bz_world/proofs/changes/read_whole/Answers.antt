@@ -13,8 +13,8 @@ read_leaf-requires-clause-path c = let r = c.requires.way.reads in record {
   leads = r.leads c.found_path-path.result (ap path_in (sym (slot-is c.args.parts.now c.args.w r.on c.index.result.now c.index.ensures)) ∙ c.found_path-path.ensures);
   other = r.other;
   spares = c.requires.way.spares;
-  due = λ quiet lonely. inr (c.requires.way.due lonely);
-  stands = λ lonely at is deletes. absurd (cc (r.quiet, is));
+  due = λ quiet solitary. inr (c.requires.way.due solitary);
+  stands = λ solitary at is deletes. absurd (cc (r.quiet, is));
   again = no-reading c.args.parts.now c.args.w r.on c.requires.way.again;
   look = λ quiet. writes-look r.on.serving.call kinds.ReadWhole c.requires.way.write;
 }

@@ -7,7 +7,7 @@ use Rattle.bz_world.proofs.changes.update.Goals as goal
 
 pub begin_change-requires-clause-change : goal.begin_change-requires-clause-change
 begin_change-requires-clause-change c =
-    must-change c.start_laws.ensures.lone c.start_laws.ensures.lonely.alone c.args.parts.now c.args.w c.args.view.now c.requires.must.answer c.args.key (update-key c.requires.must.answer.on.serving.call c.args.key c.args.payload c.requires.must.may)
+    must-change c.start_laws.ensures.solo c.start_laws.ensures.solitary.alone c.args.parts.now c.args.w c.args.view.now c.requires.must.answer c.args.key (update-key c.requires.must.answer.on.serving.call c.args.key c.args.payload c.requires.must.may)
     c.update-task.result (Some c.args.had) c.requires.present c.update-task.ensures.config c.laws.ensures
     (update-changes c.requires.must.answer.on.serving.call c.args.key c.args.payload c.args.had _ c.requires.must.may (c.update-task.ensures.change ∙ ap (λ old. record { key = c.args.key; old = old; new = Some c.args.payload }) c.requires.present)) c.update-task.ensures.ends c.update-task.ensures.asks c.update-task.ensures.wants (omega (arith, c.update-task.ensures.takes)) c.update-task.ensures.facts
     (inr (inl c.update-task.ensures.kind)) c.update-task.ensures.made (λ s means. update-lacks c.requires.must.answer.on.serving.call c.args.key c.args.payload c.args.view.now.status c.requires.must.may (c.update-task.ensures.needs_room s means))

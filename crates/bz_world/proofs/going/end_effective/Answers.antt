@@ -17,12 +17,12 @@ end-requires-clause-right c = subst (λ r. MustEnd c.args.parts.now c.args.w r c
   right = effects_answer c.args.parts.now.config c.args.parts.now.journal c.args.w c.args.at c.requires.had.had.on.between.opened (effect_reply c.requires.had.had.on.between.opened.call c.requires.had.had.on.serving.had)
       c.requires.had.had.on.between.call_open.is_open effect (c.requires.had.had.on.between.call_open.told c.args.at effect);
   room = c.requires.had.had.room;
-  told = λ lonely room. let on = c.requires.had.had.on in
-      let counts = has-counted on.between.opened (known c.args.parts.now c.args.w on).past c.args.parts.now.access.taken (stock_of c.args.parts.now) on.serving (has-effect c.args.parts.now c.args.w c.args.at c.requires.had.had) (on.exact lonely room) in
+  told = λ solitary room. let on = c.requires.had.had.on in
+      let counts = has-counted on.between.opened (known c.args.parts.now c.args.w on).past c.args.parts.now.access.taken (stock_of c.args.parts.now) on.serving (has-effect c.args.parts.now c.args.w c.args.at c.requires.had.had) (on.exact solitary room) in
       effect-told on.between.opened.call on.serving.had (begun_with c.args.parts.now) (supply_of c.args.parts.now) room.writes (counts.same_taken ∙ ap (λ called. c.args.parts.now.taken_then + swaps_told (effect_reply called on.serving.had)) (sym on.between.call_open.call)) counts.same_left;
   merged = reply-merged c.args.parts.now c.args.w c.args.at c.requires.had.had.on effect c.requires.had.merged;
   full = λ spent e. absurd (no-full c.requires.had.had.on.between.opened.call c.requires.had.had.on.serving.had spent e);
-  brief = λ key get lonely. absurd (let never : None ≡ Some c.args.at = sym (c.requires.had.had.on.lonely key get lonely).get.quiet ∙ c.requires.had.had.effect in cc never);
+  brief = λ key get solitary. absurd (let never : None ≡ Some c.args.at = sym (c.requires.had.had.on.solitary key get solitary).get.quiet ∙ c.requires.had.had.effect in cc never);
 })
   where
     effect : c.requires.had.had.on.between.opened.effect ≡ Some c.args.at

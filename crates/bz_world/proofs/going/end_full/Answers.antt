@@ -3,7 +3,7 @@ use Rattle.bz_call.specs.declared.replies.Reply.TheVariants.{Full}
 use Rattle.bz_sound.specs.Memory.Replies.{IsWrite}
 use Rattle.bz_sound.proofs.Proved.{spent_answers_full}
 use Rattle.bz_world.specs.Inside.Going.{MustEnd, RunsOut}
-use Rattle.bz_world.specs.Inside.Lonely.{IsNotLonelyIn}
+use Rattle.bz_world.specs.Inside.Solitary.{IsNotSolitaryIn}
 use Rattle.bz_world.proofs.Spared.{is-write}
 use Rattle.bz_world.proofs.going.end_full.Goals as goal
 
@@ -16,7 +16,7 @@ end-requires-clause-right c = subst (MustEnd c.args.parts.now c.args.w (Full c.a
   full = λ spent e. subst (RunsOut c.args.parts.now c.args.w) (cc e) c.requires.short.out;
   told = c.requires.short.told;
   merged = tt;
-  brief = λ key get lonely. absurd (subst (IsNotLonelyIn c.args.parts.now.journal.past c.args.w) c.requires.short.on.is c.requires.other key get lonely);
+  brief = λ key get solitary. absurd (subst (IsNotSolitaryIn c.args.parts.now.journal.past c.args.w) c.requires.short.on.is c.requires.other key get solitary);
 })
   where
     writes : IsWrite c.requires.short.on.between.opened.call

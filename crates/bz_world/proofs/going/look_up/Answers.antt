@@ -20,7 +20,7 @@ start-requires-clause-asks c = taken-asks c.args.parts.now c.args.w c.seek-task.
     (lookup-taken c.args.parts.now c.args.w (looks-anew c.args.parts.now c.args.w c.requires.on c.requires.again c.requires.stands c.requires.over) c.requires.may c.seek-task.result None (Some (Read 2)) c.key_of.result c.seek-task.ensures.config c.laws.ensures c.seek-task.ensures.silent (c.seek-task.ensures.ends None) (λ none. c.seek-task.ensures.ends)
     (c.key_of.ensures ∙ ap key_of (sym (call-is c.args.parts.now c.args.w c.requires.on c.index.result.now c.called-call.result c.index.ensures c.called-call.ensures)))
     c.seek-task.ensures.asks (c.seek-task.ensures.facts (known c.args.parts.now c.args.w (looks-anew c.args.parts.now c.args.w c.requires.on c.requires.again c.requires.stands c.requires.over)) (has-filled c.args.parts.now c.args.w (looks-anew c.args.parts.now c.args.w c.requires.on c.requires.again c.requires.stands c.requires.over)))
-    (none-wanted c.args.parts.now c.args.w (looks-anew c.args.parts.now c.args.w c.requires.on c.requires.again c.requires.stands c.requires.over) c.seek-task.result c.seek-task.ensures.wants) (λ key get lonely. absurd (c.requires.other key get lonely))
+    (none-wanted c.args.parts.now c.args.w (looks-anew c.args.parts.now c.args.w c.requires.on c.requires.again c.requires.stands c.requires.over) c.seek-task.result c.seek-task.ensures.wants) (λ key get solitary. absurd (c.requires.other key get solitary))
     (record {
       within = within-of c.seek-task.result (λ a e. absurd (let other : kinds.Seek ≡ kinds.SplitLeaf a = sym c.seek-task.ensures.kind ∙ e in cc other));
       fit = record { words = c.requires.on.fit.words; thawed = c.requires.on.fit.thawed };
@@ -30,14 +30,14 @@ start-requires-clause-asks c = taken-asks c.args.parts.now c.args.w c.seek-task.
       small = λ merge. absurd (let other : kinds.Seek ≡ kinds.Merge = sym c.seek-task.ensures.kind ∙ merge in cc other);
       copied = λ copy. absurd (let other : kinds.Seek ≡ kinds.Copy = sym c.seek-task.ensures.kind ∙ copy in cc other);
     })
-    (λ r counted. c.start_laws.ensures.lone.rounds.begin r c.args.parts.now.access c.args.w (errand_of c.requires.on.serving) c.seek-task.result (used_in r c.args.parts.now c.args.w) (bound_in r c.args.parts.now c.args.w) 2 (known c.args.parts.now c.args.w c.requires.on).past
+    (λ r counted. c.start_laws.ensures.solo.rounds.begin r c.args.parts.now.access c.args.w (errand_of c.requires.on.serving) c.seek-task.result (used_in r c.args.parts.now c.args.w) (bound_in r c.args.parts.now c.args.w) 2 (known c.args.parts.now c.args.w c.requires.on).past
     (known c.args.parts.now c.args.w (looks-anew c.args.parts.now c.args.w c.requires.on c.requires.again c.requires.stands c.requires.over)).past
     (record { kind = c.seek-task.ensures.kind; left = omega (arith, c.seek-task.ensures.left); goes = not-ended c.seek-task.result (Read 2) c.laws.ensures c.seek-task.ensures.asks (λ e. cc e); config = refl; now = refl; since = refl; image = refl }) (c.requires.pays r counted))
     (looks-right c.args.parts.now c.args.w (looks-anew c.args.parts.now c.args.w c.requires.on c.requires.again c.requires.stands c.requires.over) c.seek-task.result None (ap (only_looks c.requires.on.serving.call) c.seek-task.ensures.kind))
-    (λ lonely room. look-after c.args.parts.now c.args.w c.requires.on c.requires.again c.requires.stands c.requires.over lonely room c.seek-task.result (ap is_look c.seek-task.ensures.kind))
+    (λ solitary room. look-after c.args.parts.now c.args.w c.requires.on c.requires.again c.requires.stands c.requires.over solitary room c.seek-task.result (ap is_look c.seek-task.ensures.kind))
     (duly-looks c.args.parts.now c.args.w c.requires.on c.requires.again c.requires.stands c.requires.over c.seek-task.result c.seek-task.ensures.kind))
     c.set_task.new.slot (c.set_task.ensures ∙ ap (λ (z : Option OpenCall). with_task z c.seek-task.result None) (slot-is c.args.parts.now c.args.w c.requires.on c.index_mut.result.now c.index_mut.ensures.value))
-    c.requires.on.between.call_open.told c.start_laws.ensures.lone c.requires.other (Read 2) (λ e. absurd (cc e)) refl
+    c.requires.on.between.call_open.told c.start_laws.ensures.solo c.requires.other (Read 2) (λ e. absurd (cc e)) refl
 
 pub returns-clause-went : goal.returns-clause-went
 returns-clause-went c = went-started c.args.parts.now (with_item c.args.parts.now.workers c.args.w c.set_task.new.slot) c.args.w c.start.new.parts (starts-always _ 2 c.start.new.parts c.start.result c.start.ensures.started c.start.ensures.lacks) c.start.ensures.rest c.start.ensures.taken c.start.ensures.others

@@ -22,22 +22,22 @@ begin_task-requires-clause-begins c = task-begins c.args.parts.now c.args.w c.re
     (lookup-taken c.args.parts.now c.args.w c.requires.path.on c.requires.path.may c.read_leaf-task.result (Some c.args.path) None c.key_of.result c.read_leaf-task.ensures.config c.laws.ensures c.read_leaf-task.ensures.silent c.read_leaf-task.ensures.ends (λ none. absurd (cc none))
     key c.read_leaf-task.ensures.asks (c.read_leaf-task.ensures.facts (known c.args.parts.now c.args.w c.requires.path.on) (known-scene c.start_laws.ensures.scenes c.args.parts.now c.args.w c.requires.path.on)
     (subst (λ k. IsPath k c.args.path (known c.args.parts.now c.args.w c.requires.path.on).past) (sym key) c.requires.path.leads))
-    (none-wanted c.args.parts.now c.args.w c.requires.path.on c.read_leaf-task.result c.read_leaf-task.ensures.wants) (λ key get lonely. absurd (c.requires.path.other key get lonely))
+    (none-wanted c.args.parts.now c.args.w c.requires.path.on c.read_leaf-task.result c.read_leaf-task.ensures.wants) (λ key get solitary. absurd (c.requires.path.other key get solitary))
     meant
-    (task-paid c.start_laws.ensures.lone.rounds c.args.parts.now c.args.w c.requires.path.on c.read_leaf-task.result (Some c.args.path) c.requires.path.on.serving.had kinds.ReadWhole c.read_leaf-task.ensures.kind c.laws.ensures c.read_leaf-task.ensures.asks c.read_leaf-task.ensures.made
+    (task-paid c.start_laws.ensures.solo.rounds c.args.parts.now c.args.w c.requires.path.on c.read_leaf-task.result (Some c.args.path) c.requires.path.on.serving.had kinds.ReadWhole c.read_leaf-task.ensures.kind c.laws.ensures c.read_leaf-task.ensures.asks c.read_leaf-task.ensures.made
     meant (λ quiet merge. absurd (cc merge)) c.requires.path.spares)
-    (λ quiet lonely. elim (c.requires.path.due quiet lonely) [
-      | inl page ↦ looks-right c.args.parts.now c.args.w c.requires.path.on c.read_leaf-task.result (Some c.args.path) (ap (only_looks c.requires.path.on.serving.call) c.read_leaf-task.ensures.kind ∙ page) quiet lonely
+    (λ quiet solitary. elim (c.requires.path.due quiet solitary) [
+      | inl page ↦ looks-right c.args.parts.now c.args.w c.requires.path.on c.read_leaf-task.result (Some c.args.path) (ap (only_looks c.requires.path.on.serving.call) c.read_leaf-task.ensures.kind ∙ page) quiet solitary
       | inr due ↦ inl due
     ])
-    (λ lonely room. let reads = c.requires.path.again lonely room in inr (inr (inr (record { looks = ap is_look c.read_leaf-task.ensures.kind; counted = assumption reads.0; alone = reads.1 }))))
-    (λ lonely. record {
+    (λ solitary room. let reads = c.requires.path.again solitary room in inr (inr (inr (record { looks = ap is_look c.read_leaf-task.ensures.kind; counted = assumption reads.0; alone = reads.1 }))))
+    (λ solitary. record {
       looking = λ quiet seek. absurd (true≢false (sym seek ∙ ap seeks c.read_leaf-task.ensures.kind));
       deleting = λ quiet delete going. absurd (cc (c.read_leaf-task.ensures.kind, delete));
-      merging = λ at is deletes. let s = c.requires.path.stands lonely at is deletes in record { after_begin = s.0.after_begin; by_now = s.0.by_now; merging = λ may. inl (record { standing = s.0.standing may; task = inr (record { looks = ap looks_on c.read_leaf-task.ensures.kind; alone = s.1 may }) }) };
+      merging = λ at is deletes. let s = c.requires.path.stands solitary at is deletes in record { after_begin = s.0.after_begin; by_now = s.0.by_now; merging = λ may. inl (record { standing = s.0.standing may; task = inr (record { looks = ap looks_on c.read_leaf-task.ensures.kind; alone = s.1 may }) }) };
     }))
     c.set_task.new.slot (c.set_task.ensures ∙ ap (λ (z : Option OpenCall). with_task z c.read_leaf-task.result (Some c.args.path)) (slot-is c.args.parts.now c.args.w c.requires.path.on c.index_mut.result.now c.index_mut.ensures.value))
-    c.requires.path.on.between.call_open.told c.start_laws.ensures.lone c.requires.path.other refl c.read_leaf-task.ensures.silent (λ e. cc (c.read_leaf-task.ensures.kind, e))
+    c.requires.path.on.between.call_open.told c.start_laws.ensures.solo c.requires.path.other refl c.read_leaf-task.ensures.silent (λ e. cc (c.read_leaf-task.ensures.kind, e))
   where
     meant : IsMeant (record c.requires.path.on.serving { task = c.read_leaf-task.result; path = Some c.args.path }) (known c.args.parts.now c.args.w c.requires.path.on).past
     meant = record {

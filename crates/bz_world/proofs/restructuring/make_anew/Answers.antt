@@ -9,11 +9,11 @@ pub look_up-requires : goal.look_up-requires
 look_up-requires c = record {
   on = c.requires.anew.answer.on;
   may = inl c.requires.anew.answer.quiet;
-  stands = λ lonely at is deletes. absurd (cc (c.requires.anew.answer.quiet, is));
+  stands = λ solitary at is deletes. absurd (cc (c.requires.anew.answer.quiet, is));
   over = λ delete none. absurd (cc (c.requires.anew.answer.kind, delete));
   again = no-look-up c.args.parts.now c.args.w c.requires.anew.answer.on (again-kind c.args.parts.now c.args.w c.requires.anew.answer.on c.requires.anew.answer.quiet kinds.ReadWhole c.requires.anew.answer.kind refl refl);
   other = c.requires.anew.answer.other;
-  pays = not-due c.start_laws.ensures.lone c.args.parts.now c.args.w c.args.path c.args.view.now c.requires.anew (λ may. true≢false (sym (c.is_due.ensures.due.1 (may.due c.requires.frozen)) ∙ c.if-not-is_due.true));
+  pays = not-due c.start_laws.ensures.solo c.args.parts.now c.args.w c.args.path c.args.view.now c.requires.anew (λ may. true≢false (sym (c.is_due.ensures.due.1 (may.due c.requires.frozen)) ∙ c.if-not-is_due.true));
 }
 
 pub merge_or_copy-requires-clause-copy : goal.merge_or_copy-requires-clause-copy
@@ -38,10 +38,10 @@ look_up-requires-else-is_due c =
     record {
       on = c.requires.anew.answer.on;
       may = inl c.requires.anew.answer.quiet;
-      stands = λ lonely at is deletes. absurd (cc (c.requires.anew.answer.quiet, is));
+      stands = λ solitary at is deletes. absurd (cc (c.requires.anew.answer.quiet, is));
       over = λ delete none. absurd (cc (c.requires.anew.answer.kind, delete));
       again = no-look-up c.args.parts.now c.args.w c.requires.anew.answer.on (again-kind c.args.parts.now c.args.w c.requires.anew.answer.on c.requires.anew.answer.quiet kinds.ReadWhole c.requires.anew.answer.kind refl refl);
       other = c.requires.anew.answer.other;
-      pays = not-due c.start_laws.ensures.lone c.args.parts.now c.args.w c.args.path c.args.view.now c.requires.anew
+      pays = not-due c.start_laws.ensures.solo c.args.parts.now c.args.w c.args.path c.args.view.now c.requires.anew
           (λ may. true≢false (sym (c.is_due-else-path-eq1.ensures.due.1 (deep, (may.above deep, (omega (arith, c.if-live_words-le-SPLIT_ABOVE.false, c.live_words.ensures), may.due c.requires.frozen)))) ∙ c.if-is_due.false));
     }

@@ -1,5 +1,5 @@
 use Rattle.std.proofs.Common.{refl, sym, ap, ◌∙◌, inl}
-use Rattle.bz_world.specs.Inside.Going.{alone_in}
+use Rattle.bz_world.specs.Inside.Going.{unmerged_in}
 use Rattle.bz_running.specs.Kinds as kinds
 use Rattle.bz_world.proofs.Exactly.{again-kind}
 use Rattle.bz_world.proofs.MakingAnew.{merge-spares, read-due}
@@ -22,7 +22,7 @@ merge-requires-clause-merge c = let due = c.is_due.ensures.due.0 c.if-is_due.tru
   write = λ quiet. lacks-write c.requires.copy.anew.answer.on.serving.call c.args.view.now.status c.requires.copy.anew.lacks;
   thawed_call = c.requires.copy.anew.answer.on.fit.thawed;
   due = λ quiet. read-due c.args.parts.now c.args.w c.args.view.now c.requires.copy.anew.answer (lacks-write c.requires.copy.anew.answer.on.serving.call c.args.view.now.status c.requires.copy.anew.lacks);
-  stands = λ lonely at is deletes. absurd (cc (c.requires.copy.anew.answer.quiet, is));
+  stands = λ solitary at is deletes. absurd (cc (c.requires.copy.anew.answer.quiet, is));
   again = again-kind c.args.parts.now c.args.w c.requires.copy.anew.answer.on c.requires.copy.anew.answer.quiet kinds.ReadWhole c.requires.copy.anew.answer.kind refl refl;
-  spares = merge-spares c.start_laws.ensures.lone c.args.parts.now c.args.w c.args.path c.args.view.now c.requires.copy (sym (ap alone_in (slot-is c.args.parts.now c.args.w c.requires.copy.anew.answer.on c.index.result.now c.index.ensures)) ∙ (sym c.is_alone.ensures ∙ c.if-is_alone.false));
+  spares = merge-spares c.start_laws.ensures.solo c.args.parts.now c.args.w c.args.path c.args.view.now c.requires.copy (sym (ap unmerged_in (slot-is c.args.parts.now c.args.w c.requires.copy.anew.answer.on c.index.result.now c.index.ensures)) ∙ (sym c.is_unmerged.ensures ∙ c.if-is_alone.false));
 }

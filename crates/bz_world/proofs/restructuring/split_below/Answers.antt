@@ -23,14 +23,14 @@ split_below-task-requires-clause-alone c = record { nodes = _; low = _; high = _
 
 pub begin_task-requires-clause-begins : goal.begin_task-requires-clause-begins
 begin_task-requires-clause-begins c = task-begins (record c.args.parts.now { page = c.split_below-task.new.page }) c.args.w c.split_below-task.result c.requires.split.anew.answer.on.serving.had None None
-    (anew-taken c.start_laws.ensures.lone (record c.args.parts.now { page = c.split_below-task.new.page }) c.args.w c.args.path c.args.view.now (anew-pages c.args.parts.now c.args.w c.args.path c.args.view.now c.split_below-task.new.page c.requires.split.anew)
+    (anew-taken c.start_laws.ensures.solo (record c.args.parts.now { page = c.split_below-task.new.page }) c.args.w c.args.path c.args.view.now (anew-pages c.args.parts.now c.args.w c.args.path c.args.view.now c.split_below-task.new.page c.requires.split.anew)
     c.split_below-task.result (kinds.SplitLeaf c.split_below-task.ensures.kind.from)
     (record { config = c.split_below-task.ensures.config; laws = c.laws.ensures; silent = c.split_below-task.ensures.silent; asks = c.split_below-task.ensures.asks; kind = c.split_below-task.ensures.kind.is; made = c.split_below-task.ensures.made; within = within-of c.split_below-task.result (λ a e. omega (arith, c.split_below-task.ensures.left)) })
     (λ merge. cc merge) (λ copy. absurd (cc copy)) (λ seek. cc seek, λ delete. cc delete) looks SPLIT_SLOTS c.split_below-task.ensures.wants
     (needs-split c.start_laws.ensures.scenes c.answer_laws.ensures c.args.parts.now c.args.w c.args.view.now c.requires.split.anew.answer (key_of c.requires.split.anew.answer.on.serving.call) refl c.requires.split.frozen c.requires.split.many)
-    facts made (below-spares c.start_laws.ensures.lone c.args.parts.now c.args.w c.args.path c.args.view.now c.requires.split))
+    facts made (below-spares c.start_laws.ensures.solo c.args.parts.now c.args.w c.args.path c.args.view.now c.requires.split))
     c.set_task.new.slot (c.set_task.ensures ∙ ap (λ (z : Option OpenCall). with_task z c.split_below-task.result None) (slot-is (record c.args.parts.now { page = c.split_below-task.new.page }) c.args.w (anew-pages c.args.parts.now c.args.w c.args.path c.args.view.now c.split_below-task.new.page c.requires.split.anew).answer.on c.index_mut.result.now c.index_mut.ensures.value))
-    c.requires.split.anew.answer.on.between.call_open.told c.start_laws.ensures.lone c.requires.split.anew.answer.other refl c.split_below-task.ensures.silent (λ find. cc (c.split_below-task.ensures.kind.is, find))
+    c.requires.split.anew.answer.on.between.call_open.told c.start_laws.ensures.solo c.requires.split.anew.answer.other refl c.split_below-task.ensures.silent (λ find. cc (c.split_below-task.ensures.kind.is, find))
   where
     key : c.key_of.result ≡ key_of c.requires.split.anew.answer.on.serving.call
     key = c.key_of.ensures ∙ ap key_of (sym (call-is c.args.parts.now c.args.w c.requires.split.anew.answer.on c.index.result.now c.called-call.result c.index.ensures c.called-call.ensures))

@@ -16,15 +16,15 @@ split_root-task-requires-clause-alone c = record { nodes = _; low = _; high = _;
 
 pub begin_task-requires-clause-begins : goal.begin_task-requires-clause-begins
 begin_task-requires-clause-begins c = task-begins (record c.args.parts.now { page = c.split_root-task.new.page }) c.args.w c.split_root-task.result c.requires.split.anew.answer.on.serving.had None None
-    (anew-taken c.start_laws.ensures.lone (record c.args.parts.now { page = c.split_root-task.new.page }) c.args.w c.args.path c.args.view.now (anew-pages c.args.parts.now c.args.w c.args.path c.args.view.now c.split_root-task.new.page c.requires.split.anew)
+    (anew-taken c.start_laws.ensures.solo (record c.args.parts.now { page = c.split_root-task.new.page }) c.args.w c.args.path c.args.view.now (anew-pages c.args.parts.now c.args.w c.args.path c.args.view.now c.split_root-task.new.page c.requires.split.anew)
     c.split_root-task.result kinds.SplitRootLeaf
     (record { config = c.split_root-task.ensures.config; laws = c.laws.ensures; silent = c.split_root-task.ensures.silent; asks = c.split_root-task.ensures.asks; kind = c.split_root-task.ensures.kind; made = c.split_root-task.ensures.made; within = no-leaf-split c.split_root-task.result kinds.SplitRootLeaf c.split_root-task.ensures.kind (λ a e. cc e) })
     (λ merge. cc merge) (λ copy. absurd (cc copy)) (λ seek. cc seek, λ delete. cc delete) (c.split_root-task.ensures.ends (key_of c.requires.split.anew.answer.on.serving.call)) SPLIT_SLOTS c.split_root-task.ensures.wants
     (needs-split c.start_laws.ensures.scenes c.answer_laws.ensures c.args.parts.now c.args.w c.args.view.now c.requires.split.anew.answer (key_of c.requires.split.anew.answer.on.serving.call) refl c.requires.split.frozen c.requires.split.many)
     (c.split_root-task.ensures.facts (key_of c.requires.split.anew.answer.on.serving.call)) (c.split_root-task.ensures.made_for (key_of c.requires.split.anew.answer.on.serving.call) (words_asked c.requires.split.anew.answer.on.serving.call) (known c.args.parts.now c.args.w c.requires.split.anew.answer.on).past c.requires.split.anew.answer.viewed)
-    (root-spares c.start_laws.ensures.lone c.args.parts.now c.args.w c.args.path c.args.view.now c.requires.split))
+    (root-spares c.start_laws.ensures.solo c.args.parts.now c.args.w c.args.path c.args.view.now c.requires.split))
     c.set_task.new.slot (c.set_task.ensures ∙ ap (λ (z : Option OpenCall). with_task z c.split_root-task.result None) (slot-is (record c.args.parts.now { page = c.split_root-task.new.page }) c.args.w (anew-pages c.args.parts.now c.args.w c.args.path c.args.view.now c.split_root-task.new.page c.requires.split.anew).answer.on c.index_mut.result.now c.index_mut.ensures.value))
-    c.requires.split.anew.answer.on.between.call_open.told c.start_laws.ensures.lone c.requires.split.anew.answer.other refl c.split_root-task.ensures.silent (λ find. cc (c.split_root-task.ensures.kind, find))
+    c.requires.split.anew.answer.on.between.call_open.told c.start_laws.ensures.solo c.requires.split.anew.answer.other refl c.split_root-task.ensures.silent (λ find. cc (c.split_root-task.ensures.kind, find))
 
 pub returns : goal.returns
 returns c = went-anew c.args.parts.now (with_item c.args.parts.now.workers c.args.w c.set_task.new.slot) c.split_root-task.new.page c.args.w c.begin_task.result c.begin_task.new.parts c.begin_task.ensures

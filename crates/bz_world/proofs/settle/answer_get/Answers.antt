@@ -3,7 +3,7 @@ use Rattle.bz_call.specs.Pages.{names_page}
 use Rattle.bz_call.specs.declared.calls.Call.TheVariants.{Get}
 use Rattle.bz_world.specs.Inside.Going.{MustEnd}
 use Rattle.bz_world.proofs.Answering.{looking-key, value-right, missing-right, content-is}
-use Rattle.bz_world.proofs.LonelyEnds.{few-acts}
+use Rattle.bz_world.proofs.SolitaryEnds.{few-acts}
 use Rattle.bz_world.proofs.TakingOn.{called-is}
 use Rattle.bz_world.proofs.settle.answer_get.Goals as goal
 use Rattle.bz_world.proofs.settle.answer_get.Goals.{in-Some, in-None}
@@ -11,10 +11,10 @@ use Rattle.bz_world.proofs.settle.answer_get.Goals.{in-Some, in-None}
 pub end-requires-clause-right : goal.end-requires-clause-right
 end-requires-clause-right c = elim c.match-view.branch [
   | in-Some w ↦ subst (λ r. MustEnd c.args.parts.now c.args.w r c.args.view.now.at) (sym w.reply-is)
-      (value-right c.answer_laws.ensures c.args.parts.now c.args.w c.args.view.now.at c.requires.view.on (looking-key c.args.parts.now c.args.w c.args.view.now c.requires.view) (Get c.args.key.now) called (few-acts c.answer_laws.ensures.lonely c.args.parts.now c.args.w c.args.view.now c.requires.view) c.args.key.now w.in-Some.found.payload refl
+      (value-right c.answer_laws.ensures c.args.parts.now c.args.w c.args.view.now.at c.requires.view.on (looking-key c.args.parts.now c.args.w c.args.view.now c.requires.view) (Get c.args.key.now) called (few-acts c.answer_laws.ensures.solitary c.args.parts.now c.args.w c.args.view.now c.requires.view) c.args.key.now w.in-Some.found.payload refl
       (content-is c.args.parts.now c.args.w c.args.view.now c.requires.view (Get c.args.key.now) called (Some w.in-Some.found) w.in-Some.is))
   | in-None w ↦ subst (λ r. MustEnd c.args.parts.now c.args.w r c.args.view.now.at) (sym w.reply-is)
-      (missing-right c.answer_laws.ensures c.args.parts.now c.args.w c.args.view.now.at c.requires.view.on (looking-key c.args.parts.now c.args.w c.args.view.now c.requires.view) (Get c.args.key.now) called (few-acts c.answer_laws.ensures.lonely c.args.parts.now c.args.w c.args.view.now c.requires.view) c.args.key.now refl
+      (missing-right c.answer_laws.ensures c.args.parts.now c.args.w c.args.view.now.at c.requires.view.on (looking-key c.args.parts.now c.args.w c.args.view.now c.requires.view) (Get c.args.key.now) called (few-acts c.answer_laws.ensures.solitary c.args.parts.now c.args.w c.args.view.now c.requires.view) c.args.key.now refl
       (content-is c.args.parts.now c.args.w c.args.view.now c.requires.view (Get c.args.key.now) called None w.in-None.is))
 ]
   where

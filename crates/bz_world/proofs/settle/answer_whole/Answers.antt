@@ -20,11 +20,11 @@ look_up_frozen-requires c =
     record {
       on = c.requires.view.on;
       may = inl c.requires.view.quiet;
-      stands = λ lonely at is deletes. absurd (cc (c.requires.view.quiet, is));
+      stands = λ solitary at is deletes. absurd (cc (c.requires.view.quiet, is));
       over = λ delete none. absurd (cc (c.requires.view.kind, delete));
       again = no-look-up c.args.parts.now c.args.w c.requires.view.on (again-kind c.args.parts.now c.args.w c.requires.view.on c.requires.view.quiet kinds.ReadWhole c.requires.view.kind refl refl);
       other = c.requires.view.other;
-      pays = read-has c.start_laws.ensures.lone c.args.parts.now c.args.w c.args.view.now c.requires.view
+      pays = read-has c.start_laws.ensures.solo c.args.parts.now c.args.w c.args.view.now c.requires.view
           (no-read c.requires.view.on.serving.call (λ key e. c.in_default.not-Get key (sym called ∙ e)) (λ key e. c.in_default.not-Page key (sym called ∙ e)))
           (subst (λ z. HasRoomFor z c.args.view.now.status) (sym called) (c.if-lacks_room.ensures.room refl));
     }
@@ -32,4 +32,4 @@ look_up_frozen-requires c =
 pub restructure-requires-clause-lacks : goal.restructure-requires-clause-lacks
 restructure-requires-clause-lacks c =
     let lacks : LacksRoomFor c.requires.view.on.serving.call c.args.view.now.status = subst (λ called. LacksRoomFor called c.args.view.now.status) (sym (call-is c.args.parts.now c.args.w c.requires.view.on c.index.result.now _ c.index.ensures c.called.ensures)) (c.if-lacks_room.ensures.none refl) in
-    record { answer = c.requires.view; lacks = lacks; spares = read-lacks c.start_laws.ensures.lone c.args.parts.now c.args.w c.args.view.now c.requires.view (lacks-write c.requires.view.on.serving.call c.args.view.now.status lacks) lacks }
+    record { answer = c.requires.view; lacks = lacks; spares = read-lacks c.start_laws.ensures.solo c.args.parts.now c.args.w c.args.view.now c.requires.view (lacks-write c.requires.view.on.serving.call c.args.view.now.status lacks) lacks }

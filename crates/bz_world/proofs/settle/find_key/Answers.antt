@@ -19,11 +19,11 @@ use Rattle.bz_world.proofs.settle.find_key.Goals as goal
 
 pub tell-todo-requires : goal.tell-todo-requires
 tell-todo-requires c = taken-begins c.args.parts.now c.args.w c.find-task.result c.requires.path.on.serving.had None (Some c.args.path)
-    (find-taken c.start_laws.ensures.lonely c.start_laws.ensures.lone.rounds c.args.parts.now c.args.w c.args.path c.requires.path c.find-task.result c.key_of.result (c.key_of.ensures ∙ ap key_of (sym (call-is c.args.parts.now c.args.w c.requires.path.on c.index.result.now c.called-call.result c.index.ensures c.called-call.ensures)))
+    (find-taken c.start_laws.ensures.solitary c.start_laws.ensures.solo.rounds c.args.parts.now c.args.w c.args.path c.requires.path c.find-task.result c.key_of.result (c.key_of.ensures ∙ ap key_of (sym (call-is c.args.parts.now c.args.w c.requires.path.on c.index.result.now c.called-call.result c.index.ensures c.called-call.ensures)))
     c.find-task.ensures.config c.laws.ensures c.find-task.ensures.silent c.find-task.ensures.ends c.find-task.ensures.asks c.find-task.ensures.wants c.find-task.ensures.swaps c.find-task.ensures.facts (c.find-task.ensures.look, c.find-task.ensures.key, c.find-task.ensures.last) c.find-task.ensures.reads c.looks.ensures
     (record { kind = c.find-task.ensures.kind; made = c.find-task.ensures.made; look = subst LooksUpIn c.requires.path.on.is c.requires.look }) (subst (λ z. froze_in z ≡ false) c.requires.path.on.is c.requires.thawed))
     c.set_task.new.slot (c.set_task.ensures ∙ ap (λ (z : Option OpenCall). with_task z c.find-task.result (Some c.args.path)) (slot-is c.args.parts.now c.args.w c.requires.path.on c.index_mut.result.now c.index_mut.ensures.value))
-    c.requires.path.on.between.call_open.told c.start_laws.ensures.lone refl
+    c.requires.path.on.between.call_open.told c.start_laws.ensures.solo refl
 
 pub go_on_finding-requires-clause-asks : goal.go_on_finding-requires-clause-asks
 go_on_finding-requires-clause-asks c = record {
@@ -39,20 +39,20 @@ go_on_finding-requires-clause-asks c = record {
 
     start : MustStartOf c.tell-todo.new.parts c.args.w c.tell-todo.result
     start = c.tell-todo.ensures.knows (begins-found c.args.parts.now c.args.w c.find-task.result c.requires.path.on.serving.had None (Some c.args.path)
-        (find-taken c.start_laws.ensures.lonely c.start_laws.ensures.lone.rounds c.args.parts.now c.args.w c.args.path c.requires.path c.find-task.result c.key_of.result (c.key_of.ensures ∙ ap key_of (sym (call-is c.args.parts.now c.args.w c.requires.path.on c.index.result.now c.called-call.result c.index.ensures c.called-call.ensures)))
+        (find-taken c.start_laws.ensures.solitary c.start_laws.ensures.solo.rounds c.args.parts.now c.args.w c.args.path c.requires.path c.find-task.result c.key_of.result (c.key_of.ensures ∙ ap key_of (sym (call-is c.args.parts.now c.args.w c.requires.path.on c.index.result.now c.called-call.result c.index.ensures c.called-call.ensures)))
         c.find-task.ensures.config c.laws.ensures c.find-task.ensures.silent c.find-task.ensures.ends c.find-task.ensures.asks c.find-task.ensures.wants c.find-task.ensures.swaps c.find-task.ensures.facts (c.find-task.ensures.look, c.find-task.ensures.key, c.find-task.ensures.last) c.find-task.ensures.reads c.looks.ensures
         (record { kind = c.find-task.ensures.kind; made = c.find-task.ensures.made; look = subst LooksUpIn c.requires.path.on.is c.requires.look }) (subst (λ z. froze_in z ≡ false) c.requires.path.on.is c.requires.thawed))
         c.set_task.new.slot (c.set_task.ensures ∙ ap (λ (z : Option OpenCall). with_task z c.find-task.result (Some c.args.path)) (slot-is c.args.parts.now c.args.w c.requires.path.on c.index_mut.result.now c.index_mut.ensures.value))
-        c.requires.path.on.between.call_open.told c.start_laws.ensures.lone refl c.args.path refl c.requires.path.leads c.requires.path.quiet
+        c.requires.path.on.between.call_open.told c.start_laws.ensures.solo refl c.args.path refl c.requires.path.leads c.requires.path.quiet
         (record {
           slotless = c.find-task.ensures.needs;
-          spares = find-left c.start_laws.ensures.lone.rounds c.args.parts.now c.args.w c.args.path c.requires.path (subst (λ z. froze_in z ≡ false) c.requires.path.on.is c.requires.thawed);
+          spares = find-left c.start_laws.ensures.solo.rounds c.args.parts.now c.args.w c.args.path c.requires.path (subst (λ z. froze_in z ≡ false) c.requires.path.on.is c.requires.thawed);
           lacks = λ z means. absurd (subst (λ k. IsEndOf k NeedsRoom) c.find-task.ensures.kind (c.laws.ensures.ends_of NeedsRoom z means));
         }))
 
     served : get_or workers.items c.args.w None ≡ Some (record c.requires.path.on.serving { task = c.find-task.result; path = Some c.args.path })
     served = here-is c.args.parts.now c.args.w c.find-task.result c.requires.path.on.serving.had None (Some c.args.path)
-        (find-taken c.start_laws.ensures.lonely c.start_laws.ensures.lone.rounds c.args.parts.now c.args.w c.args.path c.requires.path c.find-task.result c.key_of.result (c.key_of.ensures ∙ ap key_of (sym (call-is c.args.parts.now c.args.w c.requires.path.on c.index.result.now c.called-call.result c.index.ensures c.called-call.ensures)))
+        (find-taken c.start_laws.ensures.solitary c.start_laws.ensures.solo.rounds c.args.parts.now c.args.w c.args.path c.requires.path c.find-task.result c.key_of.result (c.key_of.ensures ∙ ap key_of (sym (call-is c.args.parts.now c.args.w c.requires.path.on c.index.result.now c.called-call.result c.index.ensures c.called-call.ensures)))
         c.find-task.ensures.config c.laws.ensures c.find-task.ensures.silent c.find-task.ensures.ends c.find-task.ensures.asks c.find-task.ensures.wants c.find-task.ensures.swaps c.find-task.ensures.facts (c.find-task.ensures.look, c.find-task.ensures.key, c.find-task.ensures.last) c.find-task.ensures.reads c.looks.ensures
         (record { kind = c.find-task.ensures.kind; made = c.find-task.ensures.made; look = subst LooksUpIn c.requires.path.on.is c.requires.look }) (subst (λ z. froze_in z ≡ false) c.requires.path.on.is c.requires.thawed))
         c.set_task.new.slot (c.set_task.ensures ∙ ap (λ (z : Option OpenCall). with_task z c.find-task.result (Some c.args.path)) (slot-is c.args.parts.now c.args.w c.requires.path.on c.index_mut.result.now c.index_mut.ensures.value))
@@ -70,7 +70,7 @@ returns c = went-anew c.args.parts.now workers c.args.parts.now.page c.args.w c.
 
     served : get_or workers.items c.args.w None ≡ Some (record c.requires.path.on.serving { task = c.find-task.result; path = Some c.args.path })
     served = here-is c.args.parts.now c.args.w c.find-task.result c.requires.path.on.serving.had None (Some c.args.path)
-        (find-taken c.start_laws.ensures.lonely c.start_laws.ensures.lone.rounds c.args.parts.now c.args.w c.args.path c.requires.path c.find-task.result c.key_of.result (c.key_of.ensures ∙ ap key_of (sym (call-is c.args.parts.now c.args.w c.requires.path.on c.index.result.now c.called-call.result c.index.ensures c.called-call.ensures)))
+        (find-taken c.start_laws.ensures.solitary c.start_laws.ensures.solo.rounds c.args.parts.now c.args.w c.args.path c.requires.path c.find-task.result c.key_of.result (c.key_of.ensures ∙ ap key_of (sym (call-is c.args.parts.now c.args.w c.requires.path.on c.index.result.now c.called-call.result c.index.ensures c.called-call.ensures)))
         c.find-task.ensures.config c.laws.ensures c.find-task.ensures.silent c.find-task.ensures.ends c.find-task.ensures.asks c.find-task.ensures.wants c.find-task.ensures.swaps c.find-task.ensures.facts (c.find-task.ensures.look, c.find-task.ensures.key, c.find-task.ensures.last) c.find-task.ensures.reads c.looks.ensures
         (record { kind = c.find-task.ensures.kind; made = c.find-task.ensures.made; look = subst LooksUpIn c.requires.path.on.is c.requires.look }) (subst (λ z. froze_in z ≡ false) c.requires.path.on.is c.requires.thawed))
         c.set_task.new.slot (c.set_task.ensures ∙ ap (λ (z : Option OpenCall). with_task z c.find-task.result (Some c.args.path)) (slot-is c.args.parts.now c.args.w c.requires.path.on c.index_mut.result.now c.index_mut.ensures.value))

@@ -14,13 +14,13 @@ read_frozen-requires-clause-path c = record {
   on = c.requires.path.on;
   may = inl c.requires.path.quiet;
   leads = c.requires.path.leads;
-  other = λ key get lonely. absurd (true≢false (c.if-has_frozen.ensures ∙ (ap froze_in (slot-is c.args.parts.now c.args.w c.requires.path.on c.index.result.now c.index.ensures) ∙ (c.requires.path.on.lonely key get lonely).get.thawed)));
+  other = λ key get solitary. absurd (true≢false (c.if-has_frozen.ensures ∙ (ap froze_in (slot-is c.args.parts.now c.args.w c.requires.path.on c.index.result.now c.index.ensures) ∙ (c.requires.path.on.solitary key get solitary).get.thawed)));
   look = λ quiet. writes-look c.requires.path.on.serving.call kinds.ReadWhole (c.requires.path.on.fit.thawed froze);
-  due = λ quiet lonely. elim (c.requires.path.on.between.due quiet lonely) [
+  due = λ quiet solitary. elim (c.requires.path.on.between.due quiet solitary) [
     | inl due ↦ inr due
     | inr none ↦ absurd (true≢false (sym froze ∙ none.thawed))
   ];
-  stands = λ lonely at is deletes. absurd (cc (c.requires.path.quiet, is));
+  stands = λ solitary at is deletes. absurd (cc (c.requires.path.quiet, is));
   again = no-reading c.args.parts.now c.args.w c.requires.path.on (again-froze c.args.parts.now c.args.w c.requires.path.on c.requires.path.quiet (outcomes.Path c.args.path) c.requires.path.ends.1 (λ e. e) froze);
   spares = way-read c.round_laws.ensures c.args.parts.now c.args.w c.args.path c.requires.path (inr (inr froze));
 }
@@ -36,10 +36,10 @@ read_leaf-requires-clause-path c =
       on = c.requires.path.on;
       may = inl c.requires.path.quiet;
       leads = c.requires.path.leads;
-      other = λ key get lonely. absurd (true≢false (sym page ∙ ap is_page get));
+      other = λ key get solitary. absurd (true≢false (sym page ∙ ap is_page get));
       look = λ quiet. reads.0;
-      due = λ quiet lonely. inl page;
-      stands = λ lonely at is deletes. absurd (cc (c.requires.path.quiet, is));
+      due = λ quiet solitary. inl page;
+      stands = λ solitary at is deletes. absurd (cc (c.requires.path.quiet, is));
       again = no-reading c.args.parts.now c.args.w c.requires.path.on (again-call c.args.parts.now c.args.w c.requires.path.on reads.1);
       spares = way-read c.round_laws.ensures c.args.parts.now c.args.w c.args.path c.requires.path (inr (inl reads.1));
     }

@@ -13,7 +13,7 @@ use Rattle.bz_world.proofs.settle.settle.Goals as goal
 pub settle_effective-requires-clause-ends : goal.settle_effective-requires-clause-ends
 settle_effective-requires-clause-ends c =
     let ended : end_of c.requires.ends.serving.task ≡ Some c.outcome_of-outcome.result = ended-by c.args.parts.now c.args.w Finish c.requires.ends c.outcome_of-outcome.result c.outcome_of-outcome.ensures in
-    let on : MustGoOn c.args.parts.now c.args.w = must-go-on c.args.parts.now c.args.w Finish c.requires.ends c.outcome_of-outcome.result ended c.requires.ends.asking.lonely in
+    let on : MustGoOn c.args.parts.now c.args.w = must-go-on c.args.parts.now c.args.w Finish c.requires.ends c.outcome_of-outcome.result ended c.requires.ends.asking.solitary in
     let here : Scene = known c.args.parts.now c.args.w on in
     let tasked = c.requires.ends.asking.tasked in
     let facts = c.requires.ends.asking.facts in
@@ -34,7 +34,7 @@ settle_effective-requires-clause-ends c =
 pub settle_quiet-requires-clause-ends : goal.settle_quiet-requires-clause-ends
 settle_quiet-requires-clause-ends c =
     let ended : end_of c.requires.ends.serving.task ≡ Some c.outcome_of-outcome.result = ended-by c.args.parts.now c.args.w Finish c.requires.ends c.outcome_of-outcome.result c.outcome_of-outcome.ensures in
-    let on : MustGoOn c.args.parts.now c.args.w = must-go-on c.args.parts.now c.args.w Finish c.requires.ends c.outcome_of-outcome.result ended c.requires.ends.asking.lonely in
+    let on : MustGoOn c.args.parts.now c.args.w = must-go-on c.args.parts.now c.args.w Finish c.requires.ends c.outcome_of-outcome.result ended c.requires.ends.asking.solitary in
     let here : Scene = known c.args.parts.now c.args.w on in
     let tasked = c.requires.ends.asking.tasked in
     let facts = c.requires.ends.asking.facts in

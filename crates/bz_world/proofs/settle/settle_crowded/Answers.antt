@@ -22,15 +22,15 @@ split_above-requires-clause-up c =
     let found = subst (λ (z : Option AnyTask). IfSome z (GoesUpIn c.index.result.now)) c.in-Some.is c.above.ensures.up in
     record { ends = e; up = subst (λ (z : Option OpenCall). GoesUpIn z c.in-Some.task) (slot-is c.args.parts.now c.args.w e.on c.index.result.now c.index.ensures) found }
 
-pub look_up_alone-requires : goal.look_up_alone-requires
-look_up_alone-requires c = record {
+pub look_up_unmerged-requires : goal.look_up_unmerged-requires
+look_up_unmerged-requires c = record {
   on = c.requires.ends.on;
   may = inl c.requires.ends.quiet;
-  stands = λ lonely at is deletes. absurd (cc (c.requires.ends.quiet, is));
+  stands = λ solitary at is deletes. absurd (cc (c.requires.ends.quiet, is));
   over = λ delete none. absurd (cc (c.requires.ends.end, none));
   again = no-look-up c.args.parts.now c.args.w c.requires.ends.on (again-ended c.args.parts.now c.args.w c.requires.ends.on c.requires.ends.quiet NeedsRoom c.requires.ends.end (c.requires.ends.tasked.laws.ends_of NeedsRoom (known c.args.parts.now c.args.w c.requires.ends.on) (c.requires.ends.tasked.laws.sound.ends (known c.args.parts.now c.args.w c.requires.ends.on) NeedsRoom c.requires.ends.facts c.requires.ends.end).0) (λ e. e) (λ e. e));
   other = crowded-other c.args.parts.now c.args.w c.requires.ends;
-  pays = crowded-pays c.start_laws.ensures.lone c.args.parts.now c.args.w c.requires.ends (subst StandsBelowIn here c.above.ensures.stands)
+  pays = crowded-pays c.start_laws.ensures.solo c.args.parts.now c.args.w c.requires.ends (subst StandsBelowIn here c.above.ensures.stands)
       (λ up. true≢false (sym (c.above.ensures.due (subst MayGoUpIn (sym here) up)) ∙ ap is_some c.in-None.is));
 }
   where

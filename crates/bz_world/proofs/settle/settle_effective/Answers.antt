@@ -21,7 +21,7 @@ look_up-requires c =
     let delete : kind_of e.had.on.serving.task ≡ kinds.Delete = subst (λ (z : Option OpenCall). DeletesIn z) (slot-is c.args.parts.now c.args.w e.had.on c.index-in-Done.result.now c.index-in-Done.ensures) (c.if-leaves_few.ensures.deletes refl) in
     record {
       on = e.had.on;
-      other = λ key get lonely. absurd (cc (call-is c.args.parts.now c.args.w e.had.on c.index.result.now c.called-call.result c.index.ensures c.called-call.ensures, c.in-Delete.is, get));
+      other = λ key get solitary. absurd (cc (call-is c.args.parts.now c.args.w e.had.on c.index.result.now c.called-call.result c.index.ensures c.called-call.ensures, c.in-Delete.is, get));
       may = inr (ap is_delete (call-is c.args.parts.now c.args.w e.had.on c.index.result.now c.called-call.result c.index.ensures c.called-call.ensures ∙ c.in-Delete.is));
       stands = stands-looking c.args.parts.now c.args.w e.had.on delete;
       over = λ delete none. absurd (cc (e.ends, none));
@@ -41,10 +41,10 @@ read_leaf-requires-clause-path c =
       stands = stands-reading c.args.parts.now c.args.w e.had.on (ap looks_on kind);
       again = looks-on c.args.parts.now c.args.w e.had.on (has-effect c.args.parts.now c.args.w c.args.at e.had) (ap is_look kind);
       leads = e.path c.in-Path.path c.in-Path.is;
-      other = λ key get lonely. absurd (cc (call-is c.args.parts.now c.args.w e.had.on c.index.result.now c.called-call.result c.index.ensures c.called-call.ensures, c.in-Delete.is, get));
+      other = λ key get solitary. absurd (cc (call-is c.args.parts.now c.args.w e.had.on c.index.result.now c.called-call.result c.index.ensures c.called-call.ensures, c.in-Delete.is, get));
       spares = after-read c.round_laws.ensures c.args.parts.now c.args.w e.had.on (ap is_some e.had.effect) (ended-spares c.round_laws.ensures c.args.parts.now c.args.w e.had.on (Path c.in-Path.path) kinds.Seek kind refl ended (λ e. cc e) e.paid);
       look = λ quiet. absurd (cc (e.had.effect, quiet));
-      due = λ quiet lonely. absurd (cc (e.had.effect, quiet));
+      due = λ quiet solitary. absurd (cc (e.had.effect, quiet));
     }
 
 pub settle_small-requires-clause-read : goal.settle_small-requires-clause-read
@@ -68,7 +68,7 @@ end_effective-requires c =
     let e = c.requires.ends in
     let ends : HasToEnd c.args.parts.now c.args.w c.args.at = record {
       had = e.had;
-      merged = λ lonely deletes may. absurd (no-delete-key e.had.on.serving.call deletes (λ key is. c.in_default.not-Delete key (sym (call-is c.args.parts.now c.args.w e.had.on c.index.result.now c.called-call.result c.index.ensures c.called-call.ensures) ∙ is)));
+      merged = λ solitary deletes may. absurd (no-delete-key e.had.on.serving.call deletes (λ key is. c.in_default.not-Delete key (sym (call-is c.args.parts.now c.args.w e.had.on c.index.result.now c.called-call.result c.index.ensures c.called-call.ensures) ∙ is)));
     } in
     record { had = ends; room = c.requires.room }
 

@@ -5,7 +5,7 @@ use Rattle.bz_sound.proofs.Proved.{held_slots_are_spent}
 use Rattle.bz_world.specs.Inside.Going.{HasEnded, IsShort, IsOutOfSlots, known}
 use Rattle.bz_world.proofs.HighTrees.{too-high}
 use Rattle.bz_world.proofs.Exactly.{never-full, never-high}
-use Rattle.bz_world.proofs.LonelyEnds.{other-ended, other-in}
+use Rattle.bz_world.proofs.SolitaryEnds.{other-ended, other-in}
 use Rattle.bz_world.proofs.Spared.{end-room, full-writes}
 use Rattle.bz_world.proofs.SpendingSlots.{slots-are-spent, slots-run-out}
 use Rattle.bz_world.proofs.TakingOn.{known-scene}
@@ -17,13 +17,13 @@ end_full-requires-clause-short c =
     let e : HasEnded c.args.parts.now c.args.w (Full Nodes) = subst (λ z. HasEnded c.args.parts.now c.args.w (Full z)) c.in-Nodes.is c.requires.ends in
     let needed = needed-slots c.merges_lack_slots_rightly.ensures c.start_laws.ensures.scenes c.args.parts.now c.args.w e (omega (arith, (e.full refl).0)) in
     let lacks : IsOutOfSlots c.args.parts.now c.args.w = record { on = e.on; quiet = e.quiet; fewer = (e.full refl).0; needed = needed; little = (e.full refl).1 } in
-    let short : IsShort c.args.parts.now c.args.w Nodes = record { on = e.on; quiet = e.quiet; write = full-writes c.args.parts.now c.args.w Nodes e; room = end-room c.start_laws.ensures.lone.rounds c.args.parts.now c.args.w e.on.serving (known c.args.parts.now c.args.w e.on).past e.paid; cause = slots-are-spent held_slots_are_spent c.args.parts.now c.args.w lacks; out = record { out = slots-run-out c.args.parts.now c.args.w lacks; little = lacks.little }; told = λ lonely room. never-full c.args.parts.now c.args.w e.on e.tasked.laws (e.full refl).0 lonely room } in
+    let short : IsShort c.args.parts.now c.args.w Nodes = record { on = e.on; quiet = e.quiet; write = full-writes c.args.parts.now c.args.w Nodes e; room = end-room c.start_laws.ensures.solo.rounds c.args.parts.now c.args.w e.on.serving (known c.args.parts.now c.args.w e.on).past e.paid; cause = slots-are-spent held_slots_are_spent c.args.parts.now c.args.w lacks; out = record { out = slots-run-out c.args.parts.now c.args.w lacks; little = lacks.little }; told = λ solitary room. never-full c.args.parts.now c.args.w e.on e.tasked.laws (e.full refl).0 solitary room } in
     subst (IsShort c.args.parts.now c.args.w) (sym c.in-Nodes.is) short
 
 pub end_full-requires-in-Height-clause-short : goal.end_full-requires-in-Height-clause-short
 end_full-requires-in-Height-clause-short c =
     let e : HasEnded c.args.parts.now c.args.w (Full Height) = subst (λ z. HasEnded c.args.parts.now c.args.w (Full z)) c.in-Height.is c.requires.ends in
-    let short : IsShort c.args.parts.now c.args.w Height = record { on = e.on; quiet = e.quiet; write = full-writes c.args.parts.now c.args.w Height e; room = end-room c.start_laws.ensures.lone.rounds c.args.parts.now c.args.w e.on.serving (known c.args.parts.now c.args.w e.on).past e.paid; cause = too-high c.start_laws.ensures.scenes c.args.parts.now c.args.w e; out = record { out = tt; little = λ whole. tt }; told = λ lonely room. never-high c.args.parts.now c.args.w e.on e.tasked.laws ((e.tasked.laws.height (known c.args.parts.now c.args.w e.on) (known-scene c.start_laws.ensures.scenes c.args.parts.now c.args.w e.on) e.facts e.end).0) lonely room } in
+    let short : IsShort c.args.parts.now c.args.w Height = record { on = e.on; quiet = e.quiet; write = full-writes c.args.parts.now c.args.w Height e; room = end-room c.start_laws.ensures.solo.rounds c.args.parts.now c.args.w e.on.serving (known c.args.parts.now c.args.w e.on).past e.paid; cause = too-high c.start_laws.ensures.scenes c.args.parts.now c.args.w e; out = record { out = tt; little = λ whole. tt }; told = λ solitary room. never-high c.args.parts.now c.args.w e.on e.tasked.laws ((e.tasked.laws.height (known c.args.parts.now c.args.w e.on) (known-scene c.start_laws.ensures.scenes c.args.parts.now c.args.w e.on) e.facts e.end).0) solitary room } in
     subst (IsShort c.args.parts.now c.args.w) (sym c.in-Height.is) short
 
 pub unreachable-requires : goal.unreachable-requires

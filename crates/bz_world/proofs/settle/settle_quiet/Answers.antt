@@ -8,7 +8,7 @@ use Rattle.bz_world.specs.Inside.Going.{HasEnded, known}
 use Rattle.bz_world.specs.Inside.Paid.{bound_in, errand_of, used_in}
 use Rattle.bz_world.proofs.Endings.{restarts}
 use Rattle.bz_world.proofs.Exactly.{again-ended, again-restart, no-look-up}
-use Rattle.bz_world.proofs.LonelyEnds.{other-ended}
+use Rattle.bz_world.proofs.SolitaryEnds.{other-ended}
 use Rattle.bz_world.proofs.Spared.{ended-spares, path-kind, key-kind, view-kind}
 use Rattle.bz_world.proofs.settle.settle_quiet.Goals as goal
 
@@ -73,7 +73,7 @@ look_up_frozen-requires c =
     record {
       on = e.on;
       may = inl e.quiet;
-      stands = λ lonely at is deletes. absurd (cc (e.quiet, is));
+      stands = λ solitary at is deletes. absurd (cc (e.quiet, is));
       over = λ delete none. absurd (cc (ended, none));
       again = no-look-up c.args.parts.now c.args.w e.on (again-ended c.args.parts.now c.args.w e.on e.quiet Done ended (e.tasked.laws.ends_of Done (known c.args.parts.now c.args.w e.on) (e.tasked.laws.sound.ends (known c.args.parts.now c.args.w e.on) Done e.facts ended).0) (λ e. e) (λ e. e));
       other = other-ended c.args.parts.now c.args.w e.on Done ended (λ path e. cc e) (λ view e. cc e);
@@ -88,7 +88,7 @@ look_up-requires c =
     record {
       on = e.on;
       may = inl e.quiet;
-      stands = λ lonely at is deletes. absurd (cc (e.quiet, is));
+      stands = λ solitary at is deletes. absurd (cc (e.quiet, is));
       over = λ delete none. absurd (cc (e.end, none));
       again = no-look-up c.args.parts.now c.args.w e.on (again-restart c.args.parts.now c.args.w e.on e.quiet (e.end ∙ ap Some again) e.alone.others e.alone.made e.alone.counted (λ none. e.alone.stands none again));
       other = other-ended c.args.parts.now c.args.w e.on c.args.outcome e.end (λ path e. c.in_default.not-Path path e) (λ view e. c.in_default.not-Key view e);

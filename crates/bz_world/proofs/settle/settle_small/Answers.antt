@@ -13,7 +13,7 @@ use Rattle.bz_world.proofs.MergeStarts.{stands-reading}
 pub end_effective-requires-clause-had : goal.end_effective-requires-clause-had
 end_effective-requires-clause-had c =
     let none = no-way c.requires.read.had.on.serving.path (λ path is. c.in_default.not-Some path (c.path_in.ensures ∙ (ap way_in (slot-is c.args.parts.now c.args.w c.requires.read.had.on c.index.result.now c.index.ensures) ∙ is))) in
-    record { had = c.requires.read.had; merged = λ lonely deletes may. absurd (c.requires.read.some none) }
+    record { had = c.requires.read.had; merged = λ solitary deletes may. absurd (c.requires.read.some none) }
 
 pub end_effective-requires-else-is_due-clause-had : goal.end_effective-requires-else-is_due-clause-had
 end_effective-requires-else-is_due-clause-had c = ended-read c.round_laws.ensures c.args.parts.now c.args.w c.args.at c.args.view.now c.in-Some.path c.paths_end.ensures.0 c.requires.read
@@ -45,7 +45,7 @@ merge-requires-clause-merge c = let due = c.is_due.ensures.due.0 c.if-is_due.tru
   small = due.1.1.0;
   leads = c.is_due.ensures.leads c.if-is_due.true;
   thawed = due.1.0;
-  other = λ key get lonely. absurd (true≢false (sym c.requires.read.deletes ∙ ap is_delete get));
+  other = λ key get solitary. absurd (true≢false (sym c.requires.read.deletes ∙ ap is_delete get));
   frozen = λ quiet. absurd (cc (c.requires.read.had.effect, quiet));
   write = λ quiet. absurd (cc (c.requires.read.had.effect, quiet));
   thawed_call = c.requires.read.had.on.fit.thawed;

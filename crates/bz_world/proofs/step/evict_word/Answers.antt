@@ -5,7 +5,7 @@ use Rattle.bz_world.proofs.Evicting.{evict-strikes, evict-kept, evict-room, evic
 use Rattle.bz_world.proofs.step.evict_word.Goals as goal
 
 pub mark_effect-requires-clause-striking : goal.mark_effect-requires-clause-striking
-mark_effect-requires-clause-striking c = evict-strikes evictions_are_seen effects_stay_inside c.step_laws.ensures.begun c.step_laws.ensures.lone.wins c.args.parts.now c.make_eviction.new.parts c.args.a c.in-Some.swap c.requires.kept c.in-Some.ensures (omega (arith, c.requires.room))
+mark_effect-requires-clause-striking c = evict-strikes evictions_are_seen effects_stay_inside c.step_laws.ensures.begun c.step_laws.ensures.solo.wins c.args.parts.now c.make_eviction.new.parts c.args.a c.in-Some.swap c.requires.kept c.in-Some.ensures (omega (arith, c.requires.room))
 
 pub mark_effect-requires-clause-room : goal.mark_effect-requires-clause-room
 mark_effect-requires-clause-room c = evict-room c.args.parts.now c.make_eviction.new.parts c.args.a (Some c.in-Some.swap) c.in-Some.ensures c.requires.room

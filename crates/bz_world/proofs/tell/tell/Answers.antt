@@ -12,14 +12,14 @@ use Rattle.bz_world.proofs.Roomless.{room-found}
 use Rattle.bz_world.proofs.tell.tell.Goals as goal
 
 pub hear_task-requires : goal.hear_task-requires
-hear_task-requires c = subst (λ m. CanHear c.index_mut.result.now c.args.seen m c.args.parts.now.slots) (sym c.length-moment.ensures) (can-hear scenes_are_seen slots_are_taken c.lonely_laws.ensures c.alone_laws.ensures c.args.parts.now c.args.w c.args.seen c.requires c.index_mut.result.now was)
+hear_task-requires c = subst (λ m. CanHear c.index_mut.result.now c.args.seen m c.args.parts.now.slots) (sym c.length-moment.ensures) (can-hear scenes_are_seen slots_are_taken c.solitary_laws.ensures c.undisturbed_laws.ensures c.args.parts.now c.args.w c.args.seen c.requires c.index_mut.result.now was)
   where
     was : c.index_mut.result.now ≡ Some c.requires.serving
     was = get_or_read_under c.args.parts.now.workers.items c.args.w (length c.args.parts.now.workers.items) c.index_mut.result.now None c.index_mut.ensures.value
         (omega (arith, c.requires.told.between.within, c.requires.told.between.tabled.places, c.requires.told.between.tabled.config.workers_in_range.at_most)) refl ∙ c.requires.is
 
 pub returns-clause-asks : goal.returns-clause-asks
-returns-clause-asks c = must-start scenes_are_seen slots_are_taken c.lonely_laws.ensures c.alone_laws.ensures c.args.parts.now c.args.w c.args.seen c.requires c.hear_task.result c.hear_task.new.slots c.index_mut.result.now c.hear_task.new.slot was
+returns-clause-asks c = must-start scenes_are_seen slots_are_taken c.solitary_laws.ensures c.undisturbed_laws.ensures c.args.parts.now c.args.w c.args.seen c.requires c.hear_task.result c.hear_task.new.slots c.index_mut.result.now c.hear_task.new.slot was
     (subst (λ m. HasToldIn c.index_mut.result.now c.args.seen m c.args.parts.now.slots c.hear_task.result c.hear_task.new.slot c.hear_task.new.slots) c.length-moment.ensures c.hear_task.ensures)
   where
     was : c.index_mut.result.now ≡ Some c.requires.serving
@@ -49,7 +49,7 @@ returns-clause-full c ended = (subst (λ z. length c.hear_task.new.slots.free < 
 
     rightly : (length c.hear_task.new.slots.free < wants_in c.hear_task.new.slot) × (RunsWhole c.args.parts.now.config c.args.w c.args.parts.now.journal.past → HadFew c.args.parts.now.config (begun_with c.args.parts.now) Nodes)
     rightly =
-        full-rightly c.alone_laws.ensures.rounds c.args.parts.now c.args.w c.args.seen c.requires c.length-moment.result c.hear_task.result c.hear_task.new.slot c.hear_task.new.slots
+        full-rightly c.undisturbed_laws.ensures.rounds c.args.parts.now c.args.w c.args.seen c.requires c.length-moment.result c.hear_task.result c.hear_task.new.slot c.hear_task.new.slots
         (subst (λ z. HasToldIn z c.args.seen c.length-moment.result c.args.parts.now.slots c.hear_task.result c.hear_task.new.slot c.hear_task.new.slots) was c.hear_task.ensures)
         (ap end_in (sym (get_or-set_same c.args.parts.now.workers.items c.args.w c.hear_task.new.slot None in-table)) ∙ ended)
 
@@ -68,7 +68,7 @@ returns-clause-crowded c other = room-found c.args.parts.now c.args.w c.args.see
     (length c.args.parts.now.journal.past) c.args.parts.now.slots c.hear_task.new.slots (returns-clause-told c)
 
 pub returns-clause-knows : goal.returns-clause-knows
-returns-clause-knows c m = still-knows scenes_are_seen slots_are_taken c.lonely_laws.ensures c.alone_laws.ensures c.args.parts.now c.args.w c.args.seen m.must m.knows c.hear_task.result c.hear_task.new.slots c.index_mut.result.now c.hear_task.new.slot was
+returns-clause-knows c m = still-knows scenes_are_seen slots_are_taken c.solitary_laws.ensures c.undisturbed_laws.ensures c.args.parts.now c.args.w c.args.seen m.must m.knows c.hear_task.result c.hear_task.new.slots c.index_mut.result.now c.hear_task.new.slot was
     (subst (λ n. HasToldIn c.index_mut.result.now c.args.seen n c.args.parts.now.slots c.hear_task.result c.hear_task.new.slot c.hear_task.new.slots) c.length-moment.ensures c.hear_task.ensures)
   where
     was : c.index_mut.result.now ≡ Some m.must.serving

@@ -1,5 +1,0 @@
-use Rattle.bz_costs.proofs.Proved as proved
-use Rattle.bz_costs.proofs.laws.lone_calls_are_affordable.Goals as goal
-
-pub returns : goal.returns
-returns c = proved.lone_calls_are_affordable

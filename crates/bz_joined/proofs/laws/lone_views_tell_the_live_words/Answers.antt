@@ -1,5 +1,0 @@
-use Rattle.bz_joined.proofs.Proved as proved
-use Rattle.bz_joined.proofs.laws.lone_views_tell_the_live_words.Goals as goal
-
-pub returns : goal.returns
-returns c = proved.lone_views_tell_the_live_words

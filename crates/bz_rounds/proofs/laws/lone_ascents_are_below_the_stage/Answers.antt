@@ -1,5 +1,0 @@
-use Rattle.bz_rounds.proofs.Proved as proved
-use Rattle.bz_rounds.proofs.laws.lone_ascents_are_below_the_stage.Goals as goal
-
-pub returns : goal.returns
-returns c = proved.lone_ascents_are_below_the_stage
