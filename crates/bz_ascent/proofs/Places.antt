@@ -10,7 +10,6 @@ use Rattle.bz_task.specs.declared.path.Path.{Path}
 use Rattle.bz_task.proofs.Proved.{ranges_stay}
 use Rattle.bz_branch.specs.FromRenew.FrozenLeaves.{ShowsFrozenLeaf}
 use Rattle.bz_branch.proofs.FromRenew.Proved.{views_show_frozen_leaves}
-use Rattle.bz_renew.proofs.Proved.{}
 use Rattle.bz_ascent.specs.Full.{AreFullUpTo}
 use Rattle.bz_ascent.specs.Laws.{AscentsBegin, AscentsEnd}
 

@@ -30,7 +30,6 @@ use Rattle.bz_rounds.specs.FromAlone.Quiet.{IsQuietSince, IsIn}
 use Rattle.bz_rounds.specs.Due.{MayBeMadeAnew}
 use Rattle.bz_rounds.proofs.FromAlone.Proved.{undisturbed_times_are_quiet, paths_lead_to_leaves, read_values_stand, trees_stand}
 use Rattle.bz_rounds.proofs.Proved.{undisturbed_leaves_are_due}
-use Rattle.bz_alone.proofs.Proved.{}
 use Rattle.bz_joined.specs.DueMerges.{UndisturbedViewsTellTheLiveWords, UndisturbedRootLeavesHaveNoNeighbour, UndisturbedMergesAreDue}
 use Rattle.bz_joined.proofs.Alike.{live-is}
 use Rattle.bz_joined.proofs.Families.{up-is, index-is}

@@ -28,7 +28,6 @@ use Rattle.bz_rounds.specs.FromAlone.MadeFor.{WasLeafOf, WasSmallLeafOf, IsSmall
 use Rattle.bz_rounds.specs.FromAlone.Undisturbed.{IsUndisturbed}
 use Rattle.bz_rounds.specs.FromAlone.Quiet.{IsIn}
 use Rattle.bz_rounds.proofs.FromAlone.Proved.{undisturbed_times_are_quiet}
-use Rattle.bz_alone.proofs.Proved.{}
 use Rattle.bz_joined.specs.Neighbours.{WasReadBelow, KnowsItsLeaf, UndisturbedMergesTryTheirNeighbours, UndisturbedTasksTryTheirNeighbours, UndisturbedMergesDoNotLackRoom, MergesKnowTheirLeaf, KnownLeavesStay}
 use Rattle.bz_joined.proofs.Lacked.{undisturbed-lack}
 use Rattle.bz_joined.proofs.Standing.{neighbours-stand}

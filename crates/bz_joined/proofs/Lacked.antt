@@ -22,7 +22,6 @@ use Rattle.bz_rounds.specs.FromAlone.MadeFor.{WasLeafOf}
 use Rattle.bz_rounds.specs.FromAlone.Quiet.{IsQuietSince, IsIn}
 use Rattle.bz_rounds.specs.FromAlone.Trees.{SameTree}
 use Rattle.bz_rounds.proofs.FromAlone.Proved.{undisturbed_times_are_quiet, trees_stand}
-use Rattle.bz_alone.proofs.Proved.{}
 use Rattle.bz_joined.specs.Neighbours.{WasReadBelow, UndisturbedNeighboursLackRoom}
 use Rattle.bz_joined.proofs.Alike.{live-is}
 use Rattle.bz_joined.proofs.Families.{count-is, child-is, high-inside, up-is, index-is}

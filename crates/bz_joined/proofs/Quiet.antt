@@ -22,7 +22,6 @@ use Rattle.bz_task.proofs.Proved.{headers_say_the_level}
 use Rattle.bz_rounds.specs.FromAlone.Quiet.{IsQuietSince, IsIn}
 use Rattle.bz_rounds.specs.FromAlone.Trees.{SameTree}
 use Rattle.bz_rounds.proofs.FromAlone.Proved.{read_values_stand, trees_stand}
-use Rattle.bz_alone.proofs.Proved.{}
 
 -- the same records, as many live words
 live-to-same : (f g : ℕ → Meta) (n : ℕ) → ((j : ℕ) → j < n → f j ≡ g j) → live_to f n ≡ live_to g n

@@ -15,7 +15,6 @@ use Rattle.bz_stage.specs.Swaps.{FreezesLeaf}
 use Rattle.bz_rounds.proofs.Freezing.{freezes-leaf}
 use Rattle.bz_rounds.proofs.Undisturbed.{tree-now, leaf-now, holds-now, below-top, same-entries}
 use Rattle.bz_rounds.proofs.FromAlone.Proved.{freezes_go_on}
-use Rattle.bz_alone.proofs.Proved.{}
 use Rattle.bz_joined.specs.Undisturbed.{UndisturbedFreezesFreezeTheLeaf}
 use Rattle.bz_joined.proofs.Freezes.{freezes-own}
 

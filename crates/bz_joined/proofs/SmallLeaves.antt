@@ -14,7 +14,6 @@ use Rattle.bz_task.specs.Scene.{here}
 use Rattle.bz_rounds.specs.FromAlone.Duties.{change_of}
 use Rattle.bz_rounds.specs.FromTally.Deletes.{LosesOneRecord}
 use Rattle.bz_rounds.proofs.FromTally.Proved.{deletes_take_one_record, deletes_tell_few}
-use Rattle.bz_tally.proofs.Proved.{}
 use Rattle.bz_joined.specs.SmallLeaves.{DeletesTellOfMerges, MergeableLeavesStandBelow, UndisturbedRootLeavesAreTheTree, UndisturbedDeletesTellOfMerges}
 use Rattle.bz_joined.proofs.DueMerges.{height-one}
 

@@ -30,7 +30,6 @@ use Rattle.bz_rounds.specs.Undisturbed.{IsUndisturbedSwap}
 use Rattle.bz_rounds.proofs.Undisturbed.{tree-now, leaf-now, same-entries}
 use Rattle.bz_rounds.proofs.FromTally.Pairs.{to-other, to-own}
 use Rattle.bz_rounds.proofs.FromAlone.Proved.{undisturbed_times_are_quiet, merges_go_on, trees_stand}
-use Rattle.bz_alone.proofs.Proved.{}
 use Rattle.bz_joined.specs.Undisturbed.{UndisturbedFreezesBesideKeepTheStage, UndisturbedFreezesBesideKeepTheLeaf, UndisturbedOwnFreezesLeaveACopy}
 use Rattle.bz_joined.proofs.Freezes.{freezes-beside, freezes-beside-leaf, small-freezes}
 

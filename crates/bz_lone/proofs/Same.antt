@@ -16,7 +16,6 @@ use Rattle.bz_joined.proofs.FromRounds.Proved.{stages_stand}
 use Rattle.bz_task.specs.Instant.{Instant}
 use Rattle.bz_task.specs.Scene.{Past, Scene, IsScene, here}
 use Rattle.bz_call.specs.Map.{key_of}
-use Rattle.bz_rounds.proofs.Proved.{}
 use Rattle.bz_lone.specs.Errands.{Errand, words_asked}
 use Rattle.bz_lone.specs.Prices.{Prices, clean_prices, prices_in}
 use Rattle.bz_lone.specs.Steps.{Adds, IsNext}

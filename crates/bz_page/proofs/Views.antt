@@ -27,7 +27,6 @@ use Rattle.bz_task.specs.Shown.{IsShown, SameWords, SameRecords}
 use Rattle.bz_task.specs.declared.view.LeafView.{LeafView}
 use Rattle.bz_task.proofs.FromContent.Proved.{well_formed_images_have_no_fault}
 use Rattle.bz_task.proofs.Proved.{leaves_are_in_trees, same_records_show_the_same, seen_leaves_are_whole}
-use Rattle.bz_content.proofs.Proved.{}
 
 held-visible : (m : Meta) → visible m ≡ true → held m ≡ true
 unfolding visible held

@@ -12,7 +12,6 @@ use Rattle.bz_content.specs.FromSlotted.Whole.{IsFence, HasFences}
 use Rattle.bz_word.specs.Headers.{header}
 use Rattle.bz_content.specs.Image.{node}
 use Rattle.bz_content.proofs.FromSlotted.Proved.{inner_rules_are_facts, leaf_rules_are_facts}
-use Rattle.bz_slotted.proofs.Proved.{}
 use Rattle.bz_task.specs.Good.{IsGood}
 use Rattle.bz_task.specs.Instant.{Instant, words, durable, form_at, is_inside}
 use Rattle.bz_task.specs.Laws.{KeepsFront, RangesStay, HeadersSayTheLevel}

@@ -29,7 +29,6 @@ use Rattle.bz_content.specs.Lawful.{is_fixed}
 use Rattle.bz_content.specs.Resolving.{resolve}
 use Rattle.bz_content.proofs.FromSlotted.Proved.{leaf_rules_are_facts, standing_is_quiet, stores_are_quiet}
 use Rattle.bz_content.proofs.Proved.{views_are_honest, well_formed_images_have_no_fault}
-use Rattle.bz_slotted.proofs.Proved.{}
 use Rattle.bz_task.specs.Good.{IsGood}
 use Rattle.bz_task.specs.Instant.{Instant, words, durable, page_at, form_at, is_inside}
 use Rattle.bz_task.specs.Laws.{HasRoot, IsLeafInTree}

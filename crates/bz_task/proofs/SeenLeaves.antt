@@ -13,7 +13,6 @@ use Rattle.bz_content.proofs.FromSlotted.Proved.{leaf_rules_are_facts}
 use Rattle.bz_word.specs.Headers.{header}
 use Rattle.bz_word.specs.Statuses.{status}
 use Rattle.bz_word.specs.declared.meta.Meta.{Meta}
-use Rattle.bz_slotted.proofs.Proved.{}
 use Rattle.bz_task.specs.Laws.{SeenLeavesAreWhole}
 use Rattle.bz_task.specs.Shown.{SameWords}
 use Rattle.bz_task.proofs.Ranges.{words_at-same}

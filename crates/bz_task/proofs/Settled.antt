@@ -17,7 +17,6 @@ use Rattle.bz_content.specs.Resolving.{resolve}
 use Rattle.bz_content.specs.View.{root_fault}
 use Rattle.bz_content.proofs.FromSlotted.Proved.{inner_keys_rise}
 use Rattle.bz_content.proofs.Proved.{well_formed_images_have_no_fault}
-use Rattle.bz_slotted.proofs.Proved.{}
 use Rattle.bz_task.specs.Good.{IsGood}
 use Rattle.bz_task.proofs.Roots.{pointer-tested}
 use Rattle.bz_task.specs.Settled.{settled, SettledMemoriesAreGood}

@@ -9,7 +9,6 @@ use Rattle.bz_content.specs.FromSlotted.Whole.{Whole}
 use Rattle.bz_word.specs.Headers.{header}
 use Rattle.bz_content.specs.Image.{node}
 use Rattle.bz_content.proofs.FromSlotted.Proved.{leaf_rules_are_facts}
-use Rattle.bz_slotted.proofs.Proved.{}
 use Rattle.bz_task.specs.Good.{IsGood}
 use Rattle.bz_task.specs.Instant.{Instant, words, durable, page_at, form_at}
 use Rattle.bz_task.specs.Laws.{IsLeafInTree}
