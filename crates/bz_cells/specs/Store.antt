@@ -47,7 +47,7 @@ with_words st m = record st { cached = m.cached; durable = m.durable }
 
 -- the whole of the simulated memory, and another one
 abbrev pub store_state : Store → State
-store_state st = record { words = store_words st; acts = 0; count = st.past.count; since = st.past.since; asks = st.past.asks }
+store_state st = record { words = store_words st; count = st.past.count; since = st.past.since; asks = st.past.asks }
 
 abbrev pub with_state : Store → State → Store
 with_state st m = record st { cached = m.words.cached; durable = m.words.durable; past = record { count = m.count; since = m.since; asks = m.asks } }

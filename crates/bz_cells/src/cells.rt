@@ -34,9 +34,9 @@ impl Model for Cells {
 
     ghost Value = { Store };
 
-    ghost view = { λ c. record { cached = c.pm.words.cached; durable = c.pm.words.durable; past = record { count = c.pm.count; since = c.pm.since; asks = c.pm.asks }; swaps = c.swaps; next_tags = c.next_tags.items; missed = c.missed.items; taken = c.taken } };
+    ghost view = { λ c. record { cached = c.pm.state.words.cached; durable = c.pm.state.words.durable; past = record { count = c.pm.state.count; since = c.pm.state.since; asks = c.pm.state.asks }; swaps = c.swaps; next_tags = c.next_tags.items; missed = c.missed.items; taken = c.taken } };
 
-    ghost invariant = { λ c. HasRoom (record { cached = c.pm.words.cached; durable = c.pm.words.durable; past = record { count = c.pm.count; since = c.pm.since; asks = c.pm.asks }; swaps = c.swaps; next_tags = c.next_tags.items; missed = c.missed.items; taken = c.taken }) };
+    ghost invariant = { λ c. HasRoom (record { cached = c.pm.state.words.cached; durable = c.pm.state.words.durable; past = record { count = c.pm.state.count; since = c.pm.state.since; asks = c.pm.state.asks }; swaps = c.swaps; next_tags = c.next_tags.items; missed = c.missed.items; taken = c.taken }) };
 }
 
 impl Cells {

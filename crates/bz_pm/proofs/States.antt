@@ -87,7 +87,7 @@ state-asked m w line later was after words i lt within fit le is saved e = recor
 -- what a worker asked for is durable
 pub state-fenced : (m : State) (w : ℕ) (qs : List Ask) (d : Dated) → IsState m → w < length m.asks → qs ≡ get_or m.asks w []
     → d ≡ settled qs (record { durable = m.words.durable; since = m.since })
-    → IsState (record m { words = record { cached = m.words.cached; durable = d.durable }; since = d.since; asks = slice_set m.asks w [] })
+    → IsState (record { words = record { cached = m.words.cached; durable = d.durable }; count = m.count; since = d.since; asks = slice_set m.asks w [] })
 state-fenced m w qs d i lt is e =
     let was : Dated = record { durable = m.words.durable; since = m.since } in
     let long = long_asks (asks_of m w) was in
@@ -106,7 +106,7 @@ no_asks size acts (suc n) (suc v) = no_asks size acts n v
 
 -- nothing was asked for
 pub state-begun : (words : Words) (moments workers : ℕ) → IsMemory words → moments ≡ length words.durable
-    → IsState (record { words = words; acts = 0; count = 0; since = replicate moments 0; asks = replicate workers [] })
+    → IsState (record { words = words; count = 0; since = replicate moments 0; asks = replicate workers [] })
 state-begun words moments workers i same = record {
   memory = i;
   dated = length-replicate moments 0 ∙ same;

@@ -1,23 +1,23 @@
 -- What each act leaves of a memory and of what it keeps of the past.
 use Rattle.std.specs.Prelude.{◌==◌, if◌then◌else◌, nat_lt, ℕ, ◌+◌, ◌-◌, ◌*◌, ◌^◌, List, [], ◌∷◌, length, take, drop, replicate, min, slice_index, slice_set}
 use Rattle.bz_pm.specs.Acts.{with_line, stored, compared, flushed, evicted, after_cut}
-use Rattle.bz_pm.specs.State.{State, asks_of}
+use Rattle.bz_pm.specs.State.{State, Counted, asks_of}
 use Rattle.bz_pm.specs.declared.asks.Ask.{Ask}
 
--- one more is counted, of acts or of asks: the count stops at its last value
+-- one more is counted, of asks or of acts: the count stops at its last value
 abbrev pub next_moment : ℕ → ℕ
 next_moment n = min (n + 1) (2 ^ 64 - 1)
 
 -- a store, and a compare-and-swap, leave what was asked for and how old the durable words are
 abbrev pub after_store : State → ℕ → ℕ → State
-after_store m a v = record m { words = stored m.words a v; acts = next_moment m.acts }
+after_store m a v = record m { words = stored m.words a v }
 
 abbrev pub after_cas : State → ℕ → ℕ → ℕ → State
-after_cas m a old new = record m { words = compared m.words a old new; acts = next_moment m.acts }
+after_cas m a old new = record m { words = compared m.words a old new }
 
 -- after a flush the durable words of the line date from now
 abbrev pub after_flush : State → ℕ → State
-after_flush m line = record m { words = flushed m.words line; acts = next_moment m.acts; since = with_line line (replicate (length m.since) m.count) m.since }
+after_flush m line = record m { words = flushed m.words line; since = with_line line (replicate (length m.since) m.count) m.since }
 
 -- after an eviction the durable word dates from now
 abbrev pub after_eviction : State → ℕ → State
@@ -38,7 +38,7 @@ ask_now m line = record { line = line; moment = next_moment m.count; words = lin
 
 -- after an ask the worker has asked for the line as it is now
 abbrev pub after_ask : State → ℕ → ℕ → State
-after_ask m w line = record m { acts = next_moment m.acts; count = next_moment m.count; asks = slice_set m.asks w (with_ask (asks_of m w) (ask_now m line)) }
+after_ask m w line = record m { count = next_moment m.count; asks = slice_set m.asks w (with_ask (asks_of m w) (ask_now m line)) }
 
 -- the durable words, and the moment from which each dates
 pub record Dated : Type 0 where
@@ -68,7 +68,6 @@ after_fence m w =
     let d = settled (asks_of m w) (record { durable = m.words.durable; since = m.since }) in
     record m {
       words = record { cached = m.words.cached; durable = d.durable };
-      acts = next_moment m.acts;
       since = d.since;
       asks = slice_set m.asks w [];
     }
@@ -77,7 +76,6 @@ after_fence m w =
 abbrev pub after_power_cut : State → State
 after_power_cut m = record {
   words = after_cut m.words;
-  acts = 0;
   count = 0;
   since = replicate (length m.since) 0;
   asks = replicate (length m.asks) [];
@@ -85,14 +83,21 @@ after_power_cut m = record {
 
 -- a renewal leaves the words; it forgets what was asked for, and asks are counted anew from it
 abbrev pub after_renewal : State → State
-after_renewal m = record m { acts = 0; count = 0; since = replicate (length m.since) 0; asks = replicate (length m.asks) [] }
+after_renewal m = record m { count = 0; since = replicate (length m.since) 0; asks = replicate (length m.asks) [] }
 
 -- a memory as it is opened: no worker from 0 to this one has asked for a line
 abbrev pub opened : List ℕ → ℕ → State
 opened start workers = record {
   words = record { cached = start; durable = start };
-  acts = 0;
   count = 0;
   since = replicate (length start) 0;
   asks = replicate (workers + 1) [];
 }
+
+-- after one act more of a worker
+abbrev pub acted : Counted → State → Counted
+acted m after = record { state = after; acts = next_moment m.acts }
+
+-- where no act was made yet
+abbrev pub unacted : State → Counted
+unacted m = record { state = m; acts = 0 }

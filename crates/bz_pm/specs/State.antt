@@ -1,19 +1,23 @@
--- A simulated memory with what it keeps of the past: how many acts and how many asks were made, from when each durable word dates, and what
--- each worker asked for. A moment is a number of asks: an ask has the moment after it, and the first one has 1.
+-- A simulated memory with what it keeps of the past: how many acts and how many asks were made, from when each durable word
+-- dates, and what each worker asked for. A moment is a number of asks: an ask has the moment after it, and the first one has 1.
 use Rattle.std.specs.Prelude.{◌≡◌, ◌==◌, if◌then◌else◌, ℕ, ◌+◌, ◌*◌, ◌^◌, ◌<◌, ◌≤◌, List, [], ◌∷◌, length, slice_index, get_or}
 use Rattle.std.specs.declared.option.Option.{Option}
 use Rattle.std.specs.declared.option.Option.TheVariants.{None, Some}
 use Rattle.bz_pm.specs.Words.{Words, IsMemory}
 use Rattle.bz_pm.specs.declared.asks.Ask.{Ask}
 
--- the words; how many acts of workers, and how many asks among them, were made since the last cut; for each word the moment from which its durable value dates; for
+-- the words; how many asks were made since the last cut; for each word the moment from which its durable value dates; for
 -- each worker the lines that it asked for since its last fence or the last cut
 pub record State : Type 0 where
   pub words : Words
-  pub acts : ℕ
   pub count : ℕ
   pub since : List ℕ
   pub asks : List (List Ask)
+
+-- the same memory, and how many acts of workers were made since the last cut
+pub record Counted : Type 0 where
+  pub state : State
+  pub acts : ℕ
 
 -- what a worker asked for
 abbrev pub asks_of : State → ℕ → List Ask
@@ -36,13 +40,9 @@ abbrev pub AreAsks : ℕ → ℕ → List Ask → Type 0
 AreAsks size acts [] = Unit {0}
 AreAsks size acts (q ∷ qs) = IsAsk size acts q × (ask_for qs q.line ≡ None) × AreAsks size acts qs
 
--- a past of these words: a moment for each of them, none later than now, and asks of no later moments
-pub record IsPast (words : Words) (now : ℕ) (dates : List ℕ) (workers : List (List Ask)) : Type 0 where
-  pub memory : IsMemory words
-  pub dated : length dates ≡ length words.durable
-  pub past : (a : ℕ) → slice_index dates a ≤ now
-  pub asks : (w : ℕ) → AreAsks (length words.durable) now (get_or workers w [])
-
--- a memory whose past is one; how many acts were made is not asked
-abbrev pub IsState : State → Type 0
-IsState m = IsPast m.words m.count m.since m.asks
+-- a memory whose past is one: a moment for each word, none of them later than now, and asks of no later moments
+pub record IsState (m : State) : Type 0 where
+  pub memory : IsMemory m.words
+  pub dated : length m.since ≡ length m.words.durable
+  pub past : (a : ℕ) → slice_index m.since a ≤ m.count
+  pub asks : (w : ℕ) → AreAsks (length m.words.durable) m.count (asks_of m w)

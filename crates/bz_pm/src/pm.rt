@@ -3,7 +3,7 @@
 ghost use Rattle.std.specs.Prelude.{◌≡◌, ◌↔◌, ◌*◌, ◌%◌, ◌<◌, ◌^◌, IsTrue, length, slice_index, IfOk};
 ghost use Rattle.bz_pm.specs.Words.{HoldsWords};
 ghost use Rattle.bz_pm.specs.State.{IsState, asks_of};
-ghost use Rattle.bz_pm.specs.After.{opened, after_store, after_cas, after_ask, after_fence, after_flush, after_eviction, after_power_cut, after_renewal};
+ghost use Rattle.bz_pm.specs.After.{opened, acted, unacted, after_store, after_cas, after_ask, after_fence, after_flush, after_eviction, after_power_cut, after_renewal};
 
 use crate::asks::{Ask, Asks, LINES_ASKED, forget, no_asks};
 use crate::line::{copy_line, fill_line, words_of};
@@ -33,13 +33,13 @@ pub struct Pm {
 }
 
 impl Model for Pm {
-    ghost use Rattle.bz_pm.specs.State.{State, IsState};
+    ghost use Rattle.bz_pm.specs.State.{Counted, IsState};
 
-    ghost Value = { State };
+    ghost Value = { Counted };
 
-    ghost view = { λ pm. record { words = record { cached = pm.cached.items; durable = pm.durable.items }; acts = pm.acts; count = pm.count; since = pm.since.items; asks = pm.asks.items } };
+    ghost view = { λ pm. record { state = record { words = record { cached = pm.cached.items; durable = pm.durable.items }; count = pm.count; since = pm.since.items; asks = pm.asks.items }; acts = pm.acts } };
 
-    ghost invariant = { λ pm. IsState (record { words = record { cached = pm.cached.items; durable = pm.durable.items }; acts = pm.acts; count = pm.count; since = pm.since.items; asks = pm.asks.items }) };
+    ghost invariant = { λ pm. IsState (record { words = record { cached = pm.cached.items; durable = pm.durable.items }; count = pm.count; since = pm.since.items; asks = pm.asks.items }) };
 }
 
 impl Pm {
@@ -47,7 +47,7 @@ impl Pm {
     pub fn open(alloc: Global, start: &[u64], workers: u32) -> Result<Pm, Memory>
         requires lines { length start.now % 8 ≡ 0 }
         requires size { length start.now < 2 ^ 32 }
-        ensures { IfOk result (λ pm. pm ≡ opened start.now workers) }
+        ensures { IfOk result (λ pm. pm ≡ unacted (opened start.now workers)) }
     {
         let cached = Vec::from_slice(alloc, start)?;
         let durable = Vec::from_slice(alloc, start)?;
@@ -65,9 +65,9 @@ impl Pm {
 
     /// The number of words.
     pub fn words(&self) -> u32
-        ensures words { result ≡ length self.now.words.durable }
-        ensures state { IsState self.now }
-        ensures fit { HoldsWords self.now.words }
+        ensures words { result ≡ length self.now.state.words.durable }
+        ensures state { IsState self.now.state }
+        ensures fit { HoldsWords self.now.state.words }
     {
         let cached = self.cached.as_slice();
         let durable = self.durable.as_slice();
@@ -77,16 +77,16 @@ impl Pm {
 
     /// The cached word at an address.
     pub fn load(&self, a: u32) -> u64
-        requires { a < length self.now.words.cached }
-        ensures { result ≡ slice_index self.now.words.cached a }
+        requires { a < length self.now.state.words.cached }
+        ensures { result ≡ slice_index self.now.state.words.cached a }
     {
         self.cached[a as usize]
     }
 
     /// Stores a word in the caches.
     pub fn store(&mut self, a: u32, v: u64)
-        requires { a < length self.old.words.cached }
-        ensures { self.new ≡ after_store self.old a v }
+        requires { a < length self.old.state.words.cached }
+        ensures { self.new ≡ acted self.old (after_store self.old.state a v) }
     {
         self.cached[a as usize] = v;
         self.acts = self.acts.saturating_add(1);
@@ -94,9 +94,9 @@ impl Pm {
 
     /// Compares the cached word with `old` and stores `new` where it is that; the value found is answered.
     pub fn cas(&mut self, a: u32, old: u64, new: u64) -> u64
-        requires { a < length self.old.words.cached }
-        ensures found { result ≡ slice_index self.old.words.cached a }
-        ensures after { self.new ≡ after_cas self.old a old new }
+        requires { a < length self.old.state.words.cached }
+        ensures found { result ≡ slice_index self.old.state.words.cached a }
+        ensures after { self.new ≡ acted self.old (after_cas self.old.state a old new) }
     {
         let found = self.cached[a as usize];
         self.acts = self.acts.saturating_add(1);
@@ -108,24 +108,24 @@ impl Pm {
 
     /// Whether a worker from 0 to the last one may ask for one more line before its next fence.
     pub fn may_ask(&self, w: u8) -> bool
-        ensures { IsTrue result ↔ ((w < length self.now.asks) × (length (asks_of self.now w) < 64)) }
+        ensures { IsTrue result ↔ ((w < length self.now.state.asks) × (length (asks_of self.now.state w) < 64)) }
     {
         (w as usize) < self.asks.len() && self.asks[w as usize].as_slice().len() < LINES_ASKED
     }
 
     /// How many asks were made since the opening, the last power cut or the last renewal; the count stops at its last value.
     pub fn asked(&self) -> u64
-        ensures { result ≡ self.now.count }
+        ensures { result ≡ self.now.state.count }
     {
         self.count
     }
 
     /// Asks, for a worker, that the eight cached words of a line as they are now be durable after its next fence.
     pub fn ask(&mut self, w: u8, line: u32)
-        requires worker { w < length self.old.asks }
-        requires room { length (asks_of self.old w) < 64 }
-        requires line { line * 8 < length self.old.words.cached }
-        ensures { self.new ≡ after_ask self.old w line }
+        requires worker { w < length self.old.state.asks }
+        requires room { length (asks_of self.old.state w) < 64 }
+        requires line { line * 8 < length self.old.state.words.cached }
+        ensures { self.new ≡ acted self.old (after_ask self.old.state w line) }
     {
         let words = words_of(&self.cached, line as usize);
         let moment = self.count.saturating_add(1);
@@ -140,8 +140,8 @@ impl Pm {
 
     /// Makes what a worker asked for durable, each word unless a later value of it is, and forgets what it asked for.
     pub fn fence(&mut self, w: u8)
-        requires { w < length self.old.asks }
-        ensures { self.new ≡ after_fence self.old w }
+        requires { w < length self.old.state.asks }
+        ensures { self.new ≡ acted self.old (after_fence self.old.state w) }
     {
         let asks = self.asks[w as usize].as_slice();
         settle(asks, &mut self.durable, &mut self.since);
@@ -151,8 +151,8 @@ impl Pm {
 
     /// Makes the eight cached words of a line durable, as one step.
     pub fn flush(&mut self, line: u32)
-        requires { line * 8 < length self.old.words.cached }
-        ensures { self.new ≡ after_flush self.old line }
+        requires { line * 8 < length self.old.state.words.cached }
+        ensures { self.new ≡ acted self.old (after_flush self.old.state line) }
     {
         copy_line(&self.cached, &mut self.durable, line as usize);
         fill_line(&mut self.since, line as usize, self.count);
@@ -161,8 +161,8 @@ impl Pm {
 
     /// Makes the cached word at an address durable. This is no act of a worker.
     pub fn evict(&mut self, a: u32)
-        requires { a < length self.old.words.cached }
-        ensures { self.new ≡ after_eviction self.old a }
+        requires { a < length self.old.state.words.cached }
+        ensures { self.new ≡ record self.old { state = after_eviction self.old.state a } }
     {
         self.durable[a as usize] = self.cached[a as usize];
         self.since[a as usize] = self.count;
@@ -170,7 +170,7 @@ impl Pm {
 
     /// Cuts the power: every cached word is lost, and the durable one stands in its place; what was asked for is forgotten.
     pub fn cut(&mut self)
-        ensures { self.new ≡ after_power_cut self.old }
+        ensures { self.new ≡ unacted (after_power_cut self.old.state) }
     {
         self.cached.copy_from_slice(&self.durable);
         self.since.fill(0);
@@ -182,7 +182,7 @@ impl Pm {
     /// Forgets what was asked for, and counts asks anew. The words stay. Where no worker waits for a fence, no act tells the
     /// difference.
     pub fn renew(&mut self)
-        ensures { self.new ≡ after_renewal self.old }
+        ensures { self.new ≡ unacted (after_renewal self.old.state) }
     {
         let asks = &mut self.asks;
         forget(asks);
@@ -193,8 +193,8 @@ impl Pm {
 
     /// The durable word at an address.
     pub fn durable(&self, a: u32) -> u64
-        requires { a < length self.now.words.cached }
-        ensures { result ≡ slice_index self.now.words.durable a }
+        requires { a < length self.now.state.words.cached }
+        ensures { result ≡ slice_index self.now.state.words.durable a }
     {
         self.durable[a as usize]
     }

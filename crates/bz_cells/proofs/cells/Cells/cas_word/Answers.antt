@@ -1,6 +1,7 @@
 use Rattle.std.proofs.Common.{sym, ap, ◌∙◌}
 use Rattle.bz_word.specs.Kinds.{word}
 use Rattle.bz_cells.proofs.Acts.{kind_at-word, store-compared, typed-compared}
+use Rattle.bz_pm.specs.State.{Counted}
 use Rattle.bz_cells.proofs.cells.Cells.cas_word.Goals as goal
 
 pub kind_in-requires : goal.kind_in-requires
@@ -14,16 +15,16 @@ invariant_of-self c =
     let store = rw (← c.self.view_is) at c.requires.typed in
     let outside = rw (← c.self.view_is) at c.requires.outside in
     let within = rw (← c.self.view_is) at c.requires.within in
-    let after = rw (c.word_of.ensures, c.word_of-2.ensures) at c.cas-found.ensures.after in
-    (store-compared _ c.args.a c.args.old c.args.new store outside within c.requires.new_kind c.cas-found.new.self after).has_room
+    let after = ap (λ (m : Counted). m.state) (rw (c.word_of.ensures, c.word_of-2.ensures) at c.cas-found.ensures.after) in
+    (store-compared _ c.args.a c.args.old c.args.new store outside within c.requires.new_kind c.cas-found.new.self.state after).has_room
 
 pub returns-clause-typed : goal.returns-clause-typed
 returns-clause-typed c =
     let store = rw (← c.self.view_is) at c.requires.typed in
     let outside = rw (← c.self.view_is) at c.requires.outside in
     let within = rw (← c.self.view_is) at c.requires.within in
-    let after = rw (c.word_of.ensures, c.word_of-2.ensures) at c.cas-found.ensures.after in
-    store-compared _ c.args.a c.args.old c.args.new store outside within c.requires.new_kind c.cas-found.new.self after
+    let after = ap (λ (m : Counted). m.state) (rw (c.word_of.ensures, c.word_of-2.ensures) at c.cas-found.ensures.after) in
+    store-compared _ c.args.a c.args.old c.args.new store outside within c.requires.new_kind c.cas-found.new.self.state after
 
 pub returns-clause-found : goal.returns-clause-found
 returns-clause-found c =
@@ -35,6 +36,6 @@ returns-clause-changed c = λ e b.
     let store = rw (← c.self.view_is) at c.requires.typed in
     let outside = rw (← c.self.view_is) at c.requires.outside in
     let within = rw (← c.self.view_is) at c.requires.within in
-    let after = rw (c.word_of.ensures, c.word_of-2.ensures) at c.cas-found.ensures.after in
+    let after = ap (λ (m : Counted). m.state) (rw (c.word_of.ensures, c.word_of-2.ensures) at c.cas-found.ensures.after) in
     let hit = sym c.cas-found.ensures.found ∙ (sym c.kind_in.ensures.word ∙ ap word e) in
-    rw (← c.self.view_is) (typed-compared _ b c.args.a c.args.old c.args.new c.cas-found.new.self after store outside within c.requires.new_kind hit)
+    rw (← c.self.view_is) (typed-compared _ b c.args.a c.args.old c.args.new c.cas-found.new.self.state after store outside within c.requires.new_kind hit)

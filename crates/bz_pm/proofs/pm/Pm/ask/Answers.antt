@@ -7,6 +7,6 @@ pub invariant_of-self : goal.invariant_of-self
 invariant_of-self c =
     let worker = rw (← c.self.view_is) at c.requires.worker in
     let line = rw (← c.self.view_is) at c.requires.line in
-    state-asked (record { words = _; acts = 0; count = _; since = _; asks = _ }) c.args.w c.args.line _ _ _ _ c.self.invariant worker line
+    state-asked _ c.args.w c.args.line _ _ _ _ c.self.invariant worker line
     c.words_of-words.ensures.fit (omega arith) (get_or_read _ c.args.w _ worker c.index_mut.ensures.value [])
     (rw c.deref.ensures.value at c.words_of-words.ensures.words) c.put.ensures

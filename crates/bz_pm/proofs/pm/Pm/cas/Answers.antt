@@ -3,4 +3,4 @@ use Rattle.bz_pm.proofs.States.{state-cached}
 use Rattle.bz_pm.proofs.pm.Pm.cas.Goals as goal
 
 pub invariant_of-self : goal.invariant_of-self
-invariant_of-self c = state-cached (record { words = _; acts = 0; count = _; since = _; asks = _ }) _ c.self.invariant (length-set _ c.args.a c.args.new)
+invariant_of-self c = state-cached _ _ c.self.invariant (length-set _ c.args.a c.args.new)
