@@ -18,8 +18,8 @@ use Rattle.bz_record.specs.Replacing.{growth, replacement, status_grown, WasGrow
 use Rattle.bz_record.specs.Swaps.{entries_of, status_entry, meta_entry, reservation, publication, status_reserved}
 use Rattle.bz_record.specs.declared.new_record.NewRecord.{NewRecord}
 use Rattle.bz_insert.specs.Facts.{insert_asks, insert_made, insert_facts}
-use Rattle.bz_insert.specs.declared.phase.Phase.{Phase}
-use Rattle.bz_insert.specs.declared.phase.Phase.TheVariants.{Reserve, Publish}
+use Rattle.bz_insert.specs.declared.phase.InsertPhase.{InsertPhase}
+use Rattle.bz_insert.specs.declared.phase.InsertPhase.TheVariants.{Reserve, Publish}
 use Rattle.bz_mutate.specs.UpdateFacts.{update_asks, update_made, update_facts}
 use Rattle.bz_mutate.specs.declared.update_phase.UpdatePhase.{UpdatePhase}
 use Rattle.bz_mutate.specs.declared.update_phase.UpdatePhase.TheVariants.{Grow, Replace}
@@ -80,7 +80,7 @@ module _ (s : Scene) (good : IsScene s) where
       let q : IsQuietSince g.was.moment s.past = undisturbed.later s 1 g.was.moment good a (had-one r.slot (status_grown r) g.was.moment s.past g.was.leaf.leaf g.swapped) in
       replacement-stands s good g.was.moment q r old place e g (omega arith)
 
-  insert-goes : (r : NewRecord) (phase : Phase) → insert_facts r phase Waiting s → IsUndisturbed (insert_made phase) s.past → GoesOn (insert_asks s.past.config r phase) (λ seen. ⊥) s
+  insert-goes : (r : NewRecord) (phase : InsertPhase) → insert_facts r phase Waiting s → IsUndisturbed (insert_made phase) s.past → GoesOn (insert_asks s.past.config r phase) (λ seen. ⊥) s
   insert-goes r Reserve f a =
       let v = f.1.viewed in
       swaps (entries_of s.past.config (reservation r)) (λ seen. ⊥) s (reservation-stands s good s.past.since (undisturbed.whole s good a) r v.moment v.leaf.leaf v.leaf.leaf.since f.1.room) (λ seen d. d)

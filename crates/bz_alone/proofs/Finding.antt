@@ -10,8 +10,8 @@ use Rattle.bz_leaf.specs.Facts.{IsLastLink}
 use Rattle.bz_running.specs.FromFind.Facts.{find_facts, find_differs}
 use Rattle.bz_running.specs.FromFind.Phases.{find_asks}
 use Rattle.bz_running.specs.FromFind.Find.{Find}
-use Rattle.bz_running.specs.FromFind.Phase.{Phase}
-use Rattle.bz_running.specs.FromFind.Phase.TheVariants.{Again, Link as Of_link, Guard}
+use Rattle.bz_running.specs.FromFind.FindPhase.{FindPhase}
+use Rattle.bz_running.specs.FromFind.FindPhase.TheVariants.{Again, Link as Of_link, Guard}
 use Rattle.bz_alone.specs.Undisturbed.{GoesOn}
 use Rattle.bz_alone.specs.Lookups.{FindsGoOn}
 use Rattle.bz_alone.specs.Quiet.{IsQuietSince}
@@ -24,7 +24,7 @@ module _ (s : Scene) (good : IsScene s) (q : IsQuietSince s.past.since s.past) (
   status-there : (c : Config) → s.past.config ≡ c → (here s).value (node_address c t.link.slot + STATUS_AT) ≡ (here s).value (node_address s.past.config t.link.slot + STATUS_AT)
   status-there c e = ap (λ z. (here s).value (node_address z t.link.slot + STATUS_AT)) (sym e)
 
-  goes : (phase : Phase) → find_facts t phase Waiting s → GoesOn (find_asks t phase) (find_differs t phase) s
+  goes : (phase : FindPhase) → find_facts t phase Waiting s → GoesOn (find_asks t phase) (find_differs t phase) s
   goes Again f =
       let o = f.1.opened in
       reads (node_address t.config t.link.slot + STATUS_AT) (find_differs t Again) s (λ v a d. d (sym a.value ∙ (status-there t.config same ∙ (status-again s good q t.key t.link o.ws _ o.reading ∙ o.status))))

@@ -5,8 +5,8 @@ use Rattle.bz_word.specs.declared.entry.Entry.{Entry}
 use Rattle.bz_task.specs.Scene.{Scene, Waiting, IsScene, here}
 use Rattle.bz_task.specs.Swaps.{Stand}
 use Rattle.bz_freeze.specs.Facts.{WasLeaf, entry_of, freeze_asks, freeze_facts}
-use Rattle.bz_freeze.specs.declared.phase.Phase.{Phase}
-use Rattle.bz_freeze.specs.declared.phase.Phase.TheVariants.{Swap}
+use Rattle.bz_freeze.specs.declared.phase.FreezePhase.{FreezePhase}
+use Rattle.bz_freeze.specs.declared.phase.FreezePhase.TheVariants.{Swap}
 use Rattle.bz_alone.specs.Undisturbed.{GoesOn}
 use Rattle.bz_alone.specs.Laws.{FreezesGoOn}
 use Rattle.bz_alone.specs.Quiet.{IsQuietSince}
@@ -23,7 +23,7 @@ module _ (s : Scene) (good : IsScene s) (q : IsQuietSince s.past.since s.past) w
       one-stands (entry_of s.past.config k st) s
       (status-stands s good s.past.since q k w.moment st w.since w.now (reached-in s good s.past.since q w.moment k w.since w.now w.slot w.inside) w.was)
 
-  goes : (k st : ℕ) (phase : Phase) → freeze_facts k st phase Waiting s → GoesOn (freeze_asks s.past.config k st phase) (λ seen. ⊥) s
+  goes : (k st : ℕ) (phase : FreezePhase) → freeze_facts k st phase Waiting s → GoesOn (freeze_asks s.past.config k st phase) (λ seen. ⊥) s
   goes k st Swap f = swaps (entry_of s.past.config k st ∷ []) (λ seen. ⊥) s (leaf-stands k st f.1) (λ seen d. d)
   goes k st phase f = idles _ (λ seen. ⊥) s (λ entries e. absurd (cc)) (λ seen d. d)
 

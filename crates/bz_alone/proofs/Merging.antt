@@ -19,8 +19,8 @@ use Rattle.bz_running.specs.FromMerge.Duties.{merging_of}
 use Rattle.bz_running.specs.FromMerge.Facts.{merge_asks, merge_facts, merge_differs}
 use Rattle.bz_running.specs.FromMerge.Plans.{Merging, viewed_leaf, beside_leaf}
 use Rattle.bz_running.specs.FromMerge.Siblings.{SeenLeaf}
-use Rattle.bz_running.specs.FromMerge.Phase.{Phase}
-use Rattle.bz_running.specs.FromMerge.Phase.TheVariants.{Again, Parent, Still, Freeze, FreezeBeside, Guard, Swap}
+use Rattle.bz_running.specs.FromMerge.MergePhase.{MergePhase}
+use Rattle.bz_running.specs.FromMerge.MergePhase.TheVariants.{Again, Parent, Still, Freeze, FreezeBeside, Guard, Swap}
 use Rattle.bz_alone.specs.Undisturbed.{IsUndisturbed, GoesOn}
 use Rattle.bz_alone.specs.Changes.{MergesGoOn}
 use Rattle.bz_alone.specs.Quiet.{IsQuietSince}
@@ -84,7 +84,7 @@ module _ (s : Scene) (good : IsScene s) (r : Merging) where
       let d = f.1.frozen.planned.paired.viewed.links in
       swaps (below_swap s.past.config r.upper r.lower (r.slot 0)) (merge_differs r Swap) s (swap-stands d (both-as-read s good r d f.1.frozen.froze a)) (λ seen d. d)
 
-merge-goes : (s : Scene) → IsScene s → (r : Merging) (phase : Phase) → merge_facts r phase Waiting s → IsUndisturbed (merge_made r phase) s.past → GoesOn (merge_asks s.past.config r phase) (merge_differs r phase) s
+merge-goes : (s : Scene) → IsScene s → (r : Merging) (phase : MergePhase) → merge_facts r phase Waiting s → IsUndisturbed (merge_made r phase) s.past → GoesOn (merge_asks s.past.config r phase) (merge_differs r phase) s
 merge-goes s good r Again f a = again-goes s good (undisturbed.whole s good a) r f
 merge-goes s good r Parent f a = parent-goes s good (undisturbed.whole s good a) r f
 merge-goes s good r Still f a = still-goes s good (undisturbed.whole s good a) r f

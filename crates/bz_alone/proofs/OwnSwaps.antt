@@ -1,15 +1,15 @@
 -- What a task knows of its own swaps counts them among the effects since its look-up began.
 use Rattle.std.proofs.Common.{ℕ, ◌+◌, ◌-◌, ◌≤◌, if◌then◌else◌, arith, sym, subst, inl, inr}
 use Rattle.bz_insert.specs.Facts.{insert_facts, insert_made}
-use Rattle.bz_insert.specs.declared.phase.Phase.{Phase as InsertPhase}
-use Rattle.bz_insert.specs.declared.phase.Phase.TheVariants as insert
+use Rattle.bz_insert.specs.declared.phase.InsertPhase.{InsertPhase}
+use Rattle.bz_insert.specs.declared.phase.InsertPhase.TheVariants as insert
 use Rattle.bz_running.specs.FromMerge.Counts.{merge_made, freezes_of, both_freezes}
 use Rattle.bz_running.specs.FromMerge.Duties.{merging_of}
 use Rattle.bz_running.specs.FromMerge.Facts.{merge_facts}
 use Rattle.bz_running.specs.FromMerge.OwnFreezes.{BothWereFrozen}
 use Rattle.bz_running.specs.FromMerge.Plans.{Merging, beside_leaf}
-use Rattle.bz_running.specs.FromMerge.Phase.{Phase as MergePhase}
-use Rattle.bz_running.specs.FromMerge.Phase.TheVariants as merge
+use Rattle.bz_running.specs.FromMerge.MergePhase.{MergePhase}
+use Rattle.bz_running.specs.FromMerge.MergePhase.TheVariants as merge
 use Rattle.bz_mutate.specs.UpdateFacts.{update_facts, update_made}
 use Rattle.bz_mutate.specs.declared.update_phase.UpdatePhase.{UpdatePhase}
 use Rattle.bz_mutate.specs.declared.update_phase.UpdatePhase.TheVariants as update

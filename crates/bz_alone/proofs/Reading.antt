@@ -9,8 +9,8 @@ use Rattle.bz_task.specs.Scene.{Scene, Waiting, IsScene}
 use Rattle.bz_task.specs.declared.path.Link.{Link}
 use Rattle.bz_task.specs.declared.path.Path.{Path}
 use Rattle.bz_leaf.specs.Facts.{IsLastLink, leaf_asks, leaf_facts, leaf_differs}
-use Rattle.bz_leaf.specs.declared.phase.Phase.{Phase}
-use Rattle.bz_leaf.specs.declared.phase.Phase.TheVariants.{Again, Link as Of_link, Guard}
+use Rattle.bz_leaf.specs.declared.phase.LeafPhase.{LeafPhase}
+use Rattle.bz_leaf.specs.declared.phase.LeafPhase.TheVariants.{Again, Link as Of_link, Guard}
 use Rattle.bz_alone.specs.Undisturbed.{GoesOn}
 use Rattle.bz_alone.specs.Lookups.{ReadingsGoOn}
 use Rattle.bz_alone.specs.Quiet.{IsQuietSince}
@@ -19,7 +19,7 @@ use Rattle.bz_alone.proofs.LastLinks.{status-again, link-again, guard-thawed}
 use Rattle.bz_alone.proofs.Quiet.{undisturbed}
 
 module _ (s : Scene) (good : IsScene s) (q : IsQuietSince s.past.since s.past) (key : List ℕ) (path : Path) (link : Link) (is : IsPath key path s.past) (last : IsLastLink path link) where
-  goes : (image : NodeImage) (phase : Phase) → leaf_facts key link image.0 phase Waiting s → GoesOn (leaf_asks s.past.config link image phase) (leaf_differs link image.0 phase) s
+  goes : (image : NodeImage) (phase : LeafPhase) → leaf_facts key link image.0 phase Waiting s → GoesOn (leaf_asks s.past.config link image phase) (leaf_differs link image.0 phase) s
   goes image Again f = reads (node_address s.past.config link.slot + STATUS_AT) (leaf_differs link image.0 Again) s (λ v a d. d (sym a.value ∙ status-again s good q key link image.0 _ f.1.all))
   goes image Of_link f = reads link.link (leaf_differs link image.0 Of_link) s (λ v a d. d (sym a.value ∙ link-again s good q key link f.1.all.known))
   goes image (Guard at) f = reads link.guard (leaf_differs link image.0 (Guard at)) s (λ v a d. true≢false (sym d ∙ guard-thawed s good q link v a key path is last))

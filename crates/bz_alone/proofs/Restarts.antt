@@ -2,32 +2,32 @@
 use Rattle.std.proofs.Common.{◌≡◌, ℕ, false, List, refl, subst, inl, inr, Option, Some}
 use Rattle.bz_word.specs.declared.entry.Entry.{Entry}
 use Rattle.bz_below.specs.Facts.{below_differs}
-use Rattle.bz_below.specs.declared.phase.Phase.{Phase as BelowPhase}
-use Rattle.bz_below.specs.declared.phase.Phase.TheVariants as below
+use Rattle.bz_below.specs.declared.phase.BelowPhase.{BelowPhase}
+use Rattle.bz_below.specs.declared.phase.BelowPhase.TheVariants as below
 use Rattle.bz_running.specs.FromConsol.Facts.{consol_differs}
 use Rattle.bz_writer.specs.declared.phase.WritePhase.{WritePhase}
 use Rattle.bz_writer.specs.declared.phase.WritePhase.TheVariants as write
 use Rattle.bz_running.specs.FromCrown.Facts.{crown_differs}
-use Rattle.bz_running.specs.FromCrown.Phase.{Phase as CrownPhase}
-use Rattle.bz_running.specs.FromCrown.Phase.TheVariants as crown
+use Rattle.bz_running.specs.FromCrown.CrownPhase.{CrownPhase}
+use Rattle.bz_running.specs.FromCrown.CrownPhase.TheVariants as crown
 use Rattle.bz_descend.specs.SeekFacts.{seek_differs}
 use Rattle.bz_descend.specs.declared.sight.Way.{Way}
 use Rattle.bz_descend.specs.declared.sight.Way.TheVariants as way
 use Rattle.bz_running.specs.FromFind.Facts.{find_differs}
 use Rattle.bz_running.specs.FromFind.Find.{Find}
-use Rattle.bz_running.specs.FromFind.Phase.{Phase as FindPhase}
-use Rattle.bz_running.specs.FromFind.Phase.TheVariants as find
+use Rattle.bz_running.specs.FromFind.FindPhase.{FindPhase}
+use Rattle.bz_running.specs.FromFind.FindPhase.TheVariants as find
 use Rattle.bz_running.specs.FromFork.Facts.{fork_differs}
-use Rattle.bz_running.specs.FromFork.Phase.{Phase as ForkPhase}
-use Rattle.bz_running.specs.FromFork.Phase.TheVariants as fork
+use Rattle.bz_running.specs.FromFork.ForkPhase.{ForkPhase}
+use Rattle.bz_running.specs.FromFork.ForkPhase.TheVariants as fork
 use Rattle.bz_leaf.specs.Facts.{leaf_differs}
-use Rattle.bz_leaf.specs.declared.phase.Phase.{Phase as LeafPhase}
-use Rattle.bz_leaf.specs.declared.phase.Phase.TheVariants as leaf
+use Rattle.bz_leaf.specs.declared.phase.LeafPhase.{LeafPhase}
+use Rattle.bz_leaf.specs.declared.phase.LeafPhase.TheVariants as leaf
 use Rattle.bz_running.specs.FromMerge.Duties.{merging_of}
 use Rattle.bz_running.specs.FromMerge.Facts.{merge_differs}
 use Rattle.bz_running.specs.FromMerge.Plans.{Merging}
-use Rattle.bz_running.specs.FromMerge.Phase.{Phase as MergePhase}
-use Rattle.bz_running.specs.FromMerge.Phase.TheVariants as merge
+use Rattle.bz_running.specs.FromMerge.MergePhase.{MergePhase}
+use Rattle.bz_running.specs.FromMerge.MergePhase.TheVariants as merge
 use Rattle.bz_below.specs.FromSplit.Facts.{split_differs}
 use Rattle.bz_task.specs.Requests.{Tells}
 use Rattle.bz_task.specs.Scene.{Scene, Stage, Waiting, Took}

@@ -10,8 +10,8 @@ use Rattle.bz_renew.specs.Nodes.{Nodes}
 use Rattle.bz_below.specs.Duties.{below_of}
 use Rattle.bz_below.specs.Facts.{Below, below_nodes, below_asks, below_facts, below_differs}
 use Rattle.bz_below.specs.Guards.{with_guard, WasNamed}
-use Rattle.bz_below.specs.declared.phase.Phase.{Phase}
-use Rattle.bz_below.specs.declared.phase.Phase.TheVariants.{Room, Again, Guard, Named, Swap}
+use Rattle.bz_below.specs.declared.phase.BelowPhase.{BelowPhase}
+use Rattle.bz_below.specs.declared.phase.BelowPhase.TheVariants.{Room, Again, Guard, Named, Swap}
 use Rattle.bz_below.specs.FromSplit.BelowSplits.{below_swap}
 use Rattle.bz_alone.specs.Undisturbed.{GoesOn}
 use Rattle.bz_alone.specs.Laws.{SplitsBelowGoOn}
@@ -29,7 +29,7 @@ named-guard s good q link word nodes g n = sym n.value ∙ guard-stood s good s.
 thawed-still : (s : Scene) → IsScene s → IsQuietSince s.past.since s.past → (link : Link) → IsGuarded s.past link → (status link.status).frozen ≡ false → (v : ℕ) → Answers s link.guard v → (status v).frozen ≡ true → ⊥
 thawed-still s good q link g t v a d = let e = guard-same s good q link v g a in absurd (cc (e, t, d))
 
-goes : (s : Scene) → IsScene s → IsQuietSince s.past.since s.past → (r : Below) (phase : Phase) → below_facts r phase Waiting s → GoesOn (below_asks s.past.config r phase) (below_differs r.lower phase) s
+goes : (s : Scene) → IsScene s → IsQuietSince s.past.since s.past → (r : Below) (phase : BelowPhase) → below_facts r phase Waiting s → GoesOn (below_asks s.past.config r phase) (below_differs r.lower phase) s
 goes s good q r Room f = reads r.lower.guard (below_differs r.lower Room) s (λ v a d. d (guard-same s good q r.lower v f.1.parted.links.guard a))
 goes s good q r Again f = reads r.lower.guard (below_differs r.lower Again) s (λ v a d. d (guard-same s good q r.lower v f.1.parted.links.guard a))
 goes s good q r Guard f = let d = f.1.parted.links in reads r.upper.guard (below_differs r.lower Guard) s (thawed-still s good q r.upper d.upper_guard d.upper_thawed)

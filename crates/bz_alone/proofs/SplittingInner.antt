@@ -5,8 +5,8 @@ use Rattle.bz_task.specs.Scene.{Scene, Waiting, IsScene}
 use Rattle.bz_running.specs.FromBranch.InnerSplits.{inner_swap}
 use Rattle.bz_running.specs.FromFork.Duties.{fork_of}
 use Rattle.bz_running.specs.FromFork.Facts.{Fork, fork_asks, fork_facts, fork_differs}
-use Rattle.bz_running.specs.FromFork.Phase.{Phase}
-use Rattle.bz_running.specs.FromFork.Phase.TheVariants.{Unread, Tight, Again, Room, Check, Writing}
+use Rattle.bz_running.specs.FromFork.ForkPhase.{ForkPhase}
+use Rattle.bz_running.specs.FromFork.ForkPhase.TheVariants.{Unread, Tight, Again, Room, Check, Writing}
 use Rattle.bz_writer.specs.declared.phase.WritePhase.TheVariants.{Guard, Swap}
 use Rattle.bz_alone.specs.Undisturbed.{GoesOn}
 use Rattle.bz_alone.specs.Laws.{InnerSplitsGoOn}
@@ -15,7 +15,7 @@ use Rattle.bz_alone.proofs.Going.{idles, reads, swaps}
 use Rattle.bz_alone.proofs.Links.{guard-same, inner-stands, open-below}
 use Rattle.bz_alone.proofs.Quiet.{undisturbed}
 
-goes : (s : Scene) → IsScene s → IsQuietSince s.past.since s.past → (r : Fork) (phase : Phase) → fork_facts r phase Waiting s → GoesOn (fork_asks s.past.config r phase) (fork_differs r.upper r.middle r.lower phase) s
+goes : (s : Scene) → IsScene s → IsQuietSince s.past.since s.past → (r : Fork) (phase : ForkPhase) → fork_facts r phase Waiting s → GoesOn (fork_asks s.past.config r phase) (fork_differs r.upper r.middle r.lower phase) s
 goes s good q r Unread f = reads r.lower.guard (fork_differs r.upper r.middle r.lower Unread) s (λ v a d. d (guard-same s good q r.lower v f.1.0.links.node.guard a))
 goes s good q r Tight f = reads r.middle.guard (fork_differs r.upper r.middle r.lower Tight) s (λ v a d. d (guard-same s good q r.middle v f.1.links.down.guard a))
 goes s good q r Again f = reads r.lower.guard (fork_differs r.upper r.middle r.lower Again) s (λ v a d. d (guard-same s good q r.lower v f.1.links.node.guard a))

@@ -3,8 +3,8 @@ use Rattle.std.proofs.Common.{subst}
 use Rattle.bz_task.specs.Scene.{Scene, Waiting, IsScene}
 use Rattle.bz_running.specs.FromCrown.Duties.{crown_of}
 use Rattle.bz_running.specs.FromCrown.Facts.{Crown, crown_asks, crown_facts, crown_differs}
-use Rattle.bz_running.specs.FromCrown.Phase.{Phase}
-use Rattle.bz_running.specs.FromCrown.Phase.TheVariants.{Again, Writing}
+use Rattle.bz_running.specs.FromCrown.CrownPhase.{CrownPhase}
+use Rattle.bz_running.specs.FromCrown.CrownPhase.TheVariants.{Again, Writing}
 use Rattle.bz_writer.specs.declared.phase.WritePhase.TheVariants.{Guard, Swap}
 use Rattle.bz_below.specs.FromSplit.BelowSplits.{below_swap}
 use Rattle.bz_alone.specs.Undisturbed.{GoesOn}
@@ -14,7 +14,7 @@ use Rattle.bz_alone.proofs.Going.{idles, reads, swaps}
 use Rattle.bz_alone.proofs.Links.{guard-same, below-stands}
 use Rattle.bz_alone.proofs.Quiet.{undisturbed}
 
-goes : (s : Scene) → IsScene s → IsQuietSince s.past.since s.past → (r : Crown) (phase : Phase) → crown_facts r phase Waiting s → GoesOn (crown_asks s.past.config r phase) (crown_differs r.upper r.lower phase) s
+goes : (s : Scene) → IsScene s → IsQuietSince s.past.since s.past → (r : Crown) (phase : CrownPhase) → crown_facts r phase Waiting s → GoesOn (crown_asks s.past.config r phase) (crown_differs r.upper r.lower phase) s
 goes s good q r Again f = reads r.lower.guard (crown_differs r.upper r.lower Again) s (λ v a d. d (guard-same s good q r.lower v f.1.links.node.guard a))
 goes s good q r (Writing Guard) f = reads r.upper.guard (crown_differs r.upper r.lower (Writing Guard)) s (λ v a d. d (guard-same s good q r.upper v f.1.links.guard a))
 goes s good q r (Writing Swap) f =

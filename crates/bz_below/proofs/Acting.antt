@@ -50,8 +50,8 @@ use Rattle.bz_split.specs.Facts.{SPLIT_WORDS, SPLIT_LINES, StoodFresh, split_cha
 use Rattle.bz_split.specs.RootSplits.{StandsReady, AreFreshThree}
 use Rattle.bz_below.specs.Guards.{with_guard, WasNamed}
 use Rattle.bz_below.specs.Parents.{WasParent}
-use Rattle.bz_below.specs.declared.phase.Phase.{Phase}
-use Rattle.bz_below.specs.declared.phase.Phase.TheVariants.{Fresh, Room, Word, Again, Guard, Store, Flush, Named, Swap, Done, Restart, NoRoom, NoSlot, NoSwap}
+use Rattle.bz_below.specs.declared.phase.BelowPhase.{BelowPhase}
+use Rattle.bz_below.specs.declared.phase.BelowPhase.TheVariants.{Fresh, Room, Word, Again, Guard, Store, Flush, Named, Swap, Done, Restart, NoRoom, NoSlot, NoSwap}
 use Rattle.bz_below.proofs.Staying.{planned-stays, looked-stays, over-stays, parent-stays, parted-stays}
 
 some-same : (a b : Todo) → Some a ≡ Some b → a ≡ b
@@ -88,7 +88,7 @@ may-swap turned codec r s good f w =
     (record { target = t.link_target; expected = omega (arith, old, good.config.nodes_in_range.at_most); new = omega (arith, new, good.config.nodes_in_range.at_most) })
     (record { target = t.guard_target; expected = w.plain; new = restamped-plain codec r.guard w.plain }))
 
-pub askable : LinksMayBeTurned → IsCodec Status IsStatus IsStatusWord status_word status → (c : Config) (r : Below) (phase : Phase) (s : Scene) (todo : Todo) → s.past.config ≡ c → below_facts r phase Waiting s → IsScene s → below_asks c r phase ≡ Some todo → IsAskable s todo
+pub askable : LinksMayBeTurned → IsCodec Status IsStatus IsStatusWord status_word status → (c : Config) (r : Below) (phase : BelowPhase) (s : Scene) (todo : Todo) → s.past.config ≡ c → below_facts r phase Waiting s → IsScene s → below_asks c r phase ≡ Some todo → IsAskable s todo
 askable turned codec c r Fresh s todo same f good e = absurd (cc)
 askable turned codec c r (Word i) s todo same f good e =
     subst (IsAskable s) (some-same _ todo e)
@@ -113,7 +113,7 @@ askable turned codec c r NoSlot s todo same f good e = subst (IsAskable s) (some
 askable turned codec c r NoSwap s todo same f good e = subst (IsAskable s) (some-same _ todo e) tt
 
 -- the parent's status has been changed since it was read, or the upper guard is frozen
-pub cause : (c : Config) (r : Below) (phase : Phase) (s : Scene) (seen : Seen) → below_facts r phase Waiting s → below_differs r.lower phase seen → IsCause (below_asks c r phase) seen s
+pub cause : (c : Config) (r : Below) (phase : BelowPhase) (s : Scene) (seen : Seen) → below_facts r phase Waiting s → below_differs r.lower phase seen → IsCause (below_asks c r phase) seen s
 cause c r Room s (Was v) f d = inl (guard-differed s r.lower v f.1.parted.links.guard d)
 cause c r Room s Start f d = absurd (d)
 cause c r Room s Stored f d = absurd (d)
@@ -251,7 +251,7 @@ turned-is : (c : Config) (r : Below) (s : Scene) (entries : List Entry) → s.pa
 turned-is c r s entries same e = ap (λ (z : Config). below_swap z (with_guard r.upper r.guard) r.lower (r.slot 0)) same ∙ same-entries (below_swap c (with_guard r.upper r.guard) r.lower (r.slot 0)) entries e
 
 -- the effect of the swap
-pub effect : LeafSplitsBelowAreGood → ParentsOfHalvesAreWhole → (c : Config) (r : Below) (phase : Phase) (s : Scene) (y : Instant) (entries : List Entry) → s.past.config ≡ c → below_facts r phase Waiting s → IsScene s → below_asks c r phase ≡ Some (Swaps_for entries) → Stand entries (here s)
+pub effect : LeafSplitsBelowAreGood → ParentsOfHalvesAreWhole → (c : Config) (r : Below) (phase : BelowPhase) (s : Scene) (y : Instant) (entries : List Entry) → s.past.config ≡ c → below_facts r phase Waiting s → IsScene s → below_asks c r phase ≡ Some (Swaps_for entries) → Stand entries (here s)
     → SwapsTo s.past.config entries (here s) y → IsGoodSwap false split_change entries s y
 effect law wholes c r Fresh s y entries same f good e stand swaps = absurd (cc)
 effect law wholes c r (Word i) s y entries same f good e stand swaps = absurd (cc)
@@ -280,7 +280,7 @@ same-flush : (a b : ℕ) → Some (Flushes_line a) ≡ Some (Flushes_line b) →
 same-flush a b e = cc
 
 -- what is known once a store, or a flush, is made
-pub stored : SlotsApart → (c : Config) (r : Below) (phase : Phase) (s after : Scene) (a v : ℕ) → s.past.config ≡ c → below_facts r phase Waiting s → below_asks c r phase ≡ Some (Stores_at a v) → Stores a v s after → below_facts r phase Took after
+pub stored : SlotsApart → (c : Config) (r : Below) (phase : BelowPhase) (s after : Scene) (a v : ℕ) → s.past.config ≡ c → below_facts r phase Waiting s → below_asks c r phase ≡ Some (Stores_at a v) → Stores a v s after → below_facts r phase Took after
 stored apart c r (Store j) s after a v same f e t =
     let is = same-store (word_address c (below_nodes r) j) a (word_value (below_nodes r) j) v e in
     let at : a ≡ word_address s.past.config (below_nodes r) j = sym is.0 ∙ ap (λ z. word_address z (below_nodes r) j) (sym same) in
@@ -314,7 +314,7 @@ stored apart c r NoRoom s after a v same f e t = absurd (cc)
 stored apart c r NoSlot s after a v same f e t = absurd (cc)
 stored apart c r NoSwap s after a v same f e t = absurd (cc)
 
-pub flushed : (c : Config) (r : Below) (phase : Phase) (s after : Scene) (line : ℕ) → s.past.config ≡ c → below_facts r phase Waiting s → below_asks c r phase ≡ Some (Flushes_line line) → Flushes line s after → below_facts r phase Took after
+pub flushed : (c : Config) (r : Below) (phase : BelowPhase) (s after : Scene) (line : ℕ) → s.past.config ≡ c → below_facts r phase Waiting s → below_asks c r phase ≡ Some (Flushes_line line) → Flushes line s after → below_facts r phase Took after
 flushed c r (Flush j) s after line same f e t =
     let is : line ≡ line_number s.past.config (below_nodes r) j = sym (same-flush (line_number c (below_nodes r) j) line e) ∙ ap (λ z. line_number z (below_nodes r) j) (sym same) in
     let made : Flushes (line_number s.past.config (below_nodes r) j) s after = subst (λ z. Flushes z s after) is t in (
@@ -401,7 +401,7 @@ module _ (may : LinksMayBeTurned) (wholes : ParentsOfHalvesAreWhole) (r : Below)
     right_half = stood 2 (omega arith);
   }
 
-pub took : LinksMayBeTurned → ParentsOfHalvesAreWhole → (c : Config) (r : Below) (phase : Phase) (s after : Scene) (entries : List Entry) → s.past.config ≡ c → below_facts r phase Waiting s → IsScene s → below_asks c r phase ≡ Some (Swaps_for entries) → Takes false entries s after → below_facts r phase Took after
+pub took : LinksMayBeTurned → ParentsOfHalvesAreWhole → (c : Config) (r : Below) (phase : BelowPhase) (s after : Scene) (entries : List Entry) → s.past.config ≡ c → below_facts r phase Waiting s → IsScene s → below_asks c r phase ≡ Some (Swaps_for entries) → Takes false entries s after → below_facts r phase Took after
 took may wholes c r Swap s after entries same f good e takes =
     let is : turned_by s r ≡ entries = turned-is c r s entries same e in
     (filled-after s after f.0 takes, was-split may wholes r s after good f.1.0 (subst (λ (z : List Entry). Takes false z s after) (sym is) takes))

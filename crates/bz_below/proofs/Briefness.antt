@@ -4,10 +4,10 @@ use Rattle.std.specs.Prelude.{Some}
 use Rattle.bz_task.specs.declared.todo.Outcome.TheVariants.{NeedsRoom}
 use Rattle.bz_below.specs.Duties.{WantOfRoomCostsLittle}
 use Rattle.bz_below.specs.Facts.{below_acts, below_fails, below_end, below_left}
-use Rattle.bz_below.specs.declared.phase.Phase.{Phase}
-use Rattle.bz_below.specs.declared.phase.Phase.TheVariants.{Fresh, Room, Word, Again, Guard, Store, Flush, Named, Swap, Done, Restart, NoRoom, NoSlot, NoSwap}
+use Rattle.bz_below.specs.declared.phase.BelowPhase.{BelowPhase}
+use Rattle.bz_below.specs.declared.phase.BelowPhase.TheVariants.{Fresh, Room, Word, Again, Guard, Store, Flush, Named, Swap, Done, Restart, NoRoom, NoSlot, NoSwap}
 
-few-done : (p : Phase) → below_end p ≡ Some NeedsRoom → below_acts ≤ below_left p + below_fails
+few-done : (p : BelowPhase) → below_end p ≡ Some NeedsRoom → below_acts ≤ below_left p + below_fails
 few-done NoRoom e = omega arith
 few-done Fresh e = absurd (cc)
 few-done Room e = absurd (cc)

@@ -13,11 +13,11 @@ use Rattle.bz_task.specs.declared.todo.Todo.TheVariants.{Read as Reads}
 use Rattle.bz_task.specs.declared.todo.Outcome.TheVariants.{Done as IsDone, Restart as Restarts, Full as IsFull}
 use Rattle.bz_task.specs.declared.todo.Seen.TheVariants.{Start, Read as Was, Stored, Flushed, Swapped, NoSwap as NoneLeft}
 use Rattle.bz_below.specs.Facts.{Below, below_asks, below_differs, below_end, below_needs}
-use Rattle.bz_below.specs.declared.phase.Phase.{Phase}
-use Rattle.bz_below.specs.declared.phase.Phase.TheVariants.{Fresh, Room, Word, Again, Guard, Store, Flush, Named, Swap, Done, Restart, NoRoom, NoSlot, NoSwap}
+use Rattle.bz_below.specs.declared.phase.BelowPhase.{BelowPhase}
+use Rattle.bz_below.specs.declared.phase.BelowPhase.TheVariants.{Fresh, Room, Word, Again, Guard, Store, Flush, Named, Swap, Done, Restart, NoRoom, NoSlot, NoSwap}
 
 -- how phases end
-ends-done : (p : Phase) → below_end p ≡ Some IsDone → p ≡ Done
+ends-done : (p : BelowPhase) → below_end p ≡ Some IsDone → p ≡ Done
 ends-done Done e = refl
 ends-done Fresh e = absurd (cc)
 ends-done (Word i) e = absurd (cc)
@@ -33,7 +33,7 @@ ends-done NoRoom e = absurd (cc)
 ends-done NoSlot e = absurd (cc)
 ends-done NoSwap e = absurd (cc)
 
-ends-restart : (p : Phase) → below_end p ≡ Some Restarts → p ≡ Restart
+ends-restart : (p : BelowPhase) → below_end p ≡ Some Restarts → p ≡ Restart
 ends-restart Restart e = refl
 ends-restart Fresh e = absurd (cc)
 ends-restart (Word i) e = absurd (cc)
@@ -49,7 +49,7 @@ ends-restart NoRoom e = absurd (cc)
 ends-restart NoSlot e = absurd (cc)
 ends-restart NoSwap e = absurd (cc)
 
-ends-no-swap : (p : Phase) → below_end p ≡ Some (IsFull NoSwaps) → p ≡ NoSwap
+ends-no-swap : (p : BelowPhase) → below_end p ≡ Some (IsFull NoSwaps) → p ≡ NoSwap
 ends-no-swap NoSwap e = refl
 ends-no-swap Fresh e = absurd (cc)
 ends-no-swap (Word i) e = absurd (cc)
@@ -65,7 +65,7 @@ ends-no-swap Restart e = absurd (cc)
 ends-no-swap NoRoom e = absurd (cc)
 ends-no-swap NoSlot e = absurd (cc)
 
-ends-no-slot : (p : Phase) → below_end p ≡ Some (IsFull NoNodes) → p ≡ NoSlot
+ends-no-slot : (p : BelowPhase) → below_end p ≡ Some (IsFull NoNodes) → p ≡ NoSlot
 ends-no-slot NoSlot e = refl
 ends-no-slot Fresh e = absurd (cc)
 ends-no-slot (Word i) e = absurd (cc)
@@ -82,14 +82,14 @@ ends-no-slot NoRoom e = absurd (cc)
 ends-no-slot NoSwap e = absurd (cc)
 
 -- a phase after another one, told of how it ends
-pub record EndsWell (lower : Link) (seen : Seen) (o p : Phase) (free : FreeSlots) : Type 0 where
+pub record EndsWell (lower : Link) (seen : Seen) (o p : BelowPhase) (free : FreeSlots) : Type 0 where
   pub done : below_end p ≡ Some IsDone → seen ≡ Swapped true
   pub restart : below_end p ≡ Some Restarts → (seen ≡ Swapped false) ⊎ below_differs lower o seen
   pub no_swap : seen ≡ NoneLeft → below_end p ≡ Some (IsFull NoSwaps)
   pub full_swaps : below_end p ≡ Some (IsFull NoSwaps) → seen ≡ NoneLeft
   pub full_nodes : below_end p ≡ Some (IsFull NoNodes) → length free.free < below_needs o
 
-pub ends-well : (lower : Link) (seen : Seen) (o p : Phase) (free : FreeSlots) → (p ≡ Done → seen ≡ Swapped true) → (p ≡ Restart → (seen ≡ Swapped false) ⊎ below_differs lower o seen) → (p ≡ NoSwap) ↔ (seen ≡ NoneLeft) → p ≢ NoSlot → EndsWell lower seen o p free
+pub ends-well : (lower : Link) (seen : Seen) (o p : BelowPhase) (free : FreeSlots) → (p ≡ Done → seen ≡ Swapped true) → (p ≡ Restart → (seen ≡ Swapped false) ⊎ below_differs lower o seen) → (p ≡ NoSwap) ↔ (seen ≡ NoneLeft) → p ≢ NoSlot → EndsWell lower seen o p free
 ends-well lower seen o p free done restart no_swap slots = record {
   done = λ e. done (ends-done p e);
   restart = λ e. restart (ends-restart p e);
@@ -121,11 +121,11 @@ word-answers a v (Swapped won) Waiting s found t = absurd (t)
 word-answers a v NoneLeft Waiting s found t = absurd (t)
 word-answers a v seen Took s found t = absurd (t)
 
-pub takes-none : (o p : Phase) (free : FreeSlots) → below_needs p ≤ below_needs o → AreTakenFrom (below_needs o) (below_needs p) free free
+pub takes-none : (o p : BelowPhase) (free : FreeSlots) → below_needs p ≤ below_needs o → AreTakenFrom (below_needs o) (below_needs p) free free
 takes-none o p free fewer = inr (record { fewer = fewer; slots = refl })
 
 -- no end
-pub goes-on : (lower : Link) (seen : Seen) (o p : Phase) (free : FreeSlots) → below_end p ≡ None → seen ≢ NoneLeft → EndsWell lower seen o p free
+pub goes-on : (lower : Link) (seen : Seen) (o p : BelowPhase) (free : FreeSlots) → below_end p ≡ None → seen ≢ NoneLeft → EndsWell lower seen o p free
 goes-on lower seen o p free none heard = record {
   done = λ e. absurd (let h = sym none ∙ e in cc);
   restart = λ e. absurd (let h = sym none ∙ e in cc);

@@ -20,8 +20,8 @@ use Rattle.bz_parted.specs.Laws.{ReadNodesHaveChildren}
 use Rattle.bz_renew.specs.Nodes.{HaveSlots, AreSlotsTaken}
 use Rattle.bz_below.specs.Facts.{Below, below_nodes, HasPartedBelow, IsPlan, IsPlanned, LeavesRoom, HasRoom, HasParent, HasBegunBelow, HasBegunOrWaits, HasLookedBelow, below_differs, below_end, below_left, below_steps, below_needs, below_facts, IsReadyBelow}
 use Rattle.bz_below.specs.Guards.{WasThawed, LinksLeaveTheirNodes}
-use Rattle.bz_below.specs.declared.phase.Phase.{Phase}
-use Rattle.bz_below.specs.declared.phase.Phase.TheVariants.{Fresh, Room, Word, Again, Guard, Store, Flush, Named, Swap, Done, Restart, NoRoom, NoSlot, NoSwap}
+use Rattle.bz_below.specs.declared.phase.BelowPhase.{BelowPhase}
+use Rattle.bz_below.specs.declared.phase.BelowPhase.TheVariants.{Fresh, Room, Word, Again, Guard, Store, Flush, Named, Swap, Done, Restart, NoRoom, NoSlot, NoSwap}
 use Rattle.bz_below.proofs.Acting.{upper-slot}
 use Rattle.bz_below.proofs.Ending.{EndsWell, goes-on}
 use Rattle.bz_below.proofs.Making.{IsClear, begun-knows, clear-of}
@@ -29,7 +29,7 @@ use Rattle.bz_below.proofs.Opening.{first-word}
 use Rattle.bz_below.proofs.ParentsThen.{leaves-room}
 
 -- what another look at the upper guard leads to, of a task that may wait so many times before and after it
-pub record Looks (before after : ℕ) (r : Below) (c : Config) (seen : Seen) (p : Phase) (old new : FreeSlots) : Type 0 where
+pub record Looks (before after : ℕ) (r : Below) (c : Config) (seen : Seen) (p : BelowPhase) (old new : FreeSlots) : Type 0 where
   pub begun : p ≢ Fresh
   pub ready : IsReadyBelow c r p
   pub nearer : after + (below_left p + below_steps p) ≤ before + below_left Guard
@@ -43,7 +43,7 @@ begun-taken r old new t = inl (record { some = omega arith; enough = t.enough; s
 heard : (v : ℕ) (seen : Seen) → seen ≡ Was v → seen ≢ NoneLeft
 heard v seen is e = let q = sym is ∙ e in absurd (cc)
 
-begins : (nodes n : ℕ) (r : Below) (c : Config) (seen : Seen) (p : Phase) (old new : FreeSlots) → seen ≢ NoneLeft → HasBegunBelow nodes r p old new → old.nodes ≡ c.nodes → Looks n n r c seen p old new
+begins : (nodes n : ℕ) (r : Below) (c : Config) (seen : Seen) (p : BelowPhase) (old new : FreeSlots) → seen ≢ NoneLeft → HasBegunBelow nodes r p old new → old.nodes ≡ c.nodes → Looks n n r c seen p old new
 begins k n r c seen (Store j) old new some h nodes = record {
   begun = λ e. absurd (cc);
   ready = (subst (λ z. HaveSlots z (below_nodes r)) nodes h.1.0.slots, omega (arith, h.0));
@@ -81,7 +81,7 @@ reads-anew before after r c seen old some slot e = record {
   ends = goes-on r.lower seen Guard (Word 1) old refl some;
 }
 
-begins-or-waits : (nodes left before after : ℕ) (read : List ℕ) (r : Below) (c : Config) (seen : Seen) (p : Phase) (old new : FreeSlots) → seen ≢ NoneLeft → r.upper.slot < c.nodes → HasBegunOrWaits nodes left before after read r p old new → old.nodes ≡ c.nodes → Looks before after r c seen p old new
+begins-or-waits : (nodes left before after : ℕ) (read : List ℕ) (r : Below) (c : Config) (seen : Seen) (p : BelowPhase) (old new : FreeSlots) → seen ≢ NoneLeft → r.upper.slot < c.nodes → HasBegunOrWaits nodes left before after read r p old new → old.nodes ≡ c.nodes → Looks before after r c seen p old new
 begins-or-waits k left before after read r c seen p old new some slot h nodes = elim h [
   | inl b ↦ subst (λ z. Looks before z r c seen p old new) (sym b.1.0) (begins k before r c seen p old new some b.0 nodes)
   | inr w ↦ subst (λ z. Looks before after r c seen z old new) (sym w.0) (subst (λ z. Looks before after r c seen (Word 1) old z) (sym w.1.1.0) (reads-anew before after r c seen old some slot w.1.0))
@@ -103,7 +103,7 @@ frozen-ends n r c v seen old is frozen = record {
   };
 }
 
-pub looks : (n left before after : ℕ) (read : List ℕ) (r : Below) (c : Config) (v : ℕ) (seen : Seen) (p : Phase) (old new : FreeSlots) → r.upper.slot < c.nodes → seen ≡ Was v → HasLookedBelow n left before after read r v p old new → old.nodes ≡ c.nodes → Looks before after r c seen p old new
+pub looks : (n left before after : ℕ) (read : List ℕ) (r : Below) (c : Config) (v : ℕ) (seen : Seen) (p : BelowPhase) (old new : FreeSlots) → r.upper.slot < c.nodes → seen ≡ Was v → HasLookedBelow n left before after read r v p old new → old.nodes ≡ c.nodes → Looks before after r c seen p old new
 looks n left before after read r c v seen p old new slot is h nodes = elim h [
   | inl g ↦ begins-or-waits n left before after read r c seen p old new (heard v seen is) slot g.1 nodes
   | inr g ↦ subst (λ z. Looks before z r c seen p old new) (sym g.1.1.0)
@@ -156,7 +156,7 @@ thawed-now : (s : Scene) (link : Link) (v m : ℕ) → m ≤ s.past.now → Answ
 thawed-now s link v m order a thawed = record { again = s.past.now; order = order; now = omega arith; loads = a.loads; thawed = ap (λ z. (status z).frozen) a.value ∙ thawed }
 
 -- what another look at the upper guard teaches, of a task that had these facts and found this
-pub looked-learns : SlotsApart → ChildrenMayBeParted → ReadNodesHaveChildren → LinksLeaveTheirNodes → NothingIsGained → (c : Config) (left before after : ℕ) (o r : Below) (q : Phase) (v : ℕ) (old new : FreeSlots) → SameParts o r → HasLookedBelow c.nodes left before after o.read r v q old new → old.nodes ≡ c.nodes
+pub looked-learns : SlotsApart → ChildrenMayBeParted → ReadNodesHaveChildren → LinksLeaveTheirNodes → NothingIsGained → (c : Config) (left before after : ℕ) (o r : Below) (q : BelowPhase) (v : ℕ) (old new : FreeSlots) → SameParts o r → HasLookedBelow c.nodes left before after o.read r v q old new → old.nodes ≡ c.nodes
     → (stage : Stage) (s : Scene) → s.past.config ≡ c → IsScene s → AreUnreached s old → below_facts o Guard stage s → Answers s o.upper.guard v → below_facts r q Waiting (gained s old new)
 looked-learns apart parts have leave nothing c left before after o r q v old new same h nodes stage s config good free facts answers =
     let known = plan-waits o stage s facts in
@@ -175,12 +175,12 @@ looked-learns apart parts have leave nothing c left before after o r q v old new
     ]
 
 -- where it ends none was taken
-begun-kept : (nodes : ℕ) (r : Below) (p : Phase) (old new : FreeSlots) (outcome : Outcome) → HasBegunBelow nodes r p old new → below_end p ≡ Some outcome → new ≡ old
+begun-kept : (nodes : ℕ) (r : Below) (p : BelowPhase) (old new : FreeSlots) (outcome : Outcome) → HasBegunBelow nodes r p old new → below_end p ≡ Some outcome → new ≡ old
 begun-kept nodes r (Store j) old new outcome h e = absurd (cc)
 begun-kept nodes r NoSlot old new outcome h e = h.1
 begun-kept nodes r p old new outcome h e = absurd (h)
 
-pub looked-kept : (nodes left before after : ℕ) (read : List ℕ) (r : Below) (word : ℕ) (p : Phase) (old new : FreeSlots) (outcome : Outcome) → HasLookedBelow nodes left before after read r word p old new → below_end p ≡ Some outcome → new ≡ old
+pub looked-kept : (nodes left before after : ℕ) (read : List ℕ) (r : Below) (word : ℕ) (p : BelowPhase) (old new : FreeSlots) (outcome : Outcome) → HasLookedBelow nodes left before after read r word p old new → below_end p ≡ Some outcome → new ≡ old
 looked-kept nodes left before after read r word p old new outcome (inl (thawed, inl h)) e = begun-kept nodes r p old new outcome h.0 e
 looked-kept nodes left before after read r word p old new outcome (inl (thawed, inr h)) e = h.1.1.0
 looked-kept nodes left before after read r word p old new outcome (inr h) e = h.1.1.1

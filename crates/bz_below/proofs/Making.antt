@@ -19,8 +19,8 @@ use Rattle.bz_renew.proofs.NodeWrites.{nodes-taken, none-begun}
 use Rattle.bz_renew.proofs.Plainness.{IsPlain, inner-plain}
 use Rattle.bz_below.specs.Facts.{Below, below_nodes, IsPlanned, IsSplittingBelow, HasBegunBelow, parent_words, below_facts}
 use Rattle.bz_below.specs.Guards.{WasThawed, LinksLeaveTheirNodes}
-use Rattle.bz_below.specs.declared.phase.Phase.{Phase}
-use Rattle.bz_below.specs.declared.phase.Phase.TheVariants.{Fresh, Room, Word, Again, Guard, Store, Flush, Named, Swap, Done, Restart, NoRoom, NoSlot, NoSwap}
+use Rattle.bz_below.specs.declared.phase.BelowPhase.{BelowPhase}
+use Rattle.bz_below.specs.declared.phase.BelowPhase.TheVariants.{Fresh, Room, Word, Again, Guard, Store, Flush, Named, Swap, Done, Restart, NoRoom, NoSlot, NoSwap}
 
 -- the three nodes are words that may be stored
 module _ (parts : ChildrenMayBeParted) (r : Below) (s : Scene) (good : IsScene s) (v : IsPlanned r s.past) (over : r.image 0 ≡ parent_words r v.parted.child v.parent.level v.parent.low v.parent.high) (size : length (r.image 0) ≡ NODE_WORDS) (slots : HaveSlots s.past.config.nodes (below_nodes r)) where
@@ -67,7 +67,7 @@ clear-of leave apart s upper good g thawed = elim g.under [ inl u ↦ at-root u 
     }
 
 -- the slots were taken, and so the first store is known
-pub begun-knows : SlotsApart → ChildrenMayBeParted → NothingIsGained → (r : Below) (phase : Phase) (s : Scene) (old new : FreeSlots) → IsScene s → HasBegunBelow s.past.config.nodes r phase old new → old.nodes ≡ s.past.config.nodes → AreUnreached s old → HasFilled s
+pub begun-knows : SlotsApart → ChildrenMayBeParted → NothingIsGained → (r : Below) (phase : BelowPhase) (s : Scene) (old new : FreeSlots) → IsScene s → HasBegunBelow s.past.config.nodes r phase old new → old.nodes ≡ s.past.config.nodes → AreUnreached s old → HasFilled s
     → (planned : IsPlanned r s.past) → WasThawed r.upper planned.parted.moment s.past → IsClear s r.upper → below_facts r phase Waiting (gained s old new)
 begun-knows apart parts nothing r (Store j) s old new good h nodes unreached filled v looked clear =
     let slots : HaveSlots s.past.config.nodes (below_nodes r) = subst (λ z. HaveSlots z (below_nodes r)) nodes h.1.0.slots in

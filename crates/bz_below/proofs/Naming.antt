@@ -16,8 +16,8 @@ use Rattle.bz_renew.proofs.TwoEntries.{no-target}
 use Rattle.bz_below.specs.Facts.{Below, below_nodes, IsSplittingBelow, IsSwapReady, below_differs, below_facts, below_left, below_steps, below_needs, IsReadyBelow}
 use Rattle.bz_split.specs.Facts.{SPLIT_WORDS, SPLIT_LINES}
 use Rattle.bz_below.specs.Guards.{with_guard, WasNamed, LinksStandOn}
-use Rattle.bz_below.specs.declared.phase.Phase.{Phase}
-use Rattle.bz_below.specs.declared.phase.Phase.TheVariants.{Fresh, Named, Swap, Restart}
+use Rattle.bz_below.specs.declared.phase.BelowPhase.{BelowPhase}
+use Rattle.bz_below.specs.declared.phase.BelowPhase.TheVariants.{Fresh, Named, Swap, Restart}
 use Rattle.bz_below.proofs.Acting.{upper-slot}
 use Rattle.bz_below.proofs.Ending.{EndsWell, goes-on}
 
@@ -61,12 +61,12 @@ was-named stand r v s good f a thawed = record {
 }
 
 -- what a phase after it must be
-pub record IsNamedPhase (v : ℕ) (p : Phase) : Type 0 where
+pub record IsNamedPhase (v : ℕ) (p : BelowPhase) : Type 0 where
   pub frozen : (status v).frozen ≡ true → p ≡ Restart
   pub thawed : (status v).frozen ≡ false → p ≡ Swap
 
 -- what it leads to
-pub record Names (r : Below) (c : Config) (v : ℕ) (seen : Seen) (p : Phase) (free : FreeSlots) : Type 0 where
+pub record Names (r : Below) (c : Config) (v : ℕ) (seen : Seen) (p : BelowPhase) (free : FreeSlots) : Type 0 where
   pub begun : p ≢ Fresh
   pub ready : IsReadyBelow c (named-of r v) p
   pub nearer : below_left p + below_steps p ≤ below_left Named
@@ -100,7 +100,7 @@ swaps turned r c v seen s free same good plain is f = record {
   ends = goes-on r.lower seen Named Swap free refl (heard v seen is);
 }
 
-pub names : LinksMayBeTurned → (r : Below) (c : Config) (v : ℕ) (seen : Seen) (p : Phase) (stage : Stage) (s : Scene) (free : FreeSlots) → s.past.config ≡ c → IsScene s → v < 2 ^ 61 → seen ≡ Was v → below_facts r Named stage s → IsNamedPhase v p → Names r c v seen p free
+pub names : LinksMayBeTurned → (r : Below) (c : Config) (v : ℕ) (seen : Seen) (p : BelowPhase) (stage : Stage) (s : Scene) (free : FreeSlots) → s.past.config ≡ c → IsScene s → v < 2 ^ 61 → seen ≡ Was v → below_facts r Named stage s → IsNamedPhase v p → Names r c v seen p free
 names turned r c v seen p stage s free same good plain is f h = go (status v).frozen refl
   where
     go : (b : Bool) → (status v).frozen ≡ b → Names r c v seen p free
@@ -108,7 +108,7 @@ names turned r c v seen p stage s free same good plain is f h = go (status v).fr
     go false e = subst (λ z. Names r c v seen z free) (sym (h.thawed e)) (swaps turned r c v seen s free same good plain is (waits r stage s f).1)
 
 -- what it teaches
-pub named-learns : LinksStandOn → (r : Below) (v : ℕ) (p : Phase) (stage : Stage) (s : Scene) → IsScene s → Answers s r.upper.guard v → below_facts r Named stage s → IsNamedPhase v p → below_facts (named-of r v) p Waiting s
+pub named-learns : LinksStandOn → (r : Below) (v : ℕ) (p : BelowPhase) (stage : Stage) (s : Scene) → IsScene s → Answers s r.upper.guard v → below_facts r Named stage s → IsNamedPhase v p → below_facts (named-of r v) p Waiting s
 named-learns stand r v p stage s good a f h = go (status v).frozen refl
   where
     go : (b : Bool) → (status v).frozen ≡ b → below_facts (named-of r v) p Waiting s

@@ -10,8 +10,8 @@ use Rattle.bz_task.specs.declared.todo.Seen.{Seen}
 use Rattle.bz_task.specs.declared.todo.Seen.TheVariants.{Read as Was}
 use Rattle.bz_below.specs.Facts.{Below, HasPartedBelow, HasStarted, IsUnread, IsReading, LeavesRoom, HasOpened, below_asks, below_left, below_steps, below_needs, below_facts, IsReadyBelow}
 use Rattle.bz_below.specs.Parents.{ReadParentsWere}
-use Rattle.bz_below.specs.declared.phase.Phase.{Phase}
-use Rattle.bz_below.specs.declared.phase.Phase.TheVariants.{Fresh, Room, Word, Again, Guard, Store, Flush, Named, Swap, Done, Restart, NoRoom, NoSlot, NoSwap}
+use Rattle.bz_below.specs.declared.phase.BelowPhase.{BelowPhase}
+use Rattle.bz_below.specs.declared.phase.BelowPhase.TheVariants.{Fresh, Room, Word, Again, Guard, Store, Flush, Named, Swap, Done, Restart, NoRoom, NoSlot, NoSwap}
 use Rattle.bz_below.proofs.Acting.{upper-slot}
 use Rattle.bz_below.proofs.Ending.{EndsWell, goes-on, other-first, read-answers, was-no-swap}
 use Rattle.bz_below.proofs.ParentsThen.{lacked-room}
@@ -28,7 +28,7 @@ pub first-word : (r : Below) (s : Scene) → HasPartedBelow r.upper r.lower (r.i
 first-word r s v room u = record { parted = v; room = room; were = record { size = u.size; first = u.first; rest = λ i some l. absurd (omega (arith, some, l)); blank = λ i some. u.blank i some } }
 
 -- what the status of the parent teaches
-pub opened-learns : ReadParentsWere → ReadNodesHaveChildren → (c : Config) (before after : ℕ) (r : Below) (p : Phase) (seen : Seen) (stage : Stage) (s : Scene) → HasOpened before after r seen p → IsScene s → below_facts r Room stage s → Tells (below_asks c r Room) stage seen s → below_facts r p Waiting s
+pub opened-learns : ReadParentsWere → ReadNodesHaveChildren → (c : Config) (before after : ℕ) (r : Below) (p : BelowPhase) (seen : Seen) (stage : Stage) (s : Scene) → HasOpened before after r seen p → IsScene s → below_facts r Room stage s → Tells (below_asks c r Room) stage seen s → below_facts r p Waiting s
 opened-learns law have c before after r (Word i) seen stage s h good f t =
     let g = waits r stage s f in
     (g.0, (omega (arith, h.0), (omega (arith, h.0), subst (λ z. IsReading r z s.past) (sym h.0) (first-word r s g.1.parted h.1.1.0 g.1.unread))))
@@ -47,14 +47,14 @@ opened-learns law have c before after r NoSlot seen stage s h good f t = absurd 
 opened-learns law have c before after r NoSwap seen stage s h good f t = absurd (h)
 
 -- what it leads to
-pub record Opens (before after : ℕ) (r : Below) (c : Config) (seen : Seen) (p : Phase) (free : FreeSlots) : Type 0 where
+pub record Opens (before after : ℕ) (r : Below) (c : Config) (seen : Seen) (p : BelowPhase) (free : FreeSlots) : Type 0 where
   pub begun : p ≢ Fresh
   pub ready : IsReadyBelow c r p
   pub nearer : after + (below_left p + below_steps p) ≤ before + below_left Room
   pub fewer : below_needs p ≤ SPLIT_SLOTS
   pub ends : EndsWell r.lower seen Room p free
 
-pub opens : (before after : ℕ) (r : Below) (c : Config) (seen : Seen) (p : Phase) (free : FreeSlots) (stage : Stage) (s : Scene) → s.past.config ≡ c → IsScene s → below_facts r Room stage s → Hears (below_asks c r Room) seen → HasOpened before after r seen p → Opens before after r c seen p free
+pub opens : (before after : ℕ) (r : Below) (c : Config) (seen : Seen) (p : BelowPhase) (free : FreeSlots) (stage : Stage) (s : Scene) → s.past.config ≡ c → IsScene s → below_facts r Room stage s → Hears (below_asks c r Room) seen → HasOpened before after r seen p → Opens before after r c seen p free
 opens before after r c seen (Word i) free stage s same good f hears h =
     let slot : r.upper.slot < c.nodes = subst (λ (z : Config). r.upper.slot < z.nodes) same (upper-slot r.upper r.lower (r.image 1) (r.image 2) r.sep s good (waits r stage s f).1.parted) in
     record { begun = λ e. absurd (cc); ready = (slot, omega (arith, h.0)); nearer = omega (arith, h.0, h.1.1.1); fewer = omega arith; ends = goes-on r.lower seen Room (Word i) free refl (was-no-swap r.lower.guard seen hears) }

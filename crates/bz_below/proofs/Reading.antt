@@ -14,8 +14,8 @@ use Rattle.bz_task.specs.Scene.{Scene, Stage, Waiting, Took, IsScene, HasFilled}
 use Rattle.bz_task.specs.declared.todo.Seen.{Seen}
 use Rattle.bz_task.specs.declared.todo.Seen.TheVariants.{Start, Read as Was, Stored, Flushed, Swapped, NoSwap as NoneLeft}
 use Rattle.bz_below.specs.Facts.{Below, IsReading, below_asks, below_left, below_steps, below_needs, below_facts, word_after, IsReadyBelow}
-use Rattle.bz_below.specs.declared.phase.Phase.{Phase}
-use Rattle.bz_below.specs.declared.phase.Phase.TheVariants.{Fresh, Room, Word, Again}
+use Rattle.bz_below.specs.declared.phase.BelowPhase.{BelowPhase}
+use Rattle.bz_below.specs.declared.phase.BelowPhase.TheVariants.{Fresh, Room, Word, Again}
 use Rattle.bz_below.proofs.Acting.{upper-slot}
 use Rattle.bz_below.proofs.Ending.{EndsWell, goes-on, was-no-swap}
 use Rattle.bz_below.proofs.ReadWords.{kept}
@@ -60,7 +60,7 @@ word-known c r i j v NoneLeft Waiting s same good after within skipped found f t
 word-known c r i j v seen Took s same good after within skipped found f t = absurd (f)
 
 -- the load of a word leads to that of the next one
-pub record Words (c : Config) (r : Below) (i j : ℕ) (seen : Seen) (p : Phase) (free : FreeSlots) : Type 0 where
+pub record Words (c : Config) (r : Below) (i j : ℕ) (seen : Seen) (p : BelowPhase) (free : FreeSlots) : Type 0 where
   pub begun : p ≢ Fresh
   pub ready : IsReadyBelow c r p
   pub nearer : below_left p + below_steps p + j ≤ below_left (Word i) + i + 1

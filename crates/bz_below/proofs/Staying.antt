@@ -30,8 +30,8 @@ use Rattle.bz_split.specs.BelowSplits.{AreLinksDown}
 use Rattle.bz_split.specs.Facts.{SPLIT_WORDS, SPLIT_LINES}
 use Rattle.bz_below.specs.Guards.{WasThawed, WasNamed}
 use Rattle.bz_below.specs.Parents.{WasWord, WasReadOrFree, WereRead, IsParentOf, WasParent}
-use Rattle.bz_below.specs.declared.phase.Phase.{Phase}
-use Rattle.bz_below.specs.declared.phase.Phase.TheVariants.{Fresh, Room, Word, Again, Guard, Store, Flush, Named, Swap, Done, Restart, NoRoom, NoSlot, NoSwap}
+use Rattle.bz_below.specs.declared.phase.BelowPhase.{BelowPhase}
+use Rattle.bz_below.specs.declared.phase.BelowPhase.TheVariants.{Fresh, Room, Word, Again, Guard, Store, Flush, Named, Swap, Done, Restart, NoRoom, NoSlot, NoSwap}
 use Rattle.bz_split.proofs.Staying.{stood-stays}
 
 -- a child pointer stays one, of the same child
@@ -230,7 +230,7 @@ module _ (r : Below) (s after : Scene) (l : IsLawful s after) where
   filled : HasFilled s → HasFilled after
   filled f k t = l.filled k ∙ f k (sym (l.took k) ∙ t)
 
-  pub stable : (phase : Phase) (stage : Stage) → below_facts r phase stage s → below_facts r phase stage after
+  pub stable : (phase : BelowPhase) (stage : Stage) → below_facts r phase stage s → below_facts r phase stage after
   stable Fresh Waiting f = started-stays s.past after.past l.continues r f
   stable Room Waiting f = (filled f.0, started-stays s.past after.past l.continues r f.1)
   stable (Word i) Waiting f = (filled f.0, (f.1.0, (f.1.1.0, reading-stays s.past after.past l.continues r i f.1.1.1)))
@@ -273,7 +273,7 @@ module _ (nothing : NothingIsGained) (r : Below) (s : Scene) (free : FreeSlots) 
     writing = nodes-no-slot (below_nodes r) stored lines s free f.writing;
   }
 
-  pub no-slot : (phase : Phase) → below_facts r phase Waiting s → below_facts r phase Waiting (gained s free free)
+  pub no-slot : (phase : BelowPhase) → below_facts r phase Waiting s → below_facts r phase Waiting (gained s free free)
   no-slot Fresh f = f
   no-slot Room f = (nothing s free f.0, f.1)
   no-slot (Word i) f = (nothing s free f.0, f.1)

@@ -12,8 +12,8 @@ use Rattle.bz_task.specs.declared.todo.Seen.TheVariants.{Read as Was}
 use Rattle.bz_parted.specs.Laws.{ReadNodesHaveChildren}
 use Rattle.bz_below.specs.Facts.{Below, IsReading, HasTold, below_asks, below_left, below_steps, below_needs, below_facts, IsReadyBelow}
 use Rattle.bz_below.specs.Parents.{WasParent, ReadParentsWere}
-use Rattle.bz_below.specs.declared.phase.Phase.{Phase}
-use Rattle.bz_below.specs.declared.phase.Phase.TheVariants.{Fresh, Room, Word, Again, Guard, Store, Flush, Named, Swap, Done, Restart, NoRoom, NoSlot, NoSwap}
+use Rattle.bz_below.specs.declared.phase.BelowPhase.{BelowPhase}
+use Rattle.bz_below.specs.declared.phase.BelowPhase.TheVariants.{Fresh, Room, Word, Again, Guard, Store, Flush, Named, Swap, Done, Restart, NoRoom, NoSlot, NoSwap}
 use Rattle.bz_below.proofs.Ending.{EndsWell, goes-on, other-lower, read-answers, was-no-swap}
 use Rattle.bz_below.proofs.ParentsThen.{taken, was-parent}
 
@@ -25,7 +25,7 @@ waits r Waiting s f = f
 waits r Took s f = absurd (f)
 
 -- what the status of the parent, once more, teaches
-pub told-learns : ReadParentsWere → ReadNodesHaveChildren → (c : Config) (r : Below) (p : Phase) (seen : Seen) (stage : Stage) (s : Scene) → HasTold r seen p → IsScene s → below_facts r Again stage s → Tells (below_asks c r Again) stage seen s → below_facts r p Waiting s
+pub told-learns : ReadParentsWere → ReadNodesHaveChildren → (c : Config) (r : Below) (p : BelowPhase) (seen : Seen) (stage : Stage) (s : Scene) → HasTold r seen p → IsScene s → below_facts r Again stage s → Tells (below_asks c r Again) stage seen s → below_facts r p Waiting s
 told-learns law have c r Guard seen stage s h good f t =
     let g = waits r stage s f in
     let v = g.1.parted in
@@ -46,14 +46,14 @@ told-learns law have c r NoSlot seen stage s h good f t = absurd (h)
 told-learns law have c r NoSwap seen stage s h good f t = absurd (h)
 
 -- what it leads to
-pub record Tolds (r : Below) (c : Config) (seen : Seen) (p : Phase) (free : FreeSlots) : Type 0 where
+pub record Tolds (r : Below) (c : Config) (seen : Seen) (p : BelowPhase) (free : FreeSlots) : Type 0 where
   pub begun : p ≢ Fresh
   pub ready : IsReadyBelow c r p
   pub nearer : below_left p + below_steps p ≤ below_left Again
   pub taken : AreTakenFrom SPLIT_SLOTS (below_needs p) free free
   pub ends : EndsWell r.lower seen Again p free
 
-pub tolds : (r : Below) (c : Config) (seen : Seen) (p : Phase) (free : FreeSlots) → Hears (below_asks c r Again) seen → HasTold r seen p → Tolds r c seen p free
+pub tolds : (r : Below) (c : Config) (seen : Seen) (p : BelowPhase) (free : FreeSlots) → Hears (below_asks c r Again) seen → HasTold r seen p → Tolds r c seen p free
 tolds r c seen Guard free hears h =
     record { begun = λ e. absurd (cc); ready = tt; nearer = omega arith; taken = inr (record { fewer = omega arith; slots = refl }); ends = goes-on r.lower seen Again Guard free refl (was-no-swap r.lower.guard seen hears) }
 tolds r c seen Restart free hears h = record {

@@ -11,8 +11,8 @@ use Rattle.bz_renew.specs.Nodes.{HaveSlots}
 use Rattle.bz_renew.proofs.NodeWrites.{all-begun}
 use Rattle.bz_below.specs.Facts.{Below, below_nodes, IsSplittingBelow, below_asks, below_facts, store_after, flush_after, IsReadyBelow}
 use Rattle.bz_split.specs.Facts.{SPLIT_WORDS, SPLIT_LINES}
-use Rattle.bz_below.specs.declared.phase.Phase.{Phase}
-use Rattle.bz_below.specs.declared.phase.Phase.TheVariants.{Store, Flush, Named}
+use Rattle.bz_below.specs.declared.phase.BelowPhase.{BelowPhase}
+use Rattle.bz_below.specs.declared.phase.BelowPhase.TheVariants.{Store, Flush, Named}
 
 -- after a store
 pub next-stored : (r : Below) (j : ℕ) (s : Scene) → below_facts r (Store j) Took s → below_facts r (store_after j) Waiting s
@@ -64,7 +64,7 @@ flush-took c r j Took s f t = f
 flush-took c r j Waiting s f t = absurd (t)
 
 -- what comes after a store, and after a flush
-module _ (c : Config) (r : Below) (p q : Phase) (j : ℕ) (seen : Seen) (stage : Stage) (s : Scene) (same : s.past.config ≡ c) (f : below_facts r p stage s) (t : Tells (below_asks c r p) stage seen s) where
+module _ (c : Config) (r : Below) (p q : BelowPhase) (j : ℕ) (seen : Seen) (stage : Stage) (s : Scene) (same : s.past.config ≡ c) (f : below_facts r p stage s) (t : Tells (below_asks c r p) stage seen s) where
   at-store : p ≡ Store j → seen ≡ Stored → below_facts r (Store j) Took s
   at-store is e = store-took c r j stage s (subst (λ z. below_facts r z stage s) is f) (subst (λ z. Tells (below_asks c r (Store j)) stage z s) e (subst (λ z. Tells (below_asks c r z) stage seen s) is t))
 

@@ -38,9 +38,9 @@ use Rattle.bz_split.specs.Facts.{SPLIT_WORDS, SPLIT_LINES, StoodFresh}
 use Rattle.bz_below.specs.Guards.{with_guard, WasThawed, WasNamed}
 use Rattle.bz_below.specs.Parents.{WereRead, IsParentOf, WasParent}
 use Rattle.bz_split.specs.Parts.{ArePartsOf}
-use Rattle.bz_below.specs.declared.phase.Phase.{Phase}
+use Rattle.bz_below.specs.declared.phase.BelowPhase.{BelowPhase}
 use Rattle.bz_below.specs.declared.phase.TheConstants.{MOST_WAITS}
-use Rattle.bz_below.specs.declared.phase.Phase.TheVariants.{Fresh, Room, Word, Again, Guard, Store, Flush, Named, Swap, Done, Restart, NoRoom, NoSlot, NoSwap}
+use Rattle.bz_below.specs.declared.phase.BelowPhase.TheVariants.{Fresh, Room, Word, Again, Guard, Store, Flush, Named, Swap, Done, Restart, NoRoom, NoSlot, NoSwap}
 
 -- the link to the parent and the link to the leaf; the slots and the words of the new parent, of the left half and of the right
 -- half; the words that were read of the parent so far; the separator; and the upper guard that the swap names
@@ -56,7 +56,7 @@ pub record Below : Type 0 where
 abbrev pub below_nodes : Below → Nodes
 below_nodes r = record { count = SPLIT_SLOTS; slot = r.slot; image = r.image }
 
-abbrev pub below_asks : Config → Below → Phase → Option Todo
+abbrev pub below_asks : Config → Below → BelowPhase → Option Todo
 below_asks c r Fresh = None
 below_asks c r Room = Some (Reads r.lower.guard)
 below_asks c r (Word i) = Some (Reads (node_address c r.upper.slot + i))
@@ -68,7 +68,7 @@ below_asks c r Named = Some (Reads r.upper.guard)
 below_asks c r Swap = Some (Swaps_for (below_swap c (with_guard r.upper r.guard) r.lower (r.slot 0)))
 below_asks c r phase = Some Finish
 
-abbrev pub below_end : Phase → Option Outcome
+abbrev pub below_end : BelowPhase → Option Outcome
 below_end Done = Some IsDone
 below_end Restart = Some Restarts
 below_end NoRoom = Some NoneFits
@@ -94,7 +94,7 @@ below_fails = 2
 
 -- the most swaps that are still asked for: that of the link to the parent, until it has ended. Where it ended for want of room it has not
 -- asked for it
-abbrev pub below_swaps : Phase → ℕ
+abbrev pub below_swaps : BelowPhase → ℕ
 below_swaps Done = 0
 below_swaps Restart = 0
 below_swaps NoSlot = 0
@@ -102,7 +102,7 @@ below_swaps NoSwap = 0
 below_swaps phase = 1
 
 -- the most steps that are left, beside the loads that may be spent on waiting: these are counted from the first word on
-abbrev pub below_left : Phase → ℕ
+abbrev pub below_left : BelowPhase → ℕ
 below_left Fresh = below_acts
 below_left Room = below_acts - 1
 below_left NoRoom = below_acts - below_fails
@@ -116,12 +116,12 @@ below_left Swap = 1
 below_left phase = 0
 
 -- the steps of what is asked for
-abbrev pub below_steps : Phase → ℕ
+abbrev pub below_steps : BelowPhase → ℕ
 below_steps (Flush j) = 2
 below_steps phase = 1
 
 -- the slots are taken when both guards have been looked at again: none where it ended for want of room
-abbrev pub below_needs : Phase → ℕ
+abbrev pub below_needs : BelowPhase → ℕ
 below_needs Fresh = SPLIT_SLOTS
 below_needs Room = SPLIT_SLOTS
 below_needs (Word i) = SPLIT_SLOTS
@@ -131,14 +131,14 @@ below_needs NoRoom = SPLIT_SLOTS
 below_needs phase = 0
 
 -- after a word comes the next one that is read, or the parent's status once more
-abbrev pub word_after : ℕ → Phase
+abbrev pub word_after : ℕ → BelowPhase
 word_after next = if nat_lt next NODE_WORDS then Word next else Again
 
 -- after a store comes the next one, or the first flush; after a flush the next one, or the last look at the upper guard
-abbrev pub store_after : ℕ → Phase
+abbrev pub store_after : ℕ → BelowPhase
 store_after j = if nat_lt (j + 1) SPLIT_WORDS then Store (j + 1) else Flush 0
 
-abbrev pub flush_after : ℕ → Phase
+abbrev pub flush_after : ℕ → BelowPhase
 flush_after j = if nat_lt (j + 1) SPLIT_LINES then Flush (j + 1) else Named
 
 -- both links were read; the leaf was frozen, with more live words than a leaf may keep, and the two parts say what it says. The lower guard
@@ -263,7 +263,7 @@ pub record LackedPart (upper lower : Link) (view : LeafView) (p : Past) : Type 0
   pub parts : ArePartsOf view.image.0 left right sep
   pub lacked : LackedRoom upper lower sep p
 
-abbrev pub below_facts : Below → Phase → Stage → Scene → Type 0
+abbrev pub below_facts : Below → BelowPhase → Stage → Scene → Type 0
 below_facts r Fresh Waiting s = HasStarted r s.past
 below_facts r Room Waiting s = HasFilled s × HasStarted r s.past
 below_facts r (Word i) Waiting s = HasFilled s × ((0 < i) × ((i < NODE_WORDS) × IsReading r i s.past))
@@ -307,7 +307,7 @@ IsEndOfSplitBelow (IsFull NoSwaps) = Unit {0}
 IsEndOfSplitBelow outcome = ⊥
 
 -- the parent's status is another one than the path names, or the upper guard is a frozen node's
-abbrev pub below_differs : Link → Phase → Seen → Type 0
+abbrev pub below_differs : Link → BelowPhase → Seen → Type 0
 below_differs lower Room (Was v) = v ≢ lower.status
 below_differs lower Again (Was v) = v ≢ lower.status
 below_differs lower Guard (Was v) = (status v).frozen ≡ true
@@ -323,7 +323,7 @@ pub record IsSwapReady (c : Config) (r : Below) : Type 0 where
   pub target : is_target (renewal (with_guard r.upper r.guard) (r.slot 0)) (node_address c r.upper.slot + STATUS_AT) ≡ false
 
 -- what is named is there; and before the slots are taken, the parent is one that may be parted, and has the room
-abbrev pub IsReadyBelow : Config → Below → Phase → Type 0
+abbrev pub IsReadyBelow : Config → Below → BelowPhase → Type 0
 IsReadyBelow c r (Word i) = (r.upper.slot < c.nodes) × (i < NODE_WORDS)
 IsReadyBelow c r (Store j) = HaveSlots c.nodes (below_nodes r) × (j < SPLIT_WORDS)
 IsReadyBelow c r (Flush j) = HaveSlots c.nodes (below_nodes r) × (j < SPLIT_LINES)
@@ -344,7 +344,7 @@ IsNewParent nodes slot left right sep read image =
     (level child : ℕ) (low high : Option (List ℕ)) → IsParentOf nodes slot sep read level child low high → image ≡ parted_words (children_in read) child left right sep low high level
 
 -- three slots were taken, and the new parent is made; or there were not so many
-abbrev pub HasBegunBelow : ℕ → Below → Phase → FreeSlots → FreeSlots → Type 0
+abbrev pub HasBegunBelow : ℕ → Below → BelowPhase → FreeSlots → FreeSlots → Type 0
 HasBegunBelow nodes r (Store j) old new =
     (j ≡ 0) × (AreSlotsTaken (below_nodes r) old new × (IsNewParent nodes r.lower.slot (r.slot 1) (r.slot 2) r.sep r.read (r.image 0) × (length (r.image 0) ≡ NODE_WORDS)))
 HasBegunBelow nodes r NoSlot old new = (length old.free < SPLIT_SLOTS) × (new ≡ old)
@@ -356,25 +356,25 @@ IsNotOvertaken left waits old = (waits < NODE_WORDS + 1) ⊎ (length old.free �
 
 -- slots are taken where nobody else has taken any since then; else the parent is read anew, for which so many loads are left, and none
 -- was taken
-abbrev pub HasBegunOrWaits : (nodes left before after : ℕ) → List ℕ → Below → Phase → FreeSlots → FreeSlots → Type 0
+abbrev pub HasBegunOrWaits : (nodes left before after : ℕ) → List ℕ → Below → BelowPhase → FreeSlots → FreeSlots → Type 0
 HasBegunOrWaits nodes left before after read r phase old new =
     (HasBegunBelow nodes r phase old new × ((after ≡ before) × (IsNotOvertaken left before old × (r.read ≡ read)))) ⊎ ((phase ≡ Word 1) × ((after + (NODE_WORDS + 1) ≡ before) × ((new ≡ old) × IsUnread r.lower.status r.read)))
 
 -- that is where the upper guard was no frozen node's; elsewhere none was taken
-abbrev pub HasLookedBelow : (nodes left before after : ℕ) → List ℕ → Below → (word : ℕ) → Phase → FreeSlots → FreeSlots → Type 0
+abbrev pub HasLookedBelow : (nodes left before after : ℕ) → List ℕ → Below → (word : ℕ) → BelowPhase → FreeSlots → FreeSlots → Type 0
 HasLookedBelow nodes left before after read r word phase old new =
     (((status word).frozen ≡ false) × HasBegunOrWaits nodes left before after read r phase old new) ⊎ (((status word).frozen ≡ true) × ((phase ≡ Restart) × ((after ≡ before) × (new ≡ old))))
 
 -- where the parent's status is as it was, it tells whether there is room: only then the words are read, and so many loads may be spent
 -- on waiting
-abbrev pub HasOpened : (before after : ℕ) → Below → Seen → Phase → Type 0
+abbrev pub HasOpened : (before after : ℕ) → Below → Seen → BelowPhase → Type 0
 HasOpened before after r seen (Word i) = (i ≡ 1) × ((seen ≡ Was r.lower.status) × (LeavesRoom r.lower.status r.sep × (after ≡ below_waits)))
 HasOpened before after r seen NoRoom = (seen ≡ Was r.lower.status) × ((SHARED_WORDS < words_with r.lower.status r.sep) × (after ≡ before))
 HasOpened before after r seen Restart = (seen ≢ Was r.lower.status) × (after ≡ before)
 HasOpened before after r seen phase = ⊥
 
 -- where the parent's status is once more as it was, the upper guard is looked at
-abbrev pub HasTold : Below → Seen → Phase → Type 0
+abbrev pub HasTold : Below → Seen → BelowPhase → Type 0
 HasTold r seen Guard = seen ≡ Was r.lower.status
 HasTold r seen Restart = seen ≢ Was r.lower.status
 HasTold r seen phase = ⊥

@@ -7,7 +7,7 @@ pub const MOST_WAITS: u32 = 5;
 
 /// What a split below a parent asks for next.
 #[derive(Clone, Copy, Drop)]
-pub(crate) enum Phase {
+pub(crate) enum BelowPhase {
     /// Nothing was asked for yet.
     Fresh,
     /// The load of the parent's status, before its words.

@@ -25,7 +25,7 @@ ghost use Rattle.bz_split.specs.Parts.{ArePartsOf};
 use crate::front::{is_frozen, level_of, low_fence};
 use crate::laws::{links_stand_on, read_parents_were};
 use crate::links::{guarded_by, upper_link};
-use crate::phase::{MOST_WAITS, Phase};
+use crate::phase::{BelowPhase, MOST_WAITS};
 use crate::room::leaves_room;
 use bz_call::Spent;
 use bz_gaps::{first_word, next_place};
@@ -72,7 +72,7 @@ pub struct SplitBelow {
     // how many slots were left when the parent was first read, and in how many loads it may be read anew
     left: u32,
     waits: u32,
-    phase: Phase,
+    phase: BelowPhase,
 }
 
 impl SplitBelow {
@@ -112,7 +112,7 @@ impl SplitBelow {
             guard: 0,
             left: 0,
             waits: 0,
-            phase: Phase::Fresh,
+            phase: BelowPhase::Fresh,
         }
     }
 
@@ -152,24 +152,24 @@ impl SplitBelow {
     {
         let status = self.lower.status;
         if !is_read(seen, status) {
-            self.phase = Phase::Restart;
+            self.phase = BelowPhase::Restart;
         } else if leaves_room(status, &self.halves.separator) {
             self.left = slots.left();
             self.waits = MOST_WAITS * READ_LOADS;
-            self.phase = Phase::Word(1);
+            self.phase = BelowPhase::Word(1);
         } else {
-            self.phase = Phase::NoRoom;
+            self.phase = BelowPhase::NoRoom;
         }
     }
 
     // The phase after the parent's status, once more.
-    fn told(&self, seen: Seen) -> Phase
+    fn told(&self, seen: Seen) -> BelowPhase
         ensures { HasTold (below_of self.now) seen result }
     {
         if is_read(seen, self.lower.status) {
-            Phase::Guard
+            BelowPhase::Guard
         } else {
-            Phase::Restart
+            BelowPhase::Restart
         }
     }
 
@@ -203,9 +203,9 @@ impl SplitBelow {
             Some(taken) => {
                 self.parent = self.new_parent(taken[1], taken[2]);
                 self.slots = taken;
-                self.phase = Phase::Store(0);
+                self.phase = BelowPhase::Store(0);
             }
-            None => self.phase = Phase::NoSlot,
+            None => self.phase = BelowPhase::NoSlot,
         }
     }
 
@@ -234,7 +234,7 @@ impl SplitBelow {
         if self.is_overtaken(slots) {
             self.waits -= READ_LOADS;
             self.read = first_word(self.lower.status);
-            self.phase = Phase::Word(1);
+            self.phase = BelowPhase::Word(1);
         } else {
             self.begin(slots);
         }
@@ -252,43 +252,43 @@ impl SplitBelow {
         ensures looked { HasLookedBelow self.old.config.nodes self.old.left self.old.waits self.new.waits self.old.read.0 (below_of self.new) word self.new.phase slots.old slots.new }
     {
         if is_frozen(word) {
-            self.phase = Phase::Restart;
+            self.phase = BelowPhase::Restart;
         } else {
             self.wait_or_begin(slots);
         }
     }
 
     // The phase after what came of a store, a flush or the swap.
-    fn after(&self, seen: Seen, moment: u32) -> Phase
-        requires begun { self.now.phase ≢ Phase.Fresh }
-        requires read { (i : ℕ) → self.now.phase ≢ Phase.Word i }
-        requires opened { self.now.phase ≢ Phase.Room }
-        requires told { self.now.phase ≢ Phase.Again }
-        requires looked { self.now.phase ≢ Phase.Guard }
-        requires named { self.now.phase ≢ Phase.Named }
+    fn after(&self, seen: Seen, moment: u32) -> BelowPhase
+        requires begun { self.now.phase ≢ BelowPhase.Fresh }
+        requires read { (i : ℕ) → self.now.phase ≢ BelowPhase.Word i }
+        requires opened { self.now.phase ≢ BelowPhase.Room }
+        requires told { self.now.phase ≢ BelowPhase.Again }
+        requires looked { self.now.phase ≢ BelowPhase.Guard }
+        requires named { self.now.phase ≢ BelowPhase.Named }
         requires hears { Hears (asks_below self.now) seen }
         requires known { IsKnown self.now.config (facts_below self.now) (asks_below self.now) seen moment }
         ensures nearer { below_left result + below_steps result ≤ below_left self.now.phase }
         ensures fewer { below_swaps result + swaps_in (asks_below self.now) ≤ swaps_below self.now }
         ensures counted { below_end result ≡ None → effects_in seen ≡ 0 }
         ensures needs { below_needs result ≡ 0 }
-        ensures done { result ≡ Phase.Done → seen ≡ Swapped true }
-        ensures last { seen ≡ Swapped true → result ≡ Phase.Done }
-        ensures restart { result ≡ Phase.Restart → seen ≡ Swapped false }
-        ensures no_swap { (result ≡ Phase.NoSwap) ↔ (seen ≡ NoneLeft) }
-        ensures slots { result ≢ Phase.NoSlot }
-        ensures begun { result ≢ Phase.Fresh }
+        ensures done { result ≡ BelowPhase.Done → seen ≡ Swapped true }
+        ensures last { seen ≡ Swapped true → result ≡ BelowPhase.Done }
+        ensures restart { result ≡ BelowPhase.Restart → seen ≡ Swapped false }
+        ensures no_swap { (result ≡ BelowPhase.NoSwap) ↔ (seen ≡ NoneLeft) }
+        ensures slots { result ≢ BelowPhase.NoSlot }
+        ensures begun { result ≢ BelowPhase.Fresh }
         ensures config { IsConfig self.now.config }
         ensures ready { IsReadyBelow self.now.config (below_of self.now) result }
         ensures learns { (stage : Stage) (s : Scene) → s.past.config ≡ self.now.config → facts_below self.now stage s → Tells (asks_below self.now) stage seen s → below_facts (below_of self.now) result Waiting s }
     {
         let _moment = moment;
         match (self.phase, seen) {
-            (Phase::Store(j), Seen::Stored) => after_store(j),
-            (Phase::Flush(j), Seen::Flushed) => after_flush(j),
-            (Phase::Swap, Seen::Swapped(true)) => Phase::Done,
-            (Phase::Swap, Seen::NoSwap) => Phase::NoSwap,
-            _ => Phase::Restart,
+            (BelowPhase::Store(j), Seen::Stored) => after_store(j),
+            (BelowPhase::Flush(j), Seen::Flushed) => after_flush(j),
+            (BelowPhase::Swap, Seen::Swapped(true)) => BelowPhase::Done,
+            (BelowPhase::Swap, Seen::NoSwap) => BelowPhase::NoSwap,
+            _ => BelowPhase::Restart,
         }
     }
 
@@ -302,7 +302,7 @@ impl SplitBelow {
         ensures lower { self.new.lower ≡ self.old.lower }
         ensures halves { self.new.halves ≡ self.old.halves }
         ensures known { IsConfig self.new.config }
-        ensures begun { self.new.phase ≢ Phase.Fresh }
+        ensures begun { self.new.phase ≢ BelowPhase.Fresh }
         ensures ready { IsReadyBelow self.new.config (below_of self.new) self.new.phase }
         ensures nearer { left_below self.new + below_steps self.new.phase ≤ left_below self.old }
         ensures fewer { swaps_below self.new + swaps_in (asks_below self.old) ≤ swaps_below self.old }
@@ -326,17 +326,17 @@ impl SplitBelow {
         links_stand_on();
         read_parents_were();
         match self.phase {
-            Phase::Fresh => self.phase = Phase::Room,
-            Phase::Room => self.read_or_end(seen, slots),
-            Phase::Word(i) => {
+            BelowPhase::Fresh => self.phase = BelowPhase::Room,
+            BelowPhase::Room => self.read_or_end(seen, slots),
+            BelowPhase::Word(i) => {
                 self.read.0[i as usize] = word_in(seen);
                 let next = next_place(&self.read, i);
                 self.waits = with_skipped(self.waits, next - i - 1);
                 self.phase = after_word(next);
             }
-            Phase::Again => self.phase = self.told(seen),
-            Phase::Guard => self.look(word_in(seen), slots),
-            Phase::Named => {
+            BelowPhase::Again => self.phase = self.told(seen),
+            BelowPhase::Guard => self.look(word_in(seen), slots),
+            BelowPhase::Named => {
                 self.guard = word_in(seen);
                 self.phase = named(self.guard);
             }
@@ -359,36 +359,36 @@ impl SplitBelow {
 
     // What a phase asks for.
     fn asked(&self) -> Todo
-        requires begun { self.now.phase ≢ Phase.Fresh }
+        requires begun { self.now.phase ≢ BelowPhase.Fresh }
         requires config { IsConfig self.now.config }
         requires ready { IsReadyBelow self.now.config (below_of self.now) self.now.phase }
         ensures { asks_below self.now ≡ Some result }
     {
         match self.phase {
-            Phase::Word(i) => Todo::Read(self.config.node_at(self.upper.slot as u32) + i),
-            Phase::Room | Phase::Again => Todo::Read(self.lower.guard),
-            Phase::Guard | Phase::Named => Todo::Read(self.upper.guard),
-            Phase::Store(j) => {
+            BelowPhase::Word(i) => Todo::Read(self.config.node_at(self.upper.slot as u32) + i),
+            BelowPhase::Room | BelowPhase::Again => Todo::Read(self.lower.guard),
+            BelowPhase::Guard | BelowPhase::Named => Todo::Read(self.upper.guard),
+            BelowPhase::Store(j) => {
                 let slot = self.slots[(j / NODE_WORDS) as usize] as u32;
                 Todo::Store(self.config.node_at(slot) + j % NODE_WORDS, self.word(j))
             }
-            Phase::Flush(j) => {
+            BelowPhase::Flush(j) => {
                 let slot = self.slots[(j / NODE_LINES) as usize] as u32;
                 Todo::Flush(self.config.node_at(slot) / LINE_WORDS + j % NODE_LINES)
             }
-            Phase::Swap => Todo::Swap(swap_freezing(
+            BelowPhase::Swap => Todo::Swap(swap_freezing(
                 &self.config,
                 &guarded_by(&self.upper, self.guard),
                 self.slots[0],
                 self.upper.slot,
                 self.lower.status,
             )),
-            Phase::Fresh
-            | Phase::Done
-            | Phase::Restart
-            | Phase::NoRoom
-            | Phase::NoSlot
-            | Phase::NoSwap => Todo::Finish,
+            BelowPhase::Fresh
+            | BelowPhase::Done
+            | BelowPhase::Restart
+            | BelowPhase::NoRoom
+            | BelowPhase::NoSlot
+            | BelowPhase::NoSwap => Todo::Finish,
         }
     }
 }
@@ -401,51 +401,51 @@ fn with_skipped(waits: u32, skipped: u32) -> u32
 }
 
 // The phase after the load of a word of the parent: that of the next one that is read, or its status once more.
-fn after_word(next: u32) -> Phase
+fn after_word(next: u32) -> BelowPhase
     requires { next ≤ NODE_WORDS }
     ensures { result ≡ word_after next }
 {
     if next < NODE_WORDS {
-        Phase::Word(next)
+        BelowPhase::Word(next)
     } else {
-        Phase::Again
+        BelowPhase::Again
     }
 }
 
 // The phase after the store of a word: that of the next one, or the first flush.
-fn after_store(j: u32) -> Phase
+fn after_store(j: u32) -> BelowPhase
     requires { j < SPLIT_WORDS }
     ensures { result ≡ store_after j }
 {
     if j + 1 < SPLIT_WORDS {
-        Phase::Store(j + 1)
+        BelowPhase::Store(j + 1)
     } else {
-        Phase::Flush(0)
+        BelowPhase::Flush(0)
     }
 }
 
 // The phase after the flush of a line: that of the next one, or the last look at the upper guard.
-fn after_flush(j: u32) -> Phase
+fn after_flush(j: u32) -> BelowPhase
     requires { j < SPLIT_LINES }
     ensures { result ≡ flush_after j }
 {
     if j + 1 < SPLIT_LINES {
-        Phase::Flush(j + 1)
+        BelowPhase::Flush(j + 1)
     } else {
-        Phase::Named
+        BelowPhase::Named
     }
 }
 
 // The phase after the last look at the upper guard: the swap, where that is no frozen node's.
-fn named(word: u64) -> Phase
+fn named(word: u64) -> BelowPhase
     requires { word < 2 ^ 61 }
-    ensures frozen { (status word).frozen ≡ true → result ≡ Phase.Restart }
-    ensures thawed { (status word).frozen ≡ false → result ≡ Phase.Swap }
+    ensures frozen { (status word).frozen ≡ true → result ≡ BelowPhase.Restart }
+    ensures thawed { (status word).frozen ≡ false → result ≡ BelowPhase.Swap }
 {
     if is_frozen(word) {
-        Phase::Restart
+        BelowPhase::Restart
     } else {
-        Phase::Swap
+        BelowPhase::Swap
     }
 }
 
@@ -458,11 +458,11 @@ impl Task for SplitBelow {
 
     fn ended(&self) -> Option<Outcome> {
         match self.phase {
-            Phase::Done => Some(Outcome::Done),
-            Phase::Restart => Some(Outcome::Restart),
-            Phase::NoRoom => Some(Outcome::NeedsRoom),
-            Phase::NoSlot => Some(Outcome::Full(Spent::Nodes)),
-            Phase::NoSwap => Some(Outcome::Full(Spent::Swaps)),
+            BelowPhase::Done => Some(Outcome::Done),
+            BelowPhase::Restart => Some(Outcome::Restart),
+            BelowPhase::NoRoom => Some(Outcome::NeedsRoom),
+            BelowPhase::NoSlot => Some(Outcome::Full(Spent::Nodes)),
+            BelowPhase::NoSwap => Some(Outcome::Full(Spent::Swaps)),
             _ => None,
         }
     }

@@ -23,28 +23,28 @@ use Rattle.bz_costs.specs.Laws.{TasksWeighLittle}
 use Rattle.bz_costs.specs.Weights.{weight}
 use Rattle.bz_descend.specs.declared.sight.Way.{Way as SeekPhase}
 use Rattle.bz_descend.specs.declared.sight.Way.TheVariants as seek
-use Rattle.bz_running.specs.FromFind.Phase.{Phase as FindPhase}
-use Rattle.bz_running.specs.FromFind.Phase.TheVariants as find
-use Rattle.bz_leaf.specs.declared.phase.Phase.{Phase as LeafPhase}
-use Rattle.bz_leaf.specs.declared.phase.Phase.TheVariants as leaf
-use Rattle.bz_running.specs.FromInsert.Phase.{Phase as InsertPhase}
-use Rattle.bz_running.specs.FromInsert.Phase.TheVariants as insert
+use Rattle.bz_running.specs.FromFind.FindPhase.{FindPhase}
+use Rattle.bz_running.specs.FromFind.FindPhase.TheVariants as find
+use Rattle.bz_leaf.specs.declared.phase.LeafPhase.{LeafPhase}
+use Rattle.bz_leaf.specs.declared.phase.LeafPhase.TheVariants as leaf
+use Rattle.bz_running.specs.FromInsert.InsertPhase.{InsertPhase}
+use Rattle.bz_running.specs.FromInsert.InsertPhase.TheVariants as insert
 use Rattle.bz_mutate.specs.declared.update_phase.UpdatePhase.{UpdatePhase as UpdatePhase}
 use Rattle.bz_mutate.specs.declared.update_phase.UpdatePhase.TheVariants as update
 use Rattle.bz_mutate.specs.declared.delete_phase.DeletePhase.{DeletePhase as DeletePhase}
 use Rattle.bz_mutate.specs.declared.delete_phase.DeletePhase.TheVariants as delete
-use Rattle.bz_freeze.specs.declared.phase.Phase.{Phase as FreezePhase}
-use Rattle.bz_freeze.specs.declared.phase.Phase.TheVariants as freeze
+use Rattle.bz_freeze.specs.declared.phase.FreezePhase.{FreezePhase}
+use Rattle.bz_freeze.specs.declared.phase.FreezePhase.TheVariants as freeze
 use Rattle.bz_writer.specs.declared.phase.WritePhase.{WritePhase}
 use Rattle.bz_writer.specs.declared.phase.WritePhase.TheVariants as write
-use Rattle.bz_below.specs.declared.phase.Phase.{Phase as BelowPhase}
-use Rattle.bz_below.specs.declared.phase.Phase.TheVariants as below
-use Rattle.bz_running.specs.FromCrown.Phase.{Phase as CrownPhase}
-use Rattle.bz_running.specs.FromCrown.Phase.TheVariants as crown
-use Rattle.bz_running.specs.FromFork.Phase.{Phase as ForkPhase}
-use Rattle.bz_running.specs.FromFork.Phase.TheVariants as fork
-use Rattle.bz_running.specs.FromMerge.Phase.{Phase as MergePhase}
-use Rattle.bz_running.specs.FromMerge.Phase.TheVariants as merge
+use Rattle.bz_below.specs.declared.phase.BelowPhase.{BelowPhase}
+use Rattle.bz_below.specs.declared.phase.BelowPhase.TheVariants as below
+use Rattle.bz_running.specs.FromCrown.CrownPhase.{CrownPhase}
+use Rattle.bz_running.specs.FromCrown.CrownPhase.TheVariants as crown
+use Rattle.bz_running.specs.FromFork.ForkPhase.{ForkPhase}
+use Rattle.bz_running.specs.FromFork.ForkPhase.TheVariants as fork
+use Rattle.bz_running.specs.FromMerge.MergePhase.{MergePhase}
+use Rattle.bz_running.specs.FromMerge.MergePhase.TheVariants as merge
 
 -- each act of the two look-ups is counted as it is asked for
 seek-one : (p : SeekPhase) → asks_one p ≤ 1

@@ -2,12 +2,12 @@
 use Rattle.std.proofs.Common.{◌≡◌, ℕ, ◌+◌, ◌-◌, ◌≤◌, Some, arith}
 use Rattle.bz_below.specs.Duties.{below_of}
 use Rattle.bz_below.specs.Facts.{Below, below_asks, below_end, below_left, below_needs, below_swaps}
-use Rattle.bz_below.specs.declared.phase.Phase.{Phase as BelowPhase}
-use Rattle.bz_below.specs.declared.phase.Phase.TheVariants as below
+use Rattle.bz_below.specs.declared.phase.BelowPhase.{BelowPhase}
+use Rattle.bz_below.specs.declared.phase.BelowPhase.TheVariants as below
 use Rattle.bz_running.specs.FromFork.Duties.{fork_of}
 use Rattle.bz_running.specs.FromFork.Facts.{Fork, fork_asks, fork_end, fork_left, fork_needs, fork_swaps}
-use Rattle.bz_running.specs.FromFork.Phase.{Phase as ForkPhase}
-use Rattle.bz_running.specs.FromFork.Phase.TheVariants as fork
+use Rattle.bz_running.specs.FromFork.ForkPhase.{ForkPhase}
+use Rattle.bz_running.specs.FromFork.ForkPhase.TheVariants as fork
 use Rattle.bz_writer.proofs.Sizes.{no-room}
 use Rattle.bz_layout.specs.declared.config.Config.{Config}
 use Rattle.bz_running.specs.Duties.{view_of}

@@ -8,7 +8,7 @@ use Rattle.bz_descend.specs.SeekFacts.{seek_reads}
 use Rattle.bz_running.specs.FromFind.Facts.{find_acts}
 use Rattle.bz_running.specs.FromFork.Facts.{fork_acts}
 use Rattle.bz_freeze.specs.Facts.{freeze_left}
-use Rattle.bz_freeze.specs.declared.phase.Phase.TheVariants as freeze
+use Rattle.bz_freeze.specs.declared.phase.FreezePhase.TheVariants as freeze
 use Rattle.bz_running.specs.FromInsert.Facts.{insert_acts}
 use Rattle.bz_layout.specs.declared.swaps.TheConstants.{DELETE_SWAPS, FREEZE_SWAPS, INSERT_SWAPS, MERGE_SWAPS, RENEWAL_SWAPS, UPDATE_SWAPS}
 use Rattle.bz_layout.specs.declared.thresholds.TheConstants.{CONSOLIDATION_SLOTS, MERGE_SLOTS, SPLIT_SLOTS}

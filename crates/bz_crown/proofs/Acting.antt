@@ -37,8 +37,8 @@ use Rattle.bz_crown.specs.Facts.{Crown, crown_nodes, crown_plan, HasLinks, IsPla
 use Rattle.bz_branch.specs.FromSplit.BelowSplits.{parent_freezing, below_swap}
 use Rattle.bz_branch.specs.FromSplit.Facts.{StoodFresh, split_change}
 use Rattle.bz_branch.specs.FromSplit.RootSplits.{AreFreshThree}
-use Rattle.bz_crown.specs.declared.phase.Phase.{Phase}
-use Rattle.bz_crown.specs.declared.phase.Phase.TheVariants.{Fresh, Word, Again, TooHigh, Writing}
+use Rattle.bz_crown.specs.declared.phase.CrownPhase.{CrownPhase}
+use Rattle.bz_crown.specs.declared.phase.CrownPhase.TheVariants.{Fresh, Word, Again, TooHigh, Writing}
 use Rattle.bz_writer.specs.Facts.{write_asks, write_facts}
 use Rattle.bz_writer.specs.Phases.{means_of}
 use Rattle.bz_writer.specs.declared.phase.WritePhase.{WritePhase}
@@ -239,7 +239,7 @@ looks-well o r planned answers made old new = record {
 }
 
 -- what is asked for may be asked for
-pub askable : (c : Config) (r : Crown) (phase : Phase) (s : Scene) (todo : Todo) → s.past.config ≡ c → crown_facts r phase Waiting s → IsScene s → crown_asks c r phase ≡ Some todo → IsAskable s todo
+pub askable : (c : Config) (r : Crown) (phase : CrownPhase) (s : Scene) (todo : Todo) → s.past.config ≡ c → crown_facts r phase Waiting s → IsScene s → crown_asks c r phase ≡ Some todo → IsAskable s todo
 askable c r Fresh s todo same f good e = absurd (cc)
 askable c r (Word i) s todo same f good e =
     subst (IsAskable s) (some-same _ todo e)
@@ -249,12 +249,12 @@ askable c r TooHigh s todo same f good e = subst (IsAskable s) (some-same _ todo
 askable c r (Writing w) s todo same f good e = writer-askable (crown_plan r) (sound r) c s w todo same f good e
 
 -- a guard that differs has been changed since it was read
-pub cause : (c : Config) (r : Crown) (phase : Phase) (s : Scene) (seen : Seen) → crown_facts r phase Waiting s → crown_differs r.upper r.lower phase seen → IsCause (crown_asks c r phase) seen s
+pub cause : (c : Config) (r : Crown) (phase : CrownPhase) (s : Scene) (seen : Seen) → crown_facts r phase Waiting s → crown_differs r.upper r.lower phase seen → IsCause (crown_asks c r phase) seen s
 cause c r Again s (Was v) f d = inl (guard-differed s r.lower v f.1.links.node.guard d)
 cause c r (Writing w) s seen f d = writer-cause (crown_plan r) (sound r) c s w seen f d
 cause c r phase s seen f d = absurd (d)
 
-pub few : (phase : Phase) → crown_needs phase ≤ SPLIT_SLOTS
+pub few : (phase : CrownPhase) → crown_needs phase ≤ SPLIT_SLOTS
 few (Writing w) = needs-few SPLIT_SLOTS w
 few phase = omega arith
 
@@ -269,7 +269,7 @@ of-writer upper outcome s m = absurd (m)
 one-outcome : (a b : Outcome) → Some a ≡ Some b → a ≡ b
 one-outcome a b e = cc
 
-pub ends : (r : Crown) (phase : Phase) (s : Scene) (outcome : Outcome) → crown_facts r phase Waiting s → crown_end phase ≡ Some outcome → crown_means r.upper outcome s × HasFilled s
+pub ends : (r : Crown) (phase : CrownPhase) (s : Scene) (outcome : Outcome) → crown_facts r phase Waiting s → crown_end phase ≡ Some outcome → crown_means r.upper outcome s × HasFilled s
 ends r (Writing w) s outcome f e = let means = writer-ends (crown_plan r) (sound r) w s outcome f e in (of-writer r.upper outcome s means.0, means.1)
 ends r TooHigh s outcome f e = subst (λ z. crown_means r.upper z s × HasFilled s) (one-outcome (IsFull NoLevels) outcome e) (f.1, f.0)
 ends r phase s outcome f e = absurd (cc)
@@ -279,18 +279,18 @@ module _ (c : Config) (r : Crown) (s after : Scene) (same : s.past.config ≡ c)
   at : (w : WritePhase) (asked : Option Todo) → write_asks c (crown_plan r) w ≡ asked → write_asks s.past.config (crown_plan r) w ≡ asked
   at w asked e = ap (λ z. write_asks z (crown_plan r) w) same ∙ e
 
-  pub stored : (phase : Phase) (a v : ℕ) → crown_facts r phase Waiting s → crown_asks c r phase ≡ Some (Stores_at a v) → Stores a v s after → crown_facts r phase Took after
+  pub stored : (phase : CrownPhase) (a v : ℕ) → crown_facts r phase Waiting s → crown_asks c r phase ≡ Some (Stores_at a v) → Stores a v s after → crown_facts r phase Took after
   stored (Writing w) a v f e t = stored-here (crown_plan r) (sound r) s after w a v f (at w (Some (Stores_at a v)) e) t
   stored phase a v f e t = absurd (cc)
 
-  pub flushed : (phase : Phase) (line : ℕ) → crown_facts r phase Waiting s → crown_asks c r phase ≡ Some (Flushes_line line) → Flushes line s after → crown_facts r phase Took after
+  pub flushed : (phase : CrownPhase) (line : ℕ) → crown_facts r phase Waiting s → crown_asks c r phase ≡ Some (Flushes_line line) → Flushes line s after → crown_facts r phase Took after
   flushed (Writing w) line f e t = flushed-here (crown_plan r) (sound r) s after w line f (at w (Some (Flushes_line line)) e) t
   flushed phase line f e t = absurd (cc)
 
-  pub took : (phase : Phase) (entries : List Entry) → crown_facts r phase Waiting s → IsScene s → crown_asks c r phase ≡ Some (Swaps_for entries) → Takes false entries s after → crown_facts r phase Took after
+  pub took : (phase : CrownPhase) (entries : List Entry) → crown_facts r phase Waiting s → IsScene s → crown_asks c r phase ≡ Some (Swaps_for entries) → Takes false entries s after → crown_facts r phase Took after
   took (Writing w) entries f good e takes = took-here (crown_plan r) (good-plan r) s after w entries f good (at w (Some (Swaps_for entries)) e) takes
   took phase entries f good e takes = absurd (cc)
 
-pub effect : (c : Config) (r : Crown) (phase : Phase) (s : Scene) (y : Instant) (entries : List Entry) → s.past.config ≡ c → crown_facts r phase Waiting s → IsScene s → crown_asks c r phase ≡ Some (Swaps_for entries) → Stand entries (here s) → SwapsTo s.past.config entries (here s) y → IsGoodSwap false split_change entries s y
+pub effect : (c : Config) (r : Crown) (phase : CrownPhase) (s : Scene) (y : Instant) (entries : List Entry) → s.past.config ≡ c → crown_facts r phase Waiting s → IsScene s → crown_asks c r phase ≡ Some (Swaps_for entries) → Stand entries (here s) → SwapsTo s.past.config entries (here s) y → IsGoodSwap false split_change entries s y
 effect c r (Writing w) s y entries same f good e stand swaps = effect-here (crown_plan r) (good-plan r) s w y entries f good (ap (λ z. write_asks z (crown_plan r) w) same ∙ e) stand swaps
 effect c r phase s y entries same f good e stand swaps = absurd (cc)

@@ -5,8 +5,8 @@ use Rattle.bz_task.specs.Requests.{EndsAtOnce, Hears, steps_in}
 use Rattle.bz_task.specs.declared.todo.Seen.{Seen}
 use Rattle.bz_task.specs.declared.todo.Seen.TheVariants.{Start, Swapped}
 use Rattle.bz_crown.specs.Facts.{Crown, crown_plan, crown_asks, crown_steps, crown_swaps}
-use Rattle.bz_crown.specs.declared.phase.Phase.{Phase}
-use Rattle.bz_crown.specs.declared.phase.Phase.TheVariants.{Fresh, Writing}
+use Rattle.bz_crown.specs.declared.phase.CrownPhase.{CrownPhase}
+use Rattle.bz_crown.specs.declared.phase.CrownPhase.TheVariants.{Fresh, Writing}
 use Rattle.bz_writer.specs.declared.phase.WritePhase.{WritePhase}
 use Rattle.bz_writer.specs.declared.phase.WritePhase.TheVariants.{Fresh as Unbegun, Flush, Swap}
 use Rattle.bz_writer.specs.Phases.{write_needs}
@@ -15,22 +15,22 @@ use Rattle.bz_layout.specs.declared.thresholds.TheConstants.{SPLIT_SLOTS}
 use Rattle.bz_task.specs.declared.todo.Outcome.{Outcome}
 
 -- what is heard in a phase is heard in the phase that it is
-pub heard-in : (c : Config) (r : Crown) (o p : Phase) (seen told : Seen) → o ≡ p → seen ≡ told → Hears (crown_asks c r o) seen → Hears (crown_asks c r p) told
+pub heard-in : (c : Config) (r : Crown) (o p : CrownPhase) (seen told : Seen) → o ≡ p → seen ≡ told → Hears (crown_asks c r o) seen → Hears (crown_asks c r p) told
 heard-in c r o p seen told e g h = subst (λ z. Hears (crown_asks c r z) told) e (subst (λ z. Hears (crown_asks c r o) z) g h)
 
 -- the steps of what a phase asks for
-pub asked-steps : (c : Config) (r : Crown) (p : Phase) → steps_in (crown_asks c r p) ≡ crown_steps p
+pub asked-steps : (c : Config) (r : Crown) (p : CrownPhase) → steps_in (crown_asks c r p) ≡ crown_steps p
 asked-steps c r Fresh = refl
 asked-steps c r (Writing (Flush j)) = refl
 asked-steps c r p = refl
 
 -- one swap was left where it was told that a swap took effect
-pub one-left : (c : Config) (r : Crown) (p : Phase) → Hears (crown_asks c r p) (Swapped true) → crown_swaps p ≡ 1
+pub one-left : (c : Config) (r : Crown) (p : CrownPhase) → Hears (crown_asks c r p) (Swapped true) → crown_swaps p ≡ 1
 one-left c r (Writing Swap) h = refl
 one-left c r p h = absurd (h)
 
 -- nothing that is told to begin ends at once
-pub ends-later : (c : Config) (r : Crown) (p : Phase) (w : WritePhase) (seen : Seen) (outcome : Outcome) → p ≡ Writing w → seen ≡ Start → Hears (crown_asks c r p) seen → EndsAtOnce (write_needs SPLIT_SLOTS w) outcome → ⊥
+pub ends-later : (c : Config) (r : Crown) (p : CrownPhase) (w : WritePhase) (seen : Seen) (outcome : Outcome) → p ≡ Writing w → seen ≡ Start → Hears (crown_asks c r p) seen → EndsAtOnce (write_needs SPLIT_SLOTS w) outcome → ⊥
 ends-later c r p w seen outcome is start h ends =
     let first : w ≡ Unbegun = writer-begins c (crown_plan r) w (heard-in c r p (Writing w) seen Start is start h) in
     subst (λ z. EndsAtOnce (write_needs SPLIT_SLOTS z) outcome) first ends

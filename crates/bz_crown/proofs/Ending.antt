@@ -13,11 +13,11 @@ use Rattle.bz_task.specs.declared.todo.Todo.TheVariants.{Read as Reads}
 use Rattle.bz_task.specs.declared.todo.Outcome.TheVariants.{Done as IsDone, Restart as Restarts, Full as IsFull}
 use Rattle.bz_task.specs.declared.todo.Seen.TheVariants.{Start, Read as Was, Stored, Flushed, Swapped, NoSwap as NoneLeft}
 use Rattle.bz_crown.specs.Facts.{Crown, crown_asks, crown_differs, crown_end, crown_needs}
-use Rattle.bz_crown.specs.declared.phase.Phase.{Phase}
-use Rattle.bz_crown.specs.declared.phase.Phase.TheVariants.{Fresh, Word, Again}
+use Rattle.bz_crown.specs.declared.phase.CrownPhase.{CrownPhase}
+use Rattle.bz_crown.specs.declared.phase.CrownPhase.TheVariants.{Fresh, Word, Again}
 
 -- a phase after another one, told of how it ends
-pub record EndsWell (upper lower : Link) (seen : Seen) (o p : Phase) (free : FreeSlots) : Type 0 where
+pub record EndsWell (upper lower : Link) (seen : Seen) (o p : CrownPhase) (free : FreeSlots) : Type 0 where
   pub done : crown_end p ≡ Some IsDone → seen ≡ Swapped true
   pub restart : crown_end p ≡ Some Restarts → (seen ≡ Swapped false) ⊎ crown_differs upper lower o seen
   pub no_swap : seen ≡ NoneLeft → crown_end p ≡ Some (IsFull NoSwaps)
@@ -37,11 +37,11 @@ pub read-answers : (a v : ℕ) (stage : Stage) (s : Scene) → Tells (Some (Read
 read-answers a v Waiting s t = (refl, t)
 read-answers a v Took s t = absurd (t)
 
-pub takes-none : (o p : Phase) (free : FreeSlots) → crown_needs p ≤ crown_needs o → AreTakenFrom (crown_needs o) (crown_needs p) free free
+pub takes-none : (o p : CrownPhase) (free : FreeSlots) → crown_needs p ≤ crown_needs o → AreTakenFrom (crown_needs o) (crown_needs p) free free
 takes-none o p free fewer = inr (record { fewer = fewer; slots = refl })
 
 -- no end
-pub goes-on : (upper lower : Link) (seen : Seen) (o p : Phase) (free : FreeSlots) → crown_end p ≡ None → seen ≢ NoneLeft → EndsWell upper lower seen o p free
+pub goes-on : (upper lower : Link) (seen : Seen) (o p : CrownPhase) (free : FreeSlots) → crown_end p ≡ None → seen ≢ NoneLeft → EndsWell upper lower seen o p free
 goes-on upper lower seen o p free none heard = record {
   done = λ e. absurd (let h = sym none ∙ e in cc);
   restart = λ e. absurd (let h = sym none ∙ e in cc);

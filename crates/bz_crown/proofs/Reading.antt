@@ -15,8 +15,8 @@ use Rattle.bz_task.specs.declared.todo.Seen.{Seen}
 use Rattle.bz_task.specs.declared.todo.Seen.TheVariants.{Start, Read as Was, Stored, Flushed, Swapped, NoSwap as NoneLeft}
 use Rattle.bz_crown.specs.Facts.{Crown, IsReading, crown_asks, crown_left, crown_steps, crown_needs, crown_facts, word_after, IsReadyCrown}
 use Rattle.bz_branch.proofs.FromBelow.ReadWords.{kept}
-use Rattle.bz_crown.specs.declared.phase.Phase.{Phase}
-use Rattle.bz_crown.specs.declared.phase.Phase.TheVariants.{Fresh, Word, Again}
+use Rattle.bz_crown.specs.declared.phase.CrownPhase.{CrownPhase}
+use Rattle.bz_crown.specs.declared.phase.CrownPhase.TheVariants.{Fresh, Word, Again}
 use Rattle.bz_crown.proofs.Acting.{upper-slot}
 use Rattle.bz_crown.proofs.Ending.{EndsWell, goes-on, was-no-swap}
 
@@ -64,7 +64,7 @@ fresh-ready c r seen Waiting s same good f = (subst (λ (z : Config). r.upper.sl
 fresh-ready c r seen Took s same good f = absurd (f)
 
 -- the load of a word leads to that of the next one
-pub record Words (c : Config) (r : Crown) (i : ℕ) (seen : Seen) (p : Phase) (free : FreeSlots) : Type 0 where
+pub record Words (c : Config) (r : Crown) (i : ℕ) (seen : Seen) (p : CrownPhase) (free : FreeSlots) : Type 0 where
   pub begun : p ≢ Fresh
   pub ready : IsReadyCrown c r p
   pub nearer : crown_left p + crown_steps p ≤ crown_left (Word i)

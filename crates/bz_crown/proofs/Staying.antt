@@ -16,8 +16,8 @@ use Rattle.bz_branch.proofs.FromSplit.Staying.{stood-stays}
 use Rattle.bz_branch.specs.Parts.{AreHalvesOfNode}
 use Rattle.bz_branch.proofs.Staying.{open-stays, open-guarded, read-stays, inner-stays, halves-stay}
 use Rattle.bz_crown.specs.Facts.{Crown, crown_plan, HasLinks, IsReading, IsPlan, WasTooHigh, IsSplitting, WasSplitAtRoot, crown_facts}
-use Rattle.bz_crown.specs.declared.phase.Phase.{Phase}
-use Rattle.bz_crown.specs.declared.phase.Phase.TheVariants.{Fresh, Word, Again, TooHigh, Writing}
+use Rattle.bz_crown.specs.declared.phase.CrownPhase.{CrownPhase}
+use Rattle.bz_crown.specs.declared.phase.CrownPhase.TheVariants.{Fresh, Word, Again, TooHigh, Writing}
 
 module _ (p q : Past) (c : Continues p q) where
   unfoldable pub links-stay : (upper lower : Link) → HasLinks upper lower p → HasLinks upper lower q
@@ -110,7 +110,7 @@ module _ (r : Crown) (sound : IsSoundPlan (crown_plan r)) (s after : Scene) (l :
   filled : HasFilled s → HasFilled after
   filled f k t = l.filled k ∙ f k (sym (l.took k) ∙ t)
 
-  pub stable : (phase : Phase) (stage : Stage) → crown_facts r phase stage s → crown_facts r phase stage after
+  pub stable : (phase : CrownPhase) (stage : Stage) → crown_facts r phase stage s → crown_facts r phase stage after
   stable Fresh Waiting f = reading-stays s.past after.past l.continues r 1 f
   stable (Word i) Waiting f = (filled f.0, (f.1.0, (f.1.1.0, reading-stays s.past after.past l.continues r i f.1.1.1)))
   stable Again Waiting f = (filled f.0, reading-stays s.past after.past l.continues r NODE_WORDS f.1)
@@ -120,7 +120,7 @@ module _ (r : Crown) (sound : IsSoundPlan (crown_plan r)) (s after : Scene) (l :
 
 -- it stays where no slot is taken
 module _ (r : Crown) (s : Scene) (free : FreeSlots) where
-  pub no-slot : (phase : Phase) → crown_facts r phase Waiting s → crown_facts r phase Waiting (gained s free free)
+  pub no-slot : (phase : CrownPhase) → crown_facts r phase Waiting s → crown_facts r phase Waiting (gained s free free)
   no-slot Fresh f = f
   no-slot (Writing w) f = writer-no-slot (crown_plan r) s free w f
   no-slot phase f = (nothing_is_gained s free f.0, f.1)

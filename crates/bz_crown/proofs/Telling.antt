@@ -16,8 +16,8 @@ use Rattle.bz_branch.specs.FromBelow.Parents.{WereRead}
 use Rattle.bz_branch.specs.Nodes.{WasInner, ReadNodesWere}
 use Rattle.bz_crown.specs.Facts.{Crown, IsReading, HasTold, crown_asks, crown_left, crown_steps, crown_needs, crown_facts, IsReadyCrown}
 use Rattle.bz_writer.specs.declared.phase.WritePhase.TheVariants.{Guard, Restart}
-use Rattle.bz_crown.specs.declared.phase.Phase.{Phase}
-use Rattle.bz_crown.specs.declared.phase.Phase.TheVariants.{Fresh, Again, TooHigh, Writing}
+use Rattle.bz_crown.specs.declared.phase.CrownPhase.{CrownPhase}
+use Rattle.bz_crown.specs.declared.phase.CrownPhase.TheVariants.{Fresh, Again, TooHigh, Writing}
 use Rattle.bz_crown.proofs.Ending.{EndsWell, goes-on, other-lower, read-answers, was-no-swap}
 
 -- the root, where its own status is found as it was
@@ -40,7 +40,7 @@ waits r Waiting s f = f
 waits r Took s f = absurd (f)
 
 -- what the root's own status, once more, teaches
-pub told-learns : ReadNodesWere → (c : Config) (r : Crown) (p : Phase) (seen : Seen) (stage : Stage) (s : Scene) → HasTold r seen p → s.past.config ≡ c → IsScene s → crown_facts r Again stage s → Tells (crown_asks c r Again) stage seen s → crown_facts r p Waiting s
+pub told-learns : ReadNodesWere → (c : Config) (r : Crown) (p : CrownPhase) (seen : Seen) (stage : Stage) (s : Scene) → HasTold r seen p → s.past.config ≡ c → IsScene s → crown_facts r Again stage s → Tells (crown_asks c r Again) stage seen s → crown_facts r p Waiting s
 told-learns law c r (Writing Guard) seen stage s h same good f t =
     let g = waits r stage s f in
     let w = was-inner law r s good g.1 (found-now c r seen stage s t h.0) in
@@ -63,14 +63,14 @@ told-learns law c r (Writing Restart) seen stage s h same good f t = (waits r st
 told-learns law c r p seen stage s h same good f t = absurd (h)
 
 -- what it leads to
-pub record Tolds (r : Crown) (c : Config) (seen : Seen) (p : Phase) (free : FreeSlots) : Type 0 where
+pub record Tolds (r : Crown) (c : Config) (seen : Seen) (p : CrownPhase) (free : FreeSlots) : Type 0 where
   pub begun : p ≢ Fresh
   pub ready : IsReadyCrown c r p
   pub nearer : crown_left p + crown_steps p ≤ crown_left Again
   pub taken : AreTakenFrom SPLIT_SLOTS (crown_needs p) free free
   pub ends : EndsWell r.upper r.lower seen Again p free
 
-pub tolds : (r : Crown) (c : Config) (seen : Seen) (p : Phase) (free : FreeSlots) → Hears (crown_asks c r Again) seen → HasTold r seen p → Tolds r c seen p free
+pub tolds : (r : Crown) (c : Config) (seen : Seen) (p : CrownPhase) (free : FreeSlots) → Hears (crown_asks c r Again) seen → HasTold r seen p → Tolds r c seen p free
 tolds r c seen (Writing Guard) free hears h =
     record { begun = λ e. absurd (cc); ready = ((λ e. absurd (cc)), tt); nearer = omega arith; taken = inr (record { fewer = omega arith; slots = refl }); ends = goes-on r.upper r.lower seen Again (Writing Guard) free refl (was-no-swap r.lower.guard seen hears) }
 tolds r c seen TooHigh free hears h = record {

@@ -33,8 +33,8 @@ use Rattle.bz_writer.specs.Facts.{write_asks, write_facts, write_differs, write_
 use Rattle.bz_writer.specs.Phases.{write_end, write_left, write_swaps, write_needs}
 use Rattle.bz_writer.specs.Plans.{Plan}
 use Rattle.bz_writer.specs.declared.phase.WritePhase.TheVariants.{Fresh as Unbegun, Guard, Flush, Restart}
-use Rattle.bz_crown.specs.declared.phase.Phase.{Phase}
-use Rattle.bz_crown.specs.declared.phase.Phase.TheVariants.{Fresh, Word, Again, TooHigh, Writing}
+use Rattle.bz_crown.specs.declared.phase.CrownPhase.{CrownPhase}
+use Rattle.bz_crown.specs.declared.phase.CrownPhase.TheVariants.{Fresh, Word, Again, TooHigh, Writing}
 
 -- the root link, and a link in the root; the slots and the words of the new root, of the left half and of the right half; and the
 -- words that were read of the root so far
@@ -139,14 +139,14 @@ crown_plan r = record {
   none = λ p. Unit {0};
 }
 
-abbrev pub crown_asks : Config → Crown → Phase → Option Todo
+abbrev pub crown_asks : Config → Crown → CrownPhase → Option Todo
 crown_asks c r Fresh = None
 crown_asks c r (Word i) = Some (Reads (node_address c r.upper.slot + i))
 crown_asks c r Again = Some (Reads r.lower.guard)
 crown_asks c r (Writing w) = write_asks c (crown_plan r) w
 crown_asks c r TooHigh = Some Finish
 
-abbrev pub crown_end : Phase → Option Outcome
+abbrev pub crown_end : CrownPhase → Option Outcome
 crown_end TooHigh = Some (IsFull NoLevels)
 crown_end (Writing w) = write_end w
 crown_end phase = None
@@ -157,12 +157,12 @@ abbrev pub crown_acts : ℕ
 crown_acts = NODE_WORDS + SPLIT_WORDS + 2 * SPLIT_LINES + 3
 
 -- the most swaps that are still asked for: that of the root link, until it has ended
-abbrev pub crown_swaps : Phase → ℕ
+abbrev pub crown_swaps : CrownPhase → ℕ
 crown_swaps TooHigh = 0
 crown_swaps (Writing w) = write_swaps w
 crown_swaps phase = 1
 
-abbrev pub crown_left : Phase → ℕ
+abbrev pub crown_left : CrownPhase → ℕ
 crown_left Fresh = crown_acts
 crown_left (Word i) = crown_acts - i
 crown_left Again = SPLIT_WORDS + 2 * SPLIT_LINES + 3
@@ -170,21 +170,21 @@ crown_left (Writing w) = write_left SPLIT_SLOTS w
 crown_left TooHigh = 0
 
 -- the steps of what is asked for
-abbrev pub crown_steps : Phase → ℕ
+abbrev pub crown_steps : CrownPhase → ℕ
 crown_steps (Writing (Flush j)) = 2
 crown_steps phase = 1
 
 -- the slots are taken when both guards have been looked at again
-abbrev pub crown_needs : Phase → ℕ
+abbrev pub crown_needs : CrownPhase → ℕ
 crown_needs (Writing w) = write_needs SPLIT_SLOTS w
 crown_needs TooHigh = 0
 crown_needs phase = SPLIT_SLOTS
 
 -- after a word comes the next one that is read, or the root's status once more
-abbrev pub word_after : ℕ → Phase
+abbrev pub word_after : ℕ → CrownPhase
 word_after next = if nat_lt next NODE_WORDS then Word next else Again
 
-abbrev pub crown_facts : Crown → Phase → Stage → Scene → Type 0
+abbrev pub crown_facts : Crown → CrownPhase → Stage → Scene → Type 0
 crown_facts r Fresh Waiting s = IsReading r 1 s.past
 crown_facts r (Word i) Waiting s = HasFilled s × ((0 < i) × ((i < NODE_WORDS) × IsReading r i s.past))
 crown_facts r Again Waiting s = HasFilled s × IsReading r NODE_WORDS s.past
@@ -212,13 +212,13 @@ IsEndOfCrown (IsFull NoSwaps) = Unit {0}
 IsEndOfCrown outcome = ⊥
 
 -- a guard is another one than the path names
-abbrev pub crown_differs : Link → Link → Phase → Seen → Type 0
+abbrev pub crown_differs : Link → Link → CrownPhase → Seen → Type 0
 crown_differs upper lower Again (Was v) = v ≢ lower.status
 crown_differs upper lower (Writing w) seen = write_differs upper.status w seen
 crown_differs upper lower phase seen = ⊥
 
 -- what is named is there
-abbrev pub IsReadyCrown : Config → Crown → Phase → Type 0
+abbrev pub IsReadyCrown : Config → Crown → CrownPhase → Type 0
 IsReadyCrown c r (Word i) = (r.upper.slot < c.nodes) × (i < NODE_WORDS)
 IsReadyCrown c r (Writing w) = (w ≢ Unbegun) × write_ready c (crown_plan r) w
 IsReadyCrown c r phase = Unit {0}
@@ -243,7 +243,7 @@ pub record AreMadeOf (read root left right : List ℕ) (left_slot right_slot : �
   pub size : length root ≡ NODE_WORDS
 
 -- where the root's own status is as it was, its words tell whether there may be a level above it
-abbrev pub HasTold : Crown → Seen → Phase → Type 0
+abbrev pub HasTold : Crown → Seen → CrownPhase → Type 0
 HasTold r seen (Writing Guard) = (seen ≡ Was r.lower.status) × IsLowEnough r.read
 HasTold r seen TooHigh = (seen ≡ Was r.lower.status) × IsHighest r.read
 HasTold r seen (Writing Restart) = seen ≢ Was r.lower.status

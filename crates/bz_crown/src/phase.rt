@@ -4,7 +4,7 @@ use bz_writer::WritePhase;
 
 /// What a split of an inner root asks for next.
 #[derive(Clone, Copy, Drop)]
-pub(crate) enum Phase {
+pub(crate) enum CrownPhase {
     /// Nothing was asked for yet.
     Fresh,
     /// The load of the root's word at this place.

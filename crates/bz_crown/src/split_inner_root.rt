@@ -18,7 +18,7 @@ ghost use Rattle.bz_crown.specs.Due.{IsDue};
 ghost use Rattle.bz_crown.specs.Duties.{crown_of, asks_crown, end_crown, left_crown, swaps_crown, needs_crown, facts_crown, differs_crown, crown_view};
 ghost use Rattle.bz_crown.specs.Facts.{crown_nodes, crown_plan, crown_acts, crown_steps, IsEndOfCrown, HasTold, AreMadeOf, IsReadyCrown, IsSplittable, WasSplitAtRoot, WasTooHigh, word_after};
 
-use crate::phase::Phase;
+use crate::phase::CrownPhase;
 use bz_branch::laws::read_nodes_were;
 use bz_branch::{level_of, link_at, parts_of};
 use bz_call::Spent;
@@ -56,7 +56,7 @@ pub struct SplitInnerRoot {
     right: NodeImage,
     // the slots of the new root, of the left half and of the right half
     slots: [u16; 3],
-    phase: Phase,
+    phase: CrownPhase,
 }
 
 impl SplitInnerRoot {
@@ -87,23 +87,23 @@ impl SplitInnerRoot {
             right: read,
             read,
             slots: [0; 3],
-            phase: Phase::Fresh,
+            phase: CrownPhase::Fresh,
         }
     }
 }
 
 impl SplitInnerRoot {
     // The phase after the root's own status, once more: its words tell its level, where it is as it was.
-    fn told(&self, seen: Seen) -> Phase
+    fn told(&self, seen: Seen) -> CrownPhase
         ensures { HasTold (crown_of self.now) seen result }
     {
         if !is_read(seen, self.lower.status) {
-            return Phase::Writing(WritePhase::Restart);
+            return CrownPhase::Writing(WritePhase::Restart);
         }
         if level_of(&self.read) < MAX_LEVELS - 1 {
-            Phase::Writing(WritePhase::Guard)
+            CrownPhase::Writing(WritePhase::Guard)
         } else {
-            Phase::TooHigh
+            CrownPhase::TooHigh
         }
     }
 
@@ -158,7 +158,7 @@ impl SplitInnerRoot {
         ensures config { self.new.config ≡ self.old.config }
         ensures upper { self.new.upper ≡ self.old.upper }
         ensures known { IsConfig self.new.config }
-        ensures begun { self.new.phase ≢ Phase.Fresh }
+        ensures begun { self.new.phase ≢ CrownPhase.Fresh }
         ensures ready { IsReadyCrown self.new.config (crown_of self.new) self.new.phase }
         ensures nearer { left_crown self.new + crown_steps self.new.phase ≤ left_crown self.old }
         ensures fewer { swaps_crown self.new + swaps_in (asks_crown self.old) ≤ swaps_crown self.old }
@@ -176,18 +176,18 @@ impl SplitInnerRoot {
     {
         read_nodes_were();
         match self.phase {
-            Phase::Fresh => self.phase = Phase::Word(1),
-            Phase::Word(i) => {
+            CrownPhase::Fresh => self.phase = CrownPhase::Word(1),
+            CrownPhase::Word(i) => {
                 self.read.0[i as usize] = word_in(seen);
                 let next = next_place(&self.read, i);
                 self.phase = after_word(next);
             }
-            Phase::Again => self.phase = self.told(seen),
-            Phase::Writing(phase) => {
+            CrownPhase::Again => self.phase = self.told(seen),
+            CrownPhase::Writing(phase) => {
                 let next = self.write(phase, seen, slots, moment);
-                self.phase = Phase::Writing(next);
+                self.phase = CrownPhase::Writing(next);
             }
-            Phase::TooHigh => {}
+            CrownPhase::TooHigh => {}
         }
     }
 
@@ -206,16 +206,16 @@ impl SplitInnerRoot {
 
     // What a phase asks for.
     fn asked(&self) -> Todo
-        requires begun { self.now.phase ≢ Phase.Fresh }
+        requires begun { self.now.phase ≢ CrownPhase.Fresh }
         requires config { IsConfig self.now.config }
         requires ready { IsReadyCrown self.now.config (crown_of self.now) self.now.phase }
         ensures { asks_crown self.now ≡ Some result }
     {
         match self.phase {
-            Phase::Word(i) => Todo::Read(self.config.node_at(self.upper.slot as u32) + i),
-            Phase::Again => Todo::Read(self.lower.guard),
-            Phase::Writing(phase) => self.written(phase),
-            Phase::Fresh | Phase::TooHigh => Todo::Finish,
+            CrownPhase::Word(i) => Todo::Read(self.config.node_at(self.upper.slot as u32) + i),
+            CrownPhase::Again => Todo::Read(self.lower.guard),
+            CrownPhase::Writing(phase) => self.written(phase),
+            CrownPhase::Fresh | CrownPhase::TooHigh => Todo::Finish,
         }
     }
 
@@ -243,14 +243,14 @@ impl SplitInnerRoot {
 }
 
 // The phase after the load of a word of the root: that of the next one that is read, or its status once more.
-fn after_word(next: u32) -> Phase
+fn after_word(next: u32) -> CrownPhase
     requires { next ≤ NODE_WORDS }
     ensures { result ≡ word_after next }
 {
     if next < NODE_WORDS {
-        Phase::Word(next)
+        CrownPhase::Word(next)
     } else {
-        Phase::Again
+        CrownPhase::Again
     }
 }
 
@@ -263,8 +263,8 @@ impl Task for SplitInnerRoot {
 
     fn ended(&self) -> Option<Outcome> {
         match self.phase {
-            Phase::TooHigh => Some(Outcome::Full(Spent::Height)),
-            Phase::Writing(phase) => phase.ended(),
+            CrownPhase::TooHigh => Some(Outcome::Full(Spent::Height)),
+            CrownPhase::Writing(phase) => phase.ended(),
             _ => None,
         }
     }

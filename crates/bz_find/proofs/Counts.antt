@@ -32,8 +32,8 @@ use Rattle.bz_find.specs.Phases.{find_asks, find_end, phase_after, search_of, to
 use Rattle.bz_find.specs.Steps.{place_of, passed, matched, key_order, ordered, heard_at, heard}
 use Rattle.bz_find.specs.Words.{lies, is_record, records_in, sorted_in}
 use Rattle.bz_find.specs.declared.find.Find.{Find}
-use Rattle.bz_find.specs.declared.phase.Phase.{Phase}
-use Rattle.bz_find.specs.declared.phase.Phase.TheVariants.{Fresh, Status, Header, Searching, Again, Link as Of_link, Guard, Viewed, Changed}
+use Rattle.bz_find.specs.declared.phase.FindPhase.{FindPhase}
+use Rattle.bz_find.specs.declared.phase.FindPhase.TheVariants.{Fresh, Status, Header, Searching, Again, Link as Of_link, Guard, Viewed, Changed}
 use Rattle.bz_find.specs.declared.search.Search.{Search}
 use Rattle.bz_find.specs.declared.search.Spot.{Spot}
 use Rattle.bz_find.specs.declared.search.Spot.TheVariants.{Tail, Sorted}
@@ -135,7 +135,7 @@ after u Done st p c = go (status st).frozen
     go false = c
 
 module _ (t : Find) (s : Scene) (same : s.past.config ≡ t.config) (good : IsScene s) where
-  abbrev Counts : Phase → Seen → ℕ → Type 0
+  abbrev Counts : FindPhase → Seen → ℕ → Type 0
   Counts phase seen now = find_counts (counted (told t phase seen now)) (told t phase seen now).phase s.past
 
   from-header : (v now : ℕ) → find_facts t Header Waiting s → Answers s (node_address t.config t.link.slot + HEADER_AT) v → Counts Header (Was v) now
@@ -154,7 +154,7 @@ module _ (t : Find) (s : Scene) (same : s.past.config ≡ t.config) (good : IsSc
         met = subst (λ z. u.dead ≤ z) (sym h.sorted) (heard-few t.search t.search.step v b.1.of c.met);
       })
 
-  validated : (b : Bool) (x y : Phase) → find_counts (counted (record t { phase = x })) x s.past → find_counts (counted (record t { phase = y })) y s.past → find_counts (counted (record t { phase = if b then x else y })) (if b then x else y) s.past
+  validated : (b : Bool) (x y : FindPhase) → find_counts (counted (record t { phase = x })) x s.past → find_counts (counted (record t { phase = y })) y s.past → find_counts (counted (record t { phase = if b then x else y })) (if b then x else y) s.past
   validated true x y f e = f
   validated false x y f e = e
 
@@ -178,7 +178,7 @@ module _ (t : Find) (s : Scene) (same : s.past.config ≡ t.config) (good : IsSc
   unasked P (Swapped won) e = absurd (e)
   unasked P NoSwap e = absurd (e)
 
-  counts-at : (phase : Phase) (stage : Stage) (seen : Seen) (now : ℕ) → find_bounds t phase → find_facts t phase stage s → find_counts t phase s.past → Tells (find_asks t phase) stage seen s → Counts phase seen now
+  counts-at : (phase : FindPhase) (stage : Stage) (seen : Seen) (now : ℕ) → find_bounds t phase → find_facts t phase stage s → find_counts t phase s.past → Tells (find_asks t phase) stage seen s → Counts phase seen now
   counts-at phase Took seen now b f c h = absurd (f)
   counts-at Fresh Waiting seen now b f c h = tt
   counts-at Status Waiting seen now b f c h = by-read (λ z. Counts Status z now) (node_address t.config t.link.slot + STATUS_AT) (λ v a. tt) seen h
@@ -207,7 +207,7 @@ module _ (p q : Past) (n : Continues p q) where
   goes-still : (t : Find) → GoesByLeaf t p → GoesByLeaf t q
   goes-still t c = record { had = had-still t.link.slot t.search.count t.search.sorted c.had; met = c.met }
 
-  pub counts-stay : (t : Find) (phase : Phase) → find_counts t phase p → find_counts t phase q
+  pub counts-stay : (t : Find) (phase : FindPhase) → find_counts t phase p → find_counts t phase q
   counts-stay t Fresh c = tt
   counts-stay t Status c = tt
   counts-stay t Header c = tt
@@ -219,7 +219,7 @@ module _ (p q : Past) (n : Continues p q) where
   counts-stay t Changed c = goes-still t c
 
 -- where it has ended in vain
-ended : (t : Find) (phase : Phase) → find_end t phase ≡ Some Restart → phase ≡ Changed
+ended : (t : Find) (phase : FindPhase) → find_end t phase ≡ Some Restart → phase ≡ Changed
 ended t Changed e = refl
 ended t phase e = absurd (cc)
 

@@ -11,8 +11,8 @@ use Rattle.bz_find.specs.Duties.{asked_by}
 use Rattle.bz_find.specs.Phases.{find_asks, told, reads_of}
 use Rattle.bz_find.specs.Steps.{place_of}
 use Rattle.bz_find.specs.declared.find.Find.{Find}
-use Rattle.bz_find.specs.declared.phase.Phase.{Phase}
-use Rattle.bz_find.specs.declared.phase.Phase.TheVariants.{Fresh, Status, Header, Searching, Again, Link as Of_link, Guard, Viewed, Changed}
+use Rattle.bz_find.specs.declared.phase.FindPhase.{FindPhase}
+use Rattle.bz_find.specs.declared.phase.FindPhase.TheVariants.{Fresh, Status, Header, Searching, Again, Link as Of_link, Guard, Viewed, Changed}
 use Rattle.bz_find.proofs.Slots.{read-only, no-answer}
 
 read-counts : (a : ℕ) (todo : Todo) → Some (Read a) ≡ Some todo → asked_by todo ≡ 1
@@ -31,7 +31,7 @@ same t u c k p l a = record { config = c; key = k; path = p; link = l; asked = a
 from-fresh : (t : Find) (now : ℕ) (seen : Seen) → Keeps t (told t Fresh seen now)
 from-fresh t now seen = same t (told t Fresh seen now) refl refl refl refl refl
 
-pub keeps-at : (t : Find) (phase : Phase) (seen : Seen) (now : ℕ) → Hears (find_asks t phase) seen → Keeps t (told t phase seen now)
+pub keeps-at : (t : Find) (phase : FindPhase) (seen : Seen) (now : ℕ) → Hears (find_asks t phase) seen → Keeps t (told t phase seen now)
 keeps-at t Fresh seen now h = from-fresh t now seen
 keeps-at t Status seen now h = read-only (λ z. Keeps t (told t Status z now)) (node_address t.config t.link.slot + STATUS_AT) (λ v. same t (told t Status (Was v) now) refl refl refl refl refl) seen h
 keeps-at t Header seen now h = read-only (λ z. Keeps t (told t Header z now)) (node_address t.config t.link.slot + HEADER_AT) (λ v. same t (told t Header (Was v) now) refl refl refl refl refl) seen h
@@ -43,7 +43,7 @@ keeps-at t (Viewed at) seen now h = no-answer (Keeps t (told t (Viewed at) seen 
 keeps-at t Changed seen now h = no-answer (Keeps t (told t Changed seen now)) seen h
 
 -- a read is counted, and the end is not
-pub counts-reads : (u : Find) (phase : Phase) (todo : Todo) → find_asks u phase ≡ Some todo → asked_by todo ≡ reads_of phase
+pub counts-reads : (u : Find) (phase : FindPhase) (todo : Todo) → find_asks u phase ≡ Some todo → asked_by todo ≡ reads_of phase
 counts-reads u Fresh todo e = absurd (cc)
 counts-reads u Status todo e = read-counts _ todo e
 counts-reads u Header todo e = read-counts _ todo e

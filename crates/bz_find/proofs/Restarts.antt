@@ -14,8 +14,8 @@ use Rattle.bz_find.specs.Facts.{find_differs}
 use Rattle.bz_find.specs.Phases.{find_asks, find_end, phase_after, told, counted}
 use Rattle.bz_find.specs.Steps.{place_of}
 use Rattle.bz_find.specs.declared.find.Find.{Find}
-use Rattle.bz_find.specs.declared.phase.Phase.{Phase}
-use Rattle.bz_find.specs.declared.phase.Phase.TheVariants.{Fresh, Status, Header, Searching, Again, Link as Of_link, Guard, Viewed, Changed}
+use Rattle.bz_find.specs.declared.phase.FindPhase.{FindPhase}
+use Rattle.bz_find.specs.declared.phase.FindPhase.TheVariants.{Fresh, Status, Header, Searching, Again, Link as Of_link, Guard, Viewed, Changed}
 use Rattle.bz_find.specs.declared.search.Step.{Step}
 use Rattle.bz_find.specs.declared.search.Step.TheVariants.{Meta, Word, Payload, Done}
 use Rattle.bz_find.proofs.Slots.{read-only, no-answer}
@@ -33,7 +33,7 @@ goes-on t Done st = go (status st).frozen
 not-none : {A : Type 0} (o : Option Outcome) → o ≡ None → o ≡ Some Restart → A
 not-none o e f = let q : None ≡ Some Restart = sym e ∙ f in absurd (cc)
 
-abbrev Restarts : Find → Phase → Seen → ℕ → Type 0
+abbrev Restarts : Find → FindPhase → Seen → ℕ → Type 0
 Restarts t phase seen now = find_end (told t phase seen now) (told t phase seen now).phase ≡ Some Restart → find_differs t phase seen
 
 from-fresh : (t : Find) (seen : Seen) (now : ℕ) → Hears None seen → Restarts t Fresh seen now
@@ -65,7 +65,7 @@ from-guard t at v now = go (status v).frozen refl
     go true e f = e
     go false e f = absurd (cc)
 
-pub restarts-at : (t : Find) (phase : Phase) (seen : Seen) (now : ℕ) → Hears (find_asks t phase) seen → Restarts t phase seen now
+pub restarts-at : (t : Find) (phase : FindPhase) (seen : Seen) (now : ℕ) → Hears (find_asks t phase) seen → Restarts t phase seen now
 restarts-at t Fresh seen now h = from-fresh t seen now h
 restarts-at t Status seen now h = read-only (λ z. Restarts t Status z now) (node_address t.config t.link.slot + STATUS_AT) (λ v e. absurd (cc)) seen h
 restarts-at t Header seen now h = read-only (λ z. Restarts t Header z now) (node_address t.config t.link.slot + HEADER_AT) (λ v e. not-none _ (goes-on (told t Header (Was v) now) (told t Header (Was v) now).search.step t.status) e) seen h
@@ -77,7 +77,7 @@ restarts-at t (Viewed at) seen now h = no-answer (Restarts t (Viewed at) seen no
 restarts-at t Changed seen now h = no-answer (Restarts t Changed seen now) seen h
 
 -- the reads that are counted are no matter for the end
-pub end-counted : (u : Find) (phase : Phase) → find_end (counted u) phase ≡ find_end u phase
+pub end-counted : (u : Find) (phase : FindPhase) → find_end (counted u) phase ≡ find_end u phase
 end-counted u Fresh = refl
 end-counted u Status = refl
 end-counted u Header = refl
@@ -89,6 +89,6 @@ end-counted u (Viewed at) = refl
 end-counted u Changed = refl
 
 -- told to begin it goes on
-pub begins-at : (t : Find) (phase : Phase) (now : ℕ) → find_end (told t phase Start now) (told t phase Start now).phase ≡ None
+pub begins-at : (t : Find) (phase : FindPhase) (now : ℕ) → find_end (told t phase Start now) (told t phase Start now).phase ≡ None
 begins-at t Fresh now = refl
 begins-at t phase now = refl

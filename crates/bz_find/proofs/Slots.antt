@@ -9,8 +9,8 @@ use Rattle.bz_task.specs.declared.todo.Todo.TheVariants.{Read, Finish}
 use Rattle.bz_find.specs.Facts.{find_facts}
 use Rattle.bz_find.specs.Phases.{find_asks}
 use Rattle.bz_find.specs.declared.find.Find.{Find}
-use Rattle.bz_find.specs.declared.phase.Phase.{Phase}
-use Rattle.bz_find.specs.declared.phase.Phase.TheVariants.{Fresh, Status, Header, Searching, Again, Link as Of_link, Guard, Viewed, Changed}
+use Rattle.bz_find.specs.declared.phase.FindPhase.{FindPhase}
+use Rattle.bz_find.specs.declared.phase.FindPhase.TheVariants.{Fresh, Status, Header, Searching, Again, Link as Of_link, Guard, Viewed, Changed}
 
 -- an answer to a read
 pub read-only : (P : Seen → Type 0) (a : ℕ) → ((v : ℕ) → P (Was v)) → (seen : Seen) → Hears (Some (Read a)) seen → P seen
@@ -30,7 +30,7 @@ no-answer P Flushed e = absurd (e)
 no-answer P (Swapped won) e = absurd (e)
 no-answer P NoSwap e = absurd (e)
 
-pub slot-of : (t : Find) (phase : Phase) (seen : Seen) (stage : Stage) (s : Scene) → s.past.config ≡ t.config → find_facts t phase stage s → Hears (find_asks t phase) seen → t.link.slot < t.config.nodes
+pub slot-of : (t : Find) (phase : FindPhase) (seen : Seen) (stage : Stage) (s : Scene) → s.past.config ≡ t.config → find_facts t phase stage s → Hears (find_asks t phase) seen → t.link.slot < t.config.nodes
 slot-of t phase seen Took s e f h = absurd (f)
 slot-of t Fresh seen Waiting s e f h = subst (λ c. t.link.slot < c.nodes) e f.slot
 slot-of t Status seen Waiting s e f h = subst (λ c. t.link.slot < c.nodes) e f.1.slot

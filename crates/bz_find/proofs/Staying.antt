@@ -8,8 +8,8 @@ use Rattle.bz_task.proofs.Proved.{key_views_stay}
 use Rattle.bz_find.specs.Facts.{IsStill, Opened, Searched, Ended, Linked, IsFoundAt, find_learnt, find_facts}
 use Rattle.bz_find.specs.Phases.{view_of}
 use Rattle.bz_find.specs.declared.find.Find.{Find}
-use Rattle.bz_find.specs.declared.phase.Phase.{Phase}
-use Rattle.bz_find.specs.declared.phase.Phase.TheVariants.{Fresh, Status, Header, Searching, Again, Link as Of_link, Guard, Viewed, Changed}
+use Rattle.bz_find.specs.declared.phase.FindPhase.{FindPhase}
+use Rattle.bz_find.specs.declared.phase.FindPhase.TheVariants.{Fresh, Status, Header, Searching, Again, Link as Of_link, Guard, Viewed, Changed}
 use Rattle.bz_find.specs.declared.search.Search.{Search}
 
 module _ (p q : Past) (n : Continues p q) where
@@ -43,7 +43,7 @@ module _ (p q : Past) (n : Continues p q) where
   found-at : (key : List ℕ) (t : Find) (at : ℕ) → IsFoundAt key t at p → IsFoundAt key t at q
   found-at key t at o = record { view = key_views_stay key (view_of t at) p q o.view n; reckoned = rw (n.config, n.at at o.view.now) o.reckoned }
 
-  learnt : (t : Find) (phase : Phase) → find_learnt t phase p → find_learnt t phase q
+  learnt : (t : Find) (phase : FindPhase) → find_learnt t phase p → find_learnt t phase q
   learnt t Fresh f = known p q n t.key t.link f
   learnt t Status f = known p q n t.key t.link f
   learnt t Header f = opened t.key t.link t.status f
@@ -54,10 +54,10 @@ module _ (p q : Past) (n : Continues p q) where
   learnt t (Viewed at) f = found-at t.key t at f
   learnt t Changed f = tt
 
-both : (t : Find) (phase : Phase) (s after : Scene) → IsLawful s after → HasFilled s × find_learnt t phase s.past → HasFilled after × find_learnt t phase after.past
+both : (t : Find) (phase : FindPhase) (s after : Scene) → IsLawful s after → HasFilled s × find_learnt t phase s.past → HasFilled after × find_learnt t phase after.past
 both t phase s after step f = (λ k w. step.filled k ∙ f.0 k (sym (step.took k) ∙ w), learnt s.past after.past step.continues t phase f.1)
 
-pub stable : (t : Find) (phase : Phase) (stage : Stage) (s after : Scene) → find_facts t phase stage s → IsLawful s after → find_facts t phase stage after
+pub stable : (t : Find) (phase : FindPhase) (stage : Stage) (s after : Scene) → find_facts t phase stage s → IsLawful s after → find_facts t phase stage after
 stable t phase Took s after f step = f
 stable t Fresh Waiting s after f step = known s.past after.past step.continues t.key t.link f
 stable t Status Waiting s after f step = both t Status s after step f

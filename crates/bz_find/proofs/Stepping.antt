@@ -16,8 +16,8 @@ use Rattle.bz_find.specs.Phases.{find_asks, phase_after, search_of, told, reads_
 use Rattle.bz_find.specs.Steps.{place_of, begun, heard}
 use Rattle.bz_find.specs.Words.{records_in, sorted_in}
 use Rattle.bz_find.specs.declared.find.Find.{Find}
-use Rattle.bz_find.specs.declared.phase.Phase.{Phase}
-use Rattle.bz_find.specs.declared.phase.Phase.TheVariants.{Fresh, Status, Header, Searching, Again, Link as Of_link, Guard, Viewed, Changed}
+use Rattle.bz_find.specs.declared.phase.FindPhase.{FindPhase}
+use Rattle.bz_find.specs.declared.phase.FindPhase.TheVariants.{Fresh, Status, Header, Searching, Again, Link as Of_link, Guard, Viewed, Changed}
 use Rattle.bz_find.specs.declared.search.Search.{Search}
 use Rattle.bz_find.specs.declared.search.Step.{Step}
 use Rattle.bz_find.specs.declared.search.Step.TheVariants.{Meta, Word, Payload, Done}
@@ -51,7 +51,7 @@ record Follows (t : Find) (step : Step) (asked : ℕ) : Type 0 where
   few : asked + (more_at step + validating_reads + wants step) ≤ find_acts
   reads : asked + wants step ≤ front_reads + spent_at t.search step + 1
 
-abbrev Comes : Find → Phase → ℕ → ℕ → Type 0
+abbrev Comes : Find → FindPhase → ℕ → ℕ → Type 0
 Comes t phase asked left = IsBounded (record t { phase = phase; asked = asked }) × (left_at t.search phase ≤ left)
 
 searches-on : (t : Find) (step : Step) (asked : ℕ) → Follows t step asked → step ≢ Done → wants step ≡ 1 → Comes t Searching asked (more_at step + validating_reads + wants step)
@@ -75,7 +75,7 @@ after-step t Done asked f = go (status t.status).frozen
     go false = (record { bounds = f.plain; few = omega (arith, f.few); reads = omega (arith, f.reads) }, omega arith)
 
 -- the look-up after an answer: in bounds, and nearer its end
-abbrev pub Steps : Find → Phase → Find → Type 0
+abbrev pub Steps : Find → FindPhase → Find → Type 0
 Steps t phase u = IsBounded (counted u) × (left_at u.search u.phase < left_at t.search phase)
 
 reads-of-after : (step : Step) (st : ℕ) → reads_of (phase_after step st) ≡ 1
@@ -89,10 +89,10 @@ reads-of-after Done st = go (status st).frozen
     go false = refl
 
 module _ (t : Find) (now : ℕ) where
-  abbrev Few : Phase → Type 0
+  abbrev Few : FindPhase → Type 0
   Few phase = t.asked + left_at t.search phase ≤ find_acts
 
-  abbrev Reads : Phase → Type 0
+  abbrev Reads : FindPhase → Type 0
   Reads phase = t.asked ≤ reads_at t.search phase
 
   from-fresh : (seen : Seen) → find_bounds t Fresh → Few Fresh → Reads Fresh → Hears None seen → Steps t Fresh (told t Fresh seen now)
@@ -154,7 +154,7 @@ module _ (t : Find) (now : ℕ) where
       go true = (record { bounds = tt; few = omega (arith, f); reads = omega (arith, r) }, omega arith)
       go false = (record { bounds = tt; few = omega (arith, f); reads = omega (arith, r) }, omega arith)
 
-pub steps-at : (t : Find) (phase : Phase) (seen : Seen) (now : ℕ) → find_bounds t phase → t.asked + left_at t.search phase ≤ find_acts → t.asked ≤ reads_at t.search phase → Hears (find_asks t phase) seen → IsPlain seen → Steps t phase (told t phase seen now)
+pub steps-at : (t : Find) (phase : FindPhase) (seen : Seen) (now : ℕ) → find_bounds t phase → t.asked + left_at t.search phase ≤ find_acts → t.asked ≤ reads_at t.search phase → Hears (find_asks t phase) seen → IsPlain seen → Steps t phase (told t phase seen now)
 steps-at t Fresh seen now b f r h p = from-fresh t now seen b f r h
 steps-at t Status seen now b f r h p = read-only (λ z. IsPlain z → Steps t Status (told t Status z now)) (node_address t.config t.link.slot + STATUS_AT) (λ v q. from-status t now v q b f r) seen h p
 steps-at t Header seen now b f r h p = read-only (λ z. Steps t Header (told t Header z now)) (node_address t.config t.link.slot + HEADER_AT) (λ v. from-header t now v b f r) seen h
@@ -169,7 +169,7 @@ pub steps : (t : Find) (seen : Seen) (now : ℕ) → IsBounded t → Hears (find
 steps t seen now b h p = steps-at t t.phase seen now b.bounds b.few b.reads h p
 
 -- a phase that is not the last asks for a read
-reads-while : (t : Search) (phase : Phase) → 0 < left_at t phase → reads_of phase ≡ 1
+reads-while : (t : Search) (phase : FindPhase) → 0 < left_at t phase → reads_of phase ≡ 1
 reads-while t Fresh l = refl
 reads-while t Status l = refl
 reads-while t Header l = refl

@@ -22,8 +22,8 @@ use Rattle.bz_find.specs.Knowing.{KnowsAt, Knows, HasFound}
 use Rattle.bz_find.specs.Phases.{find_asks, phase_after, search_of, told, counted}
 use Rattle.bz_find.specs.Steps.{place_of, heard}
 use Rattle.bz_find.specs.declared.find.Find.{Find}
-use Rattle.bz_find.specs.declared.phase.Phase.{Phase}
-use Rattle.bz_find.specs.declared.phase.Phase.TheVariants.{Fresh, Status, Header, Searching, Again, Link as Of_link, Guard, Viewed, Changed}
+use Rattle.bz_find.specs.declared.phase.FindPhase.{FindPhase}
+use Rattle.bz_find.specs.declared.phase.FindPhase.TheVariants.{Fresh, Status, Header, Searching, Again, Link as Of_link, Guard, Viewed, Changed}
 use Rattle.bz_find.specs.declared.search.Step.{Step}
 use Rattle.bz_find.specs.declared.search.Step.TheVariants.{Meta, Word, Payload, Done}
 use Rattle.bz_find.proofs.Advancing.{advances}
@@ -159,7 +159,7 @@ module _ (t : Find) (s : Scene) (same : s.past.config ≡ t.config) (good : IsSc
       go true e = (f.0, tt)
       go false e = let w = frozen at f.1 v a e in (f.0, record { view = w.0; reckoned = w.1 })
 
-  tells-at : (phase : Phase) (stage : Stage) (seen : Seen) (now : ℕ) → s.past.now ≡ now → find_bounds t phase → find_facts t phase stage s → Tells (find_asks t phase) stage seen s → Learns (told t phase seen now) s
+  tells-at : (phase : FindPhase) (stage : Stage) (seen : Seen) (now : ℕ) → s.past.now ≡ now → find_bounds t phase → find_facts t phase stage s → Tells (find_asks t phase) stage seen s → Learns (told t phase seen now) s
   tells-at phase Took seen now is b f h = absurd (f)
   tells-at Fresh Waiting seen now is b f h = from-fresh seen now f h
   tells-at Status Waiting seen now is b f h = answered (λ z. Learns (told t Status z now) s) s (node_address t.config t.link.slot + STATUS_AT) (λ v a. from-status v now f a) seen h
@@ -175,7 +175,7 @@ module _ (t : Find) (s : Scene) (same : s.past.config ≡ t.config) (good : IsSc
   tells stage seen now is b f h = tells-at t.phase stage seen now is b.bounds f h
 
 -- what is learnt is known when no slot was taken
-pub no-slot : (u : Find) (phase : Phase) (s : Scene) (free : FreeSlots) → HasFilled s × find_learnt u phase s.past → find_facts u phase Waiting (gained s free free)
+pub no-slot : (u : Find) (phase : FindPhase) (s : Scene) (free : FreeSlots) → HasFilled s × find_learnt u phase s.past → find_facts u phase Waiting (gained s free free)
 no-slot u Fresh s free h = h.1
 no-slot u Status s free h = (nothing_is_gained s free h.0, h.1)
 no-slot u Header s free h = (nothing_is_gained s free h.0, h.1)

@@ -24,8 +24,8 @@ use Rattle.bz_find.specs.Costs.{compare_reads, spent, more_at, most_more}
 use Rattle.bz_find.specs.Knowing.{dead_met, Knows, HasFound}
 use Rattle.bz_find.specs.Phases.{view_of}
 use Rattle.bz_find.specs.declared.find.Find.{Find}
-use Rattle.bz_find.specs.declared.phase.Phase.{Phase}
-use Rattle.bz_find.specs.declared.phase.Phase.TheVariants.{Fresh, Status, Header, Searching, Again, Link as Of_link, Guard, Viewed, Changed}
+use Rattle.bz_find.specs.declared.phase.FindPhase.{FindPhase}
+use Rattle.bz_find.specs.declared.phase.FindPhase.TheVariants.{Fresh, Status, Header, Searching, Again, Link as Of_link, Guard, Viewed, Changed}
 use Rattle.bz_find.specs.declared.search.Search.{Search}
 use Rattle.bz_find.specs.declared.search.Step.TheVariants.{Done}
 
@@ -43,7 +43,7 @@ front_reads = 2
 abbrev pub find_acts : ℕ
 find_acts = front_reads + (1 + most_more) + validating_reads + 2
 
-abbrev pub left_at : Search → Phase → ℕ
+abbrev pub left_at : Search → FindPhase → ℕ
 left_at t Fresh = find_acts
 left_at t Status = find_acts - 1
 left_at t Header = find_acts - front_reads
@@ -54,7 +54,7 @@ left_at t (Guard at) = validating_reads - 1
 left_at t phase = 0
 
 -- the most reads that were asked for up to a phase, with its own
-abbrev pub reads_at : Search → Phase → ℕ
+abbrev pub reads_at : Search → FindPhase → ℕ
 reads_at t Fresh = 0
 reads_at t Status = 1
 reads_at t Header = front_reads
@@ -64,7 +64,7 @@ reads_at t Of_link = front_reads + compare_reads t + PAYLOAD_WORDS + 1
 reads_at t phase = compare_reads t + FIND_READS_BESIDES
 
 -- words and steps are in range
-abbrev pub find_bounds : Find → Phase → Type 0
+abbrev pub find_bounds : Find → FindPhase → Type 0
 find_bounds t Header = t.status < 2 ^ 61
 find_bounds t Searching = (t.status < 2 ^ 61) × IsStep t.search × (t.search.step ≢ Done)
 find_bounds t Again = t.status < 2 ^ 61
@@ -135,7 +135,7 @@ pub record GoesByLeaf (t : Find) (p : Past) : Type 0 where
   pub met : t.search.dead ≤ t.search.sorted
 
 -- so it is once the header was read
-abbrev pub find_counts : Find → Phase → Past → Type 0
+abbrev pub find_counts : Find → FindPhase → Past → Type 0
 find_counts t Fresh p = Unit {0}
 find_counts t Status p = Unit {0}
 find_counts t Header p = Unit {0}
@@ -152,7 +152,7 @@ pub record StopsIn (slot reads : ℕ) (p : Past) : Type 0 where
   pub had : HadCounts p slot count sorted
   pub few : reads ≤ vain_reads count sorted
 
-abbrev pub find_learnt : Find → Phase → Past → Type 0
+abbrev pub find_learnt : Find → FindPhase → Past → Type 0
 find_learnt t Fresh p = IsKnownLeaf t.key t.link p
 find_learnt t Status p = IsKnownLeaf t.key t.link p
 find_learnt t Header p = Opened t.key t.link t.status p
@@ -163,7 +163,7 @@ find_learnt t (Guard at) p = Linked t.key t.link t.status t.search at p
 find_learnt t (Viewed at) p = IsFoundAt t.key t at p
 find_learnt t Changed p = Unit {0}
 
-abbrev pub find_facts : Find → Phase → Stage → Scene → Type 0
+abbrev pub find_facts : Find → FindPhase → Stage → Scene → Type 0
 find_facts t phase Took s = ⊥
 find_facts t Fresh Waiting s = IsKnownLeaf t.key t.link s.past
 find_facts t phase Waiting s = HasFilled s × find_learnt t phase s.past
@@ -181,7 +181,7 @@ IsEndOfFind Restart = Unit {0}
 IsEndOfFind outcome = ⊥
 
 -- a validating load found another value: another status, another link, or a guard that is frozen
-abbrev pub find_differs : Find → Phase → Seen → Type 0
+abbrev pub find_differs : Find → FindPhase → Seen → Type 0
 find_differs t Again (Was v) = v ≢ t.status
 find_differs t Of_link (Was v) = v ≢ t.link.slot + 1
 find_differs t (Guard at) (Was v) = (status v).frozen ≡ true

@@ -13,8 +13,8 @@ use Rattle.bz_task.specs.declared.view.KeyView.{KeyView}
 use Rattle.bz_find.specs.Words.{records_in, sorted_in}
 use Rattle.bz_find.specs.Steps.{place_of, begun, heard}
 use Rattle.bz_find.specs.declared.find.Find.{Find}
-use Rattle.bz_find.specs.declared.phase.Phase.{Phase}
-use Rattle.bz_find.specs.declared.phase.Phase.TheVariants.{Fresh, Status, Header, Searching, Again, Link as Of_link, Guard, Viewed, Changed}
+use Rattle.bz_find.specs.declared.phase.FindPhase.{FindPhase}
+use Rattle.bz_find.specs.declared.phase.FindPhase.TheVariants.{Fresh, Status, Header, Searching, Again, Link as Of_link, Guard, Viewed, Changed}
 use Rattle.bz_find.specs.declared.search.Search.{Search}
 use Rattle.bz_find.specs.declared.search.Step.{Step}
 use Rattle.bz_find.specs.declared.search.Step.TheVariants.{Done}
@@ -23,7 +23,7 @@ use Rattle.bz_find.specs.declared.search.Step.TheVariants.{Done}
 abbrev pub view_of : Find → ℕ → KeyView
 view_of t at = record { slot = t.link.slot; status = t.status; found = t.search.found; at = at }
 
-abbrev pub find_asks : Find → Phase → Option Todo
+abbrev pub find_asks : Find → FindPhase → Option Todo
 find_asks t Fresh = None
 find_asks t Status = Some (Read (node_address t.config t.link.slot + STATUS_AT))
 find_asks t Header = Some (Read (node_address t.config t.link.slot + HEADER_AT))
@@ -34,13 +34,13 @@ find_asks t (Guard at) = Some (Read t.link.guard)
 find_asks t (Viewed at) = Some Finish
 find_asks t Changed = Some Finish
 
-abbrev pub find_end : Find → Phase → Option Outcome
+abbrev pub find_end : Find → FindPhase → Option Outcome
 find_end t (Viewed at) = Some (Key (view_of t at))
 find_end t Changed = Some Restart
 find_end t phase = None
 
 -- while the search wants words it goes on, and then comes the validation
-abbrev pub phase_after : Step → ℕ → Phase
+abbrev pub phase_after : Step → ℕ → FindPhase
 phase_after Done st = if (status st).frozen then Of_link else Again
 phase_after step st = Searching
 
@@ -52,7 +52,7 @@ abbrev pub search_of : Find → ℕ → Search
 search_of t h = begun t.key (records_in t.status) (sorted_in h (records_in t.status))
 
 -- the answer of a phase has come at a moment
-abbrev pub told : Find → Phase → Seen → ℕ → Find
+abbrev pub told : Find → FindPhase → Seen → ℕ → Find
 told t Status (Was v) now = record t { status = v; phase = Header }
 told t Header (Was v) now = gone_on (record t { search = search_of t v })
 told t Searching (Was v) now = gone_on (record t { search = heard t.search v })
@@ -62,7 +62,7 @@ told t (Guard at) (Was v) now = record t { phase = if (status v).frozen then Cha
 told t phase seen now = record t { phase = Status }
 
 -- a phase asks for a read, but at the end
-abbrev pub reads_of : Phase → ℕ
+abbrev pub reads_of : FindPhase → ℕ
 reads_of (Viewed at) = 0
 reads_of Changed = 0
 reads_of phase = 1

@@ -16,7 +16,7 @@ ghost use Rattle.bz_find.specs.Facts.{find_acts, find_change, find_reads, IsBoun
 ghost use Rattle.bz_find.specs.Phases.{find_asks, gone_on, told, counted, view_of, IsPlain};
 
 use crate::front::{count_of, is_frozen, sorted_of};
-use crate::phase::Phase;
+use crate::phase::FindPhase;
 use crate::search::{Search, Step};
 use bz_key::Key;
 use bz_layout::{Config, HEADER_AT, STATUS_AT, Slots};
@@ -32,7 +32,7 @@ pub struct Find {
     // the way to the leaf, and its last link
     path: Path,
     link: Link,
-    phase: Phase,
+    phase: FindPhase,
     // the leaf's status, once it was read
     status: u64,
     search: Search,
@@ -62,7 +62,7 @@ impl Find {
             key,
             link: last_link(&path),
             path,
-            phase: Phase::Fresh,
+            phase: FindPhase::Fresh,
             status: 0,
             search: Search::new(key, 0, 0),
             asked: 0,
@@ -112,41 +112,41 @@ impl Find {
         ensures { self.new ≡ told self.old self.old.phase seen moment }
     {
         match (self.phase, seen) {
-            (Phase::Status, Seen::Read(word)) => {
+            (FindPhase::Status, Seen::Read(word)) => {
                 self.status = word;
-                self.phase = Phase::Header;
+                self.phase = FindPhase::Header;
             }
-            (Phase::Header, Seen::Read(word)) => {
+            (FindPhase::Header, Seen::Read(word)) => {
                 let count = count_of(self.status);
                 self.search = Search::new(self.key, count, sorted_of(word, count));
                 self.go_on();
             }
-            (Phase::Searching, Seen::Read(word)) => {
+            (FindPhase::Searching, Seen::Read(word)) => {
                 self.search.hear(word);
                 self.go_on();
             }
-            (Phase::Again, Seen::Read(word)) => {
+            (FindPhase::Again, Seen::Read(word)) => {
                 self.phase = if word == self.status {
-                    Phase::Viewed(moment)
+                    FindPhase::Viewed(moment)
                 } else {
-                    Phase::Changed
+                    FindPhase::Changed
                 };
             }
-            (Phase::Link, Seen::Read(word)) => {
+            (FindPhase::Link, Seen::Read(word)) => {
                 self.phase = if word == self.link.slot as u64 + 1 {
-                    Phase::Guard(moment)
+                    FindPhase::Guard(moment)
                 } else {
-                    Phase::Changed
+                    FindPhase::Changed
                 };
             }
-            (Phase::Guard(at), Seen::Read(word)) => {
+            (FindPhase::Guard(at), Seen::Read(word)) => {
                 self.phase = if is_frozen(word) {
-                    Phase::Changed
+                    FindPhase::Changed
                 } else {
-                    Phase::Viewed(at)
+                    FindPhase::Viewed(at)
                 };
             }
-            _ => self.phase = Phase::Status,
+            _ => self.phase = FindPhase::Status,
         }
     }
 
@@ -158,12 +158,12 @@ impl Find {
         self.phase = match self.search.step {
             Step::Done => {
                 if is_frozen(self.status) {
-                    Phase::Link
+                    FindPhase::Link
                 } else {
-                    Phase::Again
+                    FindPhase::Again
                 }
             }
-            _ => Phase::Searching,
+            _ => FindPhase::Searching,
         };
     }
 
@@ -173,7 +173,7 @@ impl Find {
         ensures { self.new ≡ counted self.old }
     {
         match self.phase {
-            Phase::Viewed(_) | Phase::Changed => {}
+            FindPhase::Viewed(_) | FindPhase::Changed => {}
             _ => self.asked += 1,
         }
     }
@@ -183,20 +183,20 @@ impl Find {
         requires config { IsConfig self.now.config }
         requires slot { self.now.link.slot < self.now.config.nodes }
         requires bounded { IsBounded self.now }
-        requires begun { self.now.phase ≢ Phase.Fresh }
+        requires begun { self.now.phase ≢ FindPhase.Fresh }
         ensures { find_asks self.now self.now.phase ≡ Some result }
     {
         match self.phase {
-            Phase::Fresh | Phase::Status | Phase::Again => Todo::Read(
+            FindPhase::Fresh | FindPhase::Status | FindPhase::Again => Todo::Read(
                 self.config.node_at(self.link.slot as u32) + STATUS_AT,
             ),
-            Phase::Header => Todo::Read(self.config.node_at(self.link.slot as u32) + HEADER_AT),
-            Phase::Searching => Todo::Read(
+            FindPhase::Header => Todo::Read(self.config.node_at(self.link.slot as u32) + HEADER_AT),
+            FindPhase::Searching => Todo::Read(
                 self.config.node_at(self.link.slot as u32) + self.search.place(),
             ),
-            Phase::Link => Todo::Read(self.link.link),
-            Phase::Guard(_) => Todo::Read(self.link.guard),
-            Phase::Viewed(_) | Phase::Changed => Todo::Finish,
+            FindPhase::Link => Todo::Read(self.link.link),
+            FindPhase::Guard(_) => Todo::Read(self.link.guard),
+            FindPhase::Viewed(_) | FindPhase::Changed => Todo::Finish,
         }
     }
 
@@ -231,8 +231,8 @@ impl Task for Find {
 
     fn ended(&self) -> Option<Outcome> {
         match self.phase {
-            Phase::Viewed(at) => Some(Outcome::Key(self.view(at))),
-            Phase::Changed => Some(Outcome::Restart),
+            FindPhase::Viewed(at) => Some(Outcome::Key(self.view(at))),
+            FindPhase::Changed => Some(Outcome::Restart),
             _ => None,
         }
     }

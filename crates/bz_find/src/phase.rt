@@ -2,7 +2,7 @@
 
 /// What is asked for next.
 #[derive(Clone, Copy, Drop)]
-pub(crate) enum Phase {
+pub(crate) enum FindPhase {
     /// Nothing was asked for yet.
     Fresh,
     /// The status.

@@ -40,8 +40,8 @@ use Rattle.bz_fork.specs.Facts.{Fork, fork_nodes, fork_plan, HasLinks, IsPlan, I
 use Rattle.bz_branch.specs.FromSplit.BelowSplits.{parent_freezing}
 use Rattle.bz_branch.specs.FromSplit.Facts.{StoodFresh, split_change}
 use Rattle.bz_branch.specs.FromSplit.RootSplits.{AreFreshThree}
-use Rattle.bz_fork.specs.declared.phase.Phase.{Phase}
-use Rattle.bz_fork.specs.declared.phase.Phase.TheVariants.{Fresh, Unread, Tight, Word, Again, Room, Above, Check, NoRoom, Writing}
+use Rattle.bz_fork.specs.declared.phase.ForkPhase.{ForkPhase}
+use Rattle.bz_fork.specs.declared.phase.ForkPhase.TheVariants.{Fresh, Unread, Tight, Word, Again, Room, Above, Check, NoRoom, Writing}
 use Rattle.bz_writer.specs.Facts.{write_asks, write_facts}
 use Rattle.bz_writer.specs.declared.phase.WritePhase.TheVariants.{Guard}
 use Rattle.bz_writer.specs.Phases.{means_of}
@@ -305,7 +305,7 @@ looks-well o r planned answers c made old new same = record {
 }
 
 -- what is asked for may be asked for
-pub askable : (c : Config) (r : Fork) (phase : Phase) (s : Scene) (todo : Todo) → s.past.config ≡ c → fork_facts r phase Waiting s → IsScene s → fork_asks c r phase ≡ Some todo → IsAskable s todo
+pub askable : (c : Config) (r : Fork) (phase : ForkPhase) (s : Scene) (todo : Todo) → s.past.config ≡ c → fork_facts r phase Waiting s → IsScene s → fork_asks c r phase ≡ Some todo → IsAskable s todo
 askable c r Fresh s todo same f good e = absurd (cc)
 askable c r Unread s todo same f good e = subst (IsAskable s) (some-same _ todo e) (guard-readable s r.lower good f.1.0.links.node.guard)
 askable c r Tight s todo same f good e = subst (IsAskable s) (some-same _ todo e) (guard-readable s r.middle good f.1.links.down.guard)
@@ -322,7 +322,7 @@ askable c r NoRoom s todo same f good e = subst (IsAskable s) (some-same _ todo 
 askable c r (Writing w) s todo same f good e = writer-askable (fork_plan r) (sound r) c s w todo same f good e
 
 -- a guard that differs has been changed since it was read
-pub cause : (c : Config) (r : Fork) (phase : Phase) (s : Scene) (seen : Seen) → fork_facts r phase Waiting s → fork_differs r.upper r.middle r.lower phase seen → IsCause (fork_asks c r phase) seen s
+pub cause : (c : Config) (r : Fork) (phase : ForkPhase) (s : Scene) (seen : Seen) → fork_facts r phase Waiting s → fork_differs r.upper r.middle r.lower phase seen → IsCause (fork_asks c r phase) seen s
 cause c r Unread s (Was v) f d = inl (guard-differed s r.lower v f.1.0.links.node.guard d)
 cause c r Tight s (Was v) f d = inl (guard-differed s r.middle v f.1.links.down.guard d)
 cause c r Again s (Was v) f d = inl (guard-differed s r.lower v f.1.links.node.guard d)
@@ -331,7 +331,7 @@ cause c r Check s (Was v) f d = inl (guard-differed s r.middle v f.1.links.down.
 cause c r (Writing w) s seen f d = writer-cause (fork_plan r) (sound r) c s w seen f d
 cause c r phase s seen f d = absurd (d)
 
-pub few : (phase : Phase) → fork_needs phase ≤ SPLIT_SLOTS
+pub few : (phase : ForkPhase) → fork_needs phase ≤ SPLIT_SLOTS
 few (Writing w) = needs-few SPLIT_SLOTS w
 few phase = omega arith
 
@@ -346,7 +346,7 @@ of-writer upper middle outcome s m = absurd (m)
 one-outcome : (a b : Outcome) → Some a ≡ Some b → a ≡ b
 one-outcome a b e = cc
 
-pub ends : (r : Fork) (phase : Phase) (s : Scene) (outcome : Outcome) → fork_facts r phase Waiting s → fork_end phase ≡ Some outcome → fork_means r.upper r.middle outcome s × HasFilled s
+pub ends : (r : Fork) (phase : ForkPhase) (s : Scene) (outcome : Outcome) → fork_facts r phase Waiting s → fork_end phase ≡ Some outcome → fork_means r.upper r.middle outcome s × HasFilled s
 ends r (Writing w) s outcome f e = let means = writer-ends (fork_plan r) (sound r) w s outcome f e in (of-writer r.upper r.middle outcome s means.0, means.1)
 ends r NoRoom s outcome f e = subst (λ z. fork_means r.upper r.middle z s × HasFilled s) (one-outcome NoneFits outcome e) (f.1, f.0)
 ends r phase s outcome f e = absurd (cc)
@@ -356,18 +356,18 @@ module _ (c : Config) (r : Fork) (s after : Scene) (same : s.past.config ≡ c) 
   at : (w : WritePhase) (asked : Option Todo) → write_asks c (fork_plan r) w ≡ asked → write_asks s.past.config (fork_plan r) w ≡ asked
   at w asked e = ap (λ z. write_asks z (fork_plan r) w) same ∙ e
 
-  pub stored : (phase : Phase) (a v : ℕ) → fork_facts r phase Waiting s → fork_asks c r phase ≡ Some (Stores_at a v) → Stores a v s after → fork_facts r phase Took after
+  pub stored : (phase : ForkPhase) (a v : ℕ) → fork_facts r phase Waiting s → fork_asks c r phase ≡ Some (Stores_at a v) → Stores a v s after → fork_facts r phase Took after
   stored (Writing w) a v f e t = stored-here (fork_plan r) (sound r) s after w a v f (at w (Some (Stores_at a v)) e) t
   stored phase a v f e t = absurd (cc)
 
-  pub flushed : (phase : Phase) (line : ℕ) → fork_facts r phase Waiting s → fork_asks c r phase ≡ Some (Flushes_line line) → Flushes line s after → fork_facts r phase Took after
+  pub flushed : (phase : ForkPhase) (line : ℕ) → fork_facts r phase Waiting s → fork_asks c r phase ≡ Some (Flushes_line line) → Flushes line s after → fork_facts r phase Took after
   flushed (Writing w) line f e t = flushed-here (fork_plan r) (sound r) s after w line f (at w (Some (Flushes_line line)) e) t
   flushed phase line f e t = absurd (cc)
 
-  pub took : (phase : Phase) (entries : List Entry) → fork_facts r phase Waiting s → IsScene s → fork_asks c r phase ≡ Some (Swaps_for entries) → Takes false entries s after → fork_facts r phase Took after
+  pub took : (phase : ForkPhase) (entries : List Entry) → fork_facts r phase Waiting s → IsScene s → fork_asks c r phase ≡ Some (Swaps_for entries) → Takes false entries s after → fork_facts r phase Took after
   took (Writing w) entries f good e takes = took-here (fork_plan r) (good-plan r) s after w entries f good (at w (Some (Swaps_for entries)) e) takes
   took phase entries f good e takes = absurd (cc)
 
-pub effect : (c : Config) (r : Fork) (phase : Phase) (s : Scene) (y : Instant) (entries : List Entry) → s.past.config ≡ c → fork_facts r phase Waiting s → IsScene s → fork_asks c r phase ≡ Some (Swaps_for entries) → Stand entries (here s) → SwapsTo s.past.config entries (here s) y → IsGoodSwap false split_change entries s y
+pub effect : (c : Config) (r : Fork) (phase : ForkPhase) (s : Scene) (y : Instant) (entries : List Entry) → s.past.config ≡ c → fork_facts r phase Waiting s → IsScene s → fork_asks c r phase ≡ Some (Swaps_for entries) → Stand entries (here s) → SwapsTo s.past.config entries (here s) y → IsGoodSwap false split_change entries s y
 effect c r (Writing w) s y entries same f good e stand swaps = effect-here (fork_plan r) (good-plan r) s w y entries f good (ap (λ z. write_asks z (fork_plan r) w) same ∙ e) stand swaps
 effect c r phase s y entries same f good e stand swaps = absurd (cc)

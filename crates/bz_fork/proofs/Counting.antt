@@ -4,18 +4,18 @@ use Rattle.bz_layout.specs.declared.config.Config.{Config}
 use Rattle.bz_task.specs.Requests.{Hears, swaps_in, effects_in}
 use Rattle.bz_task.specs.declared.todo.Seen.{Seen}
 use Rattle.bz_fork.specs.Facts.{Fork, fork_asks, fork_swaps}
-use Rattle.bz_fork.specs.declared.phase.Phase.{Phase}
-use Rattle.bz_fork.specs.declared.phase.Phase.TheVariants.{Writing}
+use Rattle.bz_fork.specs.declared.phase.ForkPhase.{ForkPhase}
+use Rattle.bz_fork.specs.declared.phase.ForkPhase.TheVariants.{Writing}
 use Rattle.bz_writer.proofs.Sizes.{heard-effects, swaps-few as writer-few}
 
-swaps-few : (p : Phase) → fork_swaps p ≤ 1
+swaps-few : (p : ForkPhase) → fork_swaps p ≤ 1
 swaps-few (Writing w) = writer-few w
 swaps-few p = omega arith
 
 -- after an act that is no swap no more swaps are asked for than before it, and none took effect
-pub record Counts (c : Config) (r : Fork) (o p : Phase) (seen : Seen) : Type 0 where
+pub record Counts (c : Config) (r : Fork) (o p : ForkPhase) (seen : Seen) : Type 0 where
   pub fewer : fork_swaps p + swaps_in (fork_asks c r o) ≤ fork_swaps o
   pub counted : effects_in seen ≡ 0
 
-pub counts : (c : Config) (r : Fork) (o p : Phase) (seen : Seen) → fork_swaps o ≡ 1 → swaps_in (fork_asks c r o) ≡ 0 → Hears (fork_asks c r o) seen → Counts c r o p seen
+pub counts : (c : Config) (r : Fork) (o p : ForkPhase) (seen : Seen) → fork_swaps o ≡ 1 → swaps_in (fork_asks c r o) ≡ 0 → Hears (fork_asks c r o) seen → Counts c r o p seen
 counts c r o p seen one none h = record { fewer = omega (arith, swaps-few p, one, none); counted = omega (arith, heard-effects (fork_asks c r o) seen h, none) }

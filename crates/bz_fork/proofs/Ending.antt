@@ -13,11 +13,11 @@ use Rattle.bz_task.specs.declared.todo.Todo.TheVariants.{Read as Reads}
 use Rattle.bz_task.specs.declared.todo.Outcome.TheVariants.{Done as IsDone, Restart as Restarts, Full as IsFull}
 use Rattle.bz_task.specs.declared.todo.Seen.TheVariants.{Start, Read as Was, Stored, Flushed, Swapped, NoSwap as NoneLeft}
 use Rattle.bz_fork.specs.Facts.{Fork, fork_asks, fork_differs, fork_end, fork_needs}
-use Rattle.bz_fork.specs.declared.phase.Phase.{Phase}
-use Rattle.bz_fork.specs.declared.phase.Phase.TheVariants.{Fresh, Unread, Tight, Again, Room, Check}
+use Rattle.bz_fork.specs.declared.phase.ForkPhase.{ForkPhase}
+use Rattle.bz_fork.specs.declared.phase.ForkPhase.TheVariants.{Fresh, Unread, Tight, Again, Room, Check}
 
 -- a phase after another one, told of how it ends
-pub record EndsWell (upper middle lower : Link) (seen : Seen) (o p : Phase) (free : FreeSlots) : Type 0 where
+pub record EndsWell (upper middle lower : Link) (seen : Seen) (o p : ForkPhase) (free : FreeSlots) : Type 0 where
   pub done : fork_end p ≡ Some IsDone → seen ≡ Swapped true
   pub restart : fork_end p ≡ Some Restarts → (seen ≡ Swapped false) ⊎ fork_differs upper middle lower o seen
   pub no_swap : seen ≡ NoneLeft → fork_end p ≡ Some (IsFull NoSwaps)
@@ -37,11 +37,11 @@ pub read-answers : (a v : ℕ) (stage : Stage) (s : Scene) → Tells (Some (Read
 read-answers a v Waiting s t = (refl, t)
 read-answers a v Took s t = absurd (t)
 
-pub takes-none : (o p : Phase) (free : FreeSlots) → fork_needs p ≤ fork_needs o → AreTakenFrom (fork_needs o) (fork_needs p) free free
+pub takes-none : (o p : ForkPhase) (free : FreeSlots) → fork_needs p ≤ fork_needs o → AreTakenFrom (fork_needs o) (fork_needs p) free free
 takes-none o p free fewer = inr (record { fewer = fewer; slots = refl })
 
 -- no end
-pub goes-on : (upper middle lower : Link) (seen : Seen) (o p : Phase) (free : FreeSlots) → fork_end p ≡ None → seen ≢ NoneLeft → EndsWell upper middle lower seen o p free
+pub goes-on : (upper middle lower : Link) (seen : Seen) (o p : ForkPhase) (free : FreeSlots) → fork_end p ≡ None → seen ≢ NoneLeft → EndsWell upper middle lower seen o p free
 goes-on upper middle lower seen o p free none heard = record {
   done = λ e. absurd (let h = sym none ∙ e in cc);
   restart = λ e. absurd (let h = sym none ∙ e in cc);
@@ -88,7 +88,7 @@ other-tight upper middle lower (Was v) h ne = λ e. ne (ap Was e)
 other-tight upper middle lower seen h ne = absurd (h)
 
 -- the first act is no end
-pub first-ends : (c : Config) (r : Fork) (seen : Seen) (p : Phase) (free : FreeSlots) → Hears (fork_asks c r Fresh) seen → fork_end p ≡ None → EndsWell r.upper r.middle r.lower seen Fresh p free
+pub first-ends : (c : Config) (r : Fork) (seen : Seen) (p : ForkPhase) (free : FreeSlots) → Hears (fork_asks c r Fresh) seen → fork_end p ≡ None → EndsWell r.upper r.middle r.lower seen Fresh p free
 first-ends c r Start p free h none = goes-on r.upper r.middle r.lower Start Fresh p free none (λ e. absurd (cc))
 first-ends c r (Was v) p free h none = absurd (h)
 first-ends c r Stored p free h none = absurd (h)

@@ -12,8 +12,8 @@ use Rattle.bz_branch.specs.Nodes.{ParentsOfNodesWere}
 use Rattle.bz_branch.specs.Parts.{IsFullNode}
 use Rattle.bz_fork.specs.Facts.{Fork, HasReadNode, IsReadingAbove, HasOpened, fork_asks, fork_left, fork_steps, fork_needs, fork_facts, IsReadyFork}
 use Rattle.bz_writer.specs.declared.phase.WritePhase.TheVariants.{Restart}
-use Rattle.bz_fork.specs.declared.phase.Phase.{Phase}
-use Rattle.bz_fork.specs.declared.phase.Phase.TheVariants.{Fresh, Room, Above, NoRoom, Writing}
+use Rattle.bz_fork.specs.declared.phase.ForkPhase.{ForkPhase}
+use Rattle.bz_fork.specs.declared.phase.ForkPhase.TheVariants.{Fresh, Room, Above, NoRoom, Writing}
 use Rattle.bz_fork.proofs.Acting.{upper-slot}
 use Rattle.bz_fork.proofs.Ending.{EndsWell, goes-on, other-first, read-answers, was-no-swap}
 use Rattle.bz_fork.proofs.ParentsThen.{counted-since, counted-until, lacked-room}
@@ -32,7 +32,7 @@ full-node r stage s f =
     record { nodes = s.past.config.nodes; level = g.node.level; low = g.node.low; high = g.node.high; node = g.node.node; many = g.many }
 
 -- what the status of the parent teaches
-pub opened-learns : ParentsOfNodesWere → ReadNodesHaveChildren → (c : Config) (r : Fork) (p : Phase) (seen : Seen) (stage : Stage) (s : Scene) → HasOpened r seen p → IsScene s → fork_facts r Room stage s → Tells (fork_asks c r Room) stage seen s → fork_facts r p Waiting s
+pub opened-learns : ParentsOfNodesWere → ReadNodesHaveChildren → (c : Config) (r : Fork) (p : ForkPhase) (seen : Seen) (stage : Stage) (s : Scene) → HasOpened r seen p → IsScene s → fork_facts r Room stage s → Tells (fork_asks c r Room) stage seen s → fork_facts r p Waiting s
 opened-learns law have c r (Above i) seen stage s h good f t =
     let g = waits r stage s f in
     let first : IsReadingAbove r 1 s.past = record { links = g.1.links; node = g.1.node; many = g.1.many; fits = h.1.1; above = g.1.above } in
@@ -60,14 +60,14 @@ opened-learns law have c r (Writing Restart) seen stage s h good f t = (waits r 
 opened-learns law have c r p seen stage s h good f t = absurd (h)
 
 -- what it leads to
-pub record Opens (r : Fork) (c : Config) (seen : Seen) (p : Phase) (free : FreeSlots) : Type 0 where
+pub record Opens (r : Fork) (c : Config) (seen : Seen) (p : ForkPhase) (free : FreeSlots) : Type 0 where
   pub begun : p ≢ Fresh
   pub ready : IsReadyFork c r p
   pub nearer : fork_left p + fork_steps p ≤ fork_left Room
   pub fewer : fork_needs p ≤ SPLIT_SLOTS
   pub ends : EndsWell r.upper r.middle r.lower seen Room p free
 
-pub opens : (r : Fork) (c : Config) (seen : Seen) (p : Phase) (free : FreeSlots) (stage : Stage) (s : Scene) → s.past.config ≡ c → IsScene s → fork_facts r Room stage s → Hears (fork_asks c r Room) seen → HasOpened r seen p → Opens r c seen p free
+pub opens : (r : Fork) (c : Config) (seen : Seen) (p : ForkPhase) (free : FreeSlots) (stage : Stage) (s : Scene) → s.past.config ≡ c → IsScene s → fork_facts r Room stage s → Hears (fork_asks c r Room) seen → HasOpened r seen p → Opens r c seen p free
 opens r c seen (Above i) free stage s same good f hears h =
     let slot : r.upper.slot < c.nodes = subst (λ (z : Config). r.upper.slot < z.nodes) same (upper-slot r.upper r.middle r.lower s good (waits r stage s f).1.links) in
     record { begun = λ e. absurd (cc); ready = (slot, omega (arith, h.0)); nearer = omega (arith, h.0); fewer = omega arith; ends = goes-on r.upper r.middle r.lower seen Room (Above i) free refl (was-no-swap r.middle.guard seen hears) }

@@ -16,8 +16,8 @@ use Rattle.bz_branch.proofs.FromBelow.ReadWords.{listed, all-read}
 use Rattle.bz_branch.proofs.Standing.{guard-is}
 use Rattle.bz_fork.specs.Facts.{Fork, HasLinks, IsReading, HasPassedNode, TakesNoChild, HasPassed, IsReadyFork, fork_asks, fork_left, fork_steps, fork_needs, fork_facts}
 use Rattle.bz_writer.specs.declared.phase.WritePhase.TheVariants.{Restart}
-use Rattle.bz_fork.specs.declared.phase.Phase.{Phase}
-use Rattle.bz_fork.specs.declared.phase.Phase.TheVariants.{Fresh, Unread, Tight, Writing}
+use Rattle.bz_fork.specs.declared.phase.ForkPhase.{ForkPhase}
+use Rattle.bz_fork.specs.declared.phase.ForkPhase.TheVariants.{Fresh, Unread, Tight, Writing}
 use Rattle.bz_fork.proofs.Ending.{EndsWell, goes-on, other-unread, read-answers, was-no-swap}
 use Rattle.bz_fork.proofs.ReadingOn.{was-inner, is-many}
 
@@ -48,20 +48,20 @@ waits r Waiting s f = f
 waits r Took s f = absurd (f)
 
 -- what the status of the node, once more, teaches
-pub passed-learns : ReadNodesWere → (c : Config) (r : Fork) (p : Phase) (seen : Seen) (stage : Stage) (s : Scene) → HasPassed r seen p → IsScene s → fork_facts r Unread stage s → Tells (fork_asks c r Unread) stage seen s → fork_facts r p Waiting s
+pub passed-learns : ReadNodesWere → (c : Config) (r : Fork) (p : ForkPhase) (seen : Seen) (stage : Stage) (s : Scene) → HasPassed r seen p → IsScene s → fork_facts r Unread stage s → Tells (fork_asks c r Unread) stage seen s → fork_facts r p Waiting s
 passed-learns law c r Tight seen stage s h good f t = let g = waits r stage s f in (g.0, passed r s good g.1.0.links law g.1.1 (found-now c r seen stage s t h))
 passed-learns law c r (Writing Restart) seen stage s h good f t = (waits r stage s f).0
 passed-learns law c r p seen stage s h good f t = absurd (h)
 
 -- what it leads to
-pub record Passes (r : Fork) (c : Config) (seen : Seen) (p : Phase) (free : FreeSlots) : Type 0 where
+pub record Passes (r : Fork) (c : Config) (seen : Seen) (p : ForkPhase) (free : FreeSlots) : Type 0 where
   pub begun : p ≢ Fresh
   pub ready : IsReadyFork c r p
   pub nearer : fork_left p + fork_steps p ≤ fork_left Unread
   pub fewer : fork_needs p ≤ SPLIT_SLOTS
   pub ends : EndsWell r.upper r.middle r.lower seen Unread p free
 
-pub passes : (r : Fork) (c : Config) (seen : Seen) (p : Phase) (free : FreeSlots) → Hears (fork_asks c r Unread) seen → HasPassed r seen p → Passes r c seen p free
+pub passes : (r : Fork) (c : Config) (seen : Seen) (p : ForkPhase) (free : FreeSlots) → Hears (fork_asks c r Unread) seen → HasPassed r seen p → Passes r c seen p free
 passes r c seen Tight free hears h =
     record { begun = λ e. absurd (cc); ready = tt; nearer = omega arith; fewer = omega arith; ends = goes-on r.upper r.middle r.lower seen Unread Tight free refl (was-no-swap r.lower.guard seen hears) }
 passes r c seen (Writing Restart) free hears h = record {

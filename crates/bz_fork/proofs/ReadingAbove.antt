@@ -15,8 +15,8 @@ use Rattle.bz_task.specs.declared.todo.Seen.{Seen}
 use Rattle.bz_task.specs.declared.todo.Seen.TheVariants.{Start, Read as Was, Stored, Flushed, Swapped, NoSwap as NoneLeft}
 use Rattle.bz_fork.specs.Facts.{Fork, IsReadingAbove, fork_asks, fork_left, fork_steps, fork_needs, fork_facts, above_after, IsReadyFork}
 use Rattle.bz_branch.proofs.FromBelow.ReadWords.{kept}
-use Rattle.bz_fork.specs.declared.phase.Phase.{Phase}
-use Rattle.bz_fork.specs.declared.phase.Phase.TheVariants.{Fresh, Above, Check}
+use Rattle.bz_fork.specs.declared.phase.ForkPhase.{ForkPhase}
+use Rattle.bz_fork.specs.declared.phase.ForkPhase.TheVariants.{Fresh, Above, Check}
 use Rattle.bz_fork.proofs.Acting.{upper-slot}
 use Rattle.bz_fork.proofs.Ending.{EndsWell, goes-on, was-no-swap}
 
@@ -50,7 +50,7 @@ above-known c r i j v NoneLeft Waiting s same good after within skipped found f 
 above-known c r i j v seen Took s same good after within skipped found f t = absurd (f)
 
 -- the load of a word leads to that of the next one
-pub record Aboves (c : Config) (r : Fork) (i : ℕ) (seen : Seen) (p : Phase) (free : FreeSlots) : Type 0 where
+pub record Aboves (c : Config) (r : Fork) (i : ℕ) (seen : Seen) (p : ForkPhase) (free : FreeSlots) : Type 0 where
   pub begun : p ≢ Fresh
   pub ready : IsReadyFork c r p
   pub nearer : fork_left p + fork_steps p ≤ fork_left (Above i)

@@ -15,8 +15,8 @@ use Rattle.bz_branch.specs.FromBelow.Parents.{WereRead}
 use Rattle.bz_branch.specs.Nodes.{WasInner, ReadNodesWere}
 use Rattle.bz_fork.specs.Facts.{Fork, HasLinks, IsReading, HasRead, fork_asks, fork_left, fork_steps, fork_needs, fork_facts, IsReadyFork}
 use Rattle.bz_writer.specs.declared.phase.WritePhase.TheVariants.{Restart}
-use Rattle.bz_fork.specs.declared.phase.Phase.{Phase}
-use Rattle.bz_fork.specs.declared.phase.Phase.TheVariants.{Fresh, Again, Room, Writing}
+use Rattle.bz_fork.specs.declared.phase.ForkPhase.{ForkPhase}
+use Rattle.bz_fork.specs.declared.phase.ForkPhase.TheVariants.{Fresh, Again, Room, Writing}
 use Rattle.bz_fork.proofs.Ending.{EndsWell, goes-on, other-lower, read-answers, was-no-swap}
 
 -- the node, where its status is found as it was
@@ -39,7 +39,7 @@ waits r Waiting s f = f
 waits r Took s f = absurd (f)
 
 -- what the status of the node, once more, teaches
-pub read-learns : ReadNodesWere → (c : Config) (r : Fork) (p : Phase) (seen : Seen) (stage : Stage) (s : Scene) → HasRead r seen p → IsScene s → fork_facts r Again stage s → Tells (fork_asks c r Again) stage seen s → fork_facts r p Waiting s
+pub read-learns : ReadNodesWere → (c : Config) (r : Fork) (p : ForkPhase) (seen : Seen) (stage : Stage) (s : Scene) → HasRead r seen p → IsScene s → fork_facts r Again stage s → Tells (fork_asks c r Again) stage seen s → fork_facts r p Waiting s
 read-learns law c r Room seen stage s h good f t =
     let g = waits r stage s f in
     let w = was-inner law r s good g.1.links r.read g.1.were (found-now c r seen stage s t h) in
@@ -48,14 +48,14 @@ read-learns law c r (Writing Restart) seen stage s h good f t = (waits r stage s
 read-learns law c r p seen stage s h good f t = absurd (h)
 
 -- what it leads to
-pub record Ons (r : Fork) (c : Config) (seen : Seen) (p : Phase) (free : FreeSlots) : Type 0 where
+pub record Ons (r : Fork) (c : Config) (seen : Seen) (p : ForkPhase) (free : FreeSlots) : Type 0 where
   pub begun : p ≢ Fresh
   pub ready : IsReadyFork c r p
   pub nearer : fork_left p + fork_steps p ≤ fork_left Again
   pub fewer : fork_needs p ≤ SPLIT_SLOTS
   pub ends : EndsWell r.upper r.middle r.lower seen Again p free
 
-pub reads : (r : Fork) (c : Config) (seen : Seen) (p : Phase) (free : FreeSlots) → Hears (fork_asks c r Again) seen → HasRead r seen p → Ons r c seen p free
+pub reads : (r : Fork) (c : Config) (seen : Seen) (p : ForkPhase) (free : FreeSlots) → Hears (fork_asks c r Again) seen → HasRead r seen p → Ons r c seen p free
 reads r c seen Room free hears h =
     record { begun = λ e. absurd (cc); ready = tt; nearer = omega arith; fewer = omega arith; ends = goes-on r.upper r.middle r.lower seen Again Room free refl (was-no-swap r.lower.guard seen hears) }
 reads r c seen (Writing Restart) free hears h = record {

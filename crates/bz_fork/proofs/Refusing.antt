@@ -16,8 +16,8 @@ use Rattle.bz_branch.specs.Nodes.{ParentsOfNodesWere}
 use Rattle.bz_fork.specs.Facts.{Fork, HasPassedNode, TakesNoChild, HasRefused, LackedPart, IsReadyFork, fork_asks, fork_left, fork_steps, fork_needs, fork_facts}
 use Rattle.bz_fork.specs.Halves.{HasHalves, FullNodesHaveHalves}
 use Rattle.bz_writer.specs.declared.phase.WritePhase.TheVariants.{Restart}
-use Rattle.bz_fork.specs.declared.phase.Phase.{Phase}
-use Rattle.bz_fork.specs.declared.phase.Phase.TheVariants.{Fresh, Tight, NoRoom, Writing}
+use Rattle.bz_fork.specs.declared.phase.ForkPhase.{ForkPhase}
+use Rattle.bz_fork.specs.declared.phase.ForkPhase.TheVariants.{Fresh, Tight, NoRoom, Writing}
 use Rattle.bz_fork.proofs.Ending.{EndsWell, other-tight, read-answers, was-no-swap}
 use Rattle.bz_fork.proofs.ParentsThen.{counted-since, counted-until, lacked-room}
 
@@ -50,20 +50,20 @@ lacked law have halve r s good g now =
     }
 
 -- what the status of the parent, once more, teaches
-pub refused-learns : ParentsOfNodesWere → ReadNodesHaveChildren → FullNodesHaveHalves → (c : Config) (r : Fork) (p : Phase) (seen : Seen) (stage : Stage) (s : Scene) → HasRefused r seen p → IsScene s → fork_facts r Tight stage s → Tells (fork_asks c r Tight) stage seen s → fork_facts r p Waiting s
+pub refused-learns : ParentsOfNodesWere → ReadNodesHaveChildren → FullNodesHaveHalves → (c : Config) (r : Fork) (p : ForkPhase) (seen : Seen) (stage : Stage) (s : Scene) → HasRefused r seen p → IsScene s → fork_facts r Tight stage s → Tells (fork_asks c r Tight) stage seen s → fork_facts r p Waiting s
 refused-learns law have halve c r NoRoom seen stage s h good f t = let g = waits r stage s f in (g.0, lacked law have halve r s good g.1 (found-now c r seen stage s t h))
 refused-learns law have halve c r (Writing Restart) seen stage s h good f t = (waits r stage s f).0
 refused-learns law have halve c r p seen stage s h good f t = absurd (h)
 
 -- what it leads to
-pub record Refuses (r : Fork) (c : Config) (seen : Seen) (p : Phase) (free : FreeSlots) : Type 0 where
+pub record Refuses (r : Fork) (c : Config) (seen : Seen) (p : ForkPhase) (free : FreeSlots) : Type 0 where
   pub begun : p ≢ Fresh
   pub ready : IsReadyFork c r p
   pub nearer : fork_left p + fork_steps p ≤ fork_left Tight
   pub fewer : fork_needs p ≤ SPLIT_SLOTS
   pub ends : EndsWell r.upper r.middle r.lower seen Tight p free
 
-pub refuses : (r : Fork) (c : Config) (seen : Seen) (p : Phase) (free : FreeSlots) → Hears (fork_asks c r Tight) seen → HasRefused r seen p → Refuses r c seen p free
+pub refuses : (r : Fork) (c : Config) (seen : Seen) (p : ForkPhase) (free : FreeSlots) → Hears (fork_asks c r Tight) seen → HasRefused r seen p → Refuses r c seen p free
 refuses r c seen NoRoom free hears h = record {
   begun = λ e. absurd (cc);
   ready = tt;

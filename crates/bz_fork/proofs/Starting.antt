@@ -9,8 +9,8 @@ use Rattle.bz_task.specs.Scene.{Scene, Stage, Waiting, Took, IsScene}
 use Rattle.bz_task.specs.declared.todo.Seen.{Seen}
 use Rattle.bz_renew.specs.Renewals.{IsTurnable, LinksMayBeTurned}
 use Rattle.bz_fork.specs.Facts.{Fork, IsFirst, IsReadyFork, fork_asks, fork_end, fork_left, fork_steps, fork_needs, fork_facts}
-use Rattle.bz_fork.specs.declared.phase.Phase.{Phase}
-use Rattle.bz_fork.specs.declared.phase.Phase.TheVariants.{Fresh, Unread, Word}
+use Rattle.bz_fork.specs.declared.phase.ForkPhase.{ForkPhase}
+use Rattle.bz_fork.specs.declared.phase.ForkPhase.TheVariants.{Fresh, Unread, Word}
 use Rattle.bz_fork.proofs.Ending.{EndsWell, first-ends}
 use Rattle.bz_fork.proofs.Reading.{fresh-known, fresh-ready}
 
@@ -20,13 +20,13 @@ plain turned r Waiting s good f = let t : IsTurnable r.middle s = turned s r.mid
 plain turned r Took s good f = absurd (f)
 
 -- what is known then
-pub first-learns : (c : Config) (r : Fork) (p : Phase) (seen : Seen) (stage : Stage) (s : Scene) → IsFirst r p → fork_facts r Fresh stage s → Tells (fork_asks c r Fresh) stage seen s → fork_facts r p Waiting s
+pub first-learns : (c : Config) (r : Fork) (p : ForkPhase) (seen : Seen) (stage : Stage) (s : Scene) → IsFirst r p → fork_facts r Fresh stage s → Tells (fork_asks c r Fresh) stage seen s → fork_facts r p Waiting s
 first-learns c r Unread seen stage s h f t = let k = fresh-known c r seen stage s f t in (k.0, (k.1.1.1, h))
 first-learns c r (Word i) seen stage s h f t = subst (λ z. fork_facts r (Word z) Waiting s) (sym h.0) (fresh-known c r seen stage s f t)
 first-learns c r p seen stage s h f t = absurd (h)
 
 -- what it leads to
-pub record Firsts (r : Fork) (c : Config) (seen : Seen) (p : Phase) (free : FreeSlots) : Type 0 where
+pub record Firsts (r : Fork) (c : Config) (seen : Seen) (p : ForkPhase) (free : FreeSlots) : Type 0 where
   pub begun : p ≢ Fresh
   pub goes : fork_end p ≡ None
   pub ready : IsReadyFork c r p
@@ -34,7 +34,7 @@ pub record Firsts (r : Fork) (c : Config) (seen : Seen) (p : Phase) (free : Free
   pub fewer : fork_needs p ≤ SPLIT_SLOTS
   pub ends : EndsWell r.upper r.middle r.lower seen Fresh p free
 
-pub firsts : (r : Fork) (c : Config) (seen : Seen) (p : Phase) (free : FreeSlots) (stage : Stage) (s : Scene) → s.past.config ≡ c → IsScene s → fork_facts r Fresh stage s → Hears (fork_asks c r Fresh) seen → IsFirst r p → Firsts r c seen p free
+pub firsts : (r : Fork) (c : Config) (seen : Seen) (p : ForkPhase) (free : FreeSlots) (stage : Stage) (s : Scene) → s.past.config ≡ c → IsScene s → fork_facts r Fresh stage s → Hears (fork_asks c r Fresh) seen → IsFirst r p → Firsts r c seen p free
 firsts r c seen Unread free stage s same good f hears h =
     record { begun = λ e. absurd (cc); goes = refl; ready = tt; nearer = omega arith; fewer = omega arith; ends = first-ends c r seen Unread free hears refl }
 firsts r c seen (Word i) free stage s same good f hears h =

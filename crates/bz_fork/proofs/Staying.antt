@@ -18,8 +18,8 @@ use Rattle.bz_branch.specs.FromBelow.Facts.{LackedRoom}
 use Rattle.bz_branch.specs.Parts.{AreHalvesOfNode}
 use Rattle.bz_branch.proofs.Staying.{open-stays, open-guarded, links-stay, links-guarded, links-child, read-stays, inner-stays, parent-stays, halves-stay}
 use Rattle.bz_fork.specs.Facts.{Fork, fork_plan, HasLinks, IsReading, HasPassedNode, HasReadNode, IsReadingAbove, IsPlan, LackedPart, AreClear, IsSplitting, WasSplitInner, fork_facts}
-use Rattle.bz_fork.specs.declared.phase.Phase.{Phase}
-use Rattle.bz_fork.specs.declared.phase.Phase.TheVariants.{Fresh, Unread, Tight, Word, Again, Room, Above, Check, NoRoom, Writing}
+use Rattle.bz_fork.specs.declared.phase.ForkPhase.{ForkPhase}
+use Rattle.bz_fork.specs.declared.phase.ForkPhase.TheVariants.{Fresh, Unread, Tight, Word, Again, Room, Above, Check, NoRoom, Writing}
 
 module _ (p q : Past) (c : Continues p q) where
   unfoldable pub has-links-stay : (upper middle lower : Link) → HasLinks upper middle lower p → HasLinks upper middle lower q
@@ -179,7 +179,7 @@ module _ (r : Fork) (sound : IsSoundPlan (fork_plan r)) (s after : Scene) (l : I
   filled : HasFilled s → HasFilled after
   filled f k t = l.filled k ∙ f k (sym (l.took k) ∙ t)
 
-  pub stable : (phase : Phase) (stage : Stage) → fork_facts r phase stage s → fork_facts r phase stage after
+  pub stable : (phase : ForkPhase) (stage : Stage) → fork_facts r phase stage s → fork_facts r phase stage after
   stable Fresh Waiting f = reading-stays s.past after.past l.continues r 1 f
   stable Unread Waiting f = (filled f.0, (reading-stays s.past after.past l.continues r 1 f.1.0, f.1.1))
   stable Tight Waiting f = (filled f.0, passed-stays s.past after.past l.continues r f.1)
@@ -194,7 +194,7 @@ module _ (r : Fork) (sound : IsSoundPlan (fork_plan r)) (s after : Scene) (l : I
 
 -- it stays where no slot is taken
 module _ (r : Fork) (s : Scene) (free : FreeSlots) where
-  pub no-slot : (phase : Phase) → fork_facts r phase Waiting s → fork_facts r phase Waiting (gained s free free)
+  pub no-slot : (phase : ForkPhase) → fork_facts r phase Waiting s → fork_facts r phase Waiting (gained s free free)
   no-slot Fresh f = f
   no-slot (Writing w) f = writer-no-slot (fork_plan r) s free w f
   no-slot phase f = (nothing_is_gained s free f.0, f.1)

@@ -15,8 +15,8 @@ use Rattle.bz_branch.specs.FromBelow.Parents.{WasParent}
 use Rattle.bz_branch.specs.Nodes.{ParentsOfNodesWere}
 use Rattle.bz_fork.specs.Facts.{Fork, IsReadingAbove, HasTold, fork_asks, fork_left, fork_steps, fork_needs, fork_facts, IsReadyFork}
 use Rattle.bz_writer.specs.declared.phase.WritePhase.TheVariants.{Guard, Restart}
-use Rattle.bz_fork.specs.declared.phase.Phase.{Phase}
-use Rattle.bz_fork.specs.declared.phase.Phase.TheVariants.{Fresh, Check, Writing}
+use Rattle.bz_fork.specs.declared.phase.ForkPhase.{ForkPhase}
+use Rattle.bz_fork.specs.declared.phase.ForkPhase.TheVariants.{Fresh, Check, Writing}
 use Rattle.bz_fork.proofs.Ending.{EndsWell, goes-on, other-middle, read-answers, was-no-swap}
 use Rattle.bz_fork.proofs.ParentsThen.{was-parent, levels, two}
 use Rattle.bz_branch.proofs.FromBelow.ParentsThen.{taken}
@@ -30,7 +30,7 @@ waits r Waiting s f = f
 waits r Took s f = absurd (f)
 
 -- what the status of the parent, once more, teaches
-pub told-learns : ParentsOfNodesWere → GuardedLinksStand → RangesStay → ReadNodesHaveChildren → (c : Config) (r : Fork) (p : Phase) (seen : Seen) (stage : Stage) (s : Scene) → HasTold r seen p → IsScene s → fork_facts r Check stage s → Tells (fork_asks c r Check) stage seen s → fork_facts r p Waiting s
+pub told-learns : ParentsOfNodesWere → GuardedLinksStand → RangesStay → ReadNodesHaveChildren → (c : Config) (r : Fork) (p : ForkPhase) (seen : Seen) (stage : Stage) (s : Scene) → HasTold r seen p → IsScene s → fork_facts r Check stage s → Tells (fork_asks c r Check) stage seen s → fork_facts r p Waiting s
 told-learns law stand ranges have c r (Writing Guard) seen stage s h good f t =
     let g = waits r stage s f in
     let now = found-now c r seen stage s t h in
@@ -58,14 +58,14 @@ told-learns law stand ranges have c r (Writing Restart) seen stage s h good f t 
 told-learns law stand ranges have c r p seen stage s h good f t = absurd (h)
 
 -- what it leads to
-pub record Tolds (r : Fork) (c : Config) (seen : Seen) (p : Phase) (free : FreeSlots) : Type 0 where
+pub record Tolds (r : Fork) (c : Config) (seen : Seen) (p : ForkPhase) (free : FreeSlots) : Type 0 where
   pub begun : p ≢ Fresh
   pub ready : IsReadyFork c r p
   pub nearer : fork_left p + fork_steps p ≤ fork_left Check
   pub taken : AreTakenFrom SPLIT_SLOTS (fork_needs p) free free
   pub ends : EndsWell r.upper r.middle r.lower seen Check p free
 
-pub tolds : (r : Fork) (c : Config) (seen : Seen) (p : Phase) (free : FreeSlots) → Hears (fork_asks c r Check) seen → HasTold r seen p → Tolds r c seen p free
+pub tolds : (r : Fork) (c : Config) (seen : Seen) (p : ForkPhase) (free : FreeSlots) → Hears (fork_asks c r Check) seen → HasTold r seen p → Tolds r c seen p free
 tolds r c seen (Writing Guard) free hears h =
     record { begun = λ e. absurd (cc); ready = ((λ e. absurd (cc)), tt); nearer = omega arith; taken = inr (record { fewer = omega arith; slots = refl }); ends = goes-on r.upper r.middle r.lower seen Check (Writing Guard) free refl (was-no-swap r.middle.guard seen hears) }
 tolds r c seen (Writing Restart) free hears h = record {

@@ -33,8 +33,8 @@ use Rattle.bz_writer.specs.Facts.{write_asks, write_facts, write_differs, write_
 use Rattle.bz_writer.specs.Phases.{write_end, write_left, write_swaps, write_needs}
 use Rattle.bz_writer.specs.Plans.{Plan}
 use Rattle.bz_writer.specs.declared.phase.WritePhase.TheVariants.{Fresh as Unbegun, Guard, Flush, Restart}
-use Rattle.bz_fork.specs.declared.phase.Phase.{Phase}
-use Rattle.bz_fork.specs.declared.phase.Phase.TheVariants.{Fresh, Unread, Tight, Word, Again, Room, Above, Check, NoRoom, Writing}
+use Rattle.bz_fork.specs.declared.phase.ForkPhase.{ForkPhase}
+use Rattle.bz_fork.specs.declared.phase.ForkPhase.TheVariants.{Fresh, Unread, Tight, Word, Again, Room, Above, Check, NoRoom, Writing}
 use Rattle.bz_fork.specs.declared.room.TheConstants.{LEAST_CHILD_WORDS}
 
 -- the links to the parent and to the node, and one in the node; the slots and the words of the new parent, of the left half and of
@@ -222,7 +222,7 @@ fork_plan r = record {
   none = λ p. Unit {0};
 }
 
-abbrev pub fork_asks : Config → Fork → Phase → Option Todo
+abbrev pub fork_asks : Config → Fork → ForkPhase → Option Todo
 fork_asks c r Fresh = None
 fork_asks c r Unread = Some (Reads r.lower.guard)
 fork_asks c r Tight = Some (Reads r.middle.guard)
@@ -234,7 +234,7 @@ fork_asks c r Check = Some (Reads r.middle.guard)
 fork_asks c r (Writing w) = write_asks c (fork_plan r) w
 fork_asks c r NoRoom = Some Finish
 
-abbrev pub fork_end : Phase → Option Outcome
+abbrev pub fork_end : ForkPhase → Option Outcome
 fork_end NoRoom = Some NoneFits
 fork_end (Writing w) = write_end w
 fork_end phase = None
@@ -251,11 +251,11 @@ fork_fails = NODE_WORDS + 2
 
 -- the most swaps that are still asked for: that of the link to the parent, until it has ended. Where it ended for want of room it has not
 -- asked for it
-abbrev pub fork_swaps : Phase → ℕ
+abbrev pub fork_swaps : ForkPhase → ℕ
 fork_swaps (Writing w) = write_swaps w
 fork_swaps phase = 1
 
-abbrev pub fork_left : Phase → ℕ
+abbrev pub fork_left : ForkPhase → ℕ
 fork_left Fresh = fork_acts
 fork_left Unread = fork_acts - 1
 fork_left Tight = fork_acts - 2
@@ -268,23 +268,23 @@ fork_left Check = SPLIT_WORDS + 2 * SPLIT_LINES + 3
 fork_left (Writing w) = write_left SPLIT_SLOTS w
 
 -- the steps of what is asked for
-abbrev pub fork_steps : Phase → ℕ
+abbrev pub fork_steps : ForkPhase → ℕ
 fork_steps (Writing (Flush j)) = 2
 fork_steps phase = 1
 
 -- the slots are taken when all guards have been looked at again: none where it ended for want of room
-abbrev pub fork_needs : Phase → ℕ
+abbrev pub fork_needs : ForkPhase → ℕ
 fork_needs (Writing w) = write_needs SPLIT_SLOTS w
 fork_needs phase = SPLIT_SLOTS
 
 -- after a word comes the next one that is read, or the status once more
-abbrev pub word_after : ℕ → Phase
+abbrev pub word_after : ℕ → ForkPhase
 word_after next = if nat_lt next NODE_WORDS then Word next else Again
 
-abbrev pub above_after : ℕ → Phase
+abbrev pub above_after : ℕ → ForkPhase
 above_after next = if nat_lt next NODE_WORDS then Above next else Check
 
-abbrev pub fork_facts : Fork → Phase → Stage → Scene → Type 0
+abbrev pub fork_facts : Fork → ForkPhase → Stage → Scene → Type 0
 fork_facts r Fresh Waiting s = IsReading r 1 s.past
 fork_facts r Unread Waiting s = HasFilled s × (IsReading r 1 s.past × TakesNoChild r.middle.status)
 fork_facts r Tight Waiting s = HasFilled s × HasPassedNode r s.past
@@ -317,7 +317,7 @@ IsEndOfFork (IsFull NoSwaps) = Unit {0}
 IsEndOfFork outcome = ⊥
 
 -- a guard is another one than the path names
-abbrev pub fork_differs : Link → Link → Link → Phase → Seen → Type 0
+abbrev pub fork_differs : Link → Link → Link → ForkPhase → Seen → Type 0
 fork_differs upper middle lower Unread (Was v) = v ≢ lower.status
 fork_differs upper middle lower Tight (Was v) = v ≢ middle.status
 fork_differs upper middle lower Again (Was v) = v ≢ lower.status
@@ -327,7 +327,7 @@ fork_differs upper middle lower (Writing w) seen = write_differs upper.status w 
 fork_differs upper middle lower phase seen = ⊥
 
 -- what is named is there
-abbrev pub IsReadyFork : Config → Fork → Phase → Type 0
+abbrev pub IsReadyFork : Config → Fork → ForkPhase → Type 0
 IsReadyFork c r (Word i) = (r.middle.slot < c.nodes) × (i < NODE_WORDS)
 IsReadyFork c r (Above i) = (r.upper.slot < c.nodes) × (i < NODE_WORDS)
 IsReadyFork c r (Writing w) = (w ≢ Unbegun) × write_ready c (fork_plan r) w
@@ -352,38 +352,38 @@ pub record AreMadeOf (nodes slot : ℕ) (read above parent left right : List ℕ
   pub size : length parent ≡ NODE_WORDS
 
 -- the node's words are read, unless the parent's status leaves room for no child
-abbrev pub IsFirst : Fork → Phase → Type 0
+abbrev pub IsFirst : Fork → ForkPhase → Type 0
 IsFirst r Unread = TakesNoChild r.middle.status
 IsFirst r (Word i) = (i ≡ 1) × ¬ TakesNoChild r.middle.status
 IsFirst r phase = ⊥
 
 -- where they are not read, and the node's status is as it was, the parent's is looked at once more
-abbrev pub HasPassed : Fork → Seen → Phase → Type 0
+abbrev pub HasPassed : Fork → Seen → ForkPhase → Type 0
 HasPassed r seen Tight = seen ≡ Was r.lower.status
 HasPassed r seen (Writing Restart) = seen ≢ Was r.lower.status
 HasPassed r seen phase = ⊥
 
 -- and where that is as it was too, the task ends
-abbrev pub HasRefused : Fork → Seen → Phase → Type 0
+abbrev pub HasRefused : Fork → Seen → ForkPhase → Type 0
 HasRefused r seen NoRoom = seen ≡ Was r.middle.status
 HasRefused r seen (Writing Restart) = seen ≢ Was r.middle.status
 HasRefused r seen phase = ⊥
 
 -- where the node's status is as it was, the parent's is looked at
-abbrev pub HasRead : Fork → Seen → Phase → Type 0
+abbrev pub HasRead : Fork → Seen → ForkPhase → Type 0
 HasRead r seen Room = seen ≡ Was r.lower.status
 HasRead r seen (Writing Restart) = seen ≢ Was r.lower.status
 HasRead r seen phase = ⊥
 
 -- where that is as it was, it tells whether there is room: only then the parent's words are read
-abbrev pub HasOpened : Fork → Seen → Phase → Type 0
+abbrev pub HasOpened : Fork → Seen → ForkPhase → Type 0
 HasOpened r seen (Above i) = (i ≡ 1) × ((seen ≡ Was r.middle.status) × FitsParts r.read r.middle.status)
 HasOpened r seen NoRoom = (seen ≡ Was r.middle.status) × LacksParts r.read r.middle.status
 HasOpened r seen (Writing Restart) = seen ≢ Was r.middle.status
 HasOpened r seen phase = ⊥
 
 -- where it is once more as it was, the upper guard is looked at
-abbrev pub HasTold : Fork → Seen → Phase → Type 0
+abbrev pub HasTold : Fork → Seen → ForkPhase → Type 0
 HasTold r seen (Writing Guard) = seen ≡ Was r.middle.status
 HasTold r seen (Writing Restart) = seen ≢ Was r.middle.status
 HasTold r seen phase = ⊥

@@ -4,7 +4,7 @@ use bz_writer::WritePhase;
 
 /// What a split of an inner node below a parent asks for next.
 #[derive(Clone, Copy, Drop)]
-pub(crate) enum Phase {
+pub(crate) enum ForkPhase {
     /// Nothing was asked for yet.
     Fresh,
     /// The load of the node's status, once more, where its words are not read: the parent has no room for any child more.

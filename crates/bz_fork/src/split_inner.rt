@@ -20,7 +20,7 @@ ghost use Rattle.bz_fork.specs.Facts.{fork_acts, fork_plan, fork_nodes, fork_ste
 
 use crate::laws::full_nodes_have_halves;
 use crate::parent::parent_with;
-use crate::phase::Phase;
+use crate::phase::ForkPhase;
 use crate::room::takes_no_child;
 use bz_branch::laws::{parents_of_nodes_were, read_nodes_were};
 use bz_branch::{leaves_room, link_at, parts_of, swap_freezing_two};
@@ -61,7 +61,7 @@ pub struct SplitInner {
     right: NodeImage,
     // the slots of the new parent, of the left half and of the right half
     slots: [u16; 3],
-    phase: Phase,
+    phase: ForkPhase,
 }
 
 impl SplitInner {
@@ -97,7 +97,7 @@ impl SplitInner {
             read,
             above,
             slots: [0; 3],
-            phase: Phase::Fresh,
+            phase: ForkPhase::Fresh,
         }
     }
 }
@@ -105,74 +105,74 @@ impl SplitInner {
 impl SplitInner {
     // The first phase that asks for something: the node's words are read, unless the parent's status, as the path names it, leaves room
     // for no child.
-    fn first(&self) -> Phase
+    fn first(&self) -> ForkPhase
         requires { self.now.middle.status < 2 ^ 61 }
         ensures { IsFirst (fork_of self.now) result }
     {
         if takes_no_child(self.middle.status) {
-            Phase::Unread
+            ForkPhase::Unread
         } else {
-            Phase::Word(1)
+            ForkPhase::Word(1)
         }
     }
 
     // The phase after the status of the node whose words are not read, once more: where it is as it was, that of the parent.
-    fn passed(&self, seen: Seen) -> Phase
+    fn passed(&self, seen: Seen) -> ForkPhase
         ensures { HasPassed (fork_of self.now) seen result }
     {
         if is_read(seen, self.lower.status) {
-            Phase::Tight
+            ForkPhase::Tight
         } else {
-            Phase::Writing(WritePhase::Restart)
+            ForkPhase::Writing(WritePhase::Restart)
         }
     }
 
     // The phase after the parent's status, once more, where it has room for no child.
-    fn refused(&self, seen: Seen) -> Phase
+    fn refused(&self, seen: Seen) -> ForkPhase
         ensures { HasRefused (fork_of self.now) seen result }
     {
         if !is_read(seen, self.middle.status) {
-            return Phase::Writing(WritePhase::Restart);
+            return ForkPhase::Writing(WritePhase::Restart);
         }
-        Phase::NoRoom
+        ForkPhase::NoRoom
     }
 
     // The phase after the node's status, once more: the parent is looked at, where it is as it was.
-    fn read_on(&self, seen: Seen) -> Phase
+    fn read_on(&self, seen: Seen) -> ForkPhase
         ensures { HasRead (fork_of self.now) seen result }
     {
         if is_read(seen, self.lower.status) {
-            Phase::Room
+            ForkPhase::Room
         } else {
-            Phase::Writing(WritePhase::Restart)
+            ForkPhase::Writing(WritePhase::Restart)
         }
     }
 
     // The phase after the parent's status, before its words: where it is as it was, they are read if it leaves the room.
-    fn opened(&self, seen: Seen) -> Phase
+    fn opened(&self, seen: Seen) -> ForkPhase
         requires node { IsFullNode self.now.read.0 }
         requires plain { seen ≡ Was self.now.middle.status → self.now.middle.status < 2 ^ 61 }
         ensures { HasOpened (fork_of self.now) seen result }
     {
         if !is_read(seen, self.middle.status) {
-            return Phase::Writing(WritePhase::Restart);
+            return ForkPhase::Writing(WritePhase::Restart);
         }
         let separator = parts_of(&self.read).separator;
         if leaves_room(self.middle.status, &separator) {
-            Phase::Above(1)
+            ForkPhase::Above(1)
         } else {
-            Phase::NoRoom
+            ForkPhase::NoRoom
         }
     }
 
     // The phase after the parent's status, once more.
-    fn told(&self, seen: Seen) -> Phase
+    fn told(&self, seen: Seen) -> ForkPhase
         ensures { HasTold (fork_of self.now) seen result }
     {
         if is_read(seen, self.middle.status) {
-            Phase::Writing(WritePhase::Guard)
+            ForkPhase::Writing(WritePhase::Guard)
         } else {
-            Phase::Writing(WritePhase::Restart)
+            ForkPhase::Writing(WritePhase::Restart)
         }
     }
 
@@ -232,7 +232,7 @@ impl SplitInner {
         ensures upper { self.new.upper ≡ self.old.upper }
         ensures middle { self.new.middle ≡ self.old.middle }
         ensures known { IsConfig self.new.config }
-        ensures begun { self.new.phase ≢ Phase.Fresh }
+        ensures begun { self.new.phase ≢ ForkPhase.Fresh }
         ensures ready { IsReadyFork self.new.config (fork_of self.new) self.new.phase }
         ensures nearer { left_fork self.new + fork_steps self.new.phase ≤ left_fork self.old }
         ensures fewer { swaps_fork self.new + swaps_in (asks_fork self.old) ≤ swaps_fork self.old }
@@ -256,27 +256,27 @@ impl SplitInner {
         parents_of_nodes_were();
         full_nodes_have_halves();
         match self.phase {
-            Phase::Fresh => self.phase = self.first(),
-            Phase::Unread => self.phase = self.passed(seen),
-            Phase::Tight => self.phase = self.refused(seen),
-            Phase::Word(i) => {
+            ForkPhase::Fresh => self.phase = self.first(),
+            ForkPhase::Unread => self.phase = self.passed(seen),
+            ForkPhase::Tight => self.phase = self.refused(seen),
+            ForkPhase::Word(i) => {
                 self.read.0[i as usize] = word_in(seen);
                 let next = next_place(&self.read, i);
                 self.phase = after_word(next);
             }
-            Phase::Again => self.phase = self.read_on(seen),
-            Phase::Room => self.phase = self.opened(seen),
-            Phase::Above(i) => {
+            ForkPhase::Again => self.phase = self.read_on(seen),
+            ForkPhase::Room => self.phase = self.opened(seen),
+            ForkPhase::Above(i) => {
                 self.above.0[i as usize] = word_in(seen);
                 let other = next_place(&self.above, i);
                 self.phase = after_above(other);
             }
-            Phase::Check => self.phase = self.told(seen),
-            Phase::Writing(phase) => {
+            ForkPhase::Check => self.phase = self.told(seen),
+            ForkPhase::Writing(phase) => {
                 let next = self.write(phase, seen, slots, moment);
-                self.phase = Phase::Writing(next);
+                self.phase = ForkPhase::Writing(next);
             }
-            Phase::NoRoom => {}
+            ForkPhase::NoRoom => {}
         }
     }
 
@@ -295,18 +295,18 @@ impl SplitInner {
 
     // What a phase asks for.
     fn asked(&self) -> Todo
-        requires begun { self.now.phase ≢ Phase.Fresh }
+        requires begun { self.now.phase ≢ ForkPhase.Fresh }
         requires config { IsConfig self.now.config }
         requires ready { IsReadyFork self.now.config (fork_of self.now) self.now.phase }
         ensures { asks_fork self.now ≡ Some result }
     {
         match self.phase {
-            Phase::Word(i) => Todo::Read(self.config.node_at(self.middle.slot as u32) + i),
-            Phase::Again | Phase::Unread => Todo::Read(self.lower.guard),
-            Phase::Above(i) => Todo::Read(self.config.node_at(self.upper.slot as u32) + i),
-            Phase::Room | Phase::Check | Phase::Tight => Todo::Read(self.middle.guard),
-            Phase::Writing(phase) => self.written(phase),
-            Phase::Fresh | Phase::NoRoom => Todo::Finish,
+            ForkPhase::Word(i) => Todo::Read(self.config.node_at(self.middle.slot as u32) + i),
+            ForkPhase::Again | ForkPhase::Unread => Todo::Read(self.lower.guard),
+            ForkPhase::Above(i) => Todo::Read(self.config.node_at(self.upper.slot as u32) + i),
+            ForkPhase::Room | ForkPhase::Check | ForkPhase::Tight => Todo::Read(self.middle.guard),
+            ForkPhase::Writing(phase) => self.written(phase),
+            ForkPhase::Fresh | ForkPhase::NoRoom => Todo::Finish,
         }
     }
 
@@ -334,26 +334,26 @@ impl SplitInner {
 }
 
 // The phase after the load of a word of the node: that of the next one that is read, or its status once more.
-fn after_word(next: u32) -> Phase
+fn after_word(next: u32) -> ForkPhase
     requires { next ≤ NODE_WORDS }
     ensures { result ≡ word_after next }
 {
     if next < NODE_WORDS {
-        Phase::Word(next)
+        ForkPhase::Word(next)
     } else {
-        Phase::Again
+        ForkPhase::Again
     }
 }
 
 // The same of the parent.
-fn after_above(next: u32) -> Phase
+fn after_above(next: u32) -> ForkPhase
     requires { next ≤ NODE_WORDS }
     ensures { result ≡ above_after next }
 {
     if next < NODE_WORDS {
-        Phase::Above(next)
+        ForkPhase::Above(next)
     } else {
-        Phase::Check
+        ForkPhase::Check
     }
 }
 
@@ -366,8 +366,8 @@ impl Task for SplitInner {
 
     fn ended(&self) -> Option<Outcome> {
         match self.phase {
-            Phase::NoRoom => Some(Outcome::NeedsRoom),
-            Phase::Writing(phase) => phase.ended(),
+            ForkPhase::NoRoom => Some(Outcome::NeedsRoom),
+            ForkPhase::Writing(phase) => phase.ended(),
             _ => None,
         }
     }

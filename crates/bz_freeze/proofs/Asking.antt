@@ -24,8 +24,8 @@ use Rattle.bz_task.specs.Steps.{frozen_word}
 use Rattle.bz_task.proofs.FrozenWords.{frozen-plain, frozen-reads}
 use Rattle.bz_task.proofs.Proved.{fronts_stay, swaps_show_in_slots}
 use Rattle.bz_freeze.specs.Facts.{WasLeaf, WasFrozen, entry_of, freeze_asks, freeze_facts, freeze_change}
-use Rattle.bz_freeze.specs.declared.phase.Phase.{Phase}
-use Rattle.bz_freeze.specs.declared.phase.Phase.TheVariants.{Fresh, Swap, Done, Restart, Full}
+use Rattle.bz_freeze.specs.declared.phase.FreezePhase.{FreezePhase}
+use Rattle.bz_freeze.specs.declared.phase.FreezePhase.TheVariants.{Fresh, Swap, Done, Restart, Full}
 use Rattle.bz_freeze.proofs.Freezing.{set-one, freezes}
 
 -- the leaf of a view
@@ -63,7 +63,7 @@ entry-asked s k st good w = record {
   new = frozen-plain st w.plain;
 }
 
-pub askable : (c : Config) (k st : ℕ) (phase : Phase) (s : Scene) (todo : Todo) → s.past.config ≡ c → freeze_facts k st phase Waiting s → IsScene s
+pub askable : (c : Config) (k st : ℕ) (phase : FreezePhase) (s : Scene) (todo : Todo) → s.past.config ≡ c → freeze_facts k st phase Waiting s → IsScene s
     → freeze_asks c k st phase ≡ Some todo → IsAskable s todo
 askable c k st Fresh s todo same f good e = absurd (cc)
 askable c k st Swap s todo same f good e =
@@ -75,7 +75,7 @@ askable c k st Restart s todo same f good e = subst (IsAskable s) (some-same _ t
 askable c k st Full s todo same f good e = subst (IsAskable s) (some-same _ todo e) tt
 
 -- the effect of the swap that it asks for
-pub effect : (c : Config) (k st : ℕ) (phase : Phase) (s : Scene) (y : Instant) (entries : List Entry) → s.past.config ≡ c → freeze_facts k st phase Waiting s → IsScene s
+pub effect : (c : Config) (k st : ℕ) (phase : FreezePhase) (s : Scene) (y : Instant) (entries : List Entry) → s.past.config ≡ c → freeze_facts k st phase Waiting s → IsScene s
     → freeze_asks c k st phase ≡ Some (Swaps_for entries) → Stand entries (here s) → SwapsTo s.past.config entries (here s) y → IsGoodSwap false freeze_change entries s y
 effect c k st Fresh s y entries same f good e stand swaps = absurd (cc)
 effect c k st Swap s y entries same f good e stand swaps =
@@ -100,7 +100,7 @@ now-frozen k st s after good w later t = record {
     new = ((swaps_show_in_slots s.past.config (entry_of s.past.config k st ∷ []) (here s) (here after) k t.swaps).within STATUS_AT (omega arith)).value
         ∙ set-one (entry_of s.past.config k st) (here s).value (node_address s.past.config k + STATUS_AT) refl
 
-pub took : (c : Config) (k st : ℕ) (phase : Phase) (s after : Scene) (entries : List Entry) → s.past.config ≡ c → freeze_facts k st phase Waiting s → IsScene s → IsScene after
+pub took : (c : Config) (k st : ℕ) (phase : FreezePhase) (s after : Scene) (entries : List Entry) → s.past.config ≡ c → freeze_facts k st phase Waiting s → IsScene s → IsScene after
     → freeze_asks c k st phase ≡ Some (Swaps_for entries) → Takes false entries s after → freeze_facts k st phase Took after
 took c k st Fresh s after entries same f good later e t = absurd (cc)
 took c k st Swap s after entries same f good later e t =

@@ -4,8 +4,8 @@ use Rattle.bz_layout.specs.declared.sizes.TheConstants.{STATUS_AT}
 use Rattle.bz_task.specs.Instant.{words, page_at, is_inside, form_at}
 use Rattle.bz_task.specs.Scene.{Past, Scene, Stage, Waiting, Took, IsLawful, Continues, HasFilled}
 use Rattle.bz_freeze.specs.Facts.{WasLeaf, WasFrozen, freeze_facts}
-use Rattle.bz_freeze.specs.declared.phase.Phase.{Phase}
-use Rattle.bz_freeze.specs.declared.phase.Phase.TheVariants.{Fresh, Swap, Done, Restart, Full}
+use Rattle.bz_freeze.specs.declared.phase.FreezePhase.{FreezePhase}
+use Rattle.bz_freeze.specs.declared.phase.FreezePhase.TheVariants.{Fresh, Swap, Done, Restart, Full}
 
 module _ (p q : Past) (c : Continues p q) where
   leaf-stays : (k st : ℕ) → WasLeaf k st p → WasLeaf k st q
@@ -34,7 +34,7 @@ module _ (k st : ℕ) (s after : Scene) (l : IsLawful s after) where
   filled : HasFilled s → HasFilled after
   filled f j h = l.filled j ∙ f j (sym (l.took j) ∙ h)
 
-  pub stable : (phase : Phase) (stage : Stage) → freeze_facts k st phase stage s → freeze_facts k st phase stage after
+  pub stable : (phase : FreezePhase) (stage : Stage) → freeze_facts k st phase stage s → freeze_facts k st phase stage after
   stable Fresh Waiting f = leaf-stays s.past after.past l.continues k st f
   stable Swap Waiting f = (filled f.0, leaf-stays s.past after.past l.continues k st f.1)
   stable Swap Took f = (filled f.0, frozen-stays s.past after.past l.continues k f.1)

@@ -15,31 +15,31 @@ use Rattle.bz_task.specs.declared.todo.Outcome.{Outcome}
 use Rattle.bz_task.specs.declared.todo.Outcome.TheVariants.{Done as IsDone, Restart as Restarts, Full as IsFull}
 use Rattle.bz_task.specs.declared.todo.Todo.{Todo}
 use Rattle.bz_task.specs.declared.todo.Todo.TheVariants.{Swap as Swaps_for, Finish}
-use Rattle.bz_freeze.specs.declared.phase.Phase.{Phase}
-use Rattle.bz_freeze.specs.declared.phase.Phase.TheVariants.{Fresh, Swap, Done, Restart, Full}
+use Rattle.bz_freeze.specs.declared.phase.FreezePhase.{FreezePhase}
+use Rattle.bz_freeze.specs.declared.phase.FreezePhase.TheVariants.{Fresh, Swap, Done, Restart, Full}
 
 -- the one entry of the swap
 abbrev pub entry_of : Config → ℕ → ℕ → Entry
 entry_of c k st = record { target = node_address c k + STATUS_AT; expected = st; new = frozen_word st }
 
-abbrev pub freeze_asks : Config → ℕ → ℕ → Phase → Option Todo
+abbrev pub freeze_asks : Config → ℕ → ℕ → FreezePhase → Option Todo
 freeze_asks c k st Fresh = None
 freeze_asks c k st Swap = Some (Swaps_for (entry_of c k st ∷ []))
 freeze_asks c k st phase = Some Finish
 
-abbrev pub freeze_end : Phase → Option Outcome
+abbrev pub freeze_end : FreezePhase → Option Outcome
 freeze_end Done = Some IsDone
 freeze_end Restart = Some Restarts
 freeze_end Full = Some (IsFull Swaps)
 freeze_end phase = None
 
 -- the most swaps that are still asked for
-abbrev pub freeze_swaps : Phase → ℕ
+abbrev pub freeze_swaps : FreezePhase → ℕ
 freeze_swaps Fresh = 1
 freeze_swaps Swap = 1
 freeze_swaps phase = 0
 
-abbrev pub freeze_left : Phase → ℕ
+abbrev pub freeze_left : FreezePhase → ℕ
 freeze_left Fresh = 2
 freeze_left Swap = 1
 freeze_left phase = 0
@@ -77,7 +77,7 @@ IsEndOfFreeze Restarts = Unit {0}
 IsEndOfFreeze (IsFull Swaps) = Unit {0}
 IsEndOfFreeze outcome = ⊥
 
-abbrev pub freeze_facts : ℕ → ℕ → Phase → Stage → Scene → Type 0
+abbrev pub freeze_facts : ℕ → ℕ → FreezePhase → Stage → Scene → Type 0
 freeze_facts k st Fresh Waiting s = WasLeaf k st s.past
 freeze_facts k st Swap Waiting s = HasFilled s × WasLeaf k st s.past
 freeze_facts k st Swap Took s = HasFilled s × WasFrozen k s.past

@@ -14,7 +14,7 @@ ghost use Rattle.bz_freeze.specs.Facts.{IsEndOfFreeze, WasFrozen, freeze_asks, f
 ghost use Rattle.bz_freeze.specs.Duties.{freeze_view};
 
 use crate::laws::freezes_are_good;
-use crate::phase::Phase;
+use crate::phase::FreezePhase;
 use bz_call::Spent;
 use bz_layout::{Config, STATUS_AT, Slots};
 use bz_task::{EntryList, LeafView, Outcome, Path, Seen, Task, Todo, laws};
@@ -27,7 +27,7 @@ pub struct Freeze {
     config: Config,
     slot: u16,
     status: u64,
-    phase: Phase,
+    phase: FreezePhase,
 }
 
 impl Freeze {
@@ -44,7 +44,7 @@ impl Freeze {
             config: *config,
             slot: view.slot,
             status: view.status,
-            phase: Phase::Fresh,
+            phase: FreezePhase::Fresh,
         }
     }
 }
@@ -82,42 +82,43 @@ fn frozen(word: u64) -> u64
 
 impl Freeze {
     // The phase after what came of the last act.
-    fn after(&self, seen: Seen, moment: u32) -> Phase
+    fn after(&self, seen: Seen, moment: u32) -> FreezePhase
         requires hears { Hears (freeze_asks self.now.config self.now.slot self.now.status self.now.phase) seen }
         requires known { IsKnown self.now.config (freeze_facts self.now.slot self.now.status self.now.phase) (freeze_asks self.now.config self.now.slot self.now.status self.now.phase) seen moment }
         ensures nearer { freeze_left result < freeze_left self.now.phase }
         ensures fewer { freeze_swaps result + swaps_in (freeze_asks self.now.config self.now.slot self.now.status self.now.phase) ≤ freeze_swaps self.now.phase }
         ensures counted { freeze_end result ≡ None → effects_in seen ≡ 0 }
-        ensures done { result ≡ Phase.Done → seen ≡ Swapped true }
-        ensures restart { result ≡ Phase.Restart → seen ≡ Swapped false }
-        ensures begins { seen ≡ Start → result ≡ Phase.Swap }
-        ensures last { seen ≡ Swapped true → result ≡ Phase.Done }
-        ensures only_last { result ≡ Phase.Done → freeze_swaps self.now.phase ≡ 1 }
-        ensures full { (result ≡ Phase.Full) ↔ (seen ≡ NoSwap) }
-        ensures begun { result ≢ Phase.Fresh }
+        ensures done { result ≡ FreezePhase.Done → seen ≡ Swapped true }
+        ensures restart { result ≡ FreezePhase.Restart → seen ≡ Swapped false }
+        ensures begins { seen ≡ Start → result ≡ FreezePhase.Swap }
+        ensures last { seen ≡ Swapped true → result ≡ FreezePhase.Done }
+        ensures only_last { result ≡ FreezePhase.Done → freeze_swaps self.now.phase ≡ 1 }
+        ensures full { (result ≡ FreezePhase.Full) ↔ (seen ≡ NoSwap) }
+        ensures begun { result ≢ FreezePhase.Fresh }
         ensures config { IsConfig self.now.config }
-        ensures swap { result ≡ Phase.Swap → (self.now.slot < self.now.config.nodes) × (self.now.status < 2 ^ 61) }
+        ensures swap { result ≡ FreezePhase.Swap → (self.now.slot < self.now.config.nodes) × (self.now.status < 2 ^ 61) }
         ensures learns { (stage : Stage) (s : Scene) → freeze_facts self.now.slot self.now.status self.now.phase stage s → Tells (freeze_asks self.now.config self.now.slot self.now.status self.now.phase) stage seen s → freeze_facts self.now.slot self.now.status result Waiting s }
     {
         let _moment = moment;
         match (self.phase, seen) {
-            (Phase::Fresh, _) => Phase::Swap,
-            (Phase::Swap, Seen::Swapped(true)) => Phase::Done,
-            (Phase::Swap, Seen::NoSwap) => Phase::Full,
-            _ => Phase::Restart,
+            (FreezePhase::Fresh, _) => FreezePhase::Swap,
+            (FreezePhase::Swap, Seen::Swapped(true)) => FreezePhase::Done,
+            (FreezePhase::Swap, Seen::NoSwap) => FreezePhase::Full,
+            _ => FreezePhase::Restart,
         }
     }
 
     // What a phase asks for.
     fn asked(&self) -> Todo
-        requires begun { self.now.phase ≢ Phase.Fresh }
+        requires begun { self.now.phase ≢ FreezePhase.Fresh }
         requires config { IsConfig self.now.config }
-        requires swap { self.now.phase ≡ Phase.Swap → (self.now.slot < self.now.config.nodes) × (self.now.status < 2 ^ 61) }
+        requires swap { self.now.phase ≡ FreezePhase.Swap → (self.now.slot < self.now.config.nodes) × (self.now.status < 2 ^ 61) }
         ensures { freeze_asks self.now.config self.now.slot self.now.status self.now.phase ≡ Some result }
     {
         match self.phase {
-            Phase::Swap => Todo::Swap(swap_of(&self.config, self.slot, self.status)),
-            Phase::Fresh | Phase::Done | Phase::Restart | Phase::Full => Todo::Finish,
+            FreezePhase::Swap => Todo::Swap(swap_of(&self.config, self.slot, self.status)),
+            FreezePhase::Fresh | FreezePhase::Done | FreezePhase::Restart | FreezePhase::Full =>
+                Todo::Finish,
         }
     }
 }
@@ -131,9 +132,9 @@ impl Task for Freeze {
 
     fn ended(&self) -> Option<Outcome> {
         match self.phase {
-            Phase::Done => Some(Outcome::Done),
-            Phase::Restart => Some(Outcome::Restart),
-            Phase::Full => Some(Outcome::Full(Spent::Swaps)),
+            FreezePhase::Done => Some(Outcome::Done),
+            FreezePhase::Restart => Some(Outcome::Restart),
+            FreezePhase::Full => Some(Outcome::Full(Spent::Swaps)),
             _ => None,
         }
     }

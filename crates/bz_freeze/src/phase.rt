@@ -2,7 +2,7 @@
 
 /// What a freeze asks for next.
 #[derive(Clone, Copy, Drop)]
-pub(crate) enum Phase {
+pub(crate) enum FreezePhase {
     /// Nothing was asked for yet.
     Fresh,
     /// The swap.

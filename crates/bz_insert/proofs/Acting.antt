@@ -16,8 +16,8 @@ use Rattle.bz_record.specs.Writing.{first_line}
 use Rattle.bz_record.specs.declared.new_record.NewRecord.{NewRecord}
 use Rattle.bz_record.proofs.Proved.{new_record_swaps_may_be_asked, publications_are_good, records_are_written, reservations_are_good}
 use Rattle.bz_insert.specs.Facts.{CanReserve, insert_asks, insert_facts, insert_publishes}
-use Rattle.bz_insert.specs.declared.phase.Phase.{Phase}
-use Rattle.bz_insert.specs.declared.phase.Phase.TheVariants.{Fresh, Reserve, Store, Flush, Publish, Done, Restart, NeedsRoom, Full}
+use Rattle.bz_insert.specs.declared.phase.InsertPhase.{InsertPhase}
+use Rattle.bz_insert.specs.declared.phase.InsertPhase.TheVariants.{Fresh, Reserve, Store, Flush, Publish, Done, Restart, NeedsRoom, Full}
 
 -- the leaf has room for the record
 pub fits : (r : NewRecord) (s : Scene) → CanReserve r s → Fits r
@@ -29,7 +29,7 @@ some-same a b e = cc
 same-entries : (a b : List Entry) → Some (Swaps_for a) ≡ Some (Swaps_for b) → a ≡ b
 same-entries a b e = cc
 
-pub askable : (c : Config) (r : NewRecord) (phase : Phase) (s : Scene) (todo : Todo) → s.past.config ≡ c → insert_facts r phase Waiting s → IsScene s → insert_asks c r phase ≡ Some todo → IsAskable s todo
+pub askable : (c : Config) (r : NewRecord) (phase : InsertPhase) (s : Scene) (todo : Todo) → s.past.config ≡ c → insert_facts r phase Waiting s → IsScene s → insert_asks c r phase ≡ Some todo → IsAskable s todo
 askable c r Fresh s todo same f good e = absurd (cc)
 askable c r Reserve s todo same f good e =
     subst (IsAskable s) (ap (λ z. Swaps_for (entries_of z (reservation r))) same ∙ some-same _ todo e) (new_record_swaps_may_be_asked.first s r f.1.viewed.moment good (fits r s f.1) f.1.viewed.leaf.leaf)
@@ -44,7 +44,7 @@ askable c r Restart s todo same f good e = subst (IsAskable s) (some-same _ todo
 askable c r NeedsRoom s todo same f good e = subst (IsAskable s) (some-same _ todo e) tt
 askable c r Full s todo same f good e = subst (IsAskable s) (some-same _ todo e) tt
 
-pub effect : (c : Config) (r : NewRecord) (phase : Phase) (s : Scene) (y : Instant) (entries : List Entry) → s.past.config ≡ c → insert_facts r phase Waiting s → IsScene s
+pub effect : (c : Config) (r : NewRecord) (phase : InsertPhase) (s : Scene) (y : Instant) (entries : List Entry) → s.past.config ≡ c → insert_facts r phase Waiting s → IsScene s
     → insert_asks c r phase ≡ Some (Swaps_for entries) → Stand entries (here s) → SwapsTo s.past.config entries (here s) y → IsGoodSwap (insert_publishes phase) (inserts r) entries s y
 effect c r Fresh s y entries same f good e stand swaps = absurd (cc)
 effect c r Reserve s y entries same f good e stand swaps =

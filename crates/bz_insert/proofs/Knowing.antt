@@ -12,15 +12,15 @@ use Rattle.bz_record.specs.Writing.{first_line, last_line}
 use Rattle.bz_record.proofs.Written.{written}
 use Rattle.bz_record.specs.declared.new_record.NewRecord.{NewRecord}
 use Rattle.bz_insert.specs.Facts.{HasReserved, insert_asks, insert_facts, IsReady, next_store, next_flush}
-use Rattle.bz_insert.specs.declared.phase.Phase.{Phase}
-use Rattle.bz_insert.specs.declared.phase.Phase.TheVariants.{Reserve, Store, Flush, Publish}
+use Rattle.bz_insert.specs.declared.phase.InsertPhase.{InsertPhase}
+use Rattle.bz_insert.specs.declared.phase.InsertPhase.TheVariants.{Reserve, Store, Flush, Publish}
 
 -- what is known in a phase is known of the phase that it is
-pub in-phase : (r : NewRecord) (stage : Stage) (s : Scene) (phase other : Phase) → phase ≡ other → insert_facts r phase stage s → insert_facts r other stage s
+pub in-phase : (r : NewRecord) (stage : Stage) (s : Scene) (phase other : InsertPhase) → phase ≡ other → insert_facts r phase stage s → insert_facts r other stage s
 in-phase r stage s phase other e f = subst (λ z. insert_facts r z stage s) e f
 
 -- what is told in a phase is told in the phase that it is
-pub tells-in : (c : Config) (r : NewRecord) (stage : Stage) (s : Scene) (phase other : Phase) (seen told : Seen) → phase ≡ other → seen ≡ told → Tells (insert_asks c r phase) stage seen s → Tells (insert_asks c r other) stage told s
+pub tells-in : (c : Config) (r : NewRecord) (stage : Stage) (s : Scene) (phase other : InsertPhase) (seen told : Seen) → phase ≡ other → seen ≡ told → Tells (insert_asks c r phase) stage seen s → Tells (insert_asks c r other) stage told s
 tells-in c r stage s phase other seen told e g t = subst (λ z. Tells (insert_asks c r z) stage told s) e (subst (λ z. Tells (insert_asks c r phase) stage z s) g t)
 
 -- after the reservation the first word may be stored

@@ -9,8 +9,8 @@ use Rattle.bz_record.specs.Records.{size_of}
 use Rattle.bz_record.specs.declared.new_record.NewRecord.{NewRecord}
 use Rattle.bz_record.proofs.Proved.{leaves_were, records_are_written}
 use Rattle.bz_insert.specs.Facts.{HasViewed, HasReserved, HasPublished, IsLineOf, insert_learnt, insert_facts}
-use Rattle.bz_insert.specs.declared.phase.Phase.{Phase}
-use Rattle.bz_insert.specs.declared.phase.Phase.TheVariants.{Fresh, Reserve, Store, Flush, Publish, Done, Restart, NeedsRoom, Full}
+use Rattle.bz_insert.specs.declared.phase.InsertPhase.{InsertPhase}
+use Rattle.bz_insert.specs.declared.phase.InsertPhase.TheVariants.{Fresh, Reserve, Store, Flush, Publish, Done, Restart, NeedsRoom, Full}
 
 module _ (r : NewRecord) (s after : Scene) (l : IsLawful s after) where
   viewed : HasViewed r s → HasViewed r after
@@ -34,7 +34,7 @@ module _ (r : NewRecord) (s after : Scene) (l : IsLawful s after) where
   published : HasPublished r s → HasPublished r after
   published h = record { room = h.room; effected = l.effected ∙ h.effected }
 
-  learnt : (phase : Phase) (stage : Stage) → insert_learnt r phase stage s → insert_learnt r phase stage after
+  learnt : (phase : InsertPhase) (stage : Stage) → insert_learnt r phase stage s → insert_learnt r phase stage after
   learnt Fresh Waiting f = viewed f
   learnt Reserve Waiting f = record { viewed = viewed f.viewed; room = f.room }
   learnt Reserve Took f = reserved 0 0 f
@@ -57,7 +57,7 @@ module _ (r : NewRecord) (s after : Scene) (l : IsLawful s after) where
   filled : HasFilled s → HasFilled after
   filled f k t = l.filled k ∙ f k (sym (l.took k) ∙ t)
 
-  pub stable : (phase : Phase) (stage : Stage) → insert_facts r phase stage s → insert_facts r phase stage after
+  pub stable : (phase : InsertPhase) (stage : Stage) → insert_facts r phase stage s → insert_facts r phase stage after
   stable Fresh stage f = learnt Fresh stage f
   stable Reserve stage f = (filled f.0, learnt Reserve stage f.1)
   stable (Store i) stage f = (filled f.0, learnt (Store i) stage f.1)
@@ -76,7 +76,7 @@ module _ (r : NewRecord) (s : Scene) (free : FreeSlots) where
   viewed-too : HasViewed r s → HasViewed r (gained s free free)
   viewed-too v = record { moment = v.moment; leaf = v.leaf; dead = v.dead; key = v.key; payload = v.payload; some = v.some; few = v.few; going = v.going }
 
-  pub no-slot : (phase : Phase) → insert_facts r phase Waiting s → insert_facts r phase Waiting (gained s free free)
+  pub no-slot : (phase : InsertPhase) → insert_facts r phase Waiting s → insert_facts r phase Waiting (gained s free free)
   no-slot Fresh f = viewed-too f
   no-slot Reserve f = (nothing_is_gained s free f.0, record { viewed = viewed-too f.1.viewed; room = f.1.room })
   no-slot (Store i) f = (nothing_is_gained s free f.0, (f.1.0, reserved-too i 0 f.1.1))

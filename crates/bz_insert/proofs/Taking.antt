@@ -14,8 +14,8 @@ use Rattle.bz_record.specs.Writing.{first_line}
 use Rattle.bz_record.specs.declared.new_record.NewRecord.{NewRecord}
 use Rattle.bz_record.proofs.Proved.{leaves_were, records_are_written, reservations_take_words}
 use Rattle.bz_insert.specs.Facts.{insert_asks, insert_facts, insert_publishes, IsLineOf}
-use Rattle.bz_insert.specs.declared.phase.Phase.{Phase}
-use Rattle.bz_insert.specs.declared.phase.Phase.TheVariants.{Fresh, Reserve, Store, Flush, Publish, Done, Restart, NeedsRoom, Full}
+use Rattle.bz_insert.specs.declared.phase.InsertPhase.{InsertPhase}
+use Rattle.bz_insert.specs.declared.phase.InsertPhase.TheVariants.{Fresh, Reserve, Store, Flush, Publish, Done, Restart, NeedsRoom, Full}
 use Rattle.bz_insert.proofs.Acting.{fits}
 
 same-entries : (a b : List Entry) → Some (Swaps_for a) ≡ Some (Swaps_for b) → a ≡ b
@@ -25,7 +25,7 @@ same-entries a b e = cc
 filled-after : (publishes : Bool) (entries : List Entry) (s after : Scene) → Takes publishes entries s after → HasFilled s → HasFilled after
 filled-after publishes entries s after t f j h = t.filled j ∙ f j (sym (t.took j) ∙ h)
 
-pub took : (c : Config) (r : NewRecord) (phase : Phase) (s after : Scene) (entries : List Entry) → s.past.config ≡ c → insert_facts r phase Waiting s → IsScene s → IsScene after
+pub took : (c : Config) (r : NewRecord) (phase : InsertPhase) (s after : Scene) (entries : List Entry) → s.past.config ≡ c → insert_facts r phase Waiting s → IsScene s → IsScene after
     → insert_asks c r phase ≡ Some (Swaps_for entries) → Stand entries (here s) → Takes (insert_publishes phase) entries s after → insert_facts r phase Took after
 took c r Fresh s after entries same f good later e stand t = absurd (cc)
 took c r Reserve s after entries same f good later e stand t =
@@ -49,7 +49,7 @@ same-store a b v w e = (cc, cc)
 same-flush : (a b : ℕ) → Some (Flushes_line a) ≡ Some (Flushes_line b) → a ≡ b
 same-flush a b e = cc
 
-pub stored : (c : Config) (r : NewRecord) (phase : Phase) (s after : Scene) (a v : ℕ) → s.past.config ≡ c → insert_facts r phase Waiting s → insert_asks c r phase ≡ Some (Stores_at a v) → Stores a v s after → insert_facts r phase Took after
+pub stored : (c : Config) (r : NewRecord) (phase : InsertPhase) (s after : Scene) (a v : ℕ) → s.past.config ≡ c → insert_facts r phase Waiting s → insert_asks c r phase ≡ Some (Stores_at a v) → Stores a v s after → insert_facts r phase Took after
 stored c r Fresh s after a v same f e t = absurd (cc)
 stored c r Reserve s after a v same f e t = absurd (cc)
 stored c r (Store i) s after a v same f e t =
@@ -66,7 +66,7 @@ stored c r Restart s after a v same f e t = absurd (cc)
 stored c r NeedsRoom s after a v same f e t = absurd (cc)
 stored c r Full s after a v same f e t = absurd (cc)
 
-pub flushed : (c : Config) (r : NewRecord) (phase : Phase) (s after : Scene) (line : ℕ) → s.past.config ≡ c → insert_facts r phase Waiting s → insert_asks c r phase ≡ Some (Flushes_line line) → Flushes line s after → insert_facts r phase Took after
+pub flushed : (c : Config) (r : NewRecord) (phase : InsertPhase) (s after : Scene) (line : ℕ) → s.past.config ≡ c → insert_facts r phase Waiting s → insert_asks c r phase ≡ Some (Flushes_line line) → Flushes line s after → insert_facts r phase Took after
 flushed c r Fresh s after line same f e t = absurd (cc)
 flushed c r Reserve s after line same f e t = absurd (cc)
 flushed c r (Store i) s after line same f e t = absurd (cc)

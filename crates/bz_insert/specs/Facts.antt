@@ -15,10 +15,10 @@ use Rattle.bz_record.specs.Records.{words_in, size_of, address_of, HasRoom, Lack
 use Rattle.bz_record.specs.Swaps.{entries_of, reservation, publication}
 use Rattle.bz_record.specs.Writing.{first_line, last_line, IsWritingRecord, HasWritten}
 use Rattle.bz_record.specs.declared.new_record.NewRecord.{NewRecord}
-use Rattle.bz_insert.specs.declared.phase.Phase.{Phase}
-use Rattle.bz_insert.specs.declared.phase.Phase.TheVariants.{Fresh, Reserve, Store, Flush, Publish, Done, Restart, NeedsRoom, Full}
+use Rattle.bz_insert.specs.declared.phase.InsertPhase.{InsertPhase}
+use Rattle.bz_insert.specs.declared.phase.InsertPhase.TheVariants.{Fresh, Reserve, Store, Flush, Publish, Done, Restart, NeedsRoom, Full}
 
-abbrev pub insert_asks : Config → NewRecord → Phase → Option Todo
+abbrev pub insert_asks : Config → NewRecord → InsertPhase → Option Todo
 insert_asks c r Fresh = None
 insert_asks c r Reserve = Some (Swaps_for (entries_of c (reservation r)))
 insert_asks c r (Store i) = Some (Stores_at (address_of c r i) (slice_index (words_in r) i))
@@ -26,7 +26,7 @@ insert_asks c r (Flush n) = Some (Flushes_line (first_line c r + n))
 insert_asks c r Publish = Some (Swaps_for (entries_of c (publication r)))
 insert_asks c r phase = Some Finish
 
-abbrev pub insert_end : Phase → Option Outcome
+abbrev pub insert_end : InsertPhase → Option Outcome
 insert_end Done = Some IsDone
 insert_end Restart = Some Restarts
 insert_end NeedsRoom = Some Needs
@@ -37,7 +37,7 @@ insert_end phase = None
 abbrev pub insert_acts : ℕ
 insert_acts = RECORD_WORDS + 2 * RECORD_LINES + 3
 
-abbrev pub insert_left : Phase → ℕ
+abbrev pub insert_left : InsertPhase → ℕ
 insert_left Fresh = insert_acts
 insert_left Reserve = RECORD_WORDS + 2 * RECORD_LINES + 2
 insert_left (Store i) = RECORD_WORDS + 2 * RECORD_LINES + 1 - i
@@ -46,12 +46,12 @@ insert_left Publish = 1
 insert_left phase = 0
 
 -- the steps of what is asked for
-abbrev pub insert_steps : Phase → ℕ
+abbrev pub insert_steps : InsertPhase → ℕ
 insert_steps (Flush n) = 2
 insert_steps phase = 1
 
 -- the most swaps: both up to the reservation, the publication from the first store on
-abbrev pub insert_swaps : Phase → ℕ
+abbrev pub insert_swaps : InsertPhase → ℕ
 insert_swaps Fresh = 2
 insert_swaps Reserve = 2
 insert_swaps (Store i) = 1
@@ -60,21 +60,21 @@ insert_swaps Publish = 1
 insert_swaps phase = 0
 
 -- from the first store on it was told that the reservation took effect
-abbrev pub insert_made : Phase → ℕ
+abbrev pub insert_made : InsertPhase → ℕ
 insert_made (Store i) = 1
 insert_made (Flush n) = 1
 insert_made Publish = 1
 insert_made phase = 0
 
 -- after a store comes the next one, or the first flush; after a flush the next one, or the publication
-abbrev pub next_store : NewRecord → ℕ → Phase
+abbrev pub next_store : NewRecord → ℕ → InsertPhase
 next_store r i = if nat_lt (i + 1) (size_of r) then Store (i + 1) else Flush 0
 
-abbrev pub next_flush : Config → NewRecord → ℕ → Phase
+abbrev pub next_flush : Config → NewRecord → ℕ → InsertPhase
 next_flush c r n = if nat_lt (first_line c r + n) (last_line c r) then Flush (n + 1) else Publish
 
 -- the swap that makes the record visible is the one that makes the change
-abbrev pub insert_publishes : Phase → Bool
+abbrev pub insert_publishes : InsertPhase → Bool
 insert_publishes Publish = true
 insert_publishes phase = false
 
@@ -117,7 +117,7 @@ pub record HasPublished (r : NewRecord) (s : Scene) : Type 0 where
 abbrev pub IsLineOf : Config → NewRecord → ℕ → Type 0
 IsLineOf c r n = first_line c r + n ≤ last_line c r
 
-abbrev pub insert_learnt : NewRecord → Phase → Stage → Scene → Type 0
+abbrev pub insert_learnt : NewRecord → InsertPhase → Stage → Scene → Type 0
 insert_learnt r Fresh Waiting s = HasViewed r s
 insert_learnt r Reserve Waiting s = CanReserve r s
 insert_learnt r Reserve Took s = HasReserved r 0 0 s
@@ -134,7 +134,7 @@ insert_learnt r NeedsRoom Waiting s = LacksRoom r.status (size_of r)
 insert_learnt r phase Took s = ⊥
 
 -- from the first act on each slot that was taken has been stored into
-abbrev pub insert_facts : NewRecord → Phase → Stage → Scene → Type 0
+abbrev pub insert_facts : NewRecord → InsertPhase → Stage → Scene → Type 0
 insert_facts r Fresh stage s = insert_learnt r Fresh stage s
 insert_facts r phase stage s = HasFilled s × insert_learnt r phase stage s
 
@@ -155,7 +155,7 @@ IsEndOfInsert (IsFull Swaps) = Unit {0}
 IsEndOfInsert outcome = ⊥
 
 -- what is named is there
-abbrev pub IsReady : Config → NewRecord → Phase → Type 0
+abbrev pub IsReady : Config → NewRecord → InsertPhase → Type 0
 IsReady c r Reserve = Fits r × (r.slot < c.nodes)
 IsReady c r (Store i) = Fits r × (r.slot < c.nodes) × (i < size_of r)
 IsReady c r (Flush n) = Fits r × (r.slot < c.nodes) × (n < 2)

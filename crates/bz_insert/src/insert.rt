@@ -13,7 +13,7 @@ ghost use Rattle.bz_record.specs.Records.{words_for, size_of, HasRoom, LacksRoom
 ghost use Rattle.bz_insert.specs.Facts.{IsEndOfInsert, insert_asks, insert_end, insert_acts, insert_left, insert_steps, insert_swaps, insert_made, insert_publishes, insert_facts, IsReady, next_store, next_flush};
 ghost use Rattle.bz_insert.specs.Duties.{insert_view};
 
-use crate::phase::Phase;
+use crate::phase::InsertPhase;
 use bz_call::Spent;
 use bz_key::{Key, Payload};
 use bz_layout::{Config, Slots};
@@ -27,7 +27,7 @@ use bz_task::{KeyView, LeafView, Outcome, Path, Seen, Task, Todo, laws};
 pub struct Insert {
     config: Config,
     added: NewRecord,
-    phase: Phase,
+    phase: InsertPhase,
 }
 
 impl Insert {
@@ -57,79 +57,82 @@ impl Insert {
                 key,
                 payload,
             },
-            phase: Phase::Fresh,
+            phase: InsertPhase::Fresh,
         }
     }
 }
 
 impl Insert {
     // The phase after what came of the last act.
-    fn after(&self, seen: Seen, moment: u32) -> Phase
+    fn after(&self, seen: Seen, moment: u32) -> InsertPhase
         requires hears { Hears (insert_asks self.now.config self.now.added self.now.phase) seen }
         requires known { IsKnown self.now.config (insert_facts self.now.added self.now.phase) (insert_asks self.now.config self.now.added self.now.phase) seen moment }
         ensures nearer { insert_left result + insert_steps result ≤ insert_left self.now.phase }
         ensures fewer { insert_swaps result + swaps_in (insert_asks self.now.config self.now.added self.now.phase) ≤ insert_swaps self.now.phase }
         ensures counted { insert_end result ≡ None → insert_made result ≡ insert_made self.now.phase + effects_in seen }
-        ensures done { result ≡ Phase.Done → seen ≡ Swapped true }
-        ensures begins { seen ≡ Start → (result ≡ Phase.Reserve) ⊎ (result ≡ Phase.NeedsRoom) }
-        ensures last { seen ≡ Swapped true → insert_swaps self.now.phase ≡ 1 → result ≡ Phase.Done }
-        ensures only_last { result ≡ Phase.Done → insert_swaps self.now.phase ≡ 1 }
-        ensures published { insert_publishes self.now.phase ≡ true → seen ≡ Swapped true → result ≡ Phase.Done }
-        ensures restart { result ≡ Phase.Restart → seen ≡ Swapped false }
-        ensures full { (result ≡ Phase.Full) ↔ (seen ≡ NoSwap) }
-        ensures begun { result ≢ Phase.Fresh }
+        ensures done { result ≡ InsertPhase.Done → seen ≡ Swapped true }
+        ensures begins { seen ≡ Start → (result ≡ InsertPhase.Reserve) ⊎ (result ≡ InsertPhase.NeedsRoom) }
+        ensures last { seen ≡ Swapped true → insert_swaps self.now.phase ≡ 1 → result ≡ InsertPhase.Done }
+        ensures only_last { result ≡ InsertPhase.Done → insert_swaps self.now.phase ≡ 1 }
+        ensures published { insert_publishes self.now.phase ≡ true → seen ≡ Swapped true → result ≡ InsertPhase.Done }
+        ensures restart { result ≡ InsertPhase.Restart → seen ≡ Swapped false }
+        ensures full { (result ≡ InsertPhase.Full) ↔ (seen ≡ NoSwap) }
+        ensures begun { result ≢ InsertPhase.Fresh }
         ensures config { IsConfig self.now.config }
         ensures ready { IsReady self.now.config self.now.added result }
         ensures learns { (stage : Stage) (s : Scene) → s.past.config ≡ self.now.config → insert_facts self.now.added self.now.phase stage s → Tells (insert_asks self.now.config self.now.added self.now.phase) stage seen s → insert_facts self.now.added result Waiting s }
     {
         let _moment = moment;
         match (self.phase, seen) {
-            (Phase::Fresh, _) => self.begun(),
-            (Phase::Reserve, Seen::Swapped(true)) => Phase::Store(0),
-            (Phase::Store(i), Seen::Stored) => self.after_store(i),
-            (Phase::Flush(n), Seen::Flushed) => self.after_flush(n),
-            (Phase::Publish, Seen::Swapped(true)) => Phase::Done,
-            (Phase::Reserve | Phase::Publish, Seen::NoSwap) => Phase::Full,
-            _ => Phase::Restart,
+            (InsertPhase::Fresh, _) => self.begun(),
+            (InsertPhase::Reserve, Seen::Swapped(true)) => InsertPhase::Store(0),
+            (InsertPhase::Store(i), Seen::Stored) => self.after_store(i),
+            (InsertPhase::Flush(n), Seen::Flushed) => self.after_flush(n),
+            (InsertPhase::Publish, Seen::Swapped(true)) => InsertPhase::Done,
+            (InsertPhase::Reserve | InsertPhase::Publish, Seen::NoSwap) => InsertPhase::Full,
+            _ => InsertPhase::Restart,
         }
     }
 
     // What a phase asks for.
     fn asked(&self) -> Todo
-        requires begun { self.now.phase ≢ Phase.Fresh }
+        requires begun { self.now.phase ≢ InsertPhase.Fresh }
         requires config { IsConfig self.now.config }
         requires ready { IsReady self.now.config self.now.added self.now.phase }
         ensures { insert_asks self.now.config self.now.added self.now.phase ≡ Some result }
     {
         match self.phase {
-            Phase::Reserve => Todo::Swap(self.added.reservation().entries(&self.config)),
-            Phase::Store(i) => {
+            InsertPhase::Reserve => Todo::Swap(self.added.reservation().entries(&self.config)),
+            InsertPhase::Store(i) => {
                 Todo::Store(self.added.address(&self.config, i), self.added.word(i))
             }
-            Phase::Flush(n) => Todo::Flush(self.added.first_line(&self.config) + n),
-            Phase::Publish => Todo::Swap(self.added.publication().entries(&self.config)),
-            Phase::Fresh | Phase::Done | Phase::Restart | Phase::NeedsRoom | Phase::Full =>
-                Todo::Finish,
+            InsertPhase::Flush(n) => Todo::Flush(self.added.first_line(&self.config) + n),
+            InsertPhase::Publish => Todo::Swap(self.added.publication().entries(&self.config)),
+            InsertPhase::Fresh
+            | InsertPhase::Done
+            | InsertPhase::Restart
+            | InsertPhase::NeedsRoom
+            | InsertPhase::Full => Todo::Finish,
         }
     }
 
     // The first phase: the reservation, where the leaf has room.
-    fn begun(&self) -> Phase
+    fn begun(&self) -> InsertPhase
         requires plain { self.now.added.status < 2 ^ 61 }
-        ensures reserve { result ≡ Phase.Reserve → HasRoom self.now.added.status (size_of self.now.added) }
-        ensures none { result ≡ Phase.NeedsRoom → LacksRoom self.now.added.status (size_of self.now.added) }
-        ensures either { (result ≡ Phase.Reserve) ⊎ (result ≡ Phase.NeedsRoom) }
+        ensures reserve { result ≡ InsertPhase.Reserve → HasRoom self.now.added.status (size_of self.now.added) }
+        ensures none { result ≡ InsertPhase.NeedsRoom → LacksRoom self.now.added.status (size_of self.now.added) }
+        ensures either { (result ≡ InsertPhase.Reserve) ⊎ (result ≡ InsertPhase.NeedsRoom) }
     {
         if self.added.has_room() {
-            Phase::Reserve
+            InsertPhase::Reserve
         } else {
-            Phase::NeedsRoom
+            InsertPhase::NeedsRoom
         }
     }
 
     // The phase after the store of a word: that of the next one, or the first flush.
-    fn after_store(&self, i: u32) -> Phase
-        requires { IsReady self.now.config self.now.added (Phase.Store i) }
+    fn after_store(&self, i: u32) -> InsertPhase
+        requires { IsReady self.now.config self.now.added (InsertPhase.Store i) }
         ensures next { result ≡ next_store self.now.added i }
         ensures nearer { insert_left result + insert_steps result ≤ RECORD_WORDS + 2 * RECORD_LINES + 1 - i }
         ensures swaps { insert_swaps result ≡ 1 }
@@ -138,16 +141,16 @@ impl Insert {
     {
         let size = self.added.size();
         if i + 1 < size {
-            Phase::Store(i + 1)
+            InsertPhase::Store(i + 1)
         } else {
-            Phase::Flush(0)
+            InsertPhase::Flush(0)
         }
     }
 
     // The phase after the flush of a line: that of the next one, or the publication.
-    fn after_flush(&self, n: u32) -> Phase
+    fn after_flush(&self, n: u32) -> InsertPhase
         requires config { IsConfig self.now.config }
-        requires ready { IsReady self.now.config self.now.added (Phase.Flush n) }
+        requires ready { IsReady self.now.config self.now.added (InsertPhase.Flush n) }
         ensures next { result ≡ next_flush self.now.config self.now.added n }
         ensures nearer { insert_left result + insert_steps result ≤ 2 * (RECORD_LINES - n) }
         ensures swaps { insert_swaps result ≡ 1 }
@@ -156,9 +159,9 @@ impl Insert {
     {
         let line = self.added.first_line(&self.config) + n;
         if line < self.added.last_line(&self.config) {
-            Phase::Flush(n + 1)
+            InsertPhase::Flush(n + 1)
         } else {
-            Phase::Publish
+            InsertPhase::Publish
         }
     }
 }
@@ -168,17 +171,17 @@ impl Task for Insert {
 
     fn publishes(&self) -> bool {
         match self.phase {
-            Phase::Publish => true,
+            InsertPhase::Publish => true,
             _ => false,
         }
     }
 
     fn ended(&self) -> Option<Outcome> {
         match self.phase {
-            Phase::Done => Some(Outcome::Done),
-            Phase::Restart => Some(Outcome::Restart),
-            Phase::NeedsRoom => Some(Outcome::NeedsRoom),
-            Phase::Full => Some(Outcome::Full(Spent::Swaps)),
+            InsertPhase::Done => Some(Outcome::Done),
+            InsertPhase::Restart => Some(Outcome::Restart),
+            InsertPhase::NeedsRoom => Some(Outcome::NeedsRoom),
+            InsertPhase::Full => Some(Outcome::Full(Spent::Swaps)),
             _ => None,
         }
     }

@@ -2,7 +2,7 @@
 
 /// What an insert asks for next.
 #[derive(Clone, Copy, Drop)]
-pub(crate) enum Phase {
+pub(crate) enum InsertPhase {
     /// Nothing was asked for yet.
     Fresh,
     /// The swap that reserves the record's place.

@@ -8,8 +8,8 @@ use Rattle.bz_merge.specs.Facts.{NoneFitted, merge_end, merge_facts}
 use Rattle.bz_merge.specs.Plans.{IsViewed, Merging as Plan, viewed_leaf}
 use Rattle.bz_merge.specs.Siblings.{SeenLeaf, WasSeen}
 use Rattle.bz_merge.specs.declared.merge.Merge.{Merge}
-use Rattle.bz_merge.specs.declared.phase.Phase.{Phase}
-use Rattle.bz_merge.specs.declared.phase.Phase.TheVariants.{Fresh, Word, Again, Beside, Parent, Still, Freeze, FreezeBeside, Guard, Store, Flush, Swap, Done, Restart, NoNeighbour, NoSlot, NoSwap}
+use Rattle.bz_merge.specs.declared.phase.MergePhase.{MergePhase}
+use Rattle.bz_merge.specs.declared.phase.MergePhase.TheVariants.{Fresh, Word, Again, Beside, Parent, Still, Freeze, FreezeBeside, Guard, Store, Flush, Swap, Done, Restart, NoNeighbour, NoSlot, NoSwap}
 use Rattle.bz_slotted.specs.Readers.{found_of}
 use Rattle.bz_slotted.specs.ReadingLaws.{node_of}
 use Rattle.bz_slotted.specs.Rules.{node_fault}
@@ -33,7 +33,7 @@ use Rattle.bz_joined.proofs.Lacked.{undisturbed-lack}
 use Rattle.bz_joined.proofs.Standing.{neighbours-stand}
 
 -- while it goes on it knows the leaf as it was viewed
-viewed : (r : Plan) (phase : Phase) (s : Scene) → merge_facts r phase Waiting s → merge_end phase ≡ None → IsViewed r.upper r.lower (viewed_leaf r) s.past
+viewed : (r : Plan) (phase : MergePhase) (s : Scene) → merge_facts r phase Waiting s → merge_end phase ≡ None → IsViewed r.upper r.lower (viewed_leaf r) s.past
 viewed r Fresh s f e = f.viewed
 viewed r (Word i) s f e = f.1.1.1.viewed
 viewed r Again s f e = f.1.viewed
@@ -142,10 +142,10 @@ known-stay = record {
 }
 
 -- a merge that ends so knows that none fitted
-none-fits : (r : Plan) (phase : Phase) (s : Scene) → phase ≡ NoNeighbour → merge_facts r phase Waiting s → NoneFitted r.upper r.lower r.leaf s.past
+none-fits : (r : Plan) (phase : MergePhase) (s : Scene) → phase ≡ NoNeighbour → merge_facts r phase Waiting s → NoneFitted r.upper r.lower r.leaf s.past
 none-fits r phase s e f = (subst (λ z. merge_facts r z Waiting s) e f).1
 
-ends-so : (phase : Phase) → merge_end phase ≡ Some NeedsRoom → phase ≡ NoNeighbour
+ends-so : (phase : MergePhase) → merge_end phase ≡ Some NeedsRoom → phase ≡ NoNeighbour
 ends-so NoNeighbour e = cc
 ends-so Done e = absurd (cc)
 ends-so Restart e = absurd (cc)

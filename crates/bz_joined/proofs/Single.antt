@@ -1,8 +1,8 @@
 -- The freeze of the key's leaf by itself leaves it frozen.
 use Rattle.std.proofs.Common.{◌≡◌, ℕ, List, [], ◌∷◌, Some, sym, ap, subst, ◌∙◌}
 use Rattle.bz_freeze.specs.Facts.{WasLeaf, entry_of, freeze_asks, freeze_facts}
-use Rattle.bz_freeze.specs.declared.phase.Phase.{Phase}
-use Rattle.bz_freeze.specs.declared.phase.Phase.TheVariants.{Swap}
+use Rattle.bz_freeze.specs.declared.phase.FreezePhase.{FreezePhase}
+use Rattle.bz_freeze.specs.declared.phase.FreezePhase.TheVariants.{Swap}
 use Rattle.bz_layout.specs.declared.config.Config.{Config}
 use Rattle.bz_shape.specs.Form.{Holds}
 use Rattle.bz_word.specs.declared.entry.Entry.{Entry}
@@ -19,7 +19,7 @@ use Rattle.bz_joined.specs.Undisturbed.{UndisturbedFreezesFreezeTheLeaf}
 use Rattle.bz_joined.proofs.Freezes.{freezes-own}
 
 -- a freeze that asks for a swap knows that the leaf was not frozen
-known : (c : Config) (k st : ℕ) (phase : Phase) (s : Scene) (entries : List Entry) → freeze_facts k st phase Waiting s → freeze_asks c k st phase ≡ Some (Swaps_for entries) → WasLeaf k st s.past × (entry_of c k st ∷ [] ≡ entries)
+known : (c : Config) (k st : ℕ) (phase : FreezePhase) (s : Scene) (entries : List Entry) → freeze_facts k st phase Waiting s → freeze_asks c k st phase ≡ Some (Swaps_for entries) → WasLeaf k st s.past × (entry_of c k st ∷ [] ≡ entries)
 known c k st Swap s entries f e = (f.1, same-entries (entry_of c k st ∷ []) entries e)
 known c k st phase s entries f e = absurd (cc)
 

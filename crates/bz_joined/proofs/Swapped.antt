@@ -7,8 +7,8 @@ use Rattle.bz_merge.specs.Duties.{merging_of}
 use Rattle.bz_merge.specs.Facts.{MERGE_WORDS, MERGE_LINES, IsMerging, merge_asks, merge_facts}
 use Rattle.bz_merge.specs.Plans.{Merging, viewed_leaf, beside_leaf, first_of, second_of, sep_of}
 use Rattle.bz_merge.specs.Siblings.{SeenLeaf}
-use Rattle.bz_merge.specs.declared.phase.Phase.{Phase}
-use Rattle.bz_merge.specs.declared.phase.Phase.TheVariants.{Swap}
+use Rattle.bz_merge.specs.declared.phase.MergePhase.{MergePhase}
+use Rattle.bz_merge.specs.declared.phase.MergePhase.TheVariants.{Swap}
 use Rattle.bz_renew.proofs.Words.{and-left, and-right}
 use Rattle.bz_shape.specs.Form.{Holds}
 use Rattle.bz_shape.specs.TreeLaws.{LeavesTileTheKeys}
@@ -118,10 +118,10 @@ module _ (b : Laws) (r : Merging) (s : Scene) (y : Instant) (good : IsScene s) (
         f.frozen.planned.first.size f.frozen.planned.second.size f.one f.frozen.planned.first.whole f.frozen.planned.second.whole f.frozen.planned.room)
 
 -- a merge that turns the link
-planned : (r : Merging) (phase : Phase) (s : Scene) → phase ≡ Swap → merge_facts r phase Waiting s → IsMerging r MERGE_WORDS MERGE_LINES s
+planned : (r : Merging) (phase : MergePhase) (s : Scene) → phase ≡ Swap → merge_facts r phase Waiting s → IsMerging r MERGE_WORDS MERGE_LINES s
 planned r phase s e f = (subst (λ z. merge_facts r z Waiting s) e f).1
 
-asked : (c : Config) (r : Merging) (phase : Phase) (entries : List Entry) → phase ≡ Swap → merge_asks c r phase ≡ Some (Swaps_for entries) → below_swap c r.upper r.lower (r.slot 0) ≡ entries
+asked : (c : Config) (r : Merging) (phase : MergePhase) (entries : List Entry) → phase ≡ Swap → merge_asks c r phase ≡ Some (Swaps_for entries) → below_swap c r.upper r.lower (r.slot 0) ≡ entries
 asked c r phase entries e a = same-entries (below_swap c r.upper r.lower (r.slot 0)) entries (ap (merge_asks c r) (sym e) ∙ a)
 
 pub merge-swaps : Laws → MergeSwapsGiveRoom

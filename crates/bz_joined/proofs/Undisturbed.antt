@@ -10,8 +10,8 @@ use Rattle.bz_merge.specs.Facts.{merge_asks, merge_facts}
 use Rattle.bz_merge.specs.Plans.{Merging, viewed_leaf, beside_leaf, IsPair, IsPlanned}
 use Rattle.bz_merge.specs.Siblings.{SeenLeaf, WasSeen}
 use Rattle.bz_merge.specs.declared.merge.Merge.{Merge}
-use Rattle.bz_merge.specs.declared.phase.Phase.{Phase}
-use Rattle.bz_merge.specs.declared.phase.Phase.TheVariants.{Freeze, FreezeBeside}
+use Rattle.bz_merge.specs.declared.phase.MergePhase.{MergePhase}
+use Rattle.bz_merge.specs.declared.phase.MergePhase.TheVariants.{Freeze, FreezeBeside}
 use Rattle.bz_shape.specs.Descent.{leaf_of}
 use Rattle.bz_word.specs.Statuses.{status}
 use Rattle.bz_word.specs.declared.entry.Entry.{Entry}
@@ -72,16 +72,16 @@ module _ (s : Scene) (y : Instant) (good : IsScene s) (alone : IsUndisturbed 0 s
       (subst (λ d. Stand d (here s)) (sym is) stand) (subst (λ d. SwapsTo s.past.config d (here s) y) (sym is) swaps)
 
 -- a merge that freezes the neighbour, or the viewed leaf
-plan-beside : (r : Merging) (phase : Phase) (s : Scene) → phase ≡ FreezeBeside → merge_facts r phase Waiting s → IsPlanned r s.past × ((status (slice_index r.beside STATUS_AT)).frozen ≡ false)
+plan-beside : (r : Merging) (phase : MergePhase) (s : Scene) → phase ≡ FreezeBeside → merge_facts r phase Waiting s → IsPlanned r s.past × ((status (slice_index r.beside STATUS_AT)).frozen ≡ false)
 plan-beside r phase s e f = let g = subst (λ z. merge_facts r z Waiting s) e f in (g.1.0, g.1.1.1.0)
 
-plan-own : (r : Merging) (phase : Phase) (s : Scene) → phase ≡ Freeze → merge_facts r phase Waiting s → IsPlanned r s.past × ((status r.status).frozen ≡ false)
+plan-own : (r : Merging) (phase : MergePhase) (s : Scene) → phase ≡ Freeze → merge_facts r phase Waiting s → IsPlanned r s.past × ((status r.status).frozen ≡ false)
 plan-own r phase s e f = let g = subst (λ z. merge_facts r z Waiting s) e f in (g.1.0, g.1.1)
 
-asked-beside : (c : Config) (r : Merging) (phase : Phase) (entries : List Entry) → phase ≡ FreezeBeside → merge_asks c r phase ≡ Some (Swaps_for entries) → entry_of c r.beside_slot (slice_index r.beside STATUS_AT) ∷ [] ≡ entries
+asked-beside : (c : Config) (r : Merging) (phase : MergePhase) (entries : List Entry) → phase ≡ FreezeBeside → merge_asks c r phase ≡ Some (Swaps_for entries) → entry_of c r.beside_slot (slice_index r.beside STATUS_AT) ∷ [] ≡ entries
 asked-beside c r phase entries e a = same-entries (entry_of c r.beside_slot (slice_index r.beside STATUS_AT) ∷ []) entries (ap (merge_asks c r) (sym e) ∙ a)
 
-asked-own : (c : Config) (r : Merging) (phase : Phase) (entries : List Entry) → phase ≡ Freeze → merge_asks c r phase ≡ Some (Swaps_for entries) → entry_of c r.lower.slot r.status ∷ [] ≡ entries
+asked-own : (c : Config) (r : Merging) (phase : MergePhase) (entries : List Entry) → phase ≡ Freeze → merge_asks c r phase ≡ Some (Swaps_for entries) → entry_of c r.lower.slot r.status ∷ [] ≡ entries
 asked-own c r phase entries e a = same-entries (entry_of c r.lower.slot r.status ∷ []) entries (ap (merge_asks c r) (sym e) ∙ a)
 
 -- it made no swap before

@@ -6,7 +6,7 @@ use Rattle.bz_merge.specs.Duties.{facts_of}
 use Rattle.bz_merge.specs.Facts.{NoneFitted}
 use Rattle.bz_merge.specs.Siblings.{WasSeen}
 use Rattle.bz_merge.specs.declared.merge.Merge.{Merge}
-use Rattle.bz_merge.specs.declared.phase.Phase.TheVariants.{NoNeighbour}
+use Rattle.bz_merge.specs.declared.phase.MergePhase.TheVariants.{NoNeighbour}
 use Rattle.bz_content.specs.Content.{image_of}
 use Rattle.bz_stage.specs.FromLeaves.Neighbours.{leaf_page, MayBeMerged}
 use Rattle.bz_task.specs.Requests.{effects_in}

@@ -6,7 +6,7 @@ use Rattle.bz_freeze.specs.declared.freeze.Freeze.{Freeze as SingleFreeze}
 use Rattle.bz_layout.specs.declared.thresholds.TheConstants.{LEAF_RECORD_WORDS, SPLIT_ABOVE}
 use Rattle.bz_merge.specs.Duties.{asks_of, facts_of}
 use Rattle.bz_merge.specs.declared.merge.Merge.{Merge}
-use Rattle.bz_merge.specs.declared.phase.Phase.TheVariants.{Freeze, FreezeBeside, Swap}
+use Rattle.bz_merge.specs.declared.phase.MergePhase.TheVariants.{Freeze, FreezeBeside, Swap}
 use Rattle.bz_slotted.specs.Records.{live_words}
 use Rattle.bz_word.specs.Statuses.{status}
 use Rattle.bz_word.specs.declared.entry.Entry.{Entry}

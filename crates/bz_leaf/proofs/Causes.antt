@@ -12,8 +12,8 @@ use Rattle.bz_task.specs.declared.path.Link.{Link}
 use Rattle.bz_task.specs.declared.todo.Seen.{Seen}
 use Rattle.bz_task.specs.declared.todo.Seen.TheVariants.{Start, Read as Was, Stored, Flushed, Swapped, NoSwap}
 use Rattle.bz_leaf.specs.Facts.{Reading, leaf_asks, leaf_facts, leaf_differs}
-use Rattle.bz_leaf.specs.declared.phase.Phase.{Phase}
-use Rattle.bz_leaf.specs.declared.phase.Phase.TheVariants.{Fresh, Status, Word, Again, Link as Of_link, Guard, Viewed, Changed}
+use Rattle.bz_leaf.specs.declared.phase.LeafPhase.{LeafPhase}
+use Rattle.bz_leaf.specs.declared.phase.LeafPhase.TheVariants.{Fresh, Status, Word, Again, Link as Of_link, Guard, Viewed, Changed}
 use Rattle.bz_task.proofs.Guards.{guards-status}
 use Rattle.bz_leaf.proofs.Viewing.{status-word}
 
@@ -34,7 +34,7 @@ other-link key link ws v s r ne = record { moment = r.known.moment; since = r.kn
 pub guard-read : (key : List ℕ) (link : Link) (ws : List ℕ) (place : ℕ) (s : Scene) → Reading key link ws place s.past → IsStatusWord s link.guard
 guard-read key link ws place s r = guards-status s link r.known.hung r.known.hung_since r.known.hung_now r.known.under
 
-pub cause : (c : Config) (key : List ℕ) (link : Link) (image : NodeImage) (ws : List ℕ) (phase : Phase) (s : Scene) (seen : Seen) → s.past.config ≡ c → leaf_facts key link ws phase Waiting s → leaf_differs link ws phase seen → IsCause (leaf_asks c link image phase) seen s
+pub cause : (c : Config) (key : List ℕ) (link : Link) (image : NodeImage) (ws : List ℕ) (phase : LeafPhase) (s : Scene) (seen : Seen) → s.past.config ≡ c → leaf_facts key link ws phase Waiting s → leaf_differs link ws phase seen → IsCause (leaf_asks c link image phase) seen s
 cause c key link image ws Fresh s (Was v) same f d = absurd (d)
 cause c key link image ws Fresh s Start same f d = absurd (d)
 cause c key link image ws Fresh s Stored same f d = absurd (d)

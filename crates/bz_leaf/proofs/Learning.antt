@@ -29,12 +29,12 @@ use Rattle.bz_task.specs.declared.todo.Seen.TheVariants.{Read as Was}
 use Rattle.bz_task.specs.declared.view.LeafView.{LeafView}
 use Rattle.bz_task.proofs.Proved.{children_are_in_trees, fronts_stay, frozen_nodes_stay, nothing_is_gained, roots_are_reached, separators_stay}
 use Rattle.bz_leaf.specs.Facts.{is_used, IsKnownLeaf, WasWord, Reading, ReadsOn, HasRead, HasLink, IsBlank, IsAfter, IsMade, leaf_asks, leaf_learnt, leaf_facts}
-use Rattle.bz_leaf.specs.declared.phase.Phase.{Phase}
-use Rattle.bz_leaf.specs.declared.phase.Phase.TheVariants.{Fresh, Status, Word, Again, Link as Of_link, Guard, Viewed, Changed}
+use Rattle.bz_leaf.specs.declared.phase.LeafPhase.{LeafPhase}
+use Rattle.bz_leaf.specs.declared.phase.LeafPhase.TheVariants.{Fresh, Status, Word, Again, Link as Of_link, Guard, Viewed, Changed}
 use Rattle.bz_leaf.proofs.Viewing.{thawed-view, frozen-view}
 
 -- after the words up to a place come the next one in use, or the validation
-pub goes-on : (key : List ℕ) (link : Link) (ws : List ℕ) (place : ℕ) (p : Past) (phase : Phase) → place < NODE_WORDS → Reading key link ws (place + 1) p → IsAfter (slice_index ws 0) place phase → leaf_learnt key link ws phase p
+pub goes-on : (key : List ℕ) (link : Link) (ws : List ℕ) (place : ℕ) (p : Past) (phase : LeafPhase) → place < NODE_WORDS → Reading key link ws (place + 1) p → IsAfter (slice_index ws 0) place phase → leaf_learnt key link ws phase p
 goes-on key link ws place p Fresh short r a = absurd (a)
 goes-on key link ws place p Status short r a = absurd (a)
 goes-on key link ws place p (Word i) short r a = record {
@@ -203,7 +203,7 @@ module _ (s : Scene) (good : IsScene s) (key : List ℕ) (link : Link) (ws : Lis
   linked = elim h.leaf.all.known.under [ inl r ↦ under-root r | inr u ↦ under-node u ]
 
 -- what the phase and the answer are
-pub by-phase : (key : List ℕ) (link : Link) (image : NodeImage) (ws : List ℕ) (c : Config) (P : Type 0) (stage : Stage) (s : Scene) (phase other : Phase) (seen told : Seen) → phase ≡ other → seen ≡ told
+pub by-phase : (key : List ℕ) (link : Link) (image : NodeImage) (ws : List ℕ) (c : Config) (P : Type 0) (stage : Stage) (s : Scene) (phase other : LeafPhase) (seen told : Seen) → phase ≡ other → seen ≡ told
     → (leaf_facts key link ws other stage s → Tells (leaf_asks c link image other) stage told s → P) → leaf_facts key link ws phase stage s → Tells (leaf_asks c link image phase) stage seen s → P
 by-phase key link image ws c P stage s phase other seen told e g h f t =
     h (subst (λ z. leaf_facts key link ws z stage s) e f) (subst (λ z. Tells (leaf_asks c link image z) stage told s) e (subst (λ z. Tells (leaf_asks c link image phase) stage z s) g t))
@@ -212,13 +212,13 @@ module _ (key : List ℕ) (link : Link) (image : NodeImage) (ws : List ℕ) (ful
   in-slot : (i v : ℕ) → Answers s (node_address c link.slot + i) v → Answers s (node_address s.past.config link.slot + i) v
   in-slot i v t = subst (λ z. Answers s (node_address z link.slot + i) v) (sym same) t
 
-  pub told-status : (stage : Stage) (v : ℕ) (phase : Phase) → IsAfter v 0 phase → leaf_facts key link ws Status stage s → Tells (leaf_asks c link image Status) stage (Was v) s → HasFilled s × leaf_learnt key link (slice_set ws 0 v) phase s.past
+  pub told-status : (stage : Stage) (v : ℕ) (phase : LeafPhase) → IsAfter v 0 phase → leaf_facts key link ws Status stage s → Tells (leaf_asks c link image Status) stage (Was v) s → HasFilled s × leaf_learnt key link (slice_set ws 0 v) phase s.past
   told-status Took v phase a f t = absurd (f)
   told-status Waiting v phase a f t =
       let first : slice_index (slice_set ws 0 v) 0 ≡ v = get_or-set_same ws 0 v 0 (omega (arith, full)) in
       (f.0, goes-on key link (slice_set ws 0 v) 0 s.past phase (omega arith) (reads-status s good key link ws full f.1.0 f.1.1 v (in-slot STATUS_AT v t)) (subst (λ z. IsAfter z 0 phase) (sym first) a))
 
-  pub told-word : (stage : Stage) (i v : ℕ) (phase : Phase) → IsAfter (slice_index (slice_set ws i v) 0) i phase → leaf_facts key link ws (Word i) stage s → Tells (leaf_asks c link image (Word i)) stage (Was v) s → HasFilled s × leaf_learnt key link (slice_set ws i v) phase s.past
+  pub told-word : (stage : Stage) (i v : ℕ) (phase : LeafPhase) → IsAfter (slice_index (slice_set ws i v) 0) i phase → leaf_facts key link ws (Word i) stage s → Tells (leaf_asks c link image (Word i)) stage (Was v) s → HasFilled s × leaf_learnt key link (slice_set ws i v) phase s.past
   told-word Took i v phase a f t = absurd (f)
   told-word Waiting i v phase a f t = (f.0, goes-on key link (slice_set ws i v) i s.past phase f.1.within (reads-word s good key link ws full i v f.1 (in-slot i v t)) a)
 
@@ -236,7 +236,7 @@ module _ (key : List ℕ) (link : Link) (image : NodeImage) (ws : List ℕ) (ful
   told-guard Waiting at v thawed f t = (f.0, λ view m. frozen-view s good key link ws at f.1 (linked s good key link ws at f.1 v t thawed) view m)
 
 -- what is learnt is known when no slot was taken
-pub no-slot : (key : List ℕ) (link : Link) (ws : List ℕ) (s : Scene) (free : FreeSlots) (phase : Phase) → phase ≢ Fresh → HasFilled s × leaf_learnt key link ws phase s.past → leaf_facts key link ws phase Waiting (gained s free free)
+pub no-slot : (key : List ℕ) (link : Link) (ws : List ℕ) (s : Scene) (free : FreeSlots) (phase : LeafPhase) → phase ≢ Fresh → HasFilled s × leaf_learnt key link ws phase s.past → leaf_facts key link ws phase Waiting (gained s free free)
 no-slot key link ws s free Fresh ne h = absurd (ne refl)
 no-slot key link ws s free Status ne h = (nothing_is_gained s free h.0, h.1)
 no-slot key link ws s free (Word i) ne h = (nothing_is_gained s free h.0, h.1)

@@ -11,8 +11,8 @@ use Rattle.bz_task.specs.Scene.{Past, Scene, Stage, Waiting, Took, Continues, Is
 use Rattle.bz_task.specs.declared.path.Link.{Link}
 use Rattle.bz_task.proofs.Proved.{views_stay}
 use Rattle.bz_leaf.specs.Facts.{IsKnownLeaf, WasWord, Reading, ReadsOn, HasRead, HasLink, leaf_learnt, leaf_facts}
-use Rattle.bz_leaf.specs.declared.phase.Phase.{Phase}
-use Rattle.bz_leaf.specs.declared.phase.Phase.TheVariants.{Fresh, Status, Word, Again, Link as Of_link, Guard, Viewed, Changed}
+use Rattle.bz_leaf.specs.declared.phase.LeafPhase.{LeafPhase}
+use Rattle.bz_leaf.specs.declared.phase.LeafPhase.TheVariants.{Fresh, Status, Word, Again, Link as Of_link, Guard, Viewed, Changed}
 
 module _ (p q : Past) (n : Continues p q) where
   -- what held of the sizes and the memory at a past moment
@@ -77,7 +77,7 @@ module _ (p q : Past) (n : Continues p q) where
     led = moved (λ c x. x.value link.link ≡ link.slot + 1) at h.until h.led;
   }
 
-  learnt : (key : List ℕ) (link : Link) (ws : List ℕ) (phase : Phase) → leaf_learnt key link ws phase p → leaf_learnt key link ws phase q
+  learnt : (key : List ℕ) (link : Link) (ws : List ℕ) (phase : LeafPhase) → leaf_learnt key link ws phase p → leaf_learnt key link ws phase q
   learnt key link ws Fresh f = (f.0, known key link f.1)
   learnt key link ws Status f = (f.0, known key link f.1)
   learnt key link ws (Word i) f = on key link ws i f
@@ -87,10 +87,10 @@ module _ (p q : Past) (n : Continues p q) where
   learnt key link ws (Viewed at) f = λ view m. views_stay key view p q (f view m) n
   learnt key link ws Changed f = tt
 
-both : (key : List ℕ) (link : Link) (ws : List ℕ) (phase : Phase) (s after : Scene) → IsLawful s after → HasFilled s × leaf_learnt key link ws phase s.past → HasFilled after × leaf_learnt key link ws phase after.past
+both : (key : List ℕ) (link : Link) (ws : List ℕ) (phase : LeafPhase) (s after : Scene) → IsLawful s after → HasFilled s × leaf_learnt key link ws phase s.past → HasFilled after × leaf_learnt key link ws phase after.past
 both key link ws phase s after step f = (λ k t. step.filled k ∙ f.0 k (sym (step.took k) ∙ t), learnt s.past after.past step.continues key link ws phase f.1)
 
-pub stable : (key : List ℕ) (link : Link) (ws : List ℕ) (phase : Phase) (stage : Stage) (s after : Scene) → leaf_facts key link ws phase stage s → IsLawful s after → leaf_facts key link ws phase stage after
+pub stable : (key : List ℕ) (link : Link) (ws : List ℕ) (phase : LeafPhase) (stage : Stage) (s after : Scene) → leaf_facts key link ws phase stage s → IsLawful s after → leaf_facts key link ws phase stage after
 stable key link ws phase Took s after f step = f
 stable key link ws Fresh Waiting s after f step = (f.0, known s.past after.past step.continues key link f.1)
 stable key link ws Status Waiting s after f step = both key link ws Status s after step f

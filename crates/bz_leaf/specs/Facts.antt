@@ -19,8 +19,8 @@ use Rattle.bz_task.specs.declared.todo.Seen.TheVariants.{Read as Was}
 use Rattle.bz_task.specs.declared.todo.Todo.{Todo}
 use Rattle.bz_task.specs.declared.todo.Todo.TheVariants.{Read, Finish}
 use Rattle.bz_task.specs.declared.view.LeafView.{LeafView}
-use Rattle.bz_leaf.specs.declared.phase.Phase.{Phase}
-use Rattle.bz_leaf.specs.declared.phase.Phase.TheVariants.{Fresh, Status, Word, Again, Link as Of_link, Guard, Viewed, Changed}
+use Rattle.bz_leaf.specs.declared.phase.LeafPhase.{LeafPhase}
+use Rattle.bz_leaf.specs.declared.phase.LeafPhase.TheVariants.{Fresh, Status, Word, Again, Link as Of_link, Guard, Viewed, Changed}
 
 -- of a leaf with this status the place is one of the metadata words in use or before them, or one of the block
 abbrev pub is_used : ℕ → ℕ → Bool
@@ -41,7 +41,7 @@ pub record IsMade (view : LeafView) (k moment : ℕ) (ws : List ℕ) : Type 0 wh
   pub image : view.image.0 ≡ ws
   pub at : view.at ≡ moment
 
-abbrev pub leaf_asks : Config → Link → NodeImage → Phase → Option Todo
+abbrev pub leaf_asks : Config → Link → NodeImage → LeafPhase → Option Todo
 leaf_asks c link image Fresh = None
 leaf_asks c link image Status = Some (Read (node_address c link.slot + STATUS_AT))
 leaf_asks c link image (Word i) = Some (Read (node_address c link.slot + i))
@@ -51,7 +51,7 @@ leaf_asks c link image (Guard at) = Some (Read link.guard)
 leaf_asks c link image (Viewed at) = Some Finish
 leaf_asks c link image Changed = Some Finish
 
-abbrev pub leaf_end : Link → NodeImage → Phase → Option Outcome
+abbrev pub leaf_end : Link → NodeImage → LeafPhase → Option Outcome
 leaf_end link image (Viewed at) = Some (View (view_of link image at))
 leaf_end link image Changed = Some Restart
 leaf_end link image phase = None
@@ -64,7 +64,7 @@ validating_reads = 2
 abbrev pub leaf_acts : ℕ
 leaf_acts = NODE_WORDS + validating_reads + 1
 
-abbrev pub leaf_left : Phase → ℕ
+abbrev pub leaf_left : LeafPhase → ℕ
 leaf_left Fresh = leaf_acts
 leaf_left Status = leaf_acts - 1
 leaf_left (Word i) = NODE_WORDS - i + validating_reads
@@ -132,7 +132,7 @@ pub record HasLink (key : List ℕ) (link : Link) (ws : List ℕ) (at : ℕ) (p 
 abbrev pub IsBlank : List ℕ → Type 0
 IsBlank ws = (i : ℕ) → slice_index ws i ≡ 0
 
-abbrev pub leaf_learnt : List ℕ → Link → List ℕ → Phase → Past → Type 0
+abbrev pub leaf_learnt : List ℕ → Link → List ℕ → LeafPhase → Past → Type 0
 leaf_learnt key link ws Fresh p = IsBlank ws × IsKnownLeaf key link p
 leaf_learnt key link ws Status p = IsBlank ws × IsKnownLeaf key link p
 leaf_learnt key link ws (Word i) p = ReadsOn key link ws i p
@@ -142,7 +142,7 @@ leaf_learnt key link ws (Guard at) p = HasLink key link ws at p
 leaf_learnt key link ws (Viewed at) p = (view : LeafView) → IsMade view link.slot at ws → IsView key view p
 leaf_learnt key link ws Changed p = Unit {0}
 
-abbrev pub leaf_facts : List ℕ → Link → List ℕ → Phase → Stage → Scene → Type 0
+abbrev pub leaf_facts : List ℕ → Link → List ℕ → LeafPhase → Stage → Scene → Type 0
 leaf_facts key link ws phase Took s = ⊥
 leaf_facts key link ws Fresh Waiting s = IsBlank ws × IsKnownLeaf key link s.past
 leaf_facts key link ws phase Waiting s = HasFilled s × leaf_learnt key link ws phase s.past
@@ -160,7 +160,7 @@ IsEndOfReading Restart = Unit {0}
 IsEndOfReading outcome = ⊥
 
 -- a validating load found another value: another status, another link, or a guard that is frozen
-abbrev pub leaf_differs : Link → List ℕ → Phase → Seen → Type 0
+abbrev pub leaf_differs : Link → List ℕ → LeafPhase → Seen → Type 0
 leaf_differs link ws Again (Was v) = v ≢ slice_index ws 0
 leaf_differs link ws Of_link (Was v) = v ≢ link.slot + 1
 leaf_differs link ws (Guard at) (Was v) = (status v).frozen ≡ true
@@ -171,14 +171,14 @@ abbrev pub leaf_change : Change
 leaf_change = record { key = []; old = None; new = None }
 
 -- places and slots that are named are such
-abbrev pub leaf_places : Config → Link → Phase → Type 0
+abbrev pub leaf_places : Config → Link → LeafPhase → Type 0
 leaf_places c link (Word i) = (link.slot < c.nodes) × (i < NODE_WORDS)
 leaf_places c link Status = link.slot < c.nodes
 leaf_places c link Again = link.slot < c.nodes
 leaf_places c link phase = Unit {0}
 
 -- after the word at a place comes the next word in use, and after the last one the validation
-abbrev pub IsAfter : ℕ → ℕ → Phase → Type 0
+abbrev pub IsAfter : ℕ → ℕ → LeafPhase → Type 0
 IsAfter st place (Word i) = (place < i) × ((i < NODE_WORDS) × ((is_used st i ≡ true) × ((j : ℕ) → place < j → j < i → is_used st j ≡ false)))
 IsAfter st place Of_link = ((status st).frozen ≡ true) × ((j : ℕ) → place < j → j < NODE_WORDS → is_used st j ≡ false)
 IsAfter st place Again = ((status st).frozen ≡ false) × ((j : ℕ) → place < j → j < NODE_WORDS → is_used st j ≡ false)

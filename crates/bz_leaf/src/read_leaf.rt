@@ -11,7 +11,7 @@ ghost use Rattle.bz_task.specs.declared.todo.Seen.TheVariants.{Start};
 ghost use Rattle.bz_leaf.specs.Duties.{facts_of, leaf_view};
 ghost use Rattle.bz_leaf.specs.Facts.{IsEndOfReading, leaf_acts, leaf_asks, leaf_left, leaf_learnt, leaf_facts, leaf_differs, leaf_places, IsAfter, IsBlank, view_of};
 
-use crate::phase::Phase;
+use crate::phase::LeafPhase;
 use crate::place::{is_frozen, next_place};
 use bz_key::Key;
 use bz_layout::{Config, NODE_WORDS, STATUS_AT, Slots};
@@ -30,7 +30,7 @@ pub struct ReadLeaf {
     link: Link,
     // the words that were read so far; the others are 0
     image: NodeImage,
-    phase: Phase,
+    phase: LeafPhase,
 }
 
 impl ReadLeaf {
@@ -51,7 +51,7 @@ impl ReadLeaf {
             link: last_link(&path),
             path,
             image: blank(),
-            phase: Phase::Fresh,
+            phase: LeafPhase::Fresh,
         }
     }
 
@@ -68,7 +68,7 @@ impl ReadLeaf {
     }
 
     // The phase after what came of the last act; a word that was read is kept.
-    fn after(&mut self, seen: Seen, moment: u32) -> Phase
+    fn after(&mut self, seen: Seen, moment: u32) -> LeafPhase
         requires hears { Hears (leaf_asks self.old.config self.old.link self.old.image self.old.phase) seen }
         requires known { IsKnown self.old.config (facts_of self.old) (leaf_asks self.old.config self.old.link self.old.image self.old.phase) seen moment }
         ensures config { self.new.config ≡ self.old.config }
@@ -76,66 +76,66 @@ impl ReadLeaf {
         ensures link { self.new.link ≡ self.old.link }
         ensures path { self.new.path ≡ self.old.path }
         ensures nearer { leaf_left result < leaf_left self.old.phase }
-        ensures restart { result ≡ Phase.Changed → leaf_differs self.old.link self.old.image.0 self.old.phase seen }
-        ensures begins { seen ≡ Start → result ≡ Phase.Status }
-        ensures begun { result ≢ Phase.Fresh }
+        ensures restart { result ≡ LeafPhase.Changed → leaf_differs self.old.link self.old.image.0 self.old.phase seen }
+        ensures begins { seen ≡ Start → result ≡ LeafPhase.Status }
+        ensures begun { result ≢ LeafPhase.Fresh }
         ensures sizes { IsConfig self.old.config }
         ensures places { leaf_places self.old.config self.old.link result }
         ensures learns { (stage : Stage) (s : Scene) → s.past.now ≡ moment → s.past.config ≡ self.old.config → IsScene s → leaf_facts self.old.key self.old.link self.old.image.0 self.old.phase stage s → Tells (leaf_asks self.old.config self.old.link self.old.image self.old.phase) stage seen s → HasFilled s × leaf_learnt self.old.key self.old.link self.new.image.0 result s.past }
     {
         is_whole(&self.image);
         match (self.phase, seen) {
-            (Phase::Fresh, _) => Phase::Status,
-            (Phase::Status, Seen::Read(word)) => {
+            (LeafPhase::Fresh, _) => LeafPhase::Status,
+            (LeafPhase::Status, Seen::Read(word)) => {
                 self.image.0[0] = word;
                 after_word(word, 0)
             }
-            (Phase::Word(place), Seen::Read(word)) => {
+            (LeafPhase::Word(place), Seen::Read(word)) => {
                 self.image.0[place] = word;
                 after_word(self.image.0[0], place)
             }
-            (Phase::Again, Seen::Read(word)) => {
+            (LeafPhase::Again, Seen::Read(word)) => {
                 if word == self.image.0[0] {
-                    Phase::Viewed(moment)
+                    LeafPhase::Viewed(moment)
                 } else {
-                    Phase::Changed
+                    LeafPhase::Changed
                 }
             }
-            (Phase::Link, Seen::Read(word)) => {
+            (LeafPhase::Link, Seen::Read(word)) => {
                 if word == self.link.slot as u64 + 1 {
-                    Phase::Guard(moment)
+                    LeafPhase::Guard(moment)
                 } else {
-                    Phase::Changed
+                    LeafPhase::Changed
                 }
             }
-            (Phase::Guard(at), Seen::Read(word)) => {
+            (LeafPhase::Guard(at), Seen::Read(word)) => {
                 if is_frozen(word) {
-                    Phase::Changed
+                    LeafPhase::Changed
                 } else {
-                    Phase::Viewed(at)
+                    LeafPhase::Viewed(at)
                 }
             }
-            _ => Phase::Status,
+            _ => LeafPhase::Status,
         }
     }
 
     // What a phase asks for.
     fn asked(&self) -> Todo
-        requires begun { self.now.phase ≢ Phase.Fresh }
+        requires begun { self.now.phase ≢ LeafPhase.Fresh }
         requires config { IsConfig self.now.config }
         requires places { leaf_places self.now.config self.now.link self.now.phase }
         ensures { leaf_asks self.now.config self.now.link self.now.image self.now.phase ≡ Some result }
     {
         match self.phase {
-            Phase::Fresh | Phase::Status | Phase::Again => Todo::Read(
+            LeafPhase::Fresh | LeafPhase::Status | LeafPhase::Again => Todo::Read(
                 self.config.node_at(self.link.slot as u32) + STATUS_AT,
             ),
-            Phase::Word(place) => Todo::Read(
+            LeafPhase::Word(place) => Todo::Read(
                 self.config.node_at(self.link.slot as u32) + place as u32,
             ),
-            Phase::Link => Todo::Read(self.link.link),
-            Phase::Guard(_) => Todo::Read(self.link.guard),
-            Phase::Viewed(_) | Phase::Changed => Todo::Finish,
+            LeafPhase::Link => Todo::Read(self.link.link),
+            LeafPhase::Guard(_) => Todo::Read(self.link.guard),
+            LeafPhase::Viewed(_) | LeafPhase::Changed => Todo::Finish,
         }
     }
 }
@@ -164,18 +164,18 @@ fn blank() -> NodeImage
 }
 
 // The phase after the word at a place, of a leaf with this status.
-fn after_word(status: u64, place: usize) -> Phase
+fn after_word(status: u64, place: usize) -> LeafPhase
     requires status { status < 2 ^ 61 }
     requires place { place < NODE_WORDS }
     ensures next { IsAfter status place result }
 {
     let next = next_place(status, place);
     if next < NODE_WORDS as usize {
-        Phase::Word(next)
+        LeafPhase::Word(next)
     } else if is_frozen(status) {
-        Phase::Link
+        LeafPhase::Link
     } else {
-        Phase::Again
+        LeafPhase::Again
     }
 }
 
@@ -188,8 +188,8 @@ impl Task for ReadLeaf {
 
     fn ended(&self) -> Option<Outcome> {
         match self.phase {
-            Phase::Viewed(at) => Some(Outcome::View(self.view(at))),
-            Phase::Changed => Some(Outcome::Restart),
+            LeafPhase::Viewed(at) => Some(Outcome::View(self.view(at))),
+            LeafPhase::Changed => Some(Outcome::Restart),
             _ => None,
         }
     }

@@ -10,8 +10,8 @@ use Rattle.bz_costs.specs.FromMerge.Counts.{freezes_of, merge_made, merge_swaps}
 use Rattle.bz_costs.specs.FromMerge.Duties.{merging_of}
 use Rattle.bz_costs.specs.FromMerge.Facts.{merge_asks, merge_facts}
 use Rattle.bz_costs.specs.FromMerge.Plans.{Merging as Plan}
-use Rattle.bz_costs.specs.FromMerge.Phase.{Phase}
-use Rattle.bz_costs.specs.FromMerge.Phase.TheVariants.{Freeze, FreezeBeside, Swap}
+use Rattle.bz_costs.specs.FromMerge.MergePhase.{MergePhase}
+use Rattle.bz_costs.specs.FromMerge.MergePhase.TheVariants.{Freeze, FreezeBeside, Swap}
 use Rattle.bz_costs.specs.FromRunning.Duties.{config_of, asks_of, facts_of, made_of, swaps_of, makes_no_change, view_of}
 use Rattle.bz_costs.specs.FromRunning.Kinds.{Merge, kind_of}
 use Rattle.bz_costs.specs.FromRunning.MadeFor.{IsMergeFor}
@@ -42,17 +42,17 @@ pub record IsMerging (t : AnyTask) (key : List ℕ) (words : ℕ) (s : Scene) (y
   pub either : IsBeside t key s y ⊎ IsJoining t key words s y
 
 -- which swap it asks for
-phase-of : (c : Config) (r : Plan) (p : Phase) (entries : List Entry) → merge_asks c r p ≡ Some (Swaps_for entries) → (p ≡ Freeze) ⊎ ((p ≡ FreezeBeside) ⊎ (p ≡ Swap))
+phase-of : (c : Config) (r : Plan) (p : MergePhase) (entries : List Entry) → merge_asks c r p ≡ Some (Swaps_for entries) → (p ≡ Freeze) ⊎ ((p ≡ FreezeBeside) ⊎ (p ≡ Swap))
 phase-of c r Freeze entries e = inl refl
 phase-of c r FreezeBeside entries e = inr (inl refl)
 phase-of c r Swap entries e = inr (inr refl)
 phase-of c r p entries e = absurd (cc)
 
 -- not the freeze of the key's leaf, which was frozen when it was viewed
-thawed : (r : Plan) (p : Phase) (s : Scene) → p ≡ Freeze → merge_facts r p Waiting s → (status r.status).frozen ≡ false
+thawed : (r : Plan) (p : MergePhase) (s : Scene) → p ≡ Freeze → merge_facts r p Waiting s → (status r.status).frozen ≡ false
 thawed r p s e f = (subst (λ z. merge_facts r z Waiting s) e f).1.1
 
-none-made : (r : Plan) (p : Phase) → p ≡ FreezeBeside → (status r.status).frozen ≡ true → merge_made r p ≡ 0
+none-made : (r : Plan) (p : MergePhase) → p ≡ FreezeBeside → (status r.status).frozen ≡ true → merge_made r p ≡ 0
 none-made r p e f = ap (merge_made r) e ∙ none f
   where
     none : (status r.status).frozen ≡ true → freezes_of r.status ≡ 0

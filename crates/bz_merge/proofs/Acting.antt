@@ -34,8 +34,8 @@ use Rattle.bz_merge.specs.Merges.{MergesAreGood, StoodFrozen}
 use Rattle.bz_merge.specs.OwnFreezes.{FrozeAfter, FrozeViewed}
 use Rattle.bz_merge.specs.Plans.{Merging, merge_nodes, viewed_leaf, beside_leaf, first_of, second_of, IsPlanned}
 use Rattle.bz_merge.specs.Siblings.{SeenLeaf, WasParentNode}
-use Rattle.bz_merge.specs.declared.phase.Phase.{Phase}
-use Rattle.bz_merge.specs.declared.phase.Phase.TheVariants.{Fresh, Word, Again, Beside, Parent, Still, Freeze, FreezeBeside, Guard, Store, Flush, Swap, Done, Restart, NoNeighbour, NoSlot, NoSwap}
+use Rattle.bz_merge.specs.declared.phase.MergePhase.{MergePhase}
+use Rattle.bz_merge.specs.declared.phase.MergePhase.TheVariants.{Fresh, Word, Again, Beside, Parent, Still, Freeze, FreezeBeside, Guard, Store, Flush, Swap, Done, Restart, NoNeighbour, NoSlot, NoSwap}
 use Rattle.bz_merge.proofs.Asking.{own-once, other-once}
 use Rattle.bz_merge.proofs.Freezing.{Laws as Freezes, SeenOnce, was-leaf, now-frozen}
 use Rattle.bz_merge.proofs.Lasting.{parent-stays, joined-stays, planned-stays, frozen-stays, tried-stays, seen-stays}
@@ -53,7 +53,7 @@ freeze-effect law c l s y entries same good o thawed e stand swaps =
     let is : entry_of s.past.config l.slot l.status ∷ [] ≡ entries = ap (λ (z : Config). entry_of z l.slot l.status ∷ []) same ∙ same-entries (entry_of c l.slot l.status ∷ []) entries e in
     subst (λ z. IsGoodSwap false merge_change z s y) is (law s y l.slot l.status good (was-leaf l s.past o thawed) (subst (λ z. Stand z (here s)) (sym is) stand) (subst (λ z. SwapsTo s.past.config z (here s) y) (sym is) swaps))
 
-pub effect : MergesAreGood → FreezesAreGood → ChildrenJoin → (c : Config) (r : Merging) (phase : Phase) (s : Scene) (y : Instant) (entries : List Entry) → s.past.config ≡ c → merge_facts r phase Waiting s → IsScene s → merge_asks c r phase ≡ Some (Swaps_for entries) → Stand entries (here s)
+pub effect : MergesAreGood → FreezesAreGood → ChildrenJoin → (c : Config) (r : Merging) (phase : MergePhase) (s : Scene) (y : Instant) (entries : List Entry) → s.past.config ≡ c → merge_facts r phase Waiting s → IsScene s → merge_asks c r phase ≡ Some (Swaps_for entries) → Stand entries (here s)
     → SwapsTo s.past.config entries (here s) y → IsGoodSwap false merge_change entries s y
 effect law freezes joins c r Freeze s y entries same f good e stand swaps = freeze-effect freezes c (viewed_leaf r) s y entries same good (own-once r s.past f.1.0) f.1.1 e stand swaps
 effect law freezes joins c r FreezeBeside s y entries same f good e stand swaps = freeze-effect freezes c (beside_leaf r) s y entries same good (other-once r s.past f.1.0) f.1.1.1.0 e stand swaps
@@ -84,7 +84,7 @@ same-flush : (a b : ℕ) → Some (Flushes_line a) ≡ Some (Flushes_line b) →
 same-flush a b e = cc
 
 -- what is known once a store, or a flush, is made
-pub stored : SlotsApart → (c : Config) (r : Merging) (phase : Phase) (s after : Scene) (a v : ℕ) → s.past.config ≡ c → merge_facts r phase Waiting s → merge_asks c r phase ≡ Some (Stores_at a v) → Stores a v s after → merge_facts r phase Took after
+pub stored : SlotsApart → (c : Config) (r : Merging) (phase : MergePhase) (s after : Scene) (a v : ℕ) → s.past.config ≡ c → merge_facts r phase Waiting s → merge_asks c r phase ≡ Some (Stores_at a v) → Stores a v s after → merge_facts r phase Took after
 stored apart c r (Store j) s after a v same f e t =
     let is = same-store (word_address c (merge_nodes r) j) a (word_value (merge_nodes r) j) v e in
     let at : a ≡ word_address s.past.config (merge_nodes r) j = sym is.0 ∙ ap (λ z. word_address z (merge_nodes r) j) (sym same) in
@@ -125,7 +125,7 @@ stored apart c r NoNeighbour s after a v same f e t = absurd (cc)
 stored apart c r NoSlot s after a v same f e t = absurd (cc)
 stored apart c r NoSwap s after a v same f e t = absurd (cc)
 
-pub flushed : (c : Config) (r : Merging) (phase : Phase) (s after : Scene) (line : ℕ) → s.past.config ≡ c → merge_facts r phase Waiting s → merge_asks c r phase ≡ Some (Flushes_line line) → Flushes line s after → merge_facts r phase Took after
+pub flushed : (c : Config) (r : Merging) (phase : MergePhase) (s after : Scene) (line : ℕ) → s.past.config ≡ c → merge_facts r phase Waiting s → merge_asks c r phase ≡ Some (Flushes_line line) → Flushes line s after → merge_facts r phase Took after
 flushed c r (Flush j) s after line same f e t =
     let is : line ≡ line_number s.past.config (merge_nodes r) j = sym (same-flush (line_number c (merge_nodes r) j) line e) ∙ ap (λ z. line_number z (merge_nodes r) j) (sym same) in
     let made : Flushes (line_number s.past.config (merge_nodes r) j) s after = subst (λ z. Flushes z s after) is t in (
@@ -259,7 +259,7 @@ freeze-froze r c l s after entries same good plan thawed e takes =
     let is : entry_of s.past.config l.slot l.status ∷ [] ≡ entries = ap (λ (z : Config). entry_of z l.slot l.status ∷ []) same ∙ same-entries (entry_of c l.slot l.status ∷ []) entries e in
     froze-now r l s after good plan thawed (subst (λ (z : List Entry). Takes false z s after) (sym is) takes)
 
-pub took : LinksMayBeTurned → Freezes → ChildrenJoin → (c : Config) (r : Merging) (phase : Phase) (s after : Scene) (entries : List Entry) → s.past.config ≡ c → merge_facts r phase Waiting s → IsScene s → IsScene after → merge_asks c r phase ≡ Some (Swaps_for entries) → Stand entries (here s) → Takes false entries s after
+pub took : LinksMayBeTurned → Freezes → ChildrenJoin → (c : Config) (r : Merging) (phase : MergePhase) (s after : Scene) (entries : List Entry) → s.past.config ≡ c → merge_facts r phase Waiting s → IsScene s → IsScene after → merge_asks c r phase ≡ Some (Swaps_for entries) → Stand entries (here s) → Takes false entries s after
     → merge_facts r phase Took after
 took may freezes joins c r Freeze s after entries same f good later e stand takes =
     let own : StoodFrozen r.lower.slot r.leaf after.past = freeze-took freezes c (viewed_leaf r) s after entries same good later (own-once r s.past f.1.0) f.1.1 e stand takes in

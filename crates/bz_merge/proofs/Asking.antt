@@ -35,8 +35,8 @@ use Rattle.bz_split.specs.BelowSplits.{parent_freezing, below_swap}
 use Rattle.bz_merge.specs.Facts.{MERGE_WORDS, MERGE_LINES, IsMerging, merge_asks, merge_facts, merge_differs}
 use Rattle.bz_merge.specs.Plans.{Merging, merge_nodes, viewed_leaf, beside_leaf, first_of, second_of, other_place, IsViewed, IsPaired, IsReadingBeside, IsPlanned}
 use Rattle.bz_merge.specs.Siblings.{SeenLeaf}
-use Rattle.bz_merge.specs.declared.phase.Phase.{Phase}
-use Rattle.bz_merge.specs.declared.phase.Phase.TheVariants.{Fresh, Word, Again, Beside, Parent, Still, Freeze, FreezeBeside, Guard, Store, Flush, Swap, Done, Restart, NoNeighbour, NoSlot, NoSwap}
+use Rattle.bz_merge.specs.declared.phase.MergePhase.{MergePhase}
+use Rattle.bz_merge.specs.declared.phase.MergePhase.TheVariants.{Fresh, Word, Again, Beside, Parent, Still, Freeze, FreezeBeside, Guard, Store, Flush, Swap, Done, Restart, NoNeighbour, NoSlot, NoSwap}
 use Rattle.bz_merge.proofs.Freezing.{SeenOnce, freeze-asked}
 
 -- both leaves were seen
@@ -113,7 +113,7 @@ may-swap turned codec r s good f =
     (record { target = t.link_target; expected = omega (arith, old, good.config.nodes_in_range.at_most); new = omega (arith, new, good.config.nodes_in_range.at_most) })
     (record { target = t.guard_target; expected = t.plain; new = restamped-plain codec r.upper.status t.plain }))
 
-pub askable : FrontsStay → LinksMayBeTurned → IsCodec Status IsStatus IsStatusWord status_word status → (c : Config) (r : Merging) (phase : Phase) (s : Scene) (todo : Todo) → s.past.config ≡ c → merge_facts r phase Waiting s → IsScene s → merge_asks c r phase ≡ Some todo → IsAskable s todo
+pub askable : FrontsStay → LinksMayBeTurned → IsCodec Status IsStatus IsStatusWord status_word status → (c : Config) (r : Merging) (phase : MergePhase) (s : Scene) (todo : Todo) → s.past.config ≡ c → merge_facts r phase Waiting s → IsScene s → merge_asks c r phase ≡ Some todo → IsAskable s todo
 askable fronts turned codec c r Fresh s todo same f good e = absurd (cc)
 askable fronts turned codec c r (Word i) s todo same f good e =
     subst (IsAskable s) (some-same _ todo e)
@@ -158,7 +158,7 @@ other-status c k beside v s same f ne = record {
 }
 
 -- a load that differs finds what has been changed since it was read
-pub cause : (c : Config) (r : Merging) (phase : Phase) (s : Scene) (seen : Seen) → s.past.config ≡ c → merge_facts r phase Waiting s → merge_differs r phase seen → IsCause (merge_asks c r phase) seen s
+pub cause : (c : Config) (r : Merging) (phase : MergePhase) (s : Scene) (seen : Seen) → s.past.config ≡ c → merge_facts r phase Waiting s → merge_differs r phase seen → IsCause (merge_asks c r phase) seen s
 cause c r Again s (Was v) same f d = inl (guard-differed s r.lower v f.1.viewed.links.guard d)
 cause c r Again s Start same f d = absurd (d)
 cause c r Again s Stored same f d = absurd (d)

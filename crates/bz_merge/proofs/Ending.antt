@@ -4,10 +4,10 @@ use Rattle.std.specs.Prelude.{Some}
 use Rattle.bz_call.specs.declared.replies.Spent.TheVariants.{Nodes as NoNodes, Swaps as NoSwaps}
 use Rattle.bz_task.specs.declared.todo.Outcome.TheVariants.{Done as IsDone, Restart as Restarts, Full as IsFull}
 use Rattle.bz_merge.specs.Facts.{merge_end}
-use Rattle.bz_merge.specs.declared.phase.Phase.{Phase}
-use Rattle.bz_merge.specs.declared.phase.Phase.TheVariants.{Fresh, Word, Again, Beside, Parent, Still, Freeze, FreezeBeside, Guard, Store, Flush, Swap, Done, Restart, NoNeighbour, NoSlot, NoSwap}
+use Rattle.bz_merge.specs.declared.phase.MergePhase.{MergePhase}
+use Rattle.bz_merge.specs.declared.phase.MergePhase.TheVariants.{Fresh, Word, Again, Beside, Parent, Still, Freeze, FreezeBeside, Guard, Store, Flush, Swap, Done, Restart, NoNeighbour, NoSlot, NoSwap}
 
-pub ends-done : (p : Phase) → merge_end p ≡ Some IsDone → p ≡ Done
+pub ends-done : (p : MergePhase) → merge_end p ≡ Some IsDone → p ≡ Done
 ends-done Done e = refl
 ends-done Fresh e = absurd (cc)
 ends-done (Word i) e = absurd (cc)
@@ -26,7 +26,7 @@ ends-done NoNeighbour e = absurd (cc)
 ends-done NoSlot e = absurd (cc)
 ends-done NoSwap e = absurd (cc)
 
-pub ends-restart : (p : Phase) → merge_end p ≡ Some Restarts → p ≡ Restart
+pub ends-restart : (p : MergePhase) → merge_end p ≡ Some Restarts → p ≡ Restart
 ends-restart Restart e = refl
 ends-restart Fresh e = absurd (cc)
 ends-restart (Word i) e = absurd (cc)
@@ -45,7 +45,7 @@ ends-restart NoNeighbour e = absurd (cc)
 ends-restart NoSlot e = absurd (cc)
 ends-restart NoSwap e = absurd (cc)
 
-pub ends-no-swap : (p : Phase) → merge_end p ≡ Some (IsFull NoSwaps) → p ≡ NoSwap
+pub ends-no-swap : (p : MergePhase) → merge_end p ≡ Some (IsFull NoSwaps) → p ≡ NoSwap
 ends-no-swap NoSwap e = refl
 ends-no-swap Fresh e = absurd (cc)
 ends-no-swap (Word i) e = absurd (cc)
@@ -64,7 +64,7 @@ ends-no-swap Restart e = absurd (cc)
 ends-no-swap NoNeighbour e = absurd (cc)
 ends-no-swap NoSlot e = absurd (cc)
 
-pub ends-no-slot : (p : Phase) → merge_end p ≡ Some (IsFull NoNodes) → p ≡ NoSlot
+pub ends-no-slot : (p : MergePhase) → merge_end p ≡ Some (IsFull NoNodes) → p ≡ NoSlot
 ends-no-slot NoSlot e = refl
 ends-no-slot Fresh e = absurd (cc)
 ends-no-slot (Word i) e = absurd (cc)

@@ -4,10 +4,10 @@ use Rattle.std.specs.Prelude.{nat_lt}
 use Rattle.bz_task.specs.Scene.{Scene, Stage, Waiting, Took}
 use Rattle.bz_merge.specs.Facts.{MERGE_WORDS, MERGE_LINES, merge_left, merge_steps, merge_needs, merge_facts, store_after, flush_after}
 use Rattle.bz_merge.specs.Plans.{Merging}
-use Rattle.bz_merge.specs.declared.phase.Phase.{Phase}
-use Rattle.bz_merge.specs.declared.phase.Phase.TheVariants.{Fresh, Store, Flush, Swap, Done, Restart, NoSlot, NoSwap}
+use Rattle.bz_merge.specs.declared.phase.MergePhase.{MergePhase}
+use Rattle.bz_merge.specs.declared.phase.MergePhase.TheVariants.{Fresh, Store, Flush, Swap, Done, Restart, NoSlot, NoSwap}
 
-pub record GoesOn (right : Bool) (o q : Phase) : Type 0 where
+pub record GoesOn (right : Bool) (o q : MergePhase) : Type 0 where
   pub nearer : merge_left right q + merge_steps q ≤ merge_left right o
   pub needs : merge_needs q ≤ merge_needs o
   pub done : q ≢ Done
@@ -32,7 +32,7 @@ pub flush-within : (r : Merging) (j : ℕ) (stage : Stage) (s : Scene) → merge
 flush-within r j Waiting s f = f.1.0
 flush-within r j Took s f = f.1.0
 
-module _ (right : Bool) (o q : Phase) (j : ℕ) where
+module _ (right : Bool) (o q : MergePhase) (j : ℕ) where
   pub stores-on : o ≡ Store j → q ≡ store_after j → j < MERGE_WORDS → GoesOn right o q
   stores-on is then_is less = subst (λ z. GoesOn right z q) (sym is) (subst (GoesOn right (Store j)) (sym then_is) (stored-on right j (nat_lt (j + 1) MERGE_WORDS) less))
 

@@ -31,8 +31,8 @@ use Rattle.bz_merge.specs.Facts.{AreFrozen, IsMerging, SomeFitted, merge_asks, m
 use Rattle.bz_merge.specs.OwnFreezes.{FrozeAfter, ViewedWasFrozen, BothWereFrozen}
 use Rattle.bz_merge.specs.Plans.{Merging, merge_nodes, viewed_leaf, beside_leaf, first_of, second_of, own_place, other_place, IsPaired, IsPlanned}
 use Rattle.bz_merge.specs.Siblings.{SeenLeaf}
-use Rattle.bz_merge.specs.declared.phase.Phase.{Phase}
-use Rattle.bz_merge.specs.declared.phase.Phase.TheVariants.{Fresh, Word, Again, Beside, Parent, Still, Freeze, FreezeBeside, Guard, Store, Flush, Swap, Done, Restart, NoNeighbour, NoSlot, NoSwap}
+use Rattle.bz_merge.specs.declared.phase.MergePhase.{MergePhase}
+use Rattle.bz_merge.specs.declared.phase.MergePhase.TheVariants.{Fresh, Word, Again, Beside, Parent, Still, Freeze, FreezeBeside, Guard, Store, Flush, Swap, Done, Restart, NoNeighbour, NoSlot, NoSwap}
 use Rattle.bz_merge.proofs.Reading.{answered}
 use Rattle.bz_merge.proofs.Readying.{may-merge}
 
@@ -161,7 +161,7 @@ module _ (law : ChildrenJoin) (r : Merging) (s : Scene) (good : IsScene s) (f : 
   are-plain = record { size = sizes; plain = plains }
 
 -- the slots were taken, and so the first store is known
-begun-knows : SlotsApart → ChildrenJoin → NothingIsGained → (r : Merging) (phase : Phase) (s : Scene) (old new : FreeSlots) → IsScene s → HasBegun r phase old new → old.nodes ≡ s.past.config.nodes → AreUnreached s old → HasFilled s → AreFrozen r s.past → Answers s r.upper.guard r.upper.status → IsClear s r.upper
+begun-knows : SlotsApart → ChildrenJoin → NothingIsGained → (r : Merging) (phase : MergePhase) (s : Scene) (old new : FreeSlots) → IsScene s → HasBegun r phase old new → old.nodes ≡ s.past.config.nodes → AreUnreached s old → HasFilled s → AreFrozen r s.past → Answers s r.upper.guard r.upper.status → IsClear s r.upper
     → merge_facts r phase Waiting (gained s old new)
 begun-knows apart law nothing r (Store j) s old new good h nodes unreached filled v a clear =
     let first : IsMerging r 0 0 (gained s old new) = record {
@@ -198,7 +198,7 @@ begun-knows apart law nothing r NoNeighbour s old new good h nodes unreached fil
 begun-knows apart law nothing r NoSwap s old new good h nodes unreached filled v a clear = absurd (h)
 
 -- the task before the look, with the nodes that it has after it, is the task after it
-pub looked-learns : SlotsApart → ChildrenJoin → GuardedLinksStand → NothingIsGained → (c : Config) (o r : Merging) (q : Phase) (seen : Seen) (old new : FreeSlots) → r ≡ with_nodes o r.slot r.image → HasLooked r seen q old new → old.nodes ≡ c.nodes → (stage : Stage) (s : Scene) → s.past.config ≡ c → IsScene s → AreUnreached s old
+pub looked-learns : SlotsApart → ChildrenJoin → GuardedLinksStand → NothingIsGained → (c : Config) (o r : Merging) (q : MergePhase) (seen : Seen) (old new : FreeSlots) → r ≡ with_nodes o r.slot r.image → HasLooked r seen q old new → old.nodes ≡ c.nodes → (stage : Stage) (s : Scene) → s.past.config ≡ c → IsScene s → AreUnreached s old
     → merge_facts o Guard stage s → Tells (merge_asks c o Guard) stage seen s → merge_facts r q Waiting (gained s old new)
 looked-learns apart law stand nothing c o r q seen old new same h nodes stage s config good free facts tells =
     let w = guard-waits o stage s facts in
@@ -213,7 +213,7 @@ looked-learns apart law stand nothing c o r q seen old new same h nodes stage s 
       | inr g ↦ subst (λ z. merge_facts r z Waiting (gained s old new)) (sym g.1.0) (subst (λ z. HasFilled (gained s old z)) (sym g.1.1) (nothing s old w.0))
     ]
 
-begun-no-restart : (r : Merging) (q : Phase) (old new : FreeSlots) → HasBegun r q old new → merge_end q ≡ Some Restarts → ⊥
+begun-no-restart : (r : Merging) (q : MergePhase) (old new : FreeSlots) → HasBegun r q old new → merge_end q ≡ Some Restarts → ⊥
 begun-no-restart r (Store j) old new h e = absurd (cc)
 begun-no-restart r NoSlot old new h e = absurd (cc)
 begun-no-restart r Fresh old new h e = absurd (h)
@@ -241,7 +241,7 @@ other-guard c o (Swapped won) h ne = absurd (h)
 other-guard c o NoneLeft h ne = absurd (h)
 
 -- where it ends with a restart, the guard was another one
-pub looked-restarts : (c : Config) (o r : Merging) (q : Phase) (seen : Seen) (old new : FreeSlots) → r.upper ≡ o.upper → Hears (merge_asks c o Guard) seen → HasLooked r seen q old new → merge_end q ≡ Some Restarts → merge_differs o Guard seen
+pub looked-restarts : (c : Config) (o r : Merging) (q : MergePhase) (seen : Seen) (old new : FreeSlots) → r.upper ≡ o.upper → Hears (merge_asks c o Guard) seen → HasLooked r seen q old new → merge_end q ≡ Some Restarts → merge_differs o Guard seen
 looked-restarts c o r q seen old new up hears h e = elim h [
   | inl g ↦ absurd (begun-no-restart r q old new g.1 e)
   | inr g ↦ other-guard c o seen hears (λ z. g.0 (z ∙ ap (λ (l : Link). Was l.status) (sym up)))

@@ -2,10 +2,10 @@
 use Rattle.std.proofs.Common.{◌≤◌, arith}
 use Rattle.bz_layout.specs.declared.thresholds.TheConstants.{MERGE_SLOTS}
 use Rattle.bz_merge.specs.Facts.{merge_needs}
-use Rattle.bz_merge.specs.declared.phase.Phase.{Phase}
-use Rattle.bz_merge.specs.declared.phase.Phase.TheVariants.{Fresh, Word, Again, Beside, Parent, Still, Freeze, FreezeBeside, Guard, Store, Flush, Swap, Done, Restart, NoNeighbour, NoSlot, NoSwap}
+use Rattle.bz_merge.specs.declared.phase.MergePhase.{MergePhase}
+use Rattle.bz_merge.specs.declared.phase.MergePhase.TheVariants.{Fresh, Word, Again, Beside, Parent, Still, Freeze, FreezeBeside, Guard, Store, Flush, Swap, Done, Restart, NoNeighbour, NoSlot, NoSwap}
 
-pub needs-few : (phase : Phase) → merge_needs phase ≤ MERGE_SLOTS
+pub needs-few : (phase : MergePhase) → merge_needs phase ≤ MERGE_SLOTS
 needs-few Fresh = omega arith
 needs-few (Word i) = omega arith
 needs-few Again = omega arith

@@ -20,7 +20,7 @@ use Rattle.bz_merge.specs.Facts.{merge_asks, merge_facts, word_after, beside_aft
 use Rattle.bz_gaps.specs.FreeWords.{IsFree}
 use Rattle.bz_merge.specs.Plans.{Merging, IsReadingParent, IsPaired, IsReadingBeside}
 use Rattle.bz_merge.specs.Siblings.{WasWord, WasReadOrFree, WereRead}
-use Rattle.bz_merge.specs.declared.phase.Phase.TheVariants.{Fresh, Word, Again, Beside, Parent}
+use Rattle.bz_merge.specs.declared.phase.MergePhase.TheVariants.{Fresh, Word, Again, Beside, Parent}
 use Rattle.bz_merge.proofs.Asking.{guarded-since, guarded-now, beside-reached}
 use Rattle.bz_gaps.proofs.FreeWords.{free-alike}
 

@@ -8,8 +8,8 @@ use Rattle.bz_renew.specs.Renewals.{link_entry, guard_entry, IsTurnable, LinksMa
 use Rattle.bz_renew.proofs.TwoEntries.{no-target}
 use Rattle.bz_merge.specs.Facts.{MERGE_WORDS, MERGE_LINES, IsMerging, IsSwapReady, IsReady, merge_facts}
 use Rattle.bz_merge.specs.Plans.{Merging, viewed_leaf}
-use Rattle.bz_merge.specs.declared.phase.Phase.{Phase}
-use Rattle.bz_merge.specs.declared.phase.Phase.TheVariants.{Fresh, Word, Again, Beside, Parent, Still, Freeze, FreezeBeside, Guard, Store, Flush, Swap, Done, Restart, NoNeighbour, NoSlot, NoSwap}
+use Rattle.bz_merge.specs.declared.phase.MergePhase.{MergePhase}
+use Rattle.bz_merge.specs.declared.phase.MergePhase.TheVariants.{Fresh, Word, Again, Beside, Parent, Still, Freeze, FreezeBeside, Guard, Store, Flush, Swap, Done, Restart, NoNeighbour, NoSlot, NoSwap}
 use Rattle.bz_merge.proofs.Asking.{own-once, other-once, upper-slot, beside-slot}
 
 swap-ready : LinksMayBeTurned → (r : Merging) (s : Scene) → IsScene s → IsMerging r MERGE_WORDS MERGE_LINES s → IsSwapReady s.past.config r
@@ -25,7 +25,7 @@ swap-ready turned r s good f =
       target = no-target (link_entry r.upper (r.slot 0)) (guard_entry r.upper) (node_address s.past.config r.upper.slot + STATUS_AT) f.link_apart f.guard_apart;
     }
 
-here-ready : LinksMayBeTurned → (r : Merging) (phase : Phase) (s : Scene) → IsScene s → merge_facts r phase Waiting s → IsReady s.past.config r phase
+here-ready : LinksMayBeTurned → (r : Merging) (phase : MergePhase) (s : Scene) → IsScene s → merge_facts r phase Waiting s → IsReady s.past.config r phase
 here-ready turned r (Word i) s good f = (upper-slot r.upper r.lower (viewed_leaf r) s good f.1.1.1.viewed, f.1.1.0)
 here-ready turned r (Beside i) s good f = (beside-slot r s good f.1.1.0, f.1.0)
 here-ready turned r Still s good f = f.1.other.slot
@@ -44,5 +44,5 @@ here-ready turned r NoNeighbour s good f = tt
 here-ready turned r NoSlot s good f = tt
 here-ready turned r NoSwap s good f = tt
 
-pub ready-of : LinksMayBeTurned → (c : Config) (r : Merging) (phase : Phase) (s : Scene) → s.past.config ≡ c → IsScene s → merge_facts r phase Waiting s → IsReady c r phase
+pub ready-of : LinksMayBeTurned → (c : Config) (r : Merging) (phase : MergePhase) (s : Scene) → s.past.config ≡ c → IsScene s → merge_facts r phase Waiting s → IsReady c r phase
 ready-of turned c r phase s same good f = subst (λ z. IsReady z r phase) same (here-ready turned r phase s good f)

@@ -27,8 +27,8 @@ use Rattle.bz_merge.specs.Facts.{NoneFitted, merge_asks, merge_facts}
 use Rattle.bz_merge.specs.Merges.{low_in, high_in}
 use Rattle.bz_merge.specs.Plans.{Merging, viewed_leaf, beside_leaf, first_of, second_of, own_place, other_place, IsPair, LackedAt, IsTried, IsChecked, IsPlanned}
 use Rattle.bz_merge.specs.Siblings.{IsChildAt, StoodBetween, SeenLeaf, WasSeen, LeavesReadWere}
-use Rattle.bz_merge.specs.declared.phase.Phase.{Phase}
-use Rattle.bz_merge.specs.declared.phase.Phase.TheVariants.{Fresh, Word, Again, Beside, Parent, Still, Freeze, FreezeBeside, Guard, Store, Flush, Swap, Done, Restart, NoNeighbour, NoSlot, NoSwap}
+use Rattle.bz_merge.specs.declared.phase.MergePhase.{MergePhase}
+use Rattle.bz_merge.specs.declared.phase.MergePhase.TheVariants.{Fresh, Word, Again, Beside, Parent, Still, Freeze, FreezeBeside, Guard, Store, Flush, Swap, Done, Restart, NoNeighbour, NoSlot, NoSwap}
 use Rattle.bz_merge.specs.declared.sibling.Sibling.{Sibling}
 use Rattle.bz_merge.proofs.Asking.{own-once, other-once}
 use Rattle.bz_merge.proofs.Freezing.{seen-frozen}
@@ -245,7 +245,7 @@ module _ (b : Laws) (c : Config) (r : Merging) (stage : Stage) (seen : Seen) (s 
 abbrev pub with_side : Merging → Sibling → Merging
 with_side r side = record r { right = side.right; place = side.place; beside_slot = side.slot }
 
-settled-learns : Laws → (c : Config) (r : Merging) (q : Phase) (side : Sibling) (stage : Stage) (seen : Seen) (s : Scene) → s.past.config ≡ c → IsScene s → HasSettled r seen side q → ((i : ℕ) → q ≢ Beside i) → merge_facts r Still stage s → Tells (merge_asks c r Still) stage seen s → merge_facts r q Waiting s
+settled-learns : Laws → (c : Config) (r : Merging) (q : MergePhase) (side : Sibling) (stage : Stage) (seen : Seen) (s : Scene) → s.past.config ≡ c → IsScene s → HasSettled r seen side q → ((i : ℕ) → q ≢ Beside i) → merge_facts r Still stage s → Tells (merge_asks c r Still) stage seen s → merge_facts r q Waiting s
 settled-learns b c r NoNeighbour side stage seen s same good h not_beside f t = ((still-waits r stage s f).0, none-fitted b c r stage seen s same good f t h.0 h.1.0 h.1.1)
 settled-learns b c r Freeze side stage seen s same good h not_beside f t = ((still-waits r stage s f).0, (planned b c r stage seen s same good f t h.0 h.1.0, h.1.1))
 settled-learns b c r FreezeBeside side stage seen s same good h not_beside f t =
@@ -280,7 +280,7 @@ other-learns b c r i side stage seen s same good h f t =
     )
 
 -- a phase in which a neighbour is read, or not
-beside-or : (q : Phase) → ((i : ℕ) × (q ≡ Beside i)) ⊎ ((i : ℕ) → q ≢ Beside i)
+beside-or : (q : MergePhase) → ((i : ℕ) × (q ≡ Beside i)) ⊎ ((i : ℕ) → q ≢ Beside i)
 beside-or (Beside i) = inl (i, refl)
 beside-or Fresh = inr (λ i e. absurd (cc))
 beside-or (Word j) = inr (λ i e. absurd (cc))
@@ -299,7 +299,7 @@ beside-or NoNeighbour = inr (λ i e. absurd (cc))
 beside-or NoSlot = inr (λ i e. absurd (cc))
 beside-or NoSwap = inr (λ i e. absurd (cc))
 
-pub still-learns : Laws → (c : Config) (r : Merging) (q : Phase) (side side_before : Sibling) (stage : Stage) (seen : Seen) (s : Scene) → s.past.config ≡ c → IsScene s → HasSettled r seen side q → (((i : ℕ) → q ≢ Beside i) → side ≡ side_before) → r ≡ with_side r side_before → merge_facts r Still stage s → Tells (merge_asks c r Still) stage seen s
+pub still-learns : Laws → (c : Config) (r : Merging) (q : MergePhase) (side side_before : Sibling) (stage : Stage) (seen : Seen) (s : Scene) → s.past.config ≡ c → IsScene s → HasSettled r seen side q → (((i : ℕ) → q ≢ Beside i) → side ≡ side_before) → r ≡ with_side r side_before → merge_facts r Still stage s → Tells (merge_asks c r Still) stage seen s
     → merge_facts (with_side r side) q Waiting s
 still-learns b c r q side side_before stage seen s same good h kept is f t = elim (beside-or q) [
   | inl i ↦ subst (λ z. merge_facts (with_side r side) z Waiting s) (sym i.1) (other-learns b c r i.0 side stage seen s same good (subst (HasSettled r seen side) i.1 h) f t)

@@ -14,8 +14,8 @@ use Rattle.bz_split.specs.Facts.{StoodFresh}
 use Rattle.bz_split.proofs.Staying.{stood-stays}
 use Rattle.bz_merge.specs.Facts.{MERGE_WORDS, MERGE_LINES, AreFrozen, IsMerging, WasMerged, NoneFitted, merge_facts}
 use Rattle.bz_merge.specs.Plans.{Merging, merge_nodes}
-use Rattle.bz_merge.specs.declared.phase.Phase.{Phase}
-use Rattle.bz_merge.specs.declared.phase.Phase.TheVariants.{Fresh, Word, Again, Beside, Parent, Still, Freeze, FreezeBeside, Guard, Store, Flush, Swap, Done, Restart, NoNeighbour, NoSlot, NoSwap}
+use Rattle.bz_merge.specs.declared.phase.MergePhase.{MergePhase}
+use Rattle.bz_merge.specs.declared.phase.MergePhase.TheVariants.{Fresh, Word, Again, Beside, Parent, Still, Freeze, FreezeBeside, Guard, Store, Flush, Swap, Done, Restart, NoNeighbour, NoSlot, NoSwap}
 use Rattle.bz_merge.proofs.Lasting.{some-stays, reading-stays, parent-stays, lacked-stays, tried-stays, seen-stays, paired-stays, beside-stays, checked-stays, planned-stays, frozen-stays, frozen-moment, joined-stays}
 use Rattle.bz_merge.proofs.OwnFreezes.{froze-viewed-stays, viewed-frozen-stays, both-frozen-stay}
 
@@ -91,7 +91,7 @@ module _ (r : Merging) (s after : Scene) (l : IsLawful s after) where
   filled : HasFilled s → HasFilled after
   filled f k t = l.filled k ∙ f k (sym (l.took k) ∙ t)
 
-  pub stable : (phase : Phase) (stage : Stage) → merge_facts r phase stage s → merge_facts r phase stage after
+  pub stable : (phase : MergePhase) (stage : Stage) → merge_facts r phase stage s → merge_facts r phase stage after
   stable Fresh Waiting f = reading-stays s.past after.past l.continues r 1 f
   stable (Word i) Waiting f = (filled f.0, (f.1.0, (f.1.1.0, reading-stays s.past after.past l.continues r i f.1.1.1)))
   stable Again Waiting f = (filled f.0, reading-stays s.past after.past l.continues r NODE_WORDS f.1)
@@ -144,7 +144,7 @@ module _ (nothing : NothingIsGained) (r : Merging) (s : Scene) (free : FreeSlots
     writing = nodes-no-slot (merge_nodes r) stored lines s free f.writing;
   }
 
-  pub no-slot : (phase : Phase) → merge_facts r phase Waiting s → merge_facts r phase Waiting (gained s free free)
+  pub no-slot : (phase : MergePhase) → merge_facts r phase Waiting s → merge_facts r phase Waiting (gained s free free)
   no-slot Fresh f = f
   no-slot (Word i) f = (nothing s free f.0, f.1)
   no-slot Again f = (nothing s free f.0, f.1)

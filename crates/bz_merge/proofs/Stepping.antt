@@ -17,8 +17,8 @@ use Rattle.bz_task.specs.declared.todo.Todo.TheVariants.{Read as Reads}
 use Rattle.bz_merge.specs.Decisions.{HasTold, HasSettled, HasBegun, HasLooked}
 use Rattle.bz_merge.specs.Facts.{round_acts, rest_acts, merge_asks, merge_end, merge_left, merge_steps, merge_needs, merge_differs, word_after, beside_after, IsReady}
 use Rattle.bz_merge.specs.Plans.{Merging, merge_nodes}
-use Rattle.bz_merge.specs.declared.phase.Phase.{Phase}
-use Rattle.bz_merge.specs.declared.phase.Phase.TheVariants.{Fresh, Word, Again, Beside, Parent, Still, Freeze, FreezeBeside, Guard, Store, Restart, NoNeighbour, NoSlot}
+use Rattle.bz_merge.specs.declared.phase.MergePhase.{MergePhase}
+use Rattle.bz_merge.specs.declared.phase.MergePhase.TheVariants.{Fresh, Word, Again, Beside, Parent, Still, Freeze, FreezeBeside, Guard, Store, Restart, NoNeighbour, NoSlot}
 use Rattle.bz_merge.specs.declared.sibling.Sibling.{Sibling}
 
 -- a load is told a word
@@ -44,7 +44,7 @@ other-still : (c : Config) (r : Merging) (seen : Seen) → Hears (merge_asks c r
 other-still c r seen h ne = let f = found (node_address c r.beside_slot + STATUS_AT) seen h in subst (merge_differs r Still) (sym f.1) (another (slice_index r.beside STATUS_AT) seen f ne)
 
 -- it ends with a restart alone, or because no neighbour has room, and no slot is taken
-pub record Picks (r : Merging) (right : Bool) (o q : Phase) (seen : Seen) : Type 0 where
+pub record Picks (r : Merging) (right : Bool) (o q : MergePhase) (seen : Seen) : Type 0 where
   pub begun : q ≢ Fresh
   pub nearer : merge_left right q + merge_steps q ≤ merge_left r.right o
   pub needs : merge_needs q ≤ merge_needs o
@@ -54,7 +54,7 @@ pub record Picks (r : Merging) (right : Bool) (o q : Phase) (seen : Seen) : Type
   pub full_nodes : merge_end q ≢ Some (IsFull NoNodes)
 
 -- a phase that goes on
-goes-on : (r : Merging) (right : Bool) (o q : Phase) (seen : Seen) → q ≢ Fresh → merge_end q ≡ None → merge_left right q + merge_steps q ≤ merge_left r.right o → merge_needs q ≤ merge_needs o → Picks r right o q seen
+goes-on : (r : Merging) (right : Bool) (o q : MergePhase) (seen : Seen) → q ≢ Fresh → merge_end q ≡ None → merge_left right q + merge_steps q ≤ merge_left r.right o → merge_needs q ≤ merge_needs o → Picks r right o q seen
 goes-on r right o q seen begun none nearer needs = record {
   begun = begun;
   nearer = nearer;
@@ -66,10 +66,10 @@ goes-on r right o q seen begun none nearer needs = record {
 }
 
 -- one that ends it, as no neighbour has room or as something was another one
-none-picks : (r : Merging) (right : Bool) (o : Phase) (seen : Seen) → 0 < merge_left r.right o → Picks r right o NoNeighbour seen
+none-picks : (r : Merging) (right : Bool) (o : MergePhase) (seen : Seen) → 0 < merge_left r.right o → Picks r right o NoNeighbour seen
 none-picks r right o seen some = record { begun = λ e. cc; nearer = omega (arith, some); needs = omega arith; done = λ e. cc; restart = λ e. absurd (cc); full_swaps = λ e. cc; full_nodes = λ e. cc }
 
-restart-picks : (r : Merging) (right : Bool) (o : Phase) (seen : Seen) → 0 < merge_left r.right o → merge_differs r o seen → Picks r right o Restart seen
+restart-picks : (r : Merging) (right : Bool) (o : MergePhase) (seen : Seen) → 0 < merge_left r.right o → merge_differs r o seen → Picks r right o Restart seen
 restart-picks r right o seen some differs = record { begun = λ e. cc; nearer = omega (arith, some); needs = omega arith; done = λ e. cc; restart = λ e. differs; full_swaps = λ e. cc; full_nodes = λ e. cc }
 
 rest-few : (right : Bool) → rest_acts right ≤ round_acts
@@ -87,13 +87,13 @@ beside-on : (r : Merging) (i next : ℕ) (b : Bool) (seen : Seen) → i < NODE_W
 beside-on r i next true seen within after = goes-on r r.right (Beside i) (Beside next) seen (λ e. cc) refl (omega (arith, within, after)) (omega arith)
 beside-on r i next false seen within after = goes-on r r.right (Beside i) Parent seen (λ e. cc) refl (omega (arith, within, after)) (omega arith)
 
-told-on : (c : Config) (r : Merging) (seen : Seen) (side : Sibling) (q : Phase) → Hears (merge_asks c r Again) seen → HasTold r seen side q → Picks r side.right Again q seen
+told-on : (c : Config) (r : Merging) (seen : Seen) (side : Sibling) (q : MergePhase) → Hears (merge_asks c r Again) seen → HasTold r seen side q → Picks r side.right Again q seen
 told-on c r seen side (Beside i) hears h = goes-on r side.right Again (Beside i) seen (λ e. cc) refl (omega (arith, rest-few side.right)) (omega arith)
 told-on c r seen side NoNeighbour hears h = none-picks r side.right Again seen (omega arith)
 told-on c r seen side Restart hears h = restart-picks r side.right Again seen (omega arith) (other-again c r seen hears h)
 told-on c r seen side q hears h = absurd (h)
 
-settled-on : (c : Config) (r : Merging) (seen : Seen) (side : Sibling) (q : Phase) → Hears (merge_asks c r Still) seen → HasSettled r seen side q → Picks r side.right Still q seen
+settled-on : (c : Config) (r : Merging) (seen : Seen) (side : Sibling) (q : MergePhase) → Hears (merge_asks c r Still) seen → HasSettled r seen side q → Picks r side.right Still q seen
 settled-on c r seen side (Beside i) hears h = goes-on r side.right Still (Beside i) seen (λ e. cc) refl (omega (arith, ap rest_acts h.1.1.1.0, ap rest_acts h.1.1.1.1.0)) (omega arith)
 settled-on c r seen side NoNeighbour hears h = none-picks r side.right Still seen (omega arith)
 settled-on c r seen side Freeze hears h = goes-on r side.right Still Freeze seen (λ e. cc) refl (omega arith) (omega arith)
@@ -102,7 +102,7 @@ settled-on c r seen side Guard hears h = goes-on r side.right Still Guard seen (
 settled-on c r seen side Restart hears h = restart-picks r side.right Still seen (omega arith) (other-still c r seen hears h)
 settled-on c r seen side q hears h = absurd (h)
 
-module _ (c : Config) (r : Merging) (o q : Phase) (seen : Seen) where
+module _ (c : Config) (r : Merging) (o q : MergePhase) (seen : Seen) where
   -- a step from the phase that it is
   pub fresh-picks : o ≡ Fresh → q ≡ Word 1 → Picks r r.right o q seen
   fresh-picks is then_is = subst (λ z. Picks r r.right z q seen) (sym is) (subst (λ z. Picks r r.right Fresh z seen) (sym then_is) (fresh-on r seen))
@@ -126,7 +126,7 @@ module _ (c : Config) (r : Merging) (o q : Phase) (seen : Seen) where
   ])
 
 -- the nodes are begun where the guard is as it was, and the slots are taken
-pub record Looks (c : Config) (r : Merging) (right : Bool) (o q : Phase) (old new : FreeSlots) : Type 0 where
+pub record Looks (c : Config) (r : Merging) (right : Bool) (o q : MergePhase) (old new : FreeSlots) : Type 0 where
   pub begun : q ≢ Fresh
   pub ready : IsReady c r q
   pub nearer : merge_left r.right q + merge_steps q ≤ merge_left right o
@@ -135,7 +135,7 @@ pub record Looks (c : Config) (r : Merging) (right : Bool) (o q : Phase) (old ne
   pub full_swaps : merge_end q ≢ Some (IsFull NoSwaps)
   pub full_nodes : merge_end q ≡ Some (IsFull NoNodes) → length old.free < merge_needs o
 
-begun-on : (c : Config) (r : Merging) (right : Bool) (q : Phase) (old new : FreeSlots) → old.nodes ≡ c.nodes → HasBegun r q old new → Looks c r right Guard q old new
+begun-on : (c : Config) (r : Merging) (right : Bool) (q : MergePhase) (old new : FreeSlots) → old.nodes ≡ c.nodes → HasBegun r q old new → Looks c r right Guard q old new
 begun-on c r right (Store j) old new nodes h = record {
   begun = λ e. cc;
   ready = (subst (λ z. HaveSlots z (merge_nodes r)) nodes h.1.0.slots, omega (arith, h.0));
@@ -167,18 +167,18 @@ other-on c r right old new is = record {
   full_nodes = λ e. absurd (cc);
 }
 
-pub looks : (c : Config) (r : Merging) (right : Bool) (o q : Phase) (seen : Seen) (old new : FreeSlots) → o ≡ Guard → old.nodes ≡ c.nodes → HasLooked r seen q old new → Looks c r right o q old new
+pub looks : (c : Config) (r : Merging) (right : Bool) (o q : MergePhase) (seen : Seen) (old new : FreeSlots) → o ≡ Guard → old.nodes ≡ c.nodes → HasLooked r seen q old new → Looks c r right o q old new
 looks c r right o q seen old new is nodes h = subst (λ z. Looks c r right z q old new) (sym is) (elim h [
   | inl g ↦ begun-on c r right q old new nodes g.1
   | inr g ↦ subst (λ z. Looks c r right Guard z old new) (sym g.1.0) (other-on c r right old new g.1.1)
 ])
 
 -- where it ends none was taken
-begun-kept : (r : Merging) (p : Phase) (old new : FreeSlots) (outcome : Outcome) → HasBegun r p old new → merge_end p ≡ Some outcome → new ≡ old
+begun-kept : (r : Merging) (p : MergePhase) (old new : FreeSlots) (outcome : Outcome) → HasBegun r p old new → merge_end p ≡ Some outcome → new ≡ old
 begun-kept r (Store j) old new outcome h e = absurd (cc)
 begun-kept r NoSlot old new outcome h e = h.1
 begun-kept r p old new outcome h e = absurd (h)
 
-pub looked-kept : (r : Merging) (seen : Seen) (p : Phase) (old new : FreeSlots) (outcome : Outcome) → HasLooked r seen p old new → merge_end p ≡ Some outcome → new ≡ old
+pub looked-kept : (r : Merging) (seen : Seen) (p : MergePhase) (old new : FreeSlots) (outcome : Outcome) → HasLooked r seen p old new → merge_end p ≡ Some outcome → new ≡ old
 looked-kept r seen p old new outcome (inl h) e = begun-kept r p old new outcome h.1 e
 looked-kept r seen p old new outcome (inr h) e = h.1.1

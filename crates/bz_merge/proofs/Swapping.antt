@@ -11,14 +11,14 @@ use Rattle.bz_merge.specs.Counts.{merge_swaps, merge_made}
 use Rattle.bz_merge.specs.Decisions.{HasSwapped}
 use Rattle.bz_merge.specs.Facts.{IsSwapping, WritesOrSwaps, merge_asks, merge_end, merge_facts, merge_left, merge_steps, merge_needs}
 use Rattle.bz_merge.specs.Plans.{Merging}
-use Rattle.bz_merge.specs.declared.phase.Phase.{Phase}
-use Rattle.bz_merge.specs.declared.phase.Phase.TheVariants.{Fresh, Word, Again, Beside, Parent, Still, Freeze, FreezeBeside, Guard, Store, Flush, Swap, Done, Restart, NoNeighbour, NoSlot, NoSwap}
+use Rattle.bz_merge.specs.declared.phase.MergePhase.{MergePhase}
+use Rattle.bz_merge.specs.declared.phase.MergePhase.TheVariants.{Fresh, Word, Again, Beside, Parent, Still, Freeze, FreezeBeside, Guard, Store, Flush, Swap, Done, Restart, NoNeighbour, NoSlot, NoSwap}
 use Rattle.bz_merge.proofs.Asking.{other-once}
 use Rattle.bz_merge.proofs.Counting.{IsThawed, one-freeze, no-freeze}
 use Rattle.bz_merge.proofs.Writing.{freeze-learns, beside-learns, swap-learns}
 
 -- of the phases in which something is written the others are those of swaps
-pub swapping-of : (phase : Phase) → WritesOrSwaps phase → ((j : ℕ) → phase ≢ Store j) → ((j : ℕ) → phase ≢ Flush j) → IsSwapping phase
+pub swapping-of : (phase : MergePhase) → WritesOrSwaps phase → ((j : ℕ) → phase ≢ Store j) → ((j : ℕ) → phase ≢ Flush j) → IsSwapping phase
 swapping-of Freeze w a b = tt
 swapping-of FreezeBeside w a b = tt
 swapping-of Swap w a b = tt
@@ -55,7 +55,7 @@ flush-seen c r j (Swapped won) h = absurd (h)
 flush-seen c r j NoneLeft h = absurd (h)
 
 -- what is known while a swap is asked for
-some-left : (right : Bool) (phase : Phase) → IsSwapping phase → 0 < merge_left right phase
+some-left : (right : Bool) (phase : MergePhase) → IsSwapping phase → 0 < merge_left right phase
 some-left right Freeze w = omega arith
 some-left right FreezeBeside w = omega arith
 some-left right Swap w = omega arith
@@ -75,19 +75,19 @@ some-left right NoSlot w = absurd (w)
 some-left right NoSwap w = absurd (w)
 
 -- one swap is asked for, and so at least one was left
-swapping-asks : (c : Config) (r : Merging) (phase : Phase) → IsSwapping phase → swaps_in (merge_asks c r phase) ≡ 1
+swapping-asks : (c : Config) (r : Merging) (phase : MergePhase) → IsSwapping phase → swaps_in (merge_asks c r phase) ≡ 1
 swapping-asks c r Freeze w = refl
 swapping-asks c r FreezeBeside w = refl
 swapping-asks c r Swap w = refl
 swapping-asks c r phase w = absurd (w)
 
-some-swaps : (phase : Phase) → IsSwapping phase → 1 ≤ merge_swaps phase
+some-swaps : (phase : MergePhase) → IsSwapping phase → 1 ≤ merge_swaps phase
 some-swaps Freeze w = omega arith
 some-swaps FreezeBeside w = omega arith
 some-swaps Swap w = omega arith
 some-swaps phase w = absurd (w)
 
-swap-filled : (c : Config) (r : Merging) (phase : Phase) (stage : Stage) (s : Scene) → IsSwapping phase → merge_facts r phase stage s → HasFilled s
+swap-filled : (c : Config) (r : Merging) (phase : MergePhase) (stage : Stage) (s : Scene) → IsSwapping phase → merge_facts r phase stage s → HasFilled s
 swap-filled c r Freeze Waiting s w f = f.0
 swap-filled c r Freeze Took s w f = f.0
 swap-filled c r FreezeBeside Waiting s w f = f.0
@@ -114,11 +114,11 @@ freeze-plain : (r : Merging) (stage : Stage) (s : Scene) → merge_facts r Freez
 freeze-plain r Waiting s f = (other-once r s.past f.1.0).seen.plain
 freeze-plain r Took s f = (other-once r s.past f.1.0).seen.plain
 
-pub swap-plain : (r : Merging) (phase : Phase) (stage : Stage) (s : Scene) → merge_facts r phase stage s → phase ≡ Freeze → slice_index r.beside STATUS_AT < 2 ^ 61
+pub swap-plain : (r : Merging) (phase : MergePhase) (stage : Stage) (s : Scene) → merge_facts r phase stage s → phase ≡ Freeze → slice_index r.beside STATUS_AT < 2 ^ 61
 swap-plain r phase stage s f e = freeze-plain r stage s (subst (λ z. merge_facts r z stage s) e f)
 
 -- what comes of a swap
-pub record Comes (r : Merging) (phase : Phase) (seen : Seen) (q : Phase) : Type 0 where
+pub record Comes (r : Merging) (phase : MergePhase) (seen : Seen) (q : MergePhase) : Type 0 where
   pub nearer : merge_left r.right q + merge_steps q ≤ merge_left r.right phase
   pub swaps : merge_swaps q + 1 ≤ merge_swaps phase
   pub counted : merge_end q ≡ None → merge_made r q ≡ merge_made r phase + effects_in seen
@@ -137,7 +137,7 @@ none-won seen won a b = let h = sym a ∙ b in absurd (cc)
 none-lost : (seen : Seen) → seen ≡ Swapped false → seen ≡ Swapped true → ⊥
 none-lost seen a b = let h = sym a ∙ b in absurd (cc)
 
-pub comes : (r : Merging) (phase : Phase) (seen : Seen) (q : Phase) → IsSwapping phase → IsThawed r phase → HasSwapped r phase seen q → Comes r phase seen q
+pub comes : (r : Merging) (phase : MergePhase) (seen : Seen) (q : MergePhase) → IsSwapping phase → IsThawed r phase → HasSwapped r phase seen q → Comes r phase seen q
 comes r phase seen NoSwap w thawed h = record {
   nearer = omega (arith, some-left r.right phase w);
   swaps = some-swaps phase w;
@@ -219,10 +219,10 @@ comes r phase seen Swap w thawed h = absurd (h)
 comes r phase seen NoNeighbour w thawed h = absurd (h)
 comes r phase seen NoSlot w thawed h = absurd (h)
 
-pub comes-fewer : (c : Config) (r : Merging) (phase : Phase) (seen : Seen) (q : Phase) → IsSwapping phase → Comes r phase seen q → merge_swaps q + swaps_in (merge_asks c r phase) ≤ merge_swaps phase
+pub comes-fewer : (c : Config) (r : Merging) (phase : MergePhase) (seen : Seen) (q : MergePhase) → IsSwapping phase → Comes r phase seen q → merge_swaps q + swaps_in (merge_asks c r phase) ≤ merge_swaps phase
 comes-fewer c r phase seen q w h = omega (arith, h.swaps, swapping-asks c r phase w)
 
-pub learns-swapped : (c : Config) (r : Merging) (phase q : Phase) (seen : Seen) (stage : Stage) (s : Scene) → IsScene s → IsSwapping phase → HasSwapped r phase seen q → merge_facts r phase stage s → Tells (merge_asks c r phase) stage seen s → merge_facts r q Waiting s
+pub learns-swapped : (c : Config) (r : Merging) (phase q : MergePhase) (seen : Seen) (stage : Stage) (s : Scene) → IsScene s → IsSwapping phase → HasSwapped r phase seen q → merge_facts r phase stage s → Tells (merge_asks c r phase) stage seen s → merge_facts r q Waiting s
 learns-swapped c r phase NoSwap seen stage s good w h f t = swap-filled c r phase stage s w f
 learns-swapped c r phase Restart seen stage s good w h f t = swap-filled c r phase stage s w f
 learns-swapped c r phase FreezeBeside seen stage s good w h f t = freeze-learns c r phase FreezeBeside seen stage s f t good h.1.0 h.0 h.1.1

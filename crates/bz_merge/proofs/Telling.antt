@@ -13,8 +13,8 @@ use Rattle.bz_merge.specs.Decisions.{IsParentOfLeaf, HasNoRight, HasTold}
 use Rattle.bz_merge.specs.Facts.{merge_asks, merge_facts}
 use Rattle.bz_merge.specs.Plans.{Merging, viewed_leaf, own_place, other_place, IsPair, IsViewed, IsReadingParent, IsTried, IsPaired, IsReadingBeside}
 use Rattle.bz_merge.specs.Siblings.{WereRead, WasParentNode, IsChildAt, ParentsReadWere, ChildrenStand, HungFrom, StoodAsChild}
-use Rattle.bz_merge.specs.declared.phase.Phase.{Phase}
-use Rattle.bz_merge.specs.declared.phase.Phase.TheVariants.{Fresh, Word, Again, Beside, Parent, Still, Freeze, FreezeBeside, Guard, Store, Flush, Swap, Done, Restart, NoNeighbour, NoSlot, NoSwap}
+use Rattle.bz_merge.specs.declared.phase.MergePhase.{MergePhase}
+use Rattle.bz_merge.specs.declared.phase.MergePhase.TheVariants.{Fresh, Word, Again, Beside, Parent, Still, Freeze, FreezeBeside, Guard, Store, Flush, Swap, Done, Restart, NoNeighbour, NoSlot, NoSwap}
 use Rattle.bz_merge.specs.declared.sibling.Sibling.{Sibling}
 use Rattle.bz_merge.proofs.Reading.{answered}
 use Rattle.bz_merge.proofs.Readying.{leaf-once}
@@ -49,7 +49,7 @@ module _ (law : ParentsReadWere) (c : Config) (r : Merging) (stage : Stage) (see
   told-parent e = let k = at-again e in record { size = k.parent.size; reads = k.parent.reads; place = k.place; child = k.child }
 
   -- the task with the neighbour that is tried
-  pub told-learns : (side : Sibling) (q : Phase) → HasTold r seen side q → merge_facts (record r { right = side.right; place = side.place; beside_slot = side.slot }) q Waiting s
+  pub told-learns : (side : Sibling) (q : MergePhase) → HasTold r seen side q → merge_facts (record r { right = side.right; place = side.place; beside_slot = side.slot }) q Waiting s
   told-learns side (Beside i) h =
       let k = at-again h.1.0 in (
         (reading-waits r stage s f).0,
@@ -131,7 +131,7 @@ child-stood : ChildrenStand → (r : Merging) (s : Scene) → IsScene s → (v :
 unfolding moved-parent
 child-stood law r s good v now k j l e g same n = law s r.upper r.lower r.read k j good v.links (leaf-once r s.past v) now (moved-parent r.upper.slot g v.links.guard.guarded r.read s.past same n) l e
 
-pub checked-learns : ChildrenStand → (c : Config) (r : Merging) (q : Phase) (stage : Stage) (seen : Seen) (s : Scene) → s.past.config ≡ c → IsScene s → ((seen ≡ Was r.lower.status) × (q ≡ Still)) ⊎ ((seen ≢ Was r.lower.status) × (q ≡ Restart)) → merge_facts r Parent stage s → Tells (merge_asks c r Parent) stage seen s
+pub checked-learns : ChildrenStand → (c : Config) (r : Merging) (q : MergePhase) (stage : Stage) (seen : Seen) (s : Scene) → s.past.config ≡ c → IsScene s → ((seen ≡ Was r.lower.status) × (q ≡ Still)) ⊎ ((seen ≢ Was r.lower.status) × (q ≡ Restart)) → merge_facts r Parent stage s → Tells (merge_asks c r Parent) stage seen s
     → merge_facts r q Waiting s
 checked-learns law c r q stage seen s same good h f t = elim h [
   | inl g ↦ subst (λ z. merge_facts r z Waiting s) (sym g.1) (

@@ -11,8 +11,8 @@ use Rattle.bz_renew.proofs.NodeWrites.{all-begun}
 use Rattle.bz_merge.specs.Decisions.{HasFrozen}
 use Rattle.bz_merge.specs.Facts.{MERGE_WORDS, MERGE_LINES, IsMerging, merge_asks, merge_facts, store_after, flush_after}
 use Rattle.bz_merge.specs.Plans.{Merging, merge_nodes, beside_leaf}
-use Rattle.bz_merge.specs.declared.phase.Phase.{Phase}
-use Rattle.bz_merge.specs.declared.phase.Phase.TheVariants.{Fresh, Word, Again, Beside, Parent, Still, Freeze, FreezeBeside, Guard, Store, Flush, Swap, Done, Restart, NoNeighbour, NoSlot, NoSwap}
+use Rattle.bz_merge.specs.declared.phase.MergePhase.{MergePhase}
+use Rattle.bz_merge.specs.declared.phase.MergePhase.TheVariants.{Fresh, Word, Again, Beside, Parent, Still, Freeze, FreezeBeside, Guard, Store, Flush, Swap, Done, Restart, NoNeighbour, NoSlot, NoSwap}
 use Rattle.bz_merge.proofs.Asking.{other-once}
 use Rattle.bz_merge.proofs.Freezing.{seen-frozen}
 
@@ -58,7 +58,7 @@ swap-made c r Took s f t = f
 swap-made c r Waiting s f t = absurd (let e : true ≡ false = t in cc)
 
 -- after the freeze of the viewed leaf
-next-frozen : (r : Merging) (q : Phase) (s : Scene) → IsScene s → HasFrozen r q → merge_facts r Freeze Took s → merge_facts r q Waiting s
+next-frozen : (r : Merging) (q : MergePhase) (s : Scene) → IsScene s → HasFrozen r q → merge_facts r Freeze Took s → merge_facts r q Waiting s
 next-frozen r FreezeBeside s good h f = (f.0, (f.1.0, (f.1.1.0, (h, inr f.1.1.1))))
 next-frozen r Guard s good h f = (f.0, record { planned = f.1.0; own = f.1.1.0; other = seen-frozen s (beside_leaf r) good (other-once r s.past f.1.0) h; froze = inl (h, inr f.1.1.1) })
 next-frozen r Fresh s good h f = absurd (h)
@@ -78,7 +78,7 @@ next-frozen r NoSlot s good h f = absurd (h)
 next-frozen r NoSwap s good h f = absurd (h)
 
 -- what comes after each
-module _ (c : Config) (r : Merging) (p q : Phase) (seen : Seen) (stage : Stage) (s : Scene) (f : merge_facts r p stage s) (t : Tells (merge_asks c r p) stage seen s) where
+module _ (c : Config) (r : Merging) (p q : MergePhase) (seen : Seen) (stage : Stage) (s : Scene) (f : merge_facts r p stage s) (t : Tells (merge_asks c r p) stage seen s) where
   pub store-learns : (j : ℕ) → p ≡ Store j → seen ≡ Stored → q ≡ store_after j → merge_facts r q Waiting s
   store-learns j is e next_is = subst (λ z. merge_facts r z Waiting s) (sym next_is)
       (next-stored r j s (store-took c r j stage s (subst (λ z. merge_facts r z stage s) is f) (subst (λ z. Tells (merge_asks c r (Store j)) stage z s) e (subst (λ z. Tells (merge_asks c r z) stage seen s) is t))))

@@ -14,8 +14,8 @@ use Rattle.bz_task.specs.declared.todo.Seen.{Seen}
 use Rattle.bz_task.specs.declared.todo.Seen.TheVariants.{Read as Was, Swapped, NoSwap as NoneLeft}
 use Rattle.bz_merge.specs.Plans.{Merging, merge_nodes, viewed_leaf, beside_leaf, first_of, second_of, IsPair}
 use Rattle.bz_merge.specs.Siblings.{IsChildAt}
-use Rattle.bz_merge.specs.declared.phase.Phase.{Phase}
-use Rattle.bz_merge.specs.declared.phase.Phase.TheVariants.{Beside, Freeze, FreezeBeside, Guard, Store, Swap, Done, Restart, NoNeighbour, NoSlot, NoSwap}
+use Rattle.bz_merge.specs.declared.phase.MergePhase.{MergePhase}
+use Rattle.bz_merge.specs.declared.phase.MergePhase.TheVariants.{Beside, Freeze, FreezeBeside, Guard, Store, Swap, Done, Restart, NoNeighbour, NoSlot, NoSwap}
 use Rattle.bz_merge.specs.declared.sibling.Sibling.{Sibling}
 
 -- the words can be read as children, and one of them is in the slot
@@ -40,7 +40,7 @@ abbrev pub LackRoom : Merging → Type 0
 LackRoom r = SPLIT_ABOVE < live_of (node_of r.leaf) + live_of (node_of r.beside)
 
 -- where the parent's status is as it was, its words tell the neighbour: the right one, or the left one where there is no right one
-abbrev pub HasTold : Merging → Seen → Sibling → Phase → Type 0
+abbrev pub HasTold : Merging → Seen → Sibling → MergePhase → Type 0
 HasTold r seen side (Beside i) = (i ≡ 0) × ((seen ≡ Was r.lower.status) × (IsPair r.read r.lower.slot side.right side.place side.slot × (side.right ≡ false → HasNoRight r.read r.lower.slot)))
 HasTold r seen side NoNeighbour = (seen ≡ Was r.lower.status) × (HasNoRight r.read r.lower.slot × HasNoLeft r.read r.lower.slot)
 HasTold r seen side Restart = seen ≢ Was r.lower.status
@@ -56,7 +56,7 @@ pub record IsWeighable (r : Merging) : Type 0 where
 
 -- where the neighbour's status is as it was, its words tell whether the two have room: then what is not frozen yet is frozen, the
 -- viewed leaf first; else the left neighbour is tried after the right one
-abbrev pub HasSettled : Merging → Seen → Sibling → Phase → Type 0
+abbrev pub HasSettled : Merging → Seen → Sibling → MergePhase → Type 0
 HasSettled r seen side (Beside i) = (i ≡ 0) × ((seen ≡ Was (slice_index r.beside STATUS_AT)) × (LackRoom r × ((r.right ≡ true) × ((side.right ≡ false) × IsPair r.read r.lower.slot false side.place side.slot))))
 HasSettled r seen side NoNeighbour = (seen ≡ Was (slice_index r.beside STATUS_AT)) × (LackRoom r × (r.right ≡ true → HasNoLeft r.read r.lower.slot))
 HasSettled r seen side Freeze = (seen ≡ Was (slice_index r.beside STATUS_AT)) × (HaveRoom r × ((status r.status).frozen ≡ false))
@@ -66,20 +66,20 @@ HasSettled r seen side Restart = seen ≢ Was (slice_index r.beside STATUS_AT)
 HasSettled r seen side phase = ⊥
 
 -- after a freeze comes that of the neighbour, unless it is frozen, and then the guard
-abbrev pub HasFrozen : Merging → Phase → Type 0
+abbrev pub HasFrozen : Merging → MergePhase → Type 0
 HasFrozen r FreezeBeside = (status (slice_index r.beside STATUS_AT)).frozen ≡ false
 HasFrozen r Guard = (status (slice_index r.beside STATUS_AT)).frozen ≡ true
 HasFrozen r phase = ⊥
 
 -- after a swap that took effect
-abbrev pub HasWon : Merging → Phase → Phase → Type 0
+abbrev pub HasWon : Merging → MergePhase → MergePhase → Type 0
 HasWon r phase FreezeBeside = (phase ≡ Freeze) × ((status (slice_index r.beside STATUS_AT)).frozen ≡ false)
 HasWon r phase Guard = ((phase ≡ Freeze) × ((status (slice_index r.beside STATUS_AT)).frozen ≡ true)) ⊎ (phase ≡ FreezeBeside)
 HasWon r phase Done = phase ≡ Swap
 HasWon r phase next = ⊥
 
 -- and after one of which this came
-abbrev pub HasSwapped : Merging → Phase → Seen → Phase → Type 0
+abbrev pub HasSwapped : Merging → MergePhase → Seen → MergePhase → Type 0
 HasSwapped r phase seen NoSwap = seen ≡ NoneLeft
 HasSwapped r phase seen Restart = seen ≡ Swapped false
 HasSwapped r phase seen FreezeBeside = (seen ≡ Swapped true) × HasWon r phase FreezeBeside
@@ -88,7 +88,7 @@ HasSwapped r phase seen Done = (seen ≡ Swapped true) × HasWon r phase Done
 HasSwapped r phase seen next = ⊥
 
 -- before any freeze it is the viewed leaf that is frozen, unless it is
-abbrev pub HasFirst : Merging → Phase → Type 0
+abbrev pub HasFirst : Merging → MergePhase → Type 0
 HasFirst r Freeze = (status r.status).frozen ≡ false
 HasFirst r FreezeBeside = ((status r.status).frozen ≡ true) × ((status (slice_index r.beside STATUS_AT)).frozen ≡ false)
 HasFirst r Guard = ((status r.status).frozen ≡ true) × ((status (slice_index r.beside STATUS_AT)).frozen ≡ true)
@@ -104,12 +104,12 @@ pub record MayMerge (nodes : ℕ) (r : Merging) : Type 0 where
   pub leaves : MayJoin (first_of r.right (viewed_leaf r) (beside_leaf r)).image (second_of r.right (viewed_leaf r) (beside_leaf r)).image
 
 -- two slots were taken, and the new nodes are made; or there were not so many
-abbrev pub HasBegun : Merging → Phase → FreeSlots → FreeSlots → Type 0
+abbrev pub HasBegun : Merging → MergePhase → FreeSlots → FreeSlots → Type 0
 HasBegun r (Store j) old new =
     (j ≡ 0) × (AreSlotsTaken (merge_nodes r) old new × (IsJoinedOf r.read r.place (r.slot 1) (r.image 0) × ((length (r.image 0) ≡ NODE_WORDS) × IsOneOf (first_of r.right (viewed_leaf r) (beside_leaf r)).image (second_of r.right (viewed_leaf r) (beside_leaf r)).image (r.image 1))))
 HasBegun r NoSlot old new = (length old.free < MERGE_SLOTS) × (new ≡ old)
 HasBegun r phase old new = ⊥
 
 -- that is where the upper guard was as the path names it; elsewhere none was taken
-abbrev pub HasLooked : Merging → Seen → Phase → FreeSlots → FreeSlots → Type 0
+abbrev pub HasLooked : Merging → Seen → MergePhase → FreeSlots → FreeSlots → Type 0
 HasLooked r seen phase old new = ((seen ≡ Was r.upper.status) × HasBegun r phase old new) ⊎ ((seen ≢ Was r.upper.status) × ((phase ≡ Restart) × (new ≡ old)))

@@ -32,8 +32,8 @@ use Rattle.bz_merge.specs.Merges.{StoodFrozen}
 use Rattle.bz_merge.specs.OwnFreezes.{FrozeViewed, ViewedWasFrozen, BothWereFrozen}
 use Rattle.bz_merge.specs.Plans.{Merging, merge_nodes, viewed_leaf, beside_leaf, first_of, second_of, IsPair, LackedAt, IsTried, IsReadingParent, IsPaired, IsReadingBeside, IsChecked, IsPlanned}
 use Rattle.bz_merge.specs.Siblings.{WasParentNode, IsChildAt, SeenLeaf, WasSeen, HungBeside}
-use Rattle.bz_merge.specs.declared.phase.Phase.{Phase}
-use Rattle.bz_merge.specs.declared.phase.Phase.TheVariants.{Fresh, Word, Again, Beside, Parent, Still, Freeze, FreezeBeside, Guard, Store, Flush, Swap, Done, Restart, NoNeighbour, NoSlot, NoSwap}
+use Rattle.bz_merge.specs.declared.phase.MergePhase.{MergePhase}
+use Rattle.bz_merge.specs.declared.phase.MergePhase.TheVariants.{Fresh, Word, Again, Beside, Parent, Still, Freeze, FreezeBeside, Guard, Store, Flush, Swap, Done, Restart, NoNeighbour, NoSlot, NoSwap}
 
 -- the words and the lines of two nodes
 abbrev pub MERGE_WORDS : ℕ
@@ -42,7 +42,7 @@ MERGE_WORDS = NODE_WORDS * MERGE_SLOTS
 abbrev pub MERGE_LINES : ℕ
 MERGE_LINES = NODE_LINES * MERGE_SLOTS
 
-abbrev pub merge_asks : Config → Merging → Phase → Option Todo
+abbrev pub merge_asks : Config → Merging → MergePhase → Option Todo
 merge_asks c r Fresh = None
 merge_asks c r (Word i) = Some (Reads (node_address c r.upper.slot + i))
 merge_asks c r Again = Some (Reads r.lower.guard)
@@ -57,7 +57,7 @@ merge_asks c r (Flush j) = Some (Flushes_line (line_number c (merge_nodes r) j))
 merge_asks c r Swap = Some (Swaps_for (below_swap c r.upper r.lower (r.slot 0)))
 merge_asks c r phase = Some Finish
 
-abbrev pub merge_end : Phase → Option Outcome
+abbrev pub merge_end : MergePhase → Option Outcome
 merge_end Done = Some IsDone
 merge_end Restart = Some Restarts
 merge_end NoNeighbour = Some NoneFits
@@ -81,7 +81,7 @@ join_acts = MERGE_WORDS + 2 * MERGE_LINES + 4
 abbrev pub merge_acts : ℕ
 merge_acts = NODE_WORDS + round_acts + round_acts + join_acts + 1
 
-abbrev pub merge_left : Bool → Phase → ℕ
+abbrev pub merge_left : Bool → MergePhase → ℕ
 merge_left right Fresh = merge_acts
 merge_left right (Word i) = NODE_WORDS - i + round_acts + round_acts + join_acts + 1
 merge_left right Again = round_acts + round_acts + join_acts + 1
@@ -97,12 +97,12 @@ merge_left right Swap = 1
 merge_left right phase = 0
 
 -- the steps of what is asked for
-abbrev pub merge_steps : Phase → ℕ
+abbrev pub merge_steps : MergePhase → ℕ
 merge_steps (Flush j) = 2
 merge_steps phase = 1
 
 -- the slots are taken when the guard has been looked at again
-abbrev pub merge_needs : Phase → ℕ
+abbrev pub merge_needs : MergePhase → ℕ
 merge_needs Fresh = MERGE_SLOTS
 merge_needs (Word i) = MERGE_SLOTS
 merge_needs Again = MERGE_SLOTS
@@ -116,17 +116,17 @@ merge_needs phase = 0
 
 -- after a word of the parent comes the next one that is read, or its status once more; after one of the neighbour the next one, or
 -- the parent's status
-abbrev pub word_after : ℕ → Phase
+abbrev pub word_after : ℕ → MergePhase
 word_after next = if nat_lt next NODE_WORDS then Word next else Again
 
-abbrev pub beside_after : ℕ → Phase
+abbrev pub beside_after : ℕ → MergePhase
 beside_after next = if nat_lt next NODE_WORDS then Beside next else Parent
 
 -- after a store comes the next one, or the first flush; after a flush the next one, or the swap
-abbrev pub store_after : ℕ → Phase
+abbrev pub store_after : ℕ → MergePhase
 store_after j = if nat_lt (j + 1) MERGE_WORDS then Store (j + 1) else Flush 0
 
-abbrev pub flush_after : ℕ → Phase
+abbrev pub flush_after : ℕ → MergePhase
 flush_after j = if nat_lt (j + 1) MERGE_LINES then Flush (j + 1) else Swap
 
 -- the viewed leaf is frozen, and says what was viewed; so the neighbour
@@ -216,7 +216,7 @@ pub record SomeFitted (lower : Link) (status : ℕ) (leaf : List ℕ) (p : Past)
   pub later : at ≤ beside.moment
   pub room : live_of (node_of leaf) + live_of (node_of other.image) ≤ SPLIT_ABOVE
 
-abbrev pub merge_facts : Merging → Phase → Stage → Scene → Type 0
+abbrev pub merge_facts : Merging → MergePhase → Stage → Scene → Type 0
 merge_facts r Fresh Waiting s = IsReadingParent r 1 s.past
 merge_facts r (Word i) Waiting s = HasFilled s × ((0 < i) × ((i < NODE_WORDS) × IsReadingParent r i s.past))
 merge_facts r Again Waiting s = HasFilled s × IsReadingParent r NODE_WORDS s.past
@@ -261,7 +261,7 @@ IsEndOfMerge (IsFull NoSwaps) = Unit {0}
 IsEndOfMerge outcome = ⊥
 
 -- a guard, or the neighbour's status, is another one than was read
-abbrev pub merge_differs : Merging → Phase → Seen → Type 0
+abbrev pub merge_differs : Merging → MergePhase → Seen → Type 0
 merge_differs r Again (Was v) = v ≢ r.lower.status
 merge_differs r Parent (Was v) = v ≢ r.lower.status
 merge_differs r Still (Was v) = v ≢ slice_index r.beside STATUS_AT
@@ -281,7 +281,7 @@ pub record IsSwapReady (c : Config) (r : Merging) : Type 0 where
   pub target : is_target (renewal r.upper (r.slot 0)) (node_address c r.upper.slot + STATUS_AT) ≡ false
 
 -- what is named is there
-abbrev pub IsReady : Config → Merging → Phase → Type 0
+abbrev pub IsReady : Config → Merging → MergePhase → Type 0
 IsReady c r (Word i) = (r.upper.slot < c.nodes) × (i < NODE_WORDS)
 IsReady c r (Beside i) = (r.beside_slot < c.nodes) × (i < NODE_WORDS)
 IsReady c r Still = r.beside_slot < c.nodes
@@ -293,7 +293,7 @@ IsReady c r Swap = HaveSlots c.nodes (merge_nodes r) × IsSwapReady c r
 IsReady c r phase = Unit {0}
 
 -- the phase is one of a store, a flush or a swap
-abbrev pub WritesOrSwaps : Phase → Type 0
+abbrev pub WritesOrSwaps : MergePhase → Type 0
 WritesOrSwaps Freeze = Unit {0}
 WritesOrSwaps FreezeBeside = Unit {0}
 WritesOrSwaps (Store j) = Unit {0}
@@ -302,7 +302,7 @@ WritesOrSwaps Swap = Unit {0}
 WritesOrSwaps phase = ⊥
 
 -- it is one of a swap
-abbrev pub IsSwapping : Phase → Type 0
+abbrev pub IsSwapping : MergePhase → Type 0
 IsSwapping Freeze = Unit {0}
 IsSwapping FreezeBeside = Unit {0}
 IsSwapping Swap = Unit {0}

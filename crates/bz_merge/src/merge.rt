@@ -27,7 +27,7 @@ ghost use Rattle.bz_merge.specs.Thawed.{IsThawedAbove};
 use crate::freeze::freeze_of;
 use crate::laws::{leaves_read_were, merges_are_good, parents_read_were};
 use crate::links::upper_link;
-use crate::phase::Phase;
+use crate::phase::MergePhase;
 use crate::seen::is_frozen;
 use crate::sibling::{Sibling, left_of, right_of};
 use crate::slots::take_two;
@@ -50,7 +50,7 @@ const MERGE_LINES: u32 = NODE_LINES * MERGE_SLOTS;
 #[derive(Clone, Copy, Drop)]
 struct Step {
     side: Sibling,
-    phase: Phase,
+    phase: MergePhase,
 }
 
 /// The merge of the leaf that a view shows with a neighbour below the same parent. It ends with Done where a new parent, with one
@@ -73,7 +73,7 @@ pub struct Merge {
     merged: NodeImage,
     parent: NodeImage,
     slots: [u16; 3],
-    phase: Phase,
+    phase: MergePhase,
 }
 
 impl Merge {
@@ -118,14 +118,14 @@ impl Merge {
             merged: view.image,
             parent: view.image,
             slots: [0; 3],
-            phase: Phase::Fresh,
+            phase: MergePhase::Fresh,
         }
     }
 }
 
 impl Merge {
     // A phase with the neighbour as it is.
-    fn on(&self, phase: Phase) -> Step
+    fn on(&self, phase: MergePhase) -> Step
         ensures phase { result.phase ≡ phase }
         ensures side { result.side ≡ self.now.side }
     {
@@ -137,15 +137,15 @@ impl Merge {
 
     // The reading of a neighbour, if there is one.
     fn reading(&self, sibling: Option<Sibling>) -> Step
-        ensures some { (side : Sibling) → sibling ≡ Some side → (result.phase ≡ Phase.Beside 0) × (result.side ≡ side) }
-        ensures none { sibling ≡ None → (result.phase ≡ Phase.NoNeighbour) × (result.side ≡ self.now.side) }
+        ensures some { (side : Sibling) → sibling ≡ Some side → (result.phase ≡ MergePhase.Beside 0) × (result.side ≡ side) }
+        ensures none { sibling ≡ None → (result.phase ≡ MergePhase.NoNeighbour) × (result.side ≡ self.now.side) }
     {
         match sibling {
             Some(side) => Step {
                 side,
-                phase: Phase::Beside(0),
+                phase: MergePhase::Beside(0),
             },
-            None => self.on(Phase::NoNeighbour),
+            None => self.on(MergePhase::NoNeighbour),
         }
     }
 
@@ -155,7 +155,7 @@ impl Merge {
         ensures { HasTold (merging_of self.now) seen result.side result.phase }
     {
         if !is_read(seen, self.lower.status) {
-            return self.on(Phase::Restart);
+            return self.on(MergePhase::Restart);
         }
         match right_of(&self.read, self.lower.slot) {
             Some(side) => self.reading(Some(side)),
@@ -177,20 +177,20 @@ impl Merge {
     }
 
     // The phase once the viewed leaf is frozen.
-    fn after_freeze(&self) -> Phase
+    fn after_freeze(&self) -> MergePhase
         requires { slice_index self.now.beside.0 0 < 2 ^ 61 }
         ensures { HasFrozen (merging_of self.now) result }
     {
         is_whole(&self.beside);
         if is_frozen(self.beside.0[STATUS_AT as usize]) {
-            Phase::Guard
+            MergePhase::Guard
         } else {
-            Phase::FreezeBeside
+            MergePhase::FreezeBeside
         }
     }
 
     // The phase once the two were found to fit.
-    fn first_freeze(&self) -> Phase
+    fn first_freeze(&self) -> MergePhase
         requires own { self.now.status < 2 ^ 61 }
         requires other { slice_index self.now.beside.0 0 < 2 ^ 61 }
         ensures { HasFirst (merging_of self.now) result }
@@ -198,7 +198,7 @@ impl Merge {
         if is_frozen(self.status) {
             self.after_freeze()
         } else {
-            Phase::Freeze
+            MergePhase::Freeze
         }
     }
 
@@ -206,17 +206,17 @@ impl Merge {
     fn settled(&self, seen: Seen) -> Step
         requires { seen ≡ Was (slice_index self.now.beside.0 0) → IsWeighable (merging_of self.now) }
         ensures settled { HasSettled (merging_of self.now) seen result.side result.phase }
-        ensures side { ((i : ℕ) → result.phase ≢ Phase.Beside i) → result.side ≡ self.now.side }
+        ensures side { ((i : ℕ) → result.phase ≢ MergePhase.Beside i) → result.side ≡ self.now.side }
     {
         is_whole(&self.beside);
         if !is_read(seen, self.beside.0[STATUS_AT as usize]) {
-            return self.on(Phase::Restart);
+            return self.on(MergePhase::Restart);
         }
         if self.fits() {
             return self.on(self.first_freeze());
         }
         if !self.side.right {
-            return self.on(Phase::NoNeighbour);
+            return self.on(MergePhase::NoNeighbour);
         }
         self.reading(left_of(&self.read, self.lower.slot))
     }
@@ -257,9 +257,9 @@ impl Merge {
                 self.merged = self.merged_leaf();
                 self.parent = parent_joined(&self.read, &join);
                 self.slots = taken;
-                self.phase = Phase::Store(0);
+                self.phase = MergePhase::Store(0);
             }
-            None => self.phase = Phase::NoSlot,
+            None => self.phase = MergePhase::NoSlot,
         }
     }
 
@@ -279,48 +279,48 @@ impl Merge {
         if is_read(seen, self.upper.status) {
             self.begin(slots);
         } else {
-            self.phase = Phase::Restart;
+            self.phase = MergePhase::Restart;
         }
     }
 
     // The phase after another look at the parent's status, once the neighbour was read.
-    fn checked(&self, seen: Seen) -> Phase
-        ensures { ((seen ≡ Was self.now.lower.status) × (result ≡ Phase.Still)) ⊎ ((seen ≢ Was self.now.lower.status) × (result ≡ Phase.Restart)) }
+    fn checked(&self, seen: Seen) -> MergePhase
+        ensures { ((seen ≡ Was self.now.lower.status) × (result ≡ MergePhase.Still)) ⊎ ((seen ≢ Was self.now.lower.status) × (result ≡ MergePhase.Restart)) }
     {
         if is_read(seen, self.lower.status) {
-            Phase::Still
+            MergePhase::Still
         } else {
-            Phase::Restart
+            MergePhase::Restart
         }
     }
 
     // The phase once a swap took effect.
-    fn after_won(&self) -> Phase
+    fn after_won(&self) -> MergePhase
         requires swapping { IsSwapping self.now.phase }
-        requires plain { self.now.phase ≡ Phase.Freeze → slice_index self.now.beside.0 0 < 2 ^ 61 }
+        requires plain { self.now.phase ≡ MergePhase.Freeze → slice_index self.now.beside.0 0 < 2 ^ 61 }
         ensures { HasWon (merging_of self.now) self.now.phase result }
     {
         match self.phase {
-            Phase::Freeze => self.after_freeze(),
-            Phase::FreezeBeside => Phase::Guard,
-            _ => Phase::Done,
+            MergePhase::Freeze => self.after_freeze(),
+            MergePhase::FreezeBeside => MergePhase::Guard,
+            _ => MergePhase::Done,
         }
     }
 
     // The phase after what came of a swap.
-    fn after_swap(&self, seen: Seen) -> Phase
+    fn after_swap(&self, seen: Seen) -> MergePhase
         requires swapping { IsSwapping self.now.phase }
         requires hears { Hears (asks_of self.now) seen }
-        requires plain { self.now.phase ≡ Phase.Freeze → slice_index self.now.beside.0 0 < 2 ^ 61 }
+        requires plain { self.now.phase ≡ MergePhase.Freeze → slice_index self.now.beside.0 0 < 2 ^ 61 }
         ensures { HasSwapped (merging_of self.now) self.now.phase seen result }
     {
         match seen {
-            Seen::NoSwap => Phase::NoSwap,
+            Seen::NoSwap => MergePhase::NoSwap,
             Seen::Swapped(won) => {
                 if won {
                     self.after_won()
                 } else {
-                    Phase::Restart
+                    MergePhase::Restart
                 }
             }
             _ => unreachable!(),
@@ -328,7 +328,7 @@ impl Merge {
     }
 
     // The phase after what came of a store, a flush or a swap.
-    fn after(&self, seen: Seen, moment: u32) -> Phase
+    fn after(&self, seen: Seen, moment: u32) -> MergePhase
         requires begun { WritesOrSwaps self.now.phase }
         requires hears { Hears (asks_of self.now) seen }
         requires known { IsKnown self.now.config (facts_of self.now) (asks_of self.now) seen moment }
@@ -336,13 +336,13 @@ impl Merge {
         ensures fewer { merge_swaps result + swaps_in (asks_of self.now) ≤ swaps_of self.now }
         ensures counted { merge_end result ≡ None → merge_made (merging_of self.now) result ≡ made_of self.now + effects_in seen }
         ensures needs { merge_needs result ≤ needs_of self.now }
-        ensures done { result ≡ Phase.Done → seen ≡ Swapped true }
-        ensures last { seen ≡ Swapped true → swaps_of self.now ≡ 1 → result ≡ Phase.Done }
-        ensures only_last { result ≡ Phase.Done → swaps_of self.now ≡ 1 }
-        ensures restart { result ≡ Phase.Restart → seen ≡ Swapped false }
-        ensures no_swap { (result ≡ Phase.NoSwap) ↔ (seen ≡ NoneLeft) }
-        ensures slots { result ≢ Phase.NoSlot }
-        ensures begun { result ≢ Phase.Fresh }
+        ensures done { result ≡ MergePhase.Done → seen ≡ Swapped true }
+        ensures last { seen ≡ Swapped true → swaps_of self.now ≡ 1 → result ≡ MergePhase.Done }
+        ensures only_last { result ≡ MergePhase.Done → swaps_of self.now ≡ 1 }
+        ensures restart { result ≡ MergePhase.Restart → seen ≡ Swapped false }
+        ensures no_swap { (result ≡ MergePhase.NoSwap) ↔ (seen ≡ NoneLeft) }
+        ensures slots { result ≢ MergePhase.NoSlot }
+        ensures begun { result ≢ MergePhase.Fresh }
         ensures config { IsConfig self.now.config }
         ensures ready { IsReady self.now.config (merging_of self.now) result }
         ensures learns { (stage : Stage) (s : Scene) → s.past.config ≡ self.now.config → IsScene s → facts_of self.now stage s → Tells (asks_of self.now) stage seen s → merge_facts (merging_of self.now) result Waiting s }
@@ -350,8 +350,8 @@ impl Merge {
         let _moment = moment;
         bz_renew::laws::links_turn();
         match self.phase {
-            Phase::Store(j) => after_store(j),
-            Phase::Flush(j) => after_flush(j),
+            MergePhase::Store(j) => after_store(j),
+            MergePhase::Flush(j) => after_flush(j),
             _ => self.after_swap(seen),
         }
     }
@@ -367,7 +367,7 @@ impl Merge {
         ensures status { self.new.status ≡ self.old.status }
         ensures leaf { self.new.leaf ≡ self.old.leaf }
         ensures known { IsConfig self.new.config }
-        ensures begun { self.new.phase ≢ Phase.Fresh }
+        ensures begun { self.new.phase ≢ MergePhase.Fresh }
         ensures ready { IsReady self.new.config (merging_of self.new) self.new.phase }
         ensures nearer { left_of self.new + merge_steps self.new.phase ≤ left_of self.old }
         ensures fewer { swaps_of self.new + swaps_in (asks_of self.old) ≤ swaps_of self.old }
@@ -396,27 +396,27 @@ impl Merge {
         leaves_read_were();
         is_whole(&self.beside);
         match self.phase {
-            Phase::Fresh => self.phase = Phase::Word(1),
-            Phase::Word(i) => {
+            MergePhase::Fresh => self.phase = MergePhase::Word(1),
+            MergePhase::Word(i) => {
                 self.read.0[i as usize] = word_in(seen);
                 self.phase = after_word(next_place(&self.read, i));
             }
-            Phase::Again => {
+            MergePhase::Again => {
                 let next = self.told(seen);
                 self.side = next.side;
                 self.phase = next.phase;
             }
-            Phase::Beside(i) => {
+            MergePhase::Beside(i) => {
                 self.beside = with_word(&self.beside, i, word_in(seen));
                 self.phase = after_beside(next_place(&self.beside, i));
             }
-            Phase::Parent => self.phase = self.checked(seen),
-            Phase::Still => {
+            MergePhase::Parent => self.phase = self.checked(seen),
+            MergePhase::Still => {
                 let next = self.settled(seen);
                 self.side = next.side;
                 self.phase = next.phase;
             }
-            Phase::Guard => self.look(seen, slots),
+            MergePhase::Guard => self.look(seen, slots),
             _ => self.phase = self.after(seen, moment),
         }
     }
@@ -435,45 +435,45 @@ impl Merge {
 
     // What a phase asks for.
     fn asked(&self) -> Todo
-        requires begun { self.now.phase ≢ Phase.Fresh }
+        requires begun { self.now.phase ≢ MergePhase.Fresh }
         requires config { IsConfig self.now.config }
         requires ready { IsReady self.now.config (merging_of self.now) self.now.phase }
         ensures { asks_of self.now ≡ Some result }
     {
         is_whole(&self.beside);
         match self.phase {
-            Phase::Word(i) => Todo::Read(self.config.node_at(self.upper.slot as u32) + i),
-            Phase::Again | Phase::Parent => Todo::Read(self.lower.guard),
-            Phase::Beside(i) => Todo::Read(self.config.node_at(self.side.slot as u32) + i),
-            Phase::Still => Todo::Read(self.config.node_at(self.side.slot as u32) + STATUS_AT),
-            Phase::Freeze => Todo::Swap(freeze_of(&self.config, self.lower.slot, self.status)),
-            Phase::FreezeBeside => Todo::Swap(freeze_of(
+            MergePhase::Word(i) => Todo::Read(self.config.node_at(self.upper.slot as u32) + i),
+            MergePhase::Again | MergePhase::Parent => Todo::Read(self.lower.guard),
+            MergePhase::Beside(i) => Todo::Read(self.config.node_at(self.side.slot as u32) + i),
+            MergePhase::Still => Todo::Read(self.config.node_at(self.side.slot as u32) + STATUS_AT),
+            MergePhase::Freeze => Todo::Swap(freeze_of(&self.config, self.lower.slot, self.status)),
+            MergePhase::FreezeBeside => Todo::Swap(freeze_of(
                 &self.config,
                 self.side.slot,
                 self.beside.0[STATUS_AT as usize],
             )),
-            Phase::Guard => Todo::Read(self.upper.guard),
-            Phase::Store(j) => {
+            MergePhase::Guard => Todo::Read(self.upper.guard),
+            MergePhase::Store(j) => {
                 let slot = self.slots[(j / NODE_WORDS) as usize] as u32;
                 Todo::Store(self.config.node_at(slot) + j % NODE_WORDS, self.word(j))
             }
-            Phase::Flush(j) => {
+            MergePhase::Flush(j) => {
                 let slot = self.slots[(j / NODE_LINES) as usize] as u32;
                 Todo::Flush(self.config.node_at(slot) / LINE_WORDS + j % NODE_LINES)
             }
-            Phase::Swap => Todo::Swap(swap_freezing(
+            MergePhase::Swap => Todo::Swap(swap_freezing(
                 &self.config,
                 &self.upper,
                 self.slots[0],
                 self.upper.slot,
                 self.lower.status,
             )),
-            Phase::Fresh
-            | Phase::Done
-            | Phase::Restart
-            | Phase::NoNeighbour
-            | Phase::NoSlot
-            | Phase::NoSwap => Todo::Finish,
+            MergePhase::Fresh
+            | MergePhase::Done
+            | MergePhase::Restart
+            | MergePhase::NoNeighbour
+            | MergePhase::NoSlot
+            | MergePhase::NoSwap => Todo::Finish,
         }
     }
 }
@@ -495,50 +495,50 @@ fn with_word(read: &NodeImage, i: u32, word: u64) -> NodeImage
 }
 
 // The phase after the load of a word of the parent: that of the next one that is read, or its status once more.
-fn after_word(next: u32) -> Phase
+fn after_word(next: u32) -> MergePhase
     requires { next ≤ NODE_WORDS }
     ensures { result ≡ word_after next }
 {
     if next < NODE_WORDS {
-        Phase::Word(next)
+        MergePhase::Word(next)
     } else {
-        Phase::Again
+        MergePhase::Again
     }
 }
 
 // The phase after the load of a word of the neighbour: that of the next one that is read, or the parent's status.
-fn after_beside(next: u32) -> Phase
+fn after_beside(next: u32) -> MergePhase
     requires { next ≤ NODE_WORDS }
     ensures { result ≡ beside_after next }
 {
     if next < NODE_WORDS {
-        Phase::Beside(next)
+        MergePhase::Beside(next)
     } else {
-        Phase::Parent
+        MergePhase::Parent
     }
 }
 
 // The phase after the store of a word: that of the next one, or the first flush.
-fn after_store(j: u32) -> Phase
+fn after_store(j: u32) -> MergePhase
     requires { j < MERGE_WORDS }
     ensures { result ≡ store_after j }
 {
     if j + 1 < MERGE_WORDS {
-        Phase::Store(j + 1)
+        MergePhase::Store(j + 1)
     } else {
-        Phase::Flush(0)
+        MergePhase::Flush(0)
     }
 }
 
 // The phase after the flush of a line: that of the next one, or the swap.
-fn after_flush(j: u32) -> Phase
+fn after_flush(j: u32) -> MergePhase
     requires { j < MERGE_LINES }
     ensures { result ≡ flush_after j }
 {
     if j + 1 < MERGE_LINES {
-        Phase::Flush(j + 1)
+        MergePhase::Flush(j + 1)
     } else {
-        Phase::Swap
+        MergePhase::Swap
     }
 }
 
@@ -551,11 +551,11 @@ impl Task for Merge {
 
     fn ended(&self) -> Option<Outcome> {
         match self.phase {
-            Phase::Done => Some(Outcome::Done),
-            Phase::Restart => Some(Outcome::Restart),
-            Phase::NoNeighbour => Some(Outcome::NeedsRoom),
-            Phase::NoSlot => Some(Outcome::Full(Spent::Nodes)),
-            Phase::NoSwap => Some(Outcome::Full(Spent::Swaps)),
+            MergePhase::Done => Some(Outcome::Done),
+            MergePhase::Restart => Some(Outcome::Restart),
+            MergePhase::NoNeighbour => Some(Outcome::NeedsRoom),
+            MergePhase::NoSlot => Some(Outcome::Full(Spent::Nodes)),
+            MergePhase::NoSwap => Some(Outcome::Full(Spent::Swaps)),
             _ => None,
         }
     }

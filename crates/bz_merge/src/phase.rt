@@ -2,7 +2,7 @@
 
 /// What a merge asks for next.
 #[derive(Clone, Copy, Drop)]
-pub(crate) enum Phase {
+pub(crate) enum MergePhase {
     /// Nothing was asked for yet.
     Fresh,
     /// The load of the parent's word at this place.

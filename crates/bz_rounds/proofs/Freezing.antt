@@ -25,8 +25,8 @@ use Rattle.bz_task.specs.declared.todo.Todo.TheVariants.{Swap as Swaps_for}
 use Rattle.bz_task.proofs.FrozenWords.{frozen-plain, frozen-reads}
 use Rattle.bz_task.proofs.Proved.{swaps_show_in_slots}
 use Rattle.bz_freeze.specs.Facts.{WasLeaf, entry_of, freeze_asks, freeze_facts}
-use Rattle.bz_freeze.specs.declared.phase.Phase.{Phase}
-use Rattle.bz_freeze.specs.declared.phase.Phase.TheVariants.{Swap}
+use Rattle.bz_freeze.specs.declared.phase.FreezePhase.{FreezePhase}
+use Rattle.bz_freeze.specs.declared.phase.FreezePhase.TheVariants.{Swap}
 use Rattle.bz_stage.specs.Stages.{stage_in}
 use Rattle.bz_stage.specs.Swaps.{FreezesLeaf}
 use Rattle.bz_stage.proofs.Proved.{freezes_lower_the_stage}
@@ -106,7 +106,7 @@ module _ (s : Scene) (y : Instant) (k st : ℕ) (good : IsScene s) (inside : (fo
   freezes-leaf = record { on_leaf = on-leaf; restamps = restamps; thawed = ap (λ z. (status z).frozen) was ∙ w.thawed; frozen = ap (λ z. z.frozen) reads }
 
 -- a freeze that asks for a swap knows that the leaf was not frozen
-swapping : (c : Config) (k st : ℕ) (phase : Phase) (s : Scene) (entries : List Entry) → freeze_facts k st phase Waiting s → freeze_asks c k st phase ≡ Some (Swaps_for entries) → WasLeaf k st s.past × (entry_of c k st ∷ [] ≡ entries)
+swapping : (c : Config) (k st : ℕ) (phase : FreezePhase) (s : Scene) (entries : List Entry) → freeze_facts k st phase Waiting s → freeze_asks c k st phase ≡ Some (Swaps_for entries) → WasLeaf k st s.past × (entry_of c k st ∷ [] ≡ entries)
 swapping c k st Swap s entries f e = (f.1, same-entries (entry_of c k st ∷ []) entries e)
 swapping c k st phase s entries f e = absurd (cc)
 

@@ -28,8 +28,8 @@ use Rattle.bz_tally.specs.FromSplit.Facts.{SPLIT_WORDS, SPLIT_LINES}
 use Rattle.bz_tally.specs.FromBelow.Duties.{below_of}
 use Rattle.bz_tally.specs.FromBelow.Facts.{Below, below_nodes, IsSplittingBelow, below_asks, below_facts, parent_words}
 use Rattle.bz_tally.specs.FromBelow.Guards.{with_guard, WasNamed}
-use Rattle.bz_tally.specs.FromBelow.Phase.{Phase}
-use Rattle.bz_tally.specs.FromBelow.Phase.TheVariants.{Swap}
+use Rattle.bz_tally.specs.FromBelow.BelowPhase.{BelowPhase}
+use Rattle.bz_tally.specs.FromBelow.BelowPhase.TheVariants.{Swap}
 use Rattle.bz_ascent.specs.FromBranch.Nodes.{IsOpenLink}
 use Rattle.bz_ascent.proofs.FromBranch.Standing.{node-below}
 use Rattle.bz_stage.specs.Swaps.{IsRoomy, IsRoomyLeaf}
@@ -148,7 +148,7 @@ module _ (r : Below) (s : Scene) (y : Instant) (good : IsScene s) (quiet : IsQui
     ]
 
 -- a split that asks for a swap has its nodes ready
-swapping : (c : Config) (r : Below) (phase : Phase) (s : Scene) (entries : List Entry) → below_facts r phase Waiting s → below_asks c r phase ≡ Some (Swaps_for entries)
+swapping : (c : Config) (r : Below) (phase : BelowPhase) (s : Scene) (entries : List Entry) → below_facts r phase Waiting s → below_asks c r phase ≡ Some (Swaps_for entries)
     → IsSplittingBelow r SPLIT_WORDS SPLIT_LINES s × (WasNamed r.upper r.guard (below_nodes r) s.past × (below_swap c (with_guard r.upper r.guard) r.lower (r.slot 0) ≡ entries))
 swapping c r Swap s entries f e = (f.1.0, (f.1.1, same-entries (below_swap c (with_guard r.upper r.guard) r.lower (r.slot 0)) entries e))
 swapping c r phase s entries f e = absurd (cc)

@@ -27,8 +27,8 @@ use Rattle.bz_ascent.specs.FromBranch.Nodes.{IsOpenLink}
 use Rattle.bz_ascent.proofs.FromBranch.Standing.{node-below}
 use Rattle.bz_alone.specs.FromFork.Duties.{asks_fork, facts_fork, fork_of}
 use Rattle.bz_alone.specs.FromFork.Facts.{Fork, fork_plan, fork_asks, fork_facts, parent_words}
-use Rattle.bz_alone.specs.FromFork.Phase.{Phase}
-use Rattle.bz_alone.specs.FromFork.Phase.TheVariants.{Writing}
+use Rattle.bz_alone.specs.FromFork.ForkPhase.{ForkPhase}
+use Rattle.bz_alone.specs.FromFork.ForkPhase.TheVariants.{Writing}
 use Rattle.bz_writer.specs.Laws.{IsWritten}
 use Rattle.bz_writer.specs.declared.phase.WritePhase.TheVariants.{Swap}
 use Rattle.bz_alone.specs.FromFork.SplitInner.{SplitInner}
@@ -174,7 +174,7 @@ module _ (r : Fork) (s : Scene) (y : Instant) (good : IsScene s) (quiet : IsQuie
     ]
 
 -- a split that asks for a swap has its nodes ready
-swapping : (c : Config) (r : Fork) (phase : Phase) (s : Scene) (entries : List Entry) → fork_facts r phase Waiting s → fork_asks c r phase ≡ Some (Swaps_for entries)
+swapping : (c : Config) (r : Fork) (phase : ForkPhase) (s : Scene) (entries : List Entry) → fork_facts r phase Waiting s → fork_asks c r phase ≡ Some (Swaps_for entries)
     → IsWritten (fork_plan r) s × (inner_swap c r.upper r.middle r.lower (r.slot 0) ≡ entries)
 swapping c r (Writing Swap) s entries f e = (f.1, same-entries (inner_swap c r.upper r.middle r.lower (r.slot 0)) entries e)
 swapping c r phase s entries f e = absurd (cc)

@@ -38,8 +38,8 @@ use Rattle.bz_ascent.specs.FromBranch.Nodes.{IsOpenLink}
 use Rattle.bz_ascent.proofs.FromBranch.Standing.{node-below}
 use Rattle.bz_alone.specs.FromCrown.Duties.{asks_crown, facts_crown, crown_of}
 use Rattle.bz_alone.specs.FromCrown.Facts.{Crown, crown_plan, crown_asks, crown_facts}
-use Rattle.bz_alone.specs.FromCrown.Phase.{Phase}
-use Rattle.bz_alone.specs.FromCrown.Phase.TheVariants.{Writing}
+use Rattle.bz_alone.specs.FromCrown.CrownPhase.{CrownPhase}
+use Rattle.bz_alone.specs.FromCrown.CrownPhase.TheVariants.{Writing}
 use Rattle.bz_writer.specs.Laws.{IsWritten}
 use Rattle.bz_writer.specs.declared.phase.WritePhase.TheVariants.{Swap}
 use Rattle.bz_alone.specs.FromCrown.SplitInnerRoot.{SplitInnerRoot}
@@ -174,7 +174,7 @@ module _ (r : Crown) (s : Scene) (y : Instant) (good : IsScene s) (quiet : IsQui
         (right-few c.nodes r.read (r.image 1) (r.image 2) f.ready.sep f.ready.planned.node.level f.ready.planned.node.low f.ready.planned.node.high f.ready.planned.node.node f.ready.planned.many f.ready.parts)
 
 -- a split that asks for a swap has its nodes ready
-swapping : (c : Config) (r : Crown) (phase : Phase) (s : Scene) (entries : List Entry) → crown_facts r phase Waiting s → crown_asks c r phase ≡ Some (Swaps_for entries)
+swapping : (c : Config) (r : Crown) (phase : CrownPhase) (s : Scene) (entries : List Entry) → crown_facts r phase Waiting s → crown_asks c r phase ≡ Some (Swaps_for entries)
     → IsWritten (crown_plan r) s × (below_swap c r.upper r.lower (r.slot 0) ≡ entries)
 swapping c r (Writing Swap) s entries f e = (f.1, same-entries (below_swap c r.upper r.lower (r.slot 0)) entries e)
 swapping c r phase s entries f e = absurd (cc)

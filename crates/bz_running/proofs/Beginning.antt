@@ -10,8 +10,8 @@ use Rattle.bz_writer.specs.declared.phase.WritePhase.{WritePhase}
 use Rattle.bz_writer.specs.declared.phase.WritePhase.TheVariants as write
 use Rattle.bz_crown.specs.Duties.{crown_of, asks_crown, end_crown, needs_crown}
 use Rattle.bz_crown.specs.Facts.{Crown, crown_asks, crown_needs}
-use Rattle.bz_crown.specs.declared.phase.Phase.{Phase as CrownPhase}
-use Rattle.bz_crown.specs.declared.phase.Phase.TheVariants as crown
+use Rattle.bz_crown.specs.declared.phase.CrownPhase.{CrownPhase}
+use Rattle.bz_crown.specs.declared.phase.CrownPhase.TheVariants as crown
 use Rattle.bz_crown.specs.declared.split_inner_root.SplitInnerRoot.{SplitInnerRoot}
 use Rattle.bz_descend.specs.SeekDuties as seek
 use Rattle.bz_descend.specs.SeekFacts.{seek_end}
@@ -20,17 +20,17 @@ use Rattle.bz_descend.specs.declared.sight.Way.{Way}
 use Rattle.bz_descend.specs.declared.sight.Way.TheVariants as way
 use Rattle.bz_fork.specs.Duties.{fork_of, asks_fork, end_fork, needs_fork}
 use Rattle.bz_fork.specs.Facts.{Fork, fork_asks, fork_needs}
-use Rattle.bz_fork.specs.declared.phase.Phase.{Phase as ForkPhase}
-use Rattle.bz_fork.specs.declared.phase.Phase.TheVariants as fork
+use Rattle.bz_fork.specs.declared.phase.ForkPhase.{ForkPhase}
+use Rattle.bz_fork.specs.declared.phase.ForkPhase.TheVariants as fork
 use Rattle.bz_fork.specs.declared.split_inner.SplitInner.{SplitInner}
 use Rattle.bz_freeze.specs.Facts.{freeze_end}
-use Rattle.bz_freeze.specs.declared.phase.Phase.{Phase as FreezePhase}
-use Rattle.bz_freeze.specs.declared.phase.Phase.TheVariants as freeze
+use Rattle.bz_freeze.specs.declared.phase.FreezePhase.{FreezePhase}
+use Rattle.bz_freeze.specs.declared.phase.FreezePhase.TheVariants as freeze
 use Rattle.bz_layout.specs.declared.config.Config.{Config}
 use Rattle.bz_leaf.specs.Duties as leaf
 use Rattle.bz_leaf.specs.Facts.{leaf_end}
-use Rattle.bz_leaf.specs.declared.phase.Phase.{Phase as LeafPhase}
-use Rattle.bz_leaf.specs.declared.phase.Phase.TheVariants as leaf_phase
+use Rattle.bz_leaf.specs.declared.phase.LeafPhase.{LeafPhase}
+use Rattle.bz_leaf.specs.declared.phase.LeafPhase.TheVariants as leaf_phase
 use Rattle.bz_leaf.specs.declared.read_leaf.ReadLeaf.{ReadLeaf}
 use Rattle.bz_merge.specs.Duties as merge
 use Rattle.bz_merge.specs.Facts.{merge_asks, merge_needs}
@@ -38,8 +38,8 @@ use Rattle.bz_merge.specs.FromSplit.Duties as split
 use Rattle.bz_merge.specs.FromSplit.SplitRoot.{SplitRoot}
 use Rattle.bz_merge.specs.Plans.{Merging as Plan}
 use Rattle.bz_merge.specs.declared.merge.Merge.{Merge}
-use Rattle.bz_merge.specs.declared.phase.Phase.{Phase as MergePhase}
-use Rattle.bz_merge.specs.declared.phase.Phase.TheVariants as merge_phase
+use Rattle.bz_merge.specs.declared.phase.MergePhase.{MergePhase}
+use Rattle.bz_merge.specs.declared.phase.MergePhase.TheVariants as merge_phase
 use Rattle.bz_task.specs.Requests.{Hears, EndsAtOnce}
 use Rattle.bz_task.specs.declared.path.Path.{Path}
 use Rattle.bz_task.specs.declared.todo.Outcome.{Outcome}

@@ -8,8 +8,8 @@ use Rattle.bz_descend.specs.declared.sight.Way.TheVariants as way
 use Rattle.bz_find.specs.Duties as find
 use Rattle.bz_find.specs.Phases.{find_asks, reads_of}
 use Rattle.bz_find.specs.declared.find.Find.{Find}
-use Rattle.bz_find.specs.declared.phase.Phase.{Phase}
-use Rattle.bz_find.specs.declared.phase.Phase.TheVariants as phase
+use Rattle.bz_find.specs.declared.phase.FindPhase.{FindPhase}
+use Rattle.bz_find.specs.declared.phase.FindPhase.TheVariants as phase
 use Rattle.bz_layout.specs.declared.config.Config.{Config}
 use Rattle.std.specs.Prelude.{Option}
 use Rattle.bz_task.specs.Requests.{steps_in}
@@ -61,7 +61,7 @@ pub seek-counts : (t u : Seek) (todo : Todo) → seek.left_of u + steps_in (seek
 seek-counts t u todo near asks = omega (arith, near, some-steps (seek.asks_of u), seek-asks u.config u.phase todo asks, seek-few t.phase)
 
 -- so does one of a look-up in a leaf
-find-asks : (t : Find) (p : Phase) (todo : Todo) → find_asks t p ≡ Some todo → reads_in todo ≡ reads_of p
+find-asks : (t : Find) (p : FindPhase) (todo : Todo) → find_asks t p ≡ Some todo → reads_in todo ≡ reads_of p
 find-asks t phase.Fresh todo e = absurd (cc)
 find-asks t phase.Status todo e = read-counts _ todo e
 find-asks t phase.Header todo e = read-counts _ todo e
@@ -72,7 +72,7 @@ find-asks t (phase.Guard at) todo e = read-counts _ todo e
 find-asks t (phase.Viewed at) todo e = end-counts todo e
 find-asks t phase.Changed todo e = end-counts todo e
 
-find-few : (p : Phase) → reads_of p ≤ 1
+find-few : (p : FindPhase) → reads_of p ≤ 1
 find-few phase.Fresh = omega arith
 find-few phase.Status = omega arith
 find-few phase.Header = omega arith

@@ -1,8 +1,8 @@
 -- A change that goes on was found to have room, and its last swap is the one that makes it.
 use Rattle.std.proofs.Common.{◌≡◌, ◌≢◌, ◌≤◌, ℕ, true, false, List, Some, arith, inl, inr, refl}
 use Rattle.bz_insert.specs.Facts.{insert_asks, insert_facts, insert_publishes, insert_swaps}
-use Rattle.bz_insert.specs.declared.phase.Phase.{Phase}
-use Rattle.bz_insert.specs.declared.phase.Phase.TheVariants.{Fresh, Reserve, Store, Flush, Publish}
+use Rattle.bz_insert.specs.declared.phase.InsertPhase.{InsertPhase}
+use Rattle.bz_insert.specs.declared.phase.InsertPhase.TheVariants.{Fresh, Reserve, Store, Flush, Publish}
 use Rattle.bz_layout.specs.declared.config.Config.{Config}
 use Rattle.bz_mutate.specs.DeleteFacts.{delete_asks, delete_facts, delete_publishes}
 use Rattle.bz_mutate.specs.UpdateFacts.{update_asks, update_facts, update_publishes, update_swaps}
@@ -24,7 +24,7 @@ use Rattle.bz_running.specs.declared.running.AnyTask.{AnyTask}
 use Rattle.bz_running.specs.declared.running.AnyTask.TheVariants.{Inserting, Updating, Deleting}
 
 -- the swap that a change asks for where no other is left
-last-of-insert : (c : Config) (r : NewRecord) (phase : Phase) (es : List Entry) → insert_swaps phase ≤ 1 → insert_asks c r phase ≡ Some (Swap es) → insert_publishes phase ≡ true
+last-of-insert : (c : Config) (r : NewRecord) (phase : InsertPhase) (es : List Entry) → insert_swaps phase ≤ 1 → insert_asks c r phase ≡ Some (Swap es) → insert_publishes phase ≡ true
 last-of-insert c r Publish es few a = refl
 last-of-insert c r Reserve es few a = absurd (omega (arith, few))
 last-of-insert c r phase es few a = absurd (cc)
@@ -49,7 +49,7 @@ end-told : (todo : Todo) → Some Finish ≡ Some todo → todo ≢ Finish → �
 end-told todo a n = n (cc)
 
 -- what a change knows while it goes on, of the leaf as it was viewed
-insert-has-room : (c : Config) (r : NewRecord) (phase : Phase) (stage : Stage) (s : Scene) (todo : Todo) → insert_asks c r phase ≡ Some todo → todo ≢ Finish → insert_facts r phase stage s → HasRoom r.status (size_of r)
+insert-has-room : (c : Config) (r : NewRecord) (phase : InsertPhase) (stage : Stage) (s : Scene) (todo : Todo) → insert_asks c r phase ≡ Some todo → todo ≢ Finish → insert_facts r phase stage s → HasRoom r.status (size_of r)
 insert-has-room c r Fresh stage s todo a n f = absurd (cc)
 insert-has-room c r Reserve Waiting s todo a n f = f.1.room
 insert-has-room c r Reserve Took s todo a n f = f.1.fits.room

@@ -5,8 +5,8 @@ use Rattle.bz_merge.specs.Duties as merge
 use Rattle.bz_merge.specs.Facts.{merge_end}
 use Rattle.bz_merge.specs.Plans.{Merging as Plan}
 use Rattle.bz_merge.specs.declared.merge.Merge.{Merge}
-use Rattle.bz_merge.specs.declared.phase.Phase.{Phase}
-use Rattle.bz_merge.specs.declared.phase.Phase.TheVariants.{FreezeBeside, Guard, Store, Flush, Swap, Done, NoNeighbour}
+use Rattle.bz_merge.specs.declared.phase.MergePhase.{MergePhase}
+use Rattle.bz_merge.specs.declared.phase.MergePhase.TheVariants.{FreezeBeside, Guard, Store, Flush, Swap, Done, NoNeighbour}
 use Rattle.bz_task.specs.Requests.{Hears, swaps_in, effects_in}
 use Rattle.bz_task.specs.declared.todo.Outcome.TheVariants.{NeedsRoom}
 use Rattle.bz_task.specs.declared.todo.Seen.{Seen}
@@ -28,15 +28,15 @@ no-merge k other is = let e = sym other ∙ ap merges is in cc
 pub no-change : false ≡ true → ⊥
 no-change e = cc
 
-all-left : (p : Phase) → merge_end p ≡ Some NeedsRoom → merge_swaps p ≡ 3
+all-left : (p : MergePhase) → merge_end p ≡ Some NeedsRoom → merge_swaps p ≡ 3
 all-left NoNeighbour e = refl
 all-left p e = absurd (cc)
 
-few-left : (p : Phase) → merge_swaps p ≤ 3
+few-left : (p : MergePhase) → merge_swaps p ≤ 3
 few-left Done = omega arith
 few-left p = omega arith
 
-none-made : (r : Plan) (p : Phase) → merge_swaps p ≡ 3 → merge_made r p ≡ 0
+none-made : (r : Plan) (p : MergePhase) → merge_swaps p ≡ 3 → merge_made r p ≡ 0
 none-made r FreezeBeside e = absurd (omega (arith, e))
 none-made r Guard e = absurd (omega (arith, e))
 none-made r (Store j) e = absurd (omega (arith, e))

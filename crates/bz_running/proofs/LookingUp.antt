@@ -9,8 +9,8 @@ use Rattle.bz_find.specs.Duties as find
 use Rattle.bz_find.specs.Facts.{find_reads}
 use Rattle.bz_find.specs.Phases.{find_asks, find_end}
 use Rattle.bz_find.specs.declared.find.Find.{Find}
-use Rattle.bz_find.specs.declared.phase.Phase.{Phase}
-use Rattle.bz_find.specs.declared.phase.Phase.TheVariants as phase
+use Rattle.bz_find.specs.declared.phase.FindPhase.{FindPhase}
+use Rattle.bz_find.specs.declared.phase.FindPhase.TheVariants as phase
 use Rattle.bz_layout.specs.declared.config.Config.{Config}
 use Rattle.bz_task.specs.Instant.{durable}
 use Rattle.bz_task.specs.Scene.{Scene, Waiting}
@@ -71,7 +71,7 @@ seeks-briefly t few = record {
   found = λ view s f e. absurd (seek-ends NoKey t.path t.phase (outcome.Key view) e (λ v q. cc) (λ v q. cc) view refl);
 }
 
-find-asks : (t : Find) (p : Phase) (todo : Todo) → find_asks t p ≡ Some todo → IsReadOrEnd todo
+find-asks : (t : Find) (p : FindPhase) (todo : Todo) → find_asks t p ≡ Some todo → IsReadOrEnd todo
 find-asks t phase.Fresh todo e = absurd (cc)
 find-asks t phase.Status todo e = a-read _ todo e
 find-asks t phase.Header todo e = a-read _ todo e
@@ -83,7 +83,7 @@ find-asks t (phase.Viewed at) todo e = an-end todo e
 find-asks t phase.Changed todo e = an-end todo e
 
 -- a look-up in a leaf ends with a view of its key or is to be begun again
-find-ends : (P : Outcome → Type 0) (t : Find) (p : Phase) (o : Outcome) → find_end t p ≡ Some o → ((view : KeyView) → P (outcome.Key view)) → P outcome.Restart → P o
+find-ends : (P : Outcome → Type 0) (t : Find) (p : FindPhase) (o : Outcome) → find_end t p ≡ Some o → ((view : KeyView) → P (outcome.Key view)) → P outcome.Restart → P o
 find-ends P t phase.Fresh o e a b = absurd (cc)
 find-ends P t phase.Status o e a b = absurd (cc)
 find-ends P t phase.Header o e a b = absurd (cc)

@@ -3,8 +3,8 @@ use Rattle.std.proofs.Common.{◌≡◌, ◌+◌, ◌≤◌, true, Some, arith, 
 use Rattle.bz_consol.specs.Duties as consol
 use Rattle.bz_consol.specs.declared.consolidate.Consolidate.{Consolidate}
 use Rattle.bz_insert.specs.Facts.{insert_made, insert_publishes}
-use Rattle.bz_insert.specs.declared.phase.Phase.{Phase}
-use Rattle.bz_insert.specs.declared.phase.Phase.TheVariants.{Publish}
+use Rattle.bz_insert.specs.declared.phase.InsertPhase.{InsertPhase}
+use Rattle.bz_insert.specs.declared.phase.InsertPhase.TheVariants.{Publish}
 use Rattle.bz_layout.specs.declared.thresholds.TheConstants.{CONSOLIDATION_SLOTS, MERGE_SLOTS, SPLIT_SLOTS}
 use Rattle.bz_merge.specs.Duties as merge
 use Rattle.bz_merge.specs.declared.merge.Merge.{Merge}
@@ -60,7 +60,7 @@ wants-few (SplittingInnerRoot t a) = omega arith
 wants-few (Merging t) = omega arith
 
 -- the swap that makes a change is the last one of those that the change takes
-by-insert : (phase : Phase) → insert_publishes phase ≡ true → insert_made phase + 1 ≡ INSERT_SWAPS
+by-insert : (phase : InsertPhase) → insert_publishes phase ≡ true → insert_made phase + 1 ≡ INSERT_SWAPS
 by-insert Publish e = refl
 by-insert phase e = absurd (cc)
 

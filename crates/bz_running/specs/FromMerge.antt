@@ -8,4 +8,4 @@ pub use Rattle.bz_merge.specs.Plans
 pub use Rattle.bz_merge.specs.Siblings
 pub use Rattle.bz_merge.specs.Thawed
 pub use Rattle.bz_merge.specs.declared.merge.Merge
-pub use Rattle.bz_merge.specs.declared.phase.Phase
+pub use Rattle.bz_merge.specs.declared.phase.MergePhase

@@ -8,7 +8,7 @@ ghost use Rattle.bz_layout.specs.declared.thresholds.TheConstants.{CONSOLIDATION
 ghost use Rattle.bz_descend.specs.SeekFacts.{seek_reads};
 ghost use Rattle.bz_find.specs.Facts.{find_acts};
 ghost use Rattle.bz_freeze.specs.Facts.{freeze_left};
-ghost use Rattle.bz_freeze.specs.declared.phase.Phase.TheVariants.{Fresh as FreshFreeze};
+ghost use Rattle.bz_freeze.specs.declared.phase.FreezePhase.TheVariants.{Fresh as FreshFreeze};
 ghost use Rattle.bz_insert.specs.Facts.{insert_acts};
 ghost use Rattle.bz_merge.specs.Facts.{merge_acts};
 ghost use Rattle.bz_merge.specs.FromSplit.Facts.{split_acts};

@@ -15,8 +15,8 @@ use Rattle.bz_sweep.specs.Duties.{Stage, Asked, Made, knows_before, knows_after,
 use Rattle.bz_sweep.specs.Memory.{Memory, Copies}
 use Rattle.bz_sweep.specs.Places.{IsPlaced, IsFalling, IsCounted, targets_from, all_targets, pointers_in, left_in, sweep_acts}
 use Rattle.bz_sweep.specs.Words.{IsShared, IsOfSwap, IsSwept}
-use Rattle.bz_sweep.specs.declared.phase.Phase.{Phase}
-use Rattle.bz_sweep.specs.declared.phase.Phase.TheVariants.{Fresh, Word, Status, Target, Value, Resolve, Flush, SwapStatus, Free, FlushFree, Done}
+use Rattle.bz_sweep.specs.declared.phase.SweepPhase.{SweepPhase}
+use Rattle.bz_sweep.specs.declared.phase.SweepPhase.TheVariants.{Fresh, Word, Status, Target, Value, Resolve, Flush, SwapStatus, Free, FlushFree, Done}
 
 -- whether a target is counted
 one-falls : (a b t : ℕ) → a ≤ b → (if nat_le b t then 1 else 0) ≤ (if nat_le a t then 1 else 0)
@@ -91,7 +91,7 @@ pointer-counts r v m u a s shared h k =
     omega (arith, all-here m.durable a s p.entry r.swaps p.has.begun.number (omega (arith, p.has.entry, p.has.begun.few)) p.has.target)
 
 -- where each word that comes is counted as one
-pub each-counts : (r : Area) (p : Phase) → IsPlaced r p → IsCounted (λ a. size_of r - a) p
+pub each-counts : (r : Area) (p : SweepPhase) → IsPlaced r p → IsCounted (λ a. size_of r - a) p
 each-counts r (Target p q i) at = let l = at.place.0.shared.within in omega (arith, l)
 each-counts r Fresh at = tt
 each-counts r (Word p) at = tt
@@ -104,7 +104,7 @@ each-counts r (Free s) at = tt
 each-counts r (FlushFree s) at = tt
 each-counts r Done at = tt
 
-pub is-counted : (r : Area) (v : ℕ → ℕ) (m : Memory) (p : Phase) → IsPlaced r p → knows_after r v m p → IsCounted (pointers_in r m.durable) p
+pub is-counted : (r : Area) (v : ℕ → ℕ) (m : Memory) (p : SweepPhase) → IsPlaced r p → knows_after r v m p → IsCounted (pointers_in r m.durable) p
 is-counted r v m (Target p q i) at k = pointer-counts r v m p.unflushed p.at q.swap at.place.0.shared k.0 k.1.pointer
 is-counted r v m Fresh at k = tt
 is-counted r v m (Word p) at k = tt
@@ -129,14 +129,14 @@ stays r m n f same h a = same-all m.durable n.durable a r.swaps (λ s i l k. h.d
     chosen true e = e
     chosen false e = refl
 
-pub stored-left : (r : Area) (m n : Memory) (p : Phase) → ((b : ℕ) → n.durable b ≡ m.durable b) → left_in r (pointers_in r n.durable) p ≡ left_in r (pointers_in r m.durable) p
+pub stored-left : (r : Area) (m n : Memory) (p : SweepPhase) → ((b : ℕ) → n.durable b ≡ m.durable b) → left_in r (pointers_in r n.durable) p ≡ left_in r (pointers_in r m.durable) p
 stored-left r m n p same = ap (λ (pointers : ℕ → ℕ). left_in r pointers p) (λ i a. same-all m.durable n.durable a r.swaps (λ s j l k. same _) i)
 
 -- so what is left stays
-by-pointers : (r : Area) (x y : ℕ → ℕ) (p : Phase) → ((a : ℕ) → y a ≡ x a) → left_in r y p ≡ left_in r x p
+by-pointers : (r : Area) (x y : ℕ → ℕ) (p : SweepPhase) → ((a : ℕ) → y a ≡ x a) → left_in r y p ≡ left_in r x p
 by-pointers r x y p same = ap (λ (pointers : ℕ → ℕ). left_in r pointers p) (λ i a. same a i)
 
-left-before : (r : Area) (v : ℕ → ℕ) (m n : Memory) (f : ℕ → Bool) (p : Phase) → knows_before r v m p → Copies m n f → left_in r (pointers_in r n.durable) p ≡ left_in r (pointers_in r m.durable) p
+left-before : (r : Area) (v : ℕ → ℕ) (m n : Memory) (f : ℕ → Bool) (p : SweepPhase) → knows_before r v m p → Copies m n f → left_in r (pointers_in r n.durable) p ≡ left_in r (pointers_in r m.durable) p
 left-before r v m n f Fresh k h = by-pointers r (pointers_in r m.durable) (pointers_in r n.durable) Fresh (stays r m n f (λ a s. k.same a s.within) h)
 left-before r v m n f (Word p) k h = by-pointers r (pointers_in r m.durable) (pointers_in r n.durable) (Word p) (stays r m n f k.swaps h)
 left-before r v m n f (Status p s) k h = by-pointers r (pointers_in r m.durable) (pointers_in r n.durable) (Status p s) (stays r m n f k.0.swaps h)
@@ -149,7 +149,7 @@ left-before r v m n f (Free s) k h = refl
 left-before r v m n f (FlushFree s) k h = refl
 left-before r v m n f Done k h = refl
 
-left-after : (r : Area) (v : ℕ → ℕ) (m n : Memory) (f : ℕ → Bool) (p : Phase) → knows_after r v m p → Copies m n f → left_in r (pointers_in r n.durable) p ≡ left_in r (pointers_in r m.durable) p
+left-after : (r : Area) (v : ℕ → ℕ) (m n : Memory) (f : ℕ → Bool) (p : SweepPhase) → knows_after r v m p → Copies m n f → left_in r (pointers_in r n.durable) p ≡ left_in r (pointers_in r m.durable) p
 left-after r v m n f (Resolve p x) k h = by-pointers r (pointers_in r m.durable) (pointers_in r n.durable) (Resolve p x) (stays r m n f k.swaps h)
 left-after r v m n f (Flush p) k h = by-pointers r (pointers_in r m.durable) (pointers_in r n.durable) (Flush p) (stays r m n f k.swaps h)
 left-after r v m n f Fresh k h = left-before r v m n f Fresh k h
@@ -162,6 +162,6 @@ left-after r v m n f (Free s) k h = refl
 left-after r v m n f (FlushFree s) k h = refl
 left-after r v m n f Done k h = refl
 
-pub copied-left : (r : Area) (v : ℕ → ℕ) (m n : Memory) (f : ℕ → Bool) (stage : Stage) (p : Phase) → knows_in r v m stage p → Copies m n f → left_in r (pointers_in r n.durable) p ≡ left_in r (pointers_in r m.durable) p
+pub copied-left : (r : Area) (v : ℕ → ℕ) (m n : Memory) (f : ℕ → Bool) (stage : Stage) (p : SweepPhase) → knows_in r v m stage p → Copies m n f → left_in r (pointers_in r n.durable) p ≡ left_in r (pointers_in r m.durable) p
 copied-left r v m n f Asked p k h = left-before r v m n f p k h
 copied-left r v m n f Made p k h = left-after r v m n f p k h

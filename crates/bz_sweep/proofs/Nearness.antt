@@ -14,8 +14,8 @@ use Rattle.bz_sweep.specs.Knowledge.{IsNear, ResolvesSome}
 use Rattle.bz_sweep.specs.Memory.{Memory, Copies}
 use Rattle.bz_sweep.specs.Places.{IsPlaced}
 use Rattle.bz_sweep.specs.Words.{IsImage, IsPoweredOn, IsSwept, IsFreeing}
-use Rattle.bz_sweep.specs.declared.phase.Phase.{Phase}
-use Rattle.bz_sweep.specs.declared.phase.Phase.TheVariants.{Fresh, Word, Status, Target, Value, Resolve, Flush, SwapStatus, Free, FlushFree, Done}
+use Rattle.bz_sweep.specs.declared.phase.SweepPhase.{SweepPhase}
+use Rattle.bz_sweep.specs.declared.phase.SweepPhase.TheVariants.{Fresh, Word, Status, Target, Value, Resolve, Flush, SwapStatus, Free, FlushFree, Done}
 
 powered : (r : Area) (v : ℕ → ℕ) (m : Memory) → IsPoweredOn r v m → IsNear r v m
 powered r v m h = record { shared = λ a s. inl (h.same a s.within); swaps = λ a s. inl (h.same a s.within) }
@@ -29,7 +29,7 @@ swept r v m u p h = record {
 freeing : (r : Area) (v : ℕ → ℕ) (m : Memory) (u n : ℕ) → IsFreeing r v m u n → IsNear r v m
 freeing r v m u n h = record { shared = λ a s. inr (h.cached a s); swaps = h.swaps }
 
-near-before : (r : Area) (v : ℕ → ℕ) (m : Memory) (p : Phase) → knows_before r v m p → IsNear r v m
+near-before : (r : Area) (v : ℕ → ℕ) (m : Memory) (p : SweepPhase) → knows_before r v m p → IsNear r v m
 near-before r v m Fresh k = powered r v m k
 near-before r v m (Word p) k = swept r v m _ _ k
 near-before r v m (Status p s) k = swept r v m _ _ k.0
@@ -42,7 +42,7 @@ near-before r v m (Free s) k = freeing r v m _ _ k.0
 near-before r v m (FlushFree s) k = freeing r v m _ _ k
 near-before r v m Done k = freeing r v m _ _ k
 
-near-after : (r : Area) (v : ℕ → ℕ) (m : Memory) (p : Phase) → knows_after r v m p → IsNear r v m
+near-after : (r : Area) (v : ℕ → ℕ) (m : Memory) (p : SweepPhase) → knows_after r v m p → IsNear r v m
 near-after r v m Fresh k = powered r v m k
 near-after r v m (Word p) k = swept r v m _ _ k
 near-after r v m (Status p s) k = swept r v m _ _ k.0
@@ -55,7 +55,7 @@ near-after r v m (Free s) k = freeing r v m _ _ k
 near-after r v m (FlushFree s) k = freeing r v m _ _ k
 near-after r v m Done k = freeing r v m _ _ k
 
-pub near : (r : Area) (v : ℕ → ℕ) (m : Memory) (stage : Stage) (p : Phase) → knows_in r v m stage p → IsNear r v m
+pub near : (r : Area) (v : ℕ → ℕ) (m : Memory) (stage : Stage) (p : SweepPhase) → knows_in r v m stage p → IsNear r v m
 near r v m Asked p k = near-before r v m p k
 near r v m Made p k = near-after r v m p k
 
@@ -81,7 +81,7 @@ chosen : (b : Bool) (x y z : ℕ) → z ≡ (if b then x else y) → (z ≡ y) �
 chosen true x y z e = inr e
 chosen false x y z e = inl e
 
-pub copies-resolve : (r : Area) (v : ℕ → ℕ) (m n : Memory) (f : ℕ → Bool) (stage : Stage) (p : Phase) → IsPlaced r p → knows_in r v m stage p → Copies m n f → ResolvesSome r v m.durable n.durable
+pub copies-resolve : (r : Area) (v : ℕ → ℕ) (m n : Memory) (f : ℕ → Bool) (stage : Stage) (p : SweepPhase) → IsPlaced r p → knows_in r v m stage p → Copies m n f → ResolvesSome r v m.durable n.durable
 copies-resolve r v m n f stage p at k h = record {
   before = image r v m stage p k;
   after = image r v n stage p (stable r v m n f stage p at h k);

@@ -21,11 +21,11 @@ use Rattle.bz_sweep.specs.Places.{IsPlaced, IsPlace}
 use Rattle.bz_sweep.specs.Words.{IsShared, IsOfSwap, IsImage, IsPoweredOn, IsSwept, IsRecovered}
 use Rattle.bz_sweep.specs.declared.ask.Ask.{Ask}
 use Rattle.bz_sweep.specs.declared.ask.Ask.TheVariants.{Load, Store, Flush as FlushLine, Finish}
-use Rattle.bz_sweep.specs.declared.phase.Phase.{Phase}
-use Rattle.bz_sweep.specs.declared.phase.Phase.TheVariants.{Fresh, Word, Status, Target, Value, Resolve, Flush, SwapStatus, Free, FlushFree, Done}
+use Rattle.bz_sweep.specs.declared.phase.SweepPhase.{SweepPhase}
+use Rattle.bz_sweep.specs.declared.phase.SweepPhase.TheVariants.{Fresh, Word, Status, Target, Value, Resolve, Flush, SwapStatus, Free, FlushFree, Done}
 
 -- the durable words resolve to the same values in every phase
-pub image-before : (r : Area) (v : ℕ → ℕ) (m : Memory) (p : Phase) → knows_before r v m p → IsImage r v m.durable
+pub image-before : (r : Area) (v : ℕ → ℕ) (m : Memory) (p : SweepPhase) → knows_before r v m p → IsImage r v m.durable
 image-before r v m Fresh k = k.image
 image-before r v m (Word p) k = k.image
 image-before r v m (Status p s) k = k.0.image
@@ -38,7 +38,7 @@ image-before r v m (Free s) k = k.0.image
 image-before r v m (FlushFree s) k = k.image
 image-before r v m Done k = k.image
 
-image-after : (r : Area) (v : ℕ → ℕ) (m : Memory) (p : Phase) → knows_after r v m p → IsImage r v m.durable
+image-after : (r : Area) (v : ℕ → ℕ) (m : Memory) (p : SweepPhase) → knows_after r v m p → IsImage r v m.durable
 image-after r v m Fresh k = k.image
 image-after r v m (Word p) k = k.image
 image-after r v m (Status p s) k = k.0.image
@@ -51,12 +51,12 @@ image-after r v m (Free s) k = k.image
 image-after r v m (FlushFree s) k = k.image
 image-after r v m Done k = k.image
 
-pub image : (r : Area) (v : ℕ → ℕ) (m : Memory) (stage : Stage) (p : Phase) → knows_in r v m stage p → IsImage r v m.durable
+pub image : (r : Area) (v : ℕ → ℕ) (m : Memory) (stage : Stage) (p : SweepPhase) → knows_in r v m stage p → IsImage r v m.durable
 image r v m Asked p k = image-before r v m p k
 image r v m Made p k = image-after r v m p k
 
 -- a load changes nothing
-pub loaded : (r : Area) (v : ℕ → ℕ) (m : Memory) (a : ℕ) (p : Phase) → asks_in p ≡ Some (Load a) → knows_before r v m p → knows_after r v m p
+pub loaded : (r : Area) (v : ℕ → ℕ) (m : Memory) (a : ℕ) (p : SweepPhase) → asks_in p ≡ Some (Load a) → knows_before r v m p → knows_after r v m p
 loaded r v m a Fresh e k = k
 loaded r v m a (Word p) e k = k
 loaded r v m a (Status p s) e k = k
@@ -70,7 +70,7 @@ loaded r v m a (FlushFree s) e k = absurd (cc)
 loaded r v m a Done e k = k
 
 -- a sweep that has ended
-pub ends : (r : Area) (v : ℕ → ℕ) (m : Memory) (stage : Stage) (p : Phase) → knows_in r v m stage p → asks_in p ≡ Some Finish → IsRecovered r v m
+pub ends : (r : Area) (v : ℕ → ℕ) (m : Memory) (stage : Stage) (p : SweepPhase) → knows_in r v m stage p → asks_in p ≡ Some Finish → IsRecovered r v m
 ends r v m Asked Done k e = freeing.ended r v m k
 ends r v m Made Done k e = freeing.ended r v m k
 ends r v m stage Fresh k e = absurd (cc)
@@ -85,7 +85,7 @@ ends r v m stage (Free s) k e = absurd (cc)
 ends r v m stage (FlushFree s) k e = absurd (cc)
 
 -- to whom nothing has to be told
-pub ended : (r : Area) (v : ℕ → ℕ) (m : Memory) (stage other : Stage) (p : Phase) → asks_in p ≡ Some Finish → knows_in r v m stage p → knows_in r v m other p
+pub ended : (r : Area) (v : ℕ → ℕ) (m : Memory) (stage other : Stage) (p : SweepPhase) → asks_in p ≡ Some Finish → knows_in r v m stage p → knows_in r v m other p
 ended r v m Asked Asked Done e k = k
 ended r v m Asked Made Done e k = k
 ended r v m Made Asked Done e k = k
@@ -137,7 +137,7 @@ unresolved r v m n f u a shared h k e = subst (λ x. 2 ^ 61 ≤ x) (sym (alike (
 pointer : (r : Area) (v : ℕ → ℕ) (m n : Memory) (f : ℕ → Bool) (u a s : ℕ) → IsShared r a → IsSwept r v m u a → Copies m n f → kind (m.durable a) ≡ Swap s → kind (n.durable a) ≡ Swap s
 pointer r v m n f u a s shared h k e = ap kind (alike (f a) _ _ _ (k.durable a) (h.ahead a shared (omega arith))) ∙ e
 
-stable-before : (r : Area) (v : ℕ → ℕ) (m n : Memory) (f : ℕ → Bool) (p : Phase) → IsPlace r p → Copies m n f → knows_before r v m p → knows_before r v n p
+stable-before : (r : Area) (v : ℕ → ℕ) (m n : Memory) (f : ℕ → Bool) (p : SweepPhase) → IsPlace r p → Copies m n f → knows_before r v m p → knows_before r v n p
 stable-before r v m n f Fresh at k h = powered-stays r v m n f h k
 stable-before r v m n f (Word p) at k h = sweep.copied r v m n f _ _ h k
 stable-before r v m n f (Status p s) at k h = (sweep.copied r v m n f _ _ h.0 k, pointer r v m n f _ _ s at.shared h.0 k h.1)
@@ -150,7 +150,7 @@ stable-before r v m n f (Free s) at k h = (freeing.copied r v m n f s s (omega a
 stable-before r v m n f (FlushFree s) at k h = freeing.copied r v m n f s (s + 1) (omega arith) h k
 stable-before r v m n f Done at k h = freeing.copied r v m n f r.swaps r.swaps (omega arith) h k
 
-stable-after : (r : Area) (v : ℕ → ℕ) (m n : Memory) (f : ℕ → Bool) (p : Phase) → IsPlace r p → Copies m n f → knows_after r v m p → knows_after r v n p
+stable-after : (r : Area) (v : ℕ → ℕ) (m n : Memory) (f : ℕ → Bool) (p : SweepPhase) → IsPlace r p → Copies m n f → knows_after r v m p → knows_after r v n p
 stable-after r v m n f Fresh at k h = powered-stays r v m n f h k
 stable-after r v m n f (Word p) at k h = sweep.copied r v m n f _ _ h k
 stable-after r v m n f (Status p s) at k h = (sweep.copied r v m n f _ _ h.0 k, pointer r v m n f _ _ s at.shared h.0 k h.1)
@@ -164,12 +164,12 @@ stable-after r v m n f (FlushFree s) at k h = freeing.copied r v m n f (s + 1) (
 stable-after r v m n f Done at k h = freeing.copied r v m n f r.swaps r.swaps (omega arith) h k
 
 -- copies of any words change nothing of what is known
-pub stable : (r : Area) (v : ℕ → ℕ) (m n : Memory) (f : ℕ → Bool) (stage : Stage) (p : Phase) → IsPlaced r p → Copies m n f → knows_in r v m stage p → knows_in r v n stage p
+pub stable : (r : Area) (v : ℕ → ℕ) (m n : Memory) (f : ℕ → Bool) (stage : Stage) (p : SweepPhase) → IsPlaced r p → Copies m n f → knows_in r v m stage p → knows_in r v n stage p
 stable r v m n f Asked p at k h = stable-before r v m n f p at.place k h
 stable r v m n f Made p at k h = stable-after r v m n f p at.place k h
 
 -- its own store
-pub stored : (r : Area) (v : ℕ → ℕ) (m n : Memory) (a x : ℕ) (p : Phase) → IsPlace r p → asks_in p ≡ Some (Store a x) → StoresWord m n a x → knows_before r v m p → knows_after r v n p
+pub stored : (r : Area) (v : ℕ → ℕ) (m n : Memory) (a x : ℕ) (p : SweepPhase) → IsPlace r p → asks_in p ≡ Some (Store a x) → StoresWord m n a x → knows_before r v m p → knows_after r v n p
 stored r v m n a x Fresh at e k h = absurd (cc)
 stored r v m n a x (Word p) at e k h = absurd (cc)
 stored r v m n a x (Status p s) at e k h = absurd (cc)
@@ -189,7 +189,7 @@ stored r v m n a x (FlushFree s) at e k h = absurd (cc)
 stored r v m n a x Done at e k h = absurd (cc)
 
 -- its own flush
-pub flushed : (r : Area) (v : ℕ → ℕ) (m n : Memory) (line : ℕ) (p : Phase) → IsPlace r p → asks_in p ≡ Some (FlushLine line) → Flushes m n line → knows_before r v m p → knows_after r v n p
+pub flushed : (r : Area) (v : ℕ → ℕ) (m n : Memory) (line : ℕ) (p : SweepPhase) → IsPlace r p → asks_in p ≡ Some (FlushLine line) → Flushes m n line → knows_before r v m p → knows_after r v n p
 flushed r v m n line Fresh at e k h = absurd (cc)
 flushed r v m n line (Word p) at e k h = absurd (cc)
 flushed r v m n line (Status p s) at e k h = absurd (cc)
@@ -213,7 +213,7 @@ asked : Area → Option Ask → Type 0
 asked r None = Unit {0}
 asked r (Some ask) = IsAskable r ask
 
-told : (r : Area) (v : ℕ → ℕ) (m : Memory) (p : Phase) → IsPlace r p → knows_before r v m p → asked r (asks_in p)
+told : (r : Area) (v : ℕ → ℕ) (m : Memory) (p : SweepPhase) → IsPlace r p → knows_before r v m p → asked r (asks_in p)
 unfolding asked
 told r v m Fresh at h = tt
 told r v m (Word p) at h = at.shared.within
@@ -228,12 +228,12 @@ told r v m (FlushFree s) at h = line-within (swap_address s) (size_of r) (first-
 told r v m Done at h = tt
 
 -- what is asked for lies in the memory
-pub askable : (r : Area) (v : ℕ → ℕ) (m : Memory) (p : Phase) (ask : Ask) → IsPlace r p → knows_before r v m p → asks_in p ≡ Some ask → IsAskable r ask
+pub askable : (r : Area) (v : ℕ → ℕ) (m : Memory) (p : SweepPhase) (ask : Ask) → IsPlace r p → knows_before r v m p → asks_in p ≡ Some ask → IsAskable r ask
 unfolding asked
 askable r v m p ask at h e = subst (asked r) e (told r v m p at h)
 
 -- what is stored is another word than the one that stands
-pub differs : (r : Area) (v : ℕ → ℕ) (m : Memory) (p : Phase) (a x : ℕ) → IsPlace r p → knows_before r v m p → asks_in p ≡ Some (Store a x) → m.cached a ≢ x
+pub differs : (r : Area) (v : ℕ → ℕ) (m : Memory) (p : SweepPhase) (a x : ℕ) → IsPlace r p → knows_before r v m p → asks_in p ≡ Some (Store a x) → m.cached a ≢ x
 differs r v m Fresh a x at h e = absurd (cc)
 differs r v m (Word p) a x at h e = absurd (cc)
 differs r v m (Status p s) a x at h e = absurd (cc)

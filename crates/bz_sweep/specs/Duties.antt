@@ -14,14 +14,14 @@ use Rattle.bz_sweep.specs.declared.ask.Answer.{Answer}
 use Rattle.bz_sweep.specs.declared.ask.Answer.TheVariants.{Start, Read, Stored, Flushed}
 use Rattle.bz_sweep.specs.declared.ask.Ask.{Ask}
 use Rattle.bz_sweep.specs.declared.ask.Ask.TheVariants.{Load, Store, Flush as FlushLine, Finish}
-use Rattle.bz_sweep.specs.declared.phase.Phase.{Phase}
-use Rattle.bz_sweep.specs.declared.phase.Phase.TheVariants.{Fresh, Word, Status, Target, Value, Resolve, Flush, SwapStatus, Free, FlushFree, Done}
+use Rattle.bz_sweep.specs.declared.phase.SweepPhase.{SweepPhase}
+use Rattle.bz_sweep.specs.declared.phase.SweepPhase.TheVariants.{Fresh, Word, Status, Target, Value, Resolve, Flush, SwapStatus, Free, FlushFree, Done}
 use Rattle.bz_sweep.specs.declared.phase.Pointer.{Pointer}
 use Rattle.bz_sweep.specs.declared.phase.Spot.{Spot}
 use Rattle.bz_sweep.specs.declared.sweep.Sweep.{Sweep}
 
 -- what a phase asks for
-abbrev pub asks_in : Phase → Option Ask
+abbrev pub asks_in : SweepPhase → Option Ask
 asks_in Fresh = None
 asks_in (Word p) = Some (Load p.at)
 asks_in (Status p s) = Some (Load (swap_address s + SWAP_STATUS_AT))
@@ -57,7 +57,7 @@ pub data Stage : Type 0 where
   Made : Stage
 
 -- what a phase knows before its act is made
-abbrev pub knows_before : Area → (ℕ → ℕ) → Memory → Phase → Type 0
+abbrev pub knows_before : Area → (ℕ → ℕ) → Memory → SweepPhase → Type 0
 knows_before r v m Fresh = IsPoweredOn r v m
 knows_before r v m (Word p) = IsSwept r v m p.unflushed p.at
 knows_before r v m (Status p s) = IsSwept r v m p.unflushed p.at × (kind (m.durable p.at) ≡ Swap s)
@@ -71,14 +71,14 @@ knows_before r v m (FlushFree s) = IsFreeing r v m s (s + 1)
 knows_before r v m Done = IsFreeing r v m r.swaps r.swaps
 
 -- and after it: a store or a flush has changed what is known
-abbrev pub knows_after : Area → (ℕ → ℕ) → Memory → Phase → Type 0
+abbrev pub knows_after : Area → (ℕ → ℕ) → Memory → SweepPhase → Type 0
 knows_after r v m (Resolve p x) = IsSwept r v m p.unflushed (p.at + 1)
 knows_after r v m (Flush p) = IsSwept r v m (p.at + 1) (p.at + 1)
 knows_after r v m (Free s) = IsFreeing r v m s (s + 1)
 knows_after r v m (FlushFree s) = IsFreeing r v m (s + 1) (s + 1)
 knows_after r v m p = knows_before r v m p
 
-abbrev pub knows_in : Area → (ℕ → ℕ) → Memory → Stage → Phase → Type 0
+abbrev pub knows_in : Area → (ℕ → ℕ) → Memory → Stage → SweepPhase → Type 0
 knows_in r v m Asked p = knows_before r v m p
 knows_in r v m Made p = knows_after r v m p
 
@@ -99,7 +99,7 @@ tells_in asks answer m = Unit {0}
 abbrev pub changed_at : Spot → Option ℕ
 changed_at p = if nat_lt p.unflushed p.at then Some (line_of p.at) else None
 
-abbrev pub changed_in : Phase → Option ℕ
+abbrev pub changed_in : SweepPhase → Option ℕ
 changed_in Fresh = None
 changed_in (Word p) = changed_at p
 changed_in (Status p s) = changed_at p

@@ -6,8 +6,8 @@ use Rattle.bz_layout.specs.declared.sizes.TheConstants.{LINE_WORDS, SUPERBLOCK_W
 use Rattle.bz_sweep.specs.Areas.{past_swaps, size_of, IsArea, IsBeside}
 use Rattle.bz_sweep.specs.Words.{IsShared}
 use Rattle.bz_sweep.specs.declared.area.Area.{Area}
-use Rattle.bz_sweep.specs.declared.phase.Phase.{Phase}
-use Rattle.bz_sweep.specs.declared.phase.Phase.TheVariants.{Fresh, Word, Status, Target, Value, Resolve, Flush, SwapStatus, Free, FlushFree, Done}
+use Rattle.bz_sweep.specs.declared.phase.SweepPhase.{SweepPhase}
+use Rattle.bz_sweep.specs.declared.phase.SweepPhase.TheVariants.{Fresh, Word, Status, Target, Value, Resolve, Flush, SwapStatus, Free, FlushFree, Done}
 use Rattle.bz_sweep.specs.declared.phase.Spot.{Spot}
 
 -- the address of a word of an entry: 0 is its target, 1 the expected value, 2 the new one
@@ -30,7 +30,7 @@ pub record IsSpot (r : Area) (p : Spot) : Type 0 where
   pub line : line_of p.unflushed ≡ line_of p.at
 
 -- the places that a phase names
-abbrev pub IsPlace : Area → Phase → Type 0
+abbrev pub IsPlace : Area → SweepPhase → Type 0
 IsPlace r Fresh = Unit {0}
 IsPlace r (Word p) = IsSpot r p
 IsPlace r (Status p s) = IsSpot r p
@@ -44,7 +44,7 @@ IsPlace r (FlushFree s) = s < r.swaps
 IsPlace r Done = Unit {0}
 
 -- a phase of a sweep of such a memory
-pub record IsPlaced (r : Area) (p : Phase) : Type 0 where
+pub record IsPlaced (r : Area) (p : SweepPhase) : Type 0 where
   pub area : IsArea r
   pub place : IsPlace r p
 
@@ -76,7 +76,7 @@ swaps_left r s made = SWAP_ACTS * (r.swaps - s) + 1 - made
 
 -- the most acts that a sweep still asks for, where from an address on so many pointers may come. Once the value of a word is
 -- asked for, what was kept for its pointer is spent.
-abbrev pub left_in : Area → (ℕ → ℕ) → Phase → ℕ
+abbrev pub left_in : Area → (ℕ → ℕ) → SweepPhase → ℕ
 left_in r pointers Fresh = left_at r (pointers 0) 0 0 + 1
 left_in r pointers (Word p) = left_at r (pointers p.at) p.at 0
 left_in r pointers (Status p s) = left_at r (pointers p.at) p.at 1
@@ -102,7 +102,7 @@ abbrev pub IsFalling : (ℕ → ℕ) → Type 0
 IsFalling pointers = (a b : ℕ) → a ≤ b → pointers b ≤ pointers a
 
 -- and a pointer is one of them
-abbrev pub IsCounted : (ℕ → ℕ) → Phase → Type 0
+abbrev pub IsCounted : (ℕ → ℕ) → SweepPhase → Type 0
 IsCounted pointers (Target p q i) = pointers (p.at + 1) < pointers p.at
 IsCounted pointers p = Unit {0}
 

@@ -18,7 +18,7 @@ pub(crate) struct Pointer {
 
 /// What is asked for next.
 #[derive(Clone, Copy, Drop)]
-pub(crate) enum Phase {
+pub(crate) enum SweepPhase {
     /// Nothing was asked for yet.
     Fresh,
     /// The word.

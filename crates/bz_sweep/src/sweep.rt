@@ -13,7 +13,7 @@ ghost use Rattle.bz_sweep.specs.declared.ask.Ask.TheVariants.{Load, Store, Flush
 
 use crate::area::Area;
 use crate::ask::{Answer, Ask};
-use crate::phase::{Phase, Pointer, Spot};
+use crate::phase::{Pointer, Spot, SweepPhase};
 use crate::words::{TARGET, address_in_entry, address_of_swap, flushed, found, resolved, sought};
 use bz_layout::{LINE_WORDS, SUPERBLOCK_WORDS, SWAP_STATUS_AT, SWAP_WORDS};
 
@@ -27,7 +27,7 @@ const DIRTY_BIT: u64 = 1 << 63;
 #[derive(Drop)]
 pub struct Sweep {
     area: Area,
-    phase: Phase,
+    phase: SweepPhase,
 }
 
 impl Sweep {
@@ -46,7 +46,7 @@ impl Sweep {
     {
         Sweep {
             area: *area,
-            phase: Phase::Fresh,
+            phase: SweepPhase::Fresh,
         }
     }
 
@@ -55,7 +55,7 @@ impl Sweep {
         ensures { IsTrue result ↔ HasEnded self.now }
     {
         match self.phase {
-            Phase::Done => true,
+            SweepPhase::Done => true,
             _ => false,
         }
     }
@@ -106,11 +106,11 @@ impl Sweep {
     {}
 
     // The phase after what came of the last act.
-    fn after(&self, answer: Answer) -> Phase
+    fn after(&self, answer: Answer) -> SweepPhase
         requires place { IsPlaced self.now.area self.now.phase }
         requires hears { Hears self.now answer }
         ensures place { IsPlaced self.now.area result }
-        ensures begun { result ≢ Phase.Fresh }
+        ensures begun { result ≢ SweepPhase.Fresh }
         ensures first { asks_of self.now ≡ None → asks_in result ≡ Some (Load 0) }
         ensures changed { changed_in result ≡ changed_after (asks_of self.now) answer (changed_in self.now.phase) }
         ensures nearer { (pointers : ℕ → ℕ) → IsFalling pointers → IsCounted pointers self.now.phase → left_in self.now.area pointers result < left_with pointers self.now }
@@ -118,48 +118,48 @@ impl Sweep {
     {
         let area = &self.area;
         match (self.phase, answer) {
-            (Phase::Fresh, _) => Phase::Word(Spot {
+            (SweepPhase::Fresh, _) => SweepPhase::Word(Spot {
                 unflushed: 0,
                 at: 0,
             }),
-            (Phase::Word(spot), Answer::Read(word)) => found(area, spot, word),
-            (Phase::Status(spot, swap), Answer::Read(status)) => {
+            (SweepPhase::Word(spot), Answer::Read(word)) => found(area, spot, word),
+            (SweepPhase::Status(spot, swap), Answer::Read(status)) => {
                 let succeeded = status % DIRTY_BIT == SUCCEEDED;
-                Phase::Target(spot, Pointer { swap, succeeded }, 0)
+                SweepPhase::Target(spot, Pointer { swap, succeeded }, 0)
             }
-            (Phase::Target(spot, pointer, entry), Answer::Read(target)) => {
+            (SweepPhase::Target(spot, pointer, entry), Answer::Read(target)) => {
                 sought(spot, pointer, entry, target)
             }
-            (Phase::Value(spot, _), Answer::Read(value)) => Phase::Resolve(spot, value),
-            (Phase::Resolve(spot, _), Answer::Stored) => resolved(area, spot, true),
-            (Phase::Flush(spot), Answer::Flushed) => flushed(area, spot),
-            (Phase::SwapStatus(swap), Answer::Read(0)) => freed(area, swap),
-            (Phase::SwapStatus(swap), Answer::Read(_)) => Phase::Free(swap),
-            (Phase::Free(swap), Answer::Stored) => Phase::FlushFree(swap),
-            (Phase::FlushFree(swap), Answer::Flushed) => freed(area, swap),
-            _ => Phase::Done,
+            (SweepPhase::Value(spot, _), Answer::Read(value)) => SweepPhase::Resolve(spot, value),
+            (SweepPhase::Resolve(spot, _), Answer::Stored) => resolved(area, spot, true),
+            (SweepPhase::Flush(spot), Answer::Flushed) => flushed(area, spot),
+            (SweepPhase::SwapStatus(swap), Answer::Read(0)) => freed(area, swap),
+            (SweepPhase::SwapStatus(swap), Answer::Read(_)) => SweepPhase::Free(swap),
+            (SweepPhase::Free(swap), Answer::Stored) => SweepPhase::FlushFree(swap),
+            (SweepPhase::FlushFree(swap), Answer::Flushed) => freed(area, swap),
+            _ => SweepPhase::Done,
         }
     }
 
     // What a phase asks for.
     fn asked(&self) -> Ask
         requires place { IsPlaced self.now.area self.now.phase }
-        requires begun { self.now.phase ≢ Phase.Fresh }
+        requires begun { self.now.phase ≢ SweepPhase.Fresh }
         ensures { asks_of self.now ≡ Some result }
     {
         match self.phase {
-            Phase::Fresh | Phase::Done => Ask::Finish,
-            Phase::Word(spot) => Ask::Load(spot.at),
-            Phase::Status(_, swap) => Ask::Load(address_of_swap(swap) + SWAP_STATUS_AT),
-            Phase::Target(_, pointer, entry) => {
+            SweepPhase::Fresh | SweepPhase::Done => Ask::Finish,
+            SweepPhase::Word(spot) => Ask::Load(spot.at),
+            SweepPhase::Status(_, swap) => Ask::Load(address_of_swap(swap) + SWAP_STATUS_AT),
+            SweepPhase::Target(_, pointer, entry) => {
                 Ask::Load(address_in_entry(pointer.swap, entry, TARGET))
             }
-            Phase::Value(_, at) => Ask::Load(at),
-            Phase::Resolve(spot, value) => Ask::Store(spot.at, value),
-            Phase::Flush(spot) => Ask::Flush(spot.at / LINE_WORDS),
-            Phase::SwapStatus(swap) => Ask::Load(self.swap_at(swap)),
-            Phase::Free(swap) => Ask::Store(self.swap_at(swap), 0),
-            Phase::FlushFree(swap) => Ask::Flush(self.swap_at(swap) / LINE_WORDS),
+            SweepPhase::Value(_, at) => Ask::Load(at),
+            SweepPhase::Resolve(spot, value) => Ask::Store(spot.at, value),
+            SweepPhase::Flush(spot) => Ask::Flush(spot.at / LINE_WORDS),
+            SweepPhase::SwapStatus(swap) => Ask::Load(self.swap_at(swap)),
+            SweepPhase::Free(swap) => Ask::Store(self.swap_at(swap), 0),
+            SweepPhase::FlushFree(swap) => Ask::Flush(self.swap_at(swap) / LINE_WORDS),
         }
     }
 
@@ -174,18 +174,18 @@ impl Sweep {
 }
 
 // The phase after a descriptor that is free.
-fn freed(area: &Area, swap: u32) -> Phase
+fn freed(area: &Area, swap: u32) -> SweepPhase
     requires area { IsArea area.now }
     requires swap { swap < area.now.swaps }
     ensures place { IsPlaced area.now result }
-    ensures begun { result ≢ Phase.Fresh }
+    ensures begun { result ≢ SweepPhase.Fresh }
     ensures changed { changed_in result ≡ None }
     ensures nearer { (pointers : ℕ → ℕ) → left_in area.now pointers result < swaps_left area.now swap 2 }
     ensures learns { (v : ℕ → ℕ) (m : Memory) → IsFreeing area.now v m (swap + 1) (swap + 1) → knows_before area.now v m result }
 {
     let next = swap + 1;
     if next == area.swaps {
-        return Phase::Done;
+        return SweepPhase::Done;
     }
-    Phase::SwapStatus(next)
+    SweepPhase::SwapStatus(next)
 }

@@ -10,7 +10,7 @@ ghost use Rattle.bz_sweep.specs.Words.{IsShared, IsSwept};
 ghost use Rattle.bz_sweep.specs.declared.area.Area.{Area};
 
 use crate::area::Area;
-use crate::phase::{Phase, Pointer, Spot};
+use crate::phase::{Pointer, Spot, SweepPhase};
 use bz_layout::{ENTRIES_AT, ENTRY_WORDS, LINE_WORDS, MAX_ENTRIES, SUPERBLOCK_WORDS, SWAP_WORDS};
 use bz_word::{WordKind, kind_of};
 
@@ -53,12 +53,12 @@ fn address_after(area: &Area, a: u32) -> u32
 }
 
 // The phase at the next word, where all before it are durable or those that are not are in its line.
-fn onward(area: &Area, spot: Spot, changed: bool) -> Phase
+fn onward(area: &Area, spot: Spot, changed: bool) -> SweepPhase
     requires area { IsArea area.now }
     requires spot { IsSpot area.now spot }
     requires line { changed ≡ true → (spot.at + 1) % LINE_WORDS ≢ 0 }
     ensures place { IsPlaced area.now result }
-    ensures begun { result ≢ Phase.Fresh }
+    ensures begun { result ≢ SweepPhase.Fresh }
     ensures nearer { (pointers : ℕ → ℕ) → IsFalling pointers → left_in area.now pointers result < left_at area.now (pointers (spot.at + 1)) spot.at 2 }
     ensures past_line { (pointers : ℕ → ℕ) → IsFalling pointers → (spot.at + 1) % LINE_WORDS ≡ 0 → left_in area.now pointers result < left_at area.now (pointers (spot.at + 1)) spot.at 3 }
     ensures line { changed_in result ≡ (if changed then Some (line_of spot.at) else None) }
@@ -66,19 +66,19 @@ fn onward(area: &Area, spot: Spot, changed: bool) -> Phase
 {
     let at = address_after(area, spot.at);
     if at == area.size() {
-        return Phase::SwapStatus(0);
+        return SweepPhase::SwapStatus(0);
     }
     let unflushed = if changed { spot.unflushed } else { at };
-    Phase::Word(Spot { unflushed, at })
+    SweepPhase::Word(Spot { unflushed, at })
 }
 
 /// The phase after a flush.
-pub(crate) fn flushed(area: &Area, spot: Spot) -> Phase
+pub(crate) fn flushed(area: &Area, spot: Spot) -> SweepPhase
     requires area { IsArea area.now }
     requires spot { IsSpot area.now spot }
     requires line { (spot.at + 1) % LINE_WORDS ≡ 0 }
     ensures place { IsPlaced area.now result }
-    ensures begun { result ≢ Phase.Fresh }
+    ensures begun { result ≢ SweepPhase.Fresh }
     ensures nearer { (pointers : ℕ → ℕ) → IsFalling pointers → left_in area.now pointers result < left_at area.now (pointers (spot.at + 1)) spot.at 3 }
     ensures line { changed_in result ≡ None }
     ensures learns { (v : ℕ → ℕ) (m : Memory) → IsSwept area.now v m (spot.at + 1) (spot.at + 1) → knows_before area.now v m result }
@@ -87,36 +87,36 @@ pub(crate) fn flushed(area: &Area, spot: Spot) -> Phase
 }
 
 /// The phase after a word that is resolved: its line is flushed where it is the last one and some were changed.
-pub(crate) fn resolved(area: &Area, spot: Spot, stored: bool) -> Phase
+pub(crate) fn resolved(area: &Area, spot: Spot, stored: bool) -> SweepPhase
     requires area { IsArea area.now }
     requires spot { IsSpot area.now spot }
     ensures place { IsPlaced area.now result }
-    ensures begun { result ≢ Phase.Fresh }
+    ensures begun { result ≢ SweepPhase.Fresh }
     ensures nearer { (pointers : ℕ → ℕ) → IsFalling pointers → left_in area.now pointers result < left_at area.now (pointers (spot.at + 1)) spot.at 2 }
     ensures line { changed_in result ≡ (if stored then Some (line_of spot.at) else changed_at spot) }
     ensures learns { (v : ℕ → ℕ) (m : Memory) → IsSwept area.now v m spot.unflushed (spot.at + 1) → (stored ≡ false → m.durable spot.at ≡ v spot.at) → knows_before area.now v m result }
 {
     let changed = stored || spot.unflushed < spot.at;
     if changed && (spot.at + 1) % LINE_WORDS == 0 {
-        return Phase::Flush(spot);
+        return SweepPhase::Flush(spot);
     }
     onward(area, spot, changed)
 }
 
 /// The phase after a word that was read.
-pub(crate) fn found(area: &Area, spot: Spot, word: u64) -> Phase
+pub(crate) fn found(area: &Area, spot: Spot, word: u64) -> SweepPhase
     requires area { IsArea area.now }
     requires spot { IsSpot area.now spot }
     ensures place { IsPlaced area.now result }
-    ensures begun { result ≢ Phase.Fresh }
+    ensures begun { result ≢ SweepPhase.Fresh }
     ensures nearer { (pointers : ℕ → ℕ) → IsFalling pointers → left_in area.now pointers result < left_at area.now (pointers spot.at) spot.at 0 }
     ensures line { changed_in result ≡ changed_at spot }
     ensures learns { (v : ℕ → ℕ) (m : Memory) → IsSwept area.now v m spot.unflushed spot.at → m.cached spot.at ≡ word → knows_before area.now v m result }
 {
     match kind_of(word) {
-        Some(WordKind::Dirty(value)) => Phase::Resolve(spot, value),
-        Some(WordKind::Swap(swap)) => Phase::Status(spot, swap),
-        Some(WordKind::Tag { swap, entry, .. }) => Phase::Value(
+        Some(WordKind::Dirty(value)) => SweepPhase::Resolve(spot, value),
+        Some(WordKind::Swap(swap)) => SweepPhase::Status(spot, swap),
+        Some(WordKind::Tag { swap, entry, .. }) => SweepPhase::Value(
             spot,
             address_in_entry(swap, u32::from(entry), EXPECTED),
         ),
@@ -127,17 +127,17 @@ pub(crate) fn found(area: &Area, spot: Spot, word: u64) -> Phase
 }
 
 /// The phase after the target of an entry that was read: the last entry is the one where no other is.
-pub(crate) fn sought(spot: Spot, pointer: Pointer, entry: u32, target: u64) -> Phase
+pub(crate) fn sought(spot: Spot, pointer: Pointer, entry: u32, target: u64) -> SweepPhase
     requires { entry < MAX_ENTRIES }
     ensures place { (r : Area) → IsArea r → IsSpot r spot → IsPlaced r result }
-    ensures begun { result ≢ Phase.Fresh }
+    ensures begun { result ≢ SweepPhase.Fresh }
     ensures nearer { (r : Area) (pointers : ℕ → ℕ) → IsSpot r spot → pointers (spot.at + 1) < pointers spot.at → left_in r pointers result < left_at r (pointers spot.at) spot.at (2 + entry) }
     ensures line { changed_in result ≡ changed_at spot }
     ensures learns { (r : Area) (v : ℕ → ℕ) (m : Memory) → IsSpot r spot → IsSwept r v m spot.unflushed spot.at → IsSought m spot.at pointer entry → m.cached (entry_address pointer.swap entry TARGET) ≡ target → knows_before r v m result }
 {
     if target == u64::from(spot.at) || entry + 1 == MAX_ENTRIES {
         let word = if pointer.succeeded { NEW } else { EXPECTED };
-        return Phase::Value(spot, address_in_entry(pointer.swap, entry, word));
+        return SweepPhase::Value(spot, address_in_entry(pointer.swap, entry, word));
     }
-    Phase::Target(spot, pointer, entry + 1)
+    SweepPhase::Target(spot, pointer, entry + 1)
 }

@@ -3,11 +3,11 @@ use Rattle.std.proofs.Common.{◌≡◌, ℕ, ◌+◌, ◌<◌, ◌≤◌, List,
 use Rattle.bz_layout.specs.declared.config.Config.{Config}
 use Rattle.bz_layout.specs.declared.sizes.TheConstants.{NODE_WORDS, STATUS_AT, META_AT, SHARED_WORDS}
 use Rattle.bz_freeze.specs.Facts.{entry_of, freeze_asks, freeze_facts}
-use Rattle.bz_freeze.specs.declared.phase.Phase.{Phase as FreezePhase}
-use Rattle.bz_freeze.specs.declared.phase.Phase.TheVariants.{Swap as Freezes}
+use Rattle.bz_freeze.specs.declared.phase.FreezePhase.{FreezePhase}
+use Rattle.bz_freeze.specs.declared.phase.FreezePhase.TheVariants.{Swap as Freezes}
 use Rattle.bz_insert.specs.Facts.{insert_asks, insert_facts}
-use Rattle.bz_insert.specs.declared.phase.Phase.{Phase as InsertPhase}
-use Rattle.bz_insert.specs.declared.phase.Phase.TheVariants.{Reserve, Publish}
+use Rattle.bz_insert.specs.declared.phase.InsertPhase.{InsertPhase}
+use Rattle.bz_insert.specs.declared.phase.InsertPhase.TheVariants.{Reserve, Publish}
 use Rattle.bz_running.specs.FromMerge.Merges.{WasLeafOnce}
 use Rattle.bz_mutate.specs.DeleteFacts.{delete_asks, delete_facts}
 use Rattle.bz_mutate.specs.UpdateFacts.{update_asks, update_facts}

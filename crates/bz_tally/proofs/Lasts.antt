@@ -6,8 +6,8 @@ use Rattle.bz_running.specs.FromMerge.Duties.{merging_of}
 use Rattle.bz_running.specs.FromMerge.Facts.{merge_asks}
 use Rattle.bz_running.specs.FromMerge.Plans.{Merging as MergePlan}
 use Rattle.bz_running.specs.FromMerge.Merge.{Merge}
-use Rattle.bz_running.specs.FromMerge.Phase.{Phase}
-use Rattle.bz_running.specs.FromMerge.Phase.TheVariants.{Freeze, FreezeBeside, Swap}
+use Rattle.bz_running.specs.FromMerge.MergePhase.{MergePhase}
+use Rattle.bz_running.specs.FromMerge.MergePhase.TheVariants.{Freeze, FreezeBeside, Swap}
 use Rattle.bz_running.specs.Duties.{config_of, asks_of, facts_of, view_of}
 use Rattle.bz_running.specs.Kinds.{kind_of}
 use Rattle.bz_running.specs.Kinds as kinds
@@ -22,13 +22,13 @@ use Rattle.bz_tally.specs.Laws.{CountsAtLast, LeavesFollow, MergeCounts, MergesC
 use Rattle.bz_tally.specs.Swaps.{IsOwnSwap}
 use Rattle.bz_tally.proofs.Tasks.{swaps-count}
 
-last : (t : Merge) (c : Config) (r : MergePlan) (phase : Phase) (entries : List Entry) (s : Scene) (y : Instant) → merge_asks c r phase ≡ Some (Swaps_for entries) → MergeCounts t phase s y → merge_swaps phase ≤ 1 → leaves_then s y + 1 ≡ leaves_now s
+last : (t : Merge) (c : Config) (r : MergePlan) (phase : MergePhase) (entries : List Entry) (s : Scene) (y : Instant) → merge_asks c r phase ≡ Some (Swaps_for entries) → MergeCounts t phase s y → merge_swaps phase ≤ 1 → leaves_then s y + 1 ≡ leaves_now s
 last t c r Swap entries s y e h l = h.less
 last t c r Freeze entries s y e h l = absurd (omega (arith, l))
 last t c r FreezeBeside entries s y e h l = absurd (omega (arith, l))
 last t c r phase entries s y e h l = absurd (cc)
 
-before : (t : Merge) (c : Config) (r : MergePlan) (phase : Phase) (entries : List Entry) (s : Scene) (y : Instant) → merge_asks c r phase ≡ Some (Swaps_for entries) → MergeCounts t phase s y → 1 < merge_swaps phase → leaves_then s y ≡ leaves_now s
+before : (t : Merge) (c : Config) (r : MergePlan) (phase : MergePhase) (entries : List Entry) (s : Scene) (y : Instant) → merge_asks c r phase ≡ Some (Swaps_for entries) → MergeCounts t phase s y → 1 < merge_swaps phase → leaves_then s y ≡ leaves_now s
 before t c r Swap entries s y e h l = absurd (omega (arith, l))
 before t c r Freeze entries s y e h l = h.same
 before t c r FreezeBeside entries s y e h l = h.same

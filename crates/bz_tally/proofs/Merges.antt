@@ -9,8 +9,8 @@ use Rattle.bz_running.specs.FromMerge.Duties.{merging_of}
 use Rattle.bz_running.specs.FromMerge.Facts.{MERGE_WORDS, MERGE_LINES, IsMerging, merge_asks, merge_facts}
 use Rattle.bz_running.specs.FromMerge.Plans.{beside_leaf, sep_of, viewed_leaf, first_of, second_of, Merging}
 use Rattle.bz_running.specs.FromMerge.Merge.{Merge}
-use Rattle.bz_running.specs.FromMerge.Phase.{Phase}
-use Rattle.bz_running.specs.FromMerge.Phase.TheVariants.{Freeze, FreezeBeside, Swap}
+use Rattle.bz_running.specs.FromMerge.MergePhase.{MergePhase}
+use Rattle.bz_running.specs.FromMerge.MergePhase.TheVariants.{Freeze, FreezeBeside, Swap}
 use Rattle.bz_split.specs.BelowSplits.{below_swap}
 use Rattle.bz_word.specs.declared.entry.Entry.{Entry}
 use Rattle.std.specs.Prelude.{slice_index}
@@ -33,7 +33,7 @@ use Rattle.bz_tally.specs.Laws.{MergeCounts, MergesCount}
 use Rattle.bz_running.specs.FromMerge.Siblings.{SeenLeaf}
 
 -- what the swap of a phase leads to
-abbrev Counts : Merging → Phase → Scene → Instant → Type 0
+abbrev Counts : Merging → MergePhase → Scene → Instant → Type 0
 Counts r Swap s y = MergesLeaves r.lower.slot r.beside_slot r.leaf r.beside s y
 Counts r phase s y = KeepsTheLeaves s y
 
@@ -86,7 +86,7 @@ module _ (r : Merging) (s : Scene) (y : Instant) (good : IsScene s) (f : IsMergi
     back = none-back s y going (r.slot 0 ∷ r.slot 1 ∷ []) good grown fresh;
   }
 
-merge-counts : (c : Config) (r : Merging) (phase : Phase) (s : Scene) (y : Instant) (entries : List Entry) → s.past.config ≡ c → merge_facts r phase Waiting s → IsScene s → merge_asks c r phase ≡ Some (Swaps_for entries)
+merge-counts : (c : Config) (r : Merging) (phase : MergePhase) (s : Scene) (y : Instant) (entries : List Entry) → s.past.config ≡ c → merge_facts r phase Waiting s → IsScene s → merge_asks c r phase ≡ Some (Swaps_for entries)
     → Stand entries (here s) → SwapsTo s.past.config entries (here s) y → Counts r phase s y
 merge-counts c r Freeze s y entries same f good e stand swaps =
     by-status s y entries good swaps (entry_of s.past.config r.lower.slot r.status) r.lower.slot (own-once r s.past f.1.0) (ap (λ (z : Config). entry_of z r.lower.slot r.status ∷ []) same ∙ same-entries _ entries e) refl
@@ -99,7 +99,7 @@ merge-counts c r Swap s y entries same f good e stand swaps =
 merge-counts c r phase s y entries same f good e stand swaps = absurd (cc)
 
 -- of a task and of what it knows the same is said
-told : (t : Merge) (phase : Phase) (s : Scene) (y : Instant) → Counts (merging_of t) phase s y → MergeCounts t phase s y
+told : (t : Merge) (phase : MergePhase) (s : Scene) (y : Instant) → Counts (merging_of t) phase s y → MergeCounts t phase s y
 told t Swap s y h = h
 told t phase s y h = h
 

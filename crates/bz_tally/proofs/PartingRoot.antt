@@ -5,8 +5,8 @@ use Rattle.bz_branch.specs.Nodes.{IsOpenLink}
 use Rattle.bz_branch.proofs.Standing.{node-below}
 use Rattle.bz_running.specs.FromCrown.Duties.{crown_of}
 use Rattle.bz_running.specs.FromCrown.Facts.{Crown, crown_plan, crown_asks, crown_facts}
-use Rattle.bz_running.specs.FromCrown.Phase.{Phase}
-use Rattle.bz_running.specs.FromCrown.Phase.TheVariants.{Writing}
+use Rattle.bz_running.specs.FromCrown.CrownPhase.{CrownPhase}
+use Rattle.bz_running.specs.FromCrown.CrownPhase.TheVariants.{Writing}
 use Rattle.bz_writer.specs.Laws.{IsWritten}
 use Rattle.bz_writer.specs.declared.phase.WritePhase.TheVariants.{Swap}
 use Rattle.bz_layout.specs.Addresses.{node_address}
@@ -164,7 +164,7 @@ module _ (r : Crown) (s : Scene) (y : Instant) (good : IsScene s) (f : IsWritten
     }
 
 -- a split that asks for a swap has its nodes ready
-swapping : (c : Config) (r : Crown) (phase : Phase) (s : Scene) (entries : List Entry) → crown_facts r phase Waiting s → crown_asks c r phase ≡ Some (Swaps_for entries)
+swapping : (c : Config) (r : Crown) (phase : CrownPhase) (s : Scene) (entries : List Entry) → crown_facts r phase Waiting s → crown_asks c r phase ≡ Some (Swaps_for entries)
     → IsWritten (crown_plan r) s × (below_swap c r.upper r.lower (r.slot 0) ≡ entries)
 swapping c r (Writing Swap) s entries f e = (f.1, same-entries (below_swap c r.upper r.lower (r.slot 0)) entries e)
 swapping c r phase s entries f e = absurd (cc)

@@ -5,15 +5,15 @@ use Rattle.bz_running.specs.FromDescend.Way.{Way}
 use Rattle.bz_running.specs.FromDescend.Way.TheVariants as way
 use Rattle.bz_running.specs.FromFind.Phases.{find_asks}
 use Rattle.bz_running.specs.FromFind.Find.{Find}
-use Rattle.bz_running.specs.FromFind.Phase.{Phase as FindPhase}
-use Rattle.bz_running.specs.FromFind.Phase.TheVariants as find
+use Rattle.bz_running.specs.FromFind.FindPhase.{MergeFindPhase as FindPhase}
+use Rattle.bz_running.specs.FromFind.FindPhase.TheVariants as find
 use Rattle.bz_layout.specs.declared.config.Config.{Config}
 use Rattle.bz_leaf.specs.Facts.{leaf_asks}
-use Rattle.bz_leaf.specs.declared.phase.Phase.{Phase as LeafPhase}
-use Rattle.bz_leaf.specs.declared.phase.Phase.TheVariants as leaf
+use Rattle.bz_leaf.specs.declared.phase.LeafPhase.{LeafPhase}
+use Rattle.bz_leaf.specs.declared.phase.LeafPhase.TheVariants as leaf
 use Rattle.bz_running.specs.FromMerge.Merge.{Merge}
-use Rattle.bz_running.specs.FromMerge.Phase.{Phase}
-use Rattle.bz_running.specs.FromMerge.Phase.TheVariants.{Swap}
+use Rattle.bz_running.specs.FromMerge.MergePhase.{MergePhase}
+use Rattle.bz_running.specs.FromMerge.MergePhase.TheVariants.{Swap}
 use Rattle.bz_node.specs.declared.image.NodeImage.{NodeImage}
 use Rattle.bz_running.specs.Duties.{view_of}
 use Rattle.bz_running.specs.declared.running.AnyTask.{AnyTask}
@@ -86,7 +86,7 @@ swaps-count (SplittingInnerRoot t a) entries s y w = root-parts t entries s y (r
 swaps-count (Merging t) entries s y w = merges-count t entries s y (record { config = w.config; good = w.good; knows = w.knows; asks = w.asks; stand = w.stand; leads = w.leads })
 
 -- of a merge: it keeps them, or takes one away
-merge-cases : (t : Merge) (phase : Phase) (s : Scene) (y : Instant) → MergeCounts t phase s y → KeepsTheLeaves s y ⊎ (Renews (Merging t) s y ⊎ (Grows (Merging t) s y ⊎ Shrinks (Merging t) s y))
+merge-cases : (t : Merge) (phase : MergePhase) (s : Scene) (y : Instant) → MergeCounts t phase s y → KeepsTheLeaves s y ⊎ (Renews (Merging t) s y ⊎ (Grows (Merging t) s y ⊎ Shrinks (Merging t) s y))
 merge-cases t Swap s y h = inr (inr (inr (record { slot = t.lower.slot; beside = t.side.slot; own = t.leaf.0; other = t.beside.0; is = (refl, (refl, (refl, refl))); merges = h })))
 merge-cases t phase s y h = inl h
 

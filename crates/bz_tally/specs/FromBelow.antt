@@ -2,5 +2,5 @@
 pub use Rattle.bz_branch.specs.FromBelow.Duties
 pub use Rattle.bz_branch.specs.FromBelow.Facts
 pub use Rattle.bz_branch.specs.FromBelow.Guards
-pub use Rattle.bz_branch.specs.FromBelow.Phase
+pub use Rattle.bz_branch.specs.FromBelow.BelowPhase
 pub use Rattle.bz_branch.specs.FromBelow.SplitBelow

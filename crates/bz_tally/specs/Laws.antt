@@ -14,8 +14,8 @@ use Rattle.bz_insert.specs.Duties as insert
 use Rattle.bz_insert.specs.declared.insert.Insert.{Insert}
 use Rattle.bz_running.specs.FromMerge.Duties as merge
 use Rattle.bz_running.specs.FromMerge.Merge.{Merge}
-use Rattle.bz_running.specs.FromMerge.Phase.{Phase}
-use Rattle.bz_running.specs.FromMerge.Phase.TheVariants.{Swap}
+use Rattle.bz_running.specs.FromMerge.MergePhase.{MergePhase}
+use Rattle.bz_running.specs.FromMerge.MergePhase.TheVariants.{Swap}
 use Rattle.bz_mutate.specs.DeleteDuties as delete
 use Rattle.bz_mutate.specs.UpdateDuties as update
 use Rattle.bz_mutate.specs.declared.delete.Delete.{Delete}
@@ -60,7 +60,7 @@ abbrev pub InnerSplitsKeepTheLeaves : Type 0
 InnerSplitsKeepTheLeaves = (t : SplitInner) (entries : List Entry) (s : Scene) (y : Instant) → IsOwnSwap t.config (asks_fork t) (facts_fork t) entries s y → KeepsTheLeaves s y
 
 -- of a merge the two freezes leave the number, and the swap of the link takes one away
-abbrev pub MergeCounts : Merge → Phase → Scene → Instant → Type 0
+abbrev pub MergeCounts : Merge → MergePhase → Scene → Instant → Type 0
 MergeCounts t Swap s y = MergesLeaves t.lower.slot t.side.slot t.leaf.0 t.beside.0 s y
 MergeCounts t phase s y = KeepsTheLeaves s y
 

@@ -10,8 +10,8 @@ use Rattle.bz_task.specs.declared.todo.Seen.TheVariants.{Start, Read as Was, Swa
 use Rattle.bz_task.specs.declared.todo.Todo.TheVariants.{Read as Reads}
 use Rattle.bz_below.specs.Duties.{below_of, asks_below, three}
 use Rattle.bz_below.specs.Facts.{Below, below_facts, below_asks, below_needs, below_left, below_swaps, word_after, IsReadyBelow, below_end}
-use Rattle.bz_below.specs.declared.phase.Phase.{Phase}
-use Rattle.bz_below.specs.declared.phase.Phase.TheVariants.{Fresh, Room, Word, Again, Guard, Named}
+use Rattle.bz_below.specs.declared.phase.BelowPhase.{BelowPhase}
+use Rattle.bz_below.specs.declared.phase.BelowPhase.TheVariants.{Fresh, Room, Word, Again, Guard, Named}
 use Rattle.bz_below.specs.declared.split_below.SplitBelow.{SplitBelow}
 use Rattle.bz_below.proofs.Beginning.{heard-in, begins-fresh}
 use Rattle.bz_below.proofs.Counting.{Counts, counts}
@@ -35,7 +35,7 @@ read_or_end-requires c =
     record { plain = λ e. (found t.config (below_of t) c.args.seen k.stage k.scene (subst (λ z. Tells (below_asks t.config (below_of t) z) k.stage c.args.seen k.scene) c.in-Room.is k.tells) e).plain }
 
 -- the word of the upper guard that was found
-found-guard : (t : SplitBelow) (phase : Phase) (seen : Seen) (v : ℕ) (stage : Stage) (s : Scene) → t.phase ≡ phase → below_asks t.config (below_of t) phase ≡ Some (Reads t.upper.guard) → ((w : ℕ) → seen ≡ Was w → v ≡ w) → Tells (asks_below t) stage seen s → (seen ≡ Was v) × Answers s t.upper.guard v
+found-guard : (t : SplitBelow) (phase : BelowPhase) (seen : Seen) (v : ℕ) (stage : Stage) (s : Scene) → t.phase ≡ phase → below_asks t.config (below_of t) phase ≡ Some (Reads t.upper.guard) → ((w : ℕ) → seen ≡ Was w → v ≡ w) → Tells (asks_below t) stage seen s → (seen ≡ Was v) × Answers s t.upper.guard v
 found-guard t phase seen v stage s is asks found tells = word-answers t.upper.guard v seen stage s found (subst (λ z. Tells z stage seen s) (ap (below_asks t.config (below_of t)) is ∙ asks) tells)
 
 pub look-requires : goal.look-requires

@@ -8,7 +8,7 @@ use Rattle.bz_task.specs.Scene.{Waiting}
 use Rattle.bz_task.specs.declared.todo.Seen.TheVariants.{Start, Swapped}
 use Rattle.bz_crown.specs.Duties.{crown_of, three}
 use Rattle.bz_crown.specs.Facts.{Crown, crown_plan, crown_differs, crown_facts, crown_asks, crown_needs, crown_left, crown_swaps, word_after, IsReadyCrown}
-use Rattle.bz_crown.specs.declared.phase.Phase.TheVariants.{Fresh, Word, Again, Writing}
+use Rattle.bz_crown.specs.declared.phase.CrownPhase.TheVariants.{Fresh, Word, Again, Writing}
 use Rattle.bz_crown.specs.declared.split_inner_root.SplitInnerRoot.{SplitInnerRoot}
 use Rattle.bz_crown.proofs.Beginning.{heard-in, asked-steps, one-left, ends-later}
 use Rattle.bz_crown.proofs.Counting.{Counts, counts}

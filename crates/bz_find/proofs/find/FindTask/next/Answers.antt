@@ -10,8 +10,8 @@ use Rattle.bz_find.specs.Duties.{end_of, left_of, facts_of}
 use Rattle.bz_find.specs.Facts.{find_change}
 use Rattle.bz_find.specs.Phases.{find_asks, find_end, told, counted}
 use Rattle.bz_find.specs.declared.find.Find.{Find}
-use Rattle.bz_find.specs.declared.phase.Phase.{Phase}
-use Rattle.bz_find.specs.declared.phase.Phase.TheVariants.{Fresh}
+use Rattle.bz_find.specs.declared.phase.FindPhase.{FindPhase}
+use Rattle.bz_find.specs.declared.phase.FindPhase.TheVariants.{Fresh}
 use Rattle.bz_find.proofs.Counts.{counts-told}
 use Rattle.bz_find.proofs.Keeping.{keeps-at}
 use Rattle.bz_find.proofs.Restarts.{restarts-at, begins-at, end-counted}
@@ -20,7 +20,7 @@ use Rattle.bz_find.proofs.Telling.{tells, no-slot}
 use Rattle.bz_find.proofs.find.FindTask.next.Goals as goal
 
 -- nothing that it asks for is a flush
-one-step : (t : Find) (p : Phase) → steps_in (find_asks t p) ≡ 1
+one-step : (t : Find) (p : FindPhase) → steps_in (find_asks t p) ≡ 1
 one-step t Fresh = refl
 one-step t p = refl
 

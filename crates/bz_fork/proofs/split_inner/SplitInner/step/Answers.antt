@@ -8,7 +8,7 @@ use Rattle.bz_task.specs.Scene.{Waiting}
 use Rattle.bz_task.specs.declared.todo.Seen.TheVariants.{Start, Swapped}
 use Rattle.bz_fork.specs.Duties.{fork_of, three}
 use Rattle.bz_fork.specs.Facts.{Fork, fork_plan, fork_differs, fork_facts, fork_asks, fork_needs, fork_left, fork_swaps, word_after, above_after, IsReadyFork}
-use Rattle.bz_fork.specs.declared.phase.Phase.TheVariants.{Fresh, Unread, Tight, Word, Again, Room, Above, Check, Writing}
+use Rattle.bz_fork.specs.declared.phase.ForkPhase.TheVariants.{Fresh, Unread, Tight, Word, Again, Room, Above, Check, Writing}
 use Rattle.bz_fork.specs.declared.split_inner.SplitInner.{SplitInner}
 use Rattle.bz_fork.proofs.Beginning.{heard-in, asked-steps, one-left, ends-later}
 use Rattle.bz_fork.proofs.Counting.{Counts, counts}

@@ -2,12 +2,12 @@ use Rattle.std.proofs.Common.{◌≡◌, ℕ, arith, refl, rules}
 use Rattle.bz_layout.specs.declared.config.Config.{Config}
 use Rattle.bz_task.specs.Requests.{steps_in}
 use Rattle.bz_freeze.specs.Facts.{freeze_asks}
-use Rattle.bz_freeze.specs.declared.phase.Phase.{Phase}
-use Rattle.bz_freeze.specs.declared.phase.Phase.TheVariants.{Fresh}
+use Rattle.bz_freeze.specs.declared.phase.FreezePhase.{FreezePhase}
+use Rattle.bz_freeze.specs.declared.phase.FreezePhase.TheVariants.{Fresh}
 use Rattle.bz_freeze.proofs.freeze.FreezeTask.next.Goals as goal
 
 -- nothing that it asks for is a flush
-one-step : (c : Config) (k st : ℕ) (p : Phase) → steps_in (freeze_asks c k st p) ≡ 1
+one-step : (c : Config) (k st : ℕ) (p : FreezePhase) → steps_in (freeze_asks c k st p) ≡ 1
 one-step c k st Fresh = refl
 one-step c k st p = refl
 

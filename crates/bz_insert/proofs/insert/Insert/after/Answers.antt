@@ -2,7 +2,7 @@ use Rattle.std.proofs.Common.{◌≡◌, true, rules, subst, sym}
 use Rattle.bz_task.specs.Scene.{Waiting}
 use Rattle.bz_task.specs.declared.todo.Seen.TheVariants.{Stored, Flushed, Swapped}
 use Rattle.bz_insert.specs.Facts.{insert_facts}
-use Rattle.bz_insert.specs.declared.phase.Phase.TheVariants.{Reserve, Store, Flush}
+use Rattle.bz_insert.specs.declared.phase.InsertPhase.TheVariants.{Reserve, Store, Flush}
 use Rattle.bz_insert.proofs.Knowing.{in-phase, tells-in, ready-store, told-reserved, told-stored, ready-flush, told-flushed}
 use Rattle.bz_insert.proofs.insert.Insert.after.Goals as goal
 

@@ -5,8 +5,8 @@ use Rattle.bz_task.specs.Requests.{EndsAtOnce, steps_in}
 use Rattle.bz_task.specs.declared.todo.Outcome.{Outcome}
 use Rattle.bz_task.specs.declared.todo.Outcome.TheVariants.{NeedsRoom as Needs}
 use Rattle.bz_insert.specs.Facts.{insert_asks, insert_end, insert_steps}
-use Rattle.bz_insert.specs.declared.phase.Phase.{Phase}
-use Rattle.bz_insert.specs.declared.phase.Phase.TheVariants.{Fresh, Reserve, NeedsRoom}
+use Rattle.bz_insert.specs.declared.phase.InsertPhase.{InsertPhase}
+use Rattle.bz_insert.specs.declared.phase.InsertPhase.TheVariants.{Fresh, Reserve, NeedsRoom}
 use Rattle.bz_insert.proofs.Staying.{no-slot}
 use Rattle.bz_insert.proofs.insert.InsertTask.next.Goals as goal
 
@@ -15,12 +15,12 @@ returns-clause-learns c stage s now same good free facts tells =
     no-slot c.args.self.now.added s c.args.slots.now c.after-self.result (c.after-self.ensures.learns stage s same facts tells)
 
 -- the steps of what a phase asks for
-asked-steps : (c : Config) (r : NewRecord) (p : Phase) → steps_in (insert_asks c r p) ≡ insert_steps p
+asked-steps : (c : Config) (r : NewRecord) (p : InsertPhase) → steps_in (insert_asks c r p) ≡ insert_steps p
 asked-steps c r Fresh = refl
 asked-steps c r p = refl
 
 -- it may end as it begins for want of room alone
-first-ends : (p : Phase) (outcome : Outcome) → (p ≡ Reserve) ⊎ (p ≡ NeedsRoom) → insert_end p ≡ Some outcome → EndsAtOnce 0 outcome
+first-ends : (p : InsertPhase) (outcome : Outcome) → (p ≡ Reserve) ⊎ (p ≡ NeedsRoom) → insert_end p ≡ Some outcome → EndsAtOnce 0 outcome
 first-ends p outcome h e = elim h [ inl a ↦ goes-on (sym (ap insert_end a) ∙ e) | inr a ↦ subst (EndsAtOnce 0) (one (sym (ap insert_end a) ∙ e)) tt ]
   where
     goes-on : None ≡ Some outcome → EndsAtOnce 0 outcome

@@ -1,6 +1,6 @@
 use Rattle.std.proofs.Common.{sym, ◌∙◌}
 use Rattle.bz_task.specs.declared.todo.Seen.TheVariants.{Read as Was}
-use Rattle.bz_leaf.specs.declared.phase.Phase.TheVariants.{Status, Word, Again, Link as Of_link, Guard}
+use Rattle.bz_leaf.specs.declared.phase.LeafPhase.TheVariants.{Status, Word, Again, Link as Of_link, Guard}
 use Rattle.bz_leaf.proofs.Learning.{by-phase, told-status, told-word, told-again, told-link, told-guard}
 use Rattle.bz_leaf.proofs.read_leaf.ReadLeaf.after.Goals as goal
 

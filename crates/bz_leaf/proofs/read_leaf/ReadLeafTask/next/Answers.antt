@@ -4,13 +4,13 @@ use Rattle.bz_node.specs.declared.image.NodeImage.{NodeImage}
 use Rattle.bz_task.specs.Requests.{steps_in}
 use Rattle.bz_task.specs.declared.path.Link.{Link}
 use Rattle.bz_leaf.specs.Facts.{leaf_asks}
-use Rattle.bz_leaf.specs.declared.phase.Phase.{Phase}
-use Rattle.bz_leaf.specs.declared.phase.Phase.TheVariants.{Fresh}
+use Rattle.bz_leaf.specs.declared.phase.LeafPhase.{LeafPhase}
+use Rattle.bz_leaf.specs.declared.phase.LeafPhase.TheVariants.{Fresh}
 use Rattle.bz_leaf.proofs.Learning.{no-slot}
 use Rattle.bz_leaf.proofs.read_leaf.ReadLeafTask.next.Goals as goal
 
 -- nothing that it asks for is a flush
-one-step : (c : Config) (link : Link) (image : NodeImage) (p : Phase) → steps_in (leaf_asks c link image p) ≡ 1
+one-step : (c : Config) (link : Link) (image : NodeImage) (p : LeafPhase) → steps_in (leaf_asks c link image p) ≡ 1
 one-step c link image Fresh = refl
 one-step c link image p = refl
 

@@ -5,7 +5,7 @@ use Rattle.bz_task.specs.declared.todo.Seen.TheVariants.{Swapped, NoSwap as None
 use Rattle.bz_merge.specs.Counts.{merge_swaps}
 use Rattle.bz_merge.specs.Duties.{merging_of}
 use Rattle.bz_merge.specs.Facts.{merge_asks, merge_facts}
-use Rattle.bz_merge.specs.declared.phase.Phase.TheVariants.{Store, Flush}
+use Rattle.bz_merge.specs.declared.phase.MergePhase.TheVariants.{Store, Flush}
 use Rattle.bz_merge.proofs.Beginning.{heard-in}
 use Rattle.bz_merge.proofs.Counting.{is-thawed, stored-fewer, stored-counted, flushed-fewer, flushed-counted}
 use Rattle.bz_merge.proofs.GoingOn.{stores-on, flushes-on, store-within, flush-within}

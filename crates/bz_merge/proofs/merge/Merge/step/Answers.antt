@@ -6,7 +6,7 @@ use Rattle.bz_task.specs.declared.todo.Seen.TheVariants.{Start, Swapped, NoSwap 
 use Rattle.bz_merge.specs.Duties.{merging_of, two}
 use Rattle.bz_merge.specs.Facts.{merge_asks, merge_end, merge_facts, merge_differs, merge_needs, IsReady}
 use Rattle.bz_merge.specs.Counts.{merge_made}
-use Rattle.bz_merge.specs.declared.phase.Phase.TheVariants.{Fresh, Word, Again, Beside, Parent, Still, Guard}
+use Rattle.bz_merge.specs.declared.phase.MergePhase.TheVariants.{Fresh, Word, Again, Beside, Parent, Still, Guard}
 use Rattle.bz_merge.proofs.Beginning.{heard-in, begins-fresh}
 use Rattle.bz_merge.proofs.Counting.{choosing-fewer, choosing-counted, word-none, beside-none, told-none, settled-none, looked-fewer, looked-counted}
 use Rattle.bz_merge.proofs.Ending.{ends-done, ends-restart, ends-no-swap, ends-no-slot}
