@@ -39,9 +39,9 @@ use Rattle.bz_leaf.specs.declared.phase.LeafPhase.{LeafPhase}
 use Rattle.bz_leaf.specs.declared.phase.LeafPhase.TheVariants as leaf
 use Rattle.bz_running.specs.FromInsert.InsertPhase.{InsertPhase}
 use Rattle.bz_running.specs.FromInsert.InsertPhase.TheVariants as insert
-use Rattle.bz_mutate.specs.declared.update_phase.UpdatePhase.{UpdatePhase as UpdatePhase}
+use Rattle.bz_mutate.specs.declared.update_phase.UpdatePhase.{UpdatePhase}
 use Rattle.bz_mutate.specs.declared.update_phase.UpdatePhase.TheVariants as update
-use Rattle.bz_mutate.specs.declared.delete_phase.DeletePhase.{DeletePhase as DeletePhase}
+use Rattle.bz_mutate.specs.declared.delete_phase.DeletePhase.{DeletePhase}
 use Rattle.bz_mutate.specs.declared.delete_phase.DeletePhase.TheVariants as delete
 use Rattle.bz_freeze.specs.declared.phase.FreezePhase.{FreezePhase}
 use Rattle.bz_freeze.specs.declared.phase.FreezePhase.TheVariants as freeze

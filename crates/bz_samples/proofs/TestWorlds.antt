@@ -1,8 +1,8 @@
 -- What every memory of the tests keeps: its sizes, that no worker is about to store, and which addresses are named.
-use Rattle.std.specs.Prelude.{◌≡◌, ◌≢◌, ℕ, ◌+◌, ◌*◌, ◌^◌, ◌<◌, ◌≤◌, ◌||◌, Bool, true, false, List, [], ◌∷◌, ◌++◌, length, take, get_or, slice_index, slice_set, Option, ◌==◌}
-use Rattle.std.proofs.Common.{arith, refl, ap, sym, ◌∙◌, inl, inr}
+use Rattle.std.specs.Prelude.{◌≡◌, ◌≢◌, ℕ, ◌+◌, ◌^◌, ◌<◌, ◌≤◌, ◌||◌, Bool, true, false, List, [], ◌∷◌, ◌++◌, length, replicate, take, get_or, slice_index, slice_set, Option, ◌==◌}
+use Rattle.std.proofs.Common.{arith, refl, ap, sym, subst, ◌∙◌, inl, inr, zero, suc}
 use Rattle.std.proofs.lemmas.Bool.{cases_eq, cases_lt}
-use Rattle.std.proofs.lemmas.List.{get_or_past, get_or-set_same, get_or-set_other, length-set, take_more}
+use Rattle.std.proofs.lemmas.List.{get_or_past, get_or-set_same, get_or-set_other, length-set, length-replicate, take_more}
 use Rattle.bz_word.specs.declared.entry.Entry.{Entry}
 use Rattle.bz_layout.specs.Addresses.{swap_address}
 use Rattle.bz_acts.specs.declared.acted.Act.{Act}
@@ -10,11 +10,15 @@ use Rattle.bz_machine.specs.declared.done.Done.{Done}
 use Rattle.bz_machine.specs.declared.done.Done.TheVariants.{Busy, Read, Swapped, Stored, Flushed}
 use Rattle.bz_swap.specs.declared.phase.Phase.{Phase}
 use Rattle.bz_swap.specs.declared.phase.Phase.TheVariants.{Opened, Running, Recovering}
-use Rattle.bz_swap.specs.SwapMemory.{SwapMemory, Doing, Idle, Swapping, Storing, Flushing, Working, idle, worker_of, doing_of, is_target, is_among, is_named}
-use Rattle.bz_swap.specs.Starts.{started, swapping}
-use Rattle.bz_swap.specs.Steps.{IsOneAct, StepsIn, doing_after}
-use Rattle.bz_swap.specs.Power.{MayRenew}
-use Rattle.bz_swap.proofs.Proved.{sizes_stay}
+use Rattle.bz_swap.specs.SwapMemory.{SwapMemory, Doing, Idle, Swapping, Storing, Flushing, Working, idle, worker_of, doing_of, is_target, is_among, is_named, is_settled_at}
+use Rattle.bz_swap.specs.Starts.{MayFlush, MayStore, started, swapping, phase_of}
+use Rattle.bz_swap.specs.Steps.{IsOneAct, IsAnswer, StepsIn, doing_after}
+use Rattle.bz_swap.specs.Evictions.{IsEviction}
+use Rattle.bz_swap.specs.Power.{IsOpened, MayRenew, after_cut, renewed}
+use Rattle.bz_swap.proofs.Proved.{sizes_stay, settled_words_stay}
+use Rattle.bz_swap.proofs.Fresh.{all-same}
+use Rattle.bz_samples.specs.Settled.{AreSettled}
+use Rattle.bz_cells.specs.Store.{IsOutside}
 
 -- no worker is about to store
 abbrev pub IsCalm : SwapMemory → Type 0
@@ -35,20 +39,22 @@ pub record IsSized (m : SwapMemory) (words descriptors workers : ℕ) (marks : L
   pub size : length marks ≡ words
   pub marked : AreMarks m marks
 
-pub record IsTestWorld (m : SwapMemory) (words descriptors workers : ℕ) (marks : List Bool) : Type 0 where
+pub record IsTestWorld (m : SwapMemory) (words descriptors workers : ℕ) (marks stored : List Bool) : Type 0 where
   pub sized : IsSized m words descriptors workers marks
   pub calm : IsCalm m
+  pub noted : length stored ≡ words
+  pub settled : AreSettled m stored
 
 -- the same as a test world's invariant spells it
-abbrev pub Spelled : SwapMemory → ℕ → ℕ → ℕ → List Bool → Type 0
-Spelled m words descriptors workers marks = (descriptors ≤ 2 ^ 16) × (workers ≤ 65) × (0 < workers) × (swap_address descriptors ≤ words) × (length m.cached ≡ words) × (length m.durable ≡ words) × (length m.workers ≡ workers) × (m.swaps ≡ descriptors) × (length marks ≡ words) × AreMarks m marks × IsCalm m
+abbrev pub Spelled : SwapMemory → ℕ → ℕ → ℕ → List Bool → List Bool → Type 0
+Spelled m words descriptors workers marks stored = (descriptors ≤ 2 ^ 16) × (workers ≤ 65) × (0 < workers) × (swap_address descriptors ≤ words) × (length m.cached ≡ words) × (length m.durable ≡ words) × (length m.workers ≡ workers) × (m.swaps ≡ descriptors) × (length marks ≡ words) × AreMarks m marks × IsCalm m × (length stored ≡ words) × AreSettled m stored
 
-pub read : (m : SwapMemory) (words descriptors workers : ℕ) (marks : List Bool) → Spelled m words descriptors workers marks → IsTestWorld m words descriptors workers marks
-read m words descriptors workers marks (numbered, few, some, room, cached, durable, count, same, size, marked, calm) =
-    record { sized = record { cached = cached; durable = durable; count = count; swaps = same; some = some; room = room; size = size; marked = marked }; calm = calm }
+pub read : (m : SwapMemory) (words descriptors workers : ℕ) (marks stored : List Bool) → Spelled m words descriptors workers marks stored → IsTestWorld m words descriptors workers marks stored
+read m words descriptors workers marks stored (numbered, few, some, room, cached, durable, count, same, size, marked, calm, noted, settled) =
+    record { sized = record { cached = cached; durable = durable; count = count; swaps = same; some = some; room = room; size = size; marked = marked }; calm = calm; noted = noted; settled = settled }
 
-pub spell : (m : SwapMemory) (words descriptors workers : ℕ) (marks : List Bool) → descriptors ≤ 2 ^ 16 → workers ≤ 65 → IsTestWorld m words descriptors workers marks → Spelled m words descriptors workers marks
-spell m words descriptors workers marks numbered few t = (numbered, few, t.sized.some, t.sized.room, t.sized.cached, t.sized.durable, t.sized.count, t.sized.swaps, t.sized.size, t.sized.marked, t.calm)
+pub spell : (m : SwapMemory) (words descriptors workers : ℕ) (marks stored : List Bool) → descriptors ≤ 2 ^ 16 → workers ≤ 65 → IsTestWorld m words descriptors workers marks stored → Spelled m words descriptors workers marks stored
+spell m words descriptors workers marks stored numbered few t = (numbered, few, t.sized.some, t.sized.room, t.sized.cached, t.sized.durable, t.sized.count, t.sized.swaps, t.sized.size, t.sized.marked, t.calm, t.noted, t.settled)
 
 -- calm
 
@@ -87,10 +93,17 @@ started-sized m words descriptors workers marks w doing t = record {
   marked = t.marked;
 }
 
+-- a worker that starts outside a recovery time was in none
+works-before : (m : SwapMemory) (w : ℕ) → (0 < w → m.phase ≢ Recovering) → phase_of w ≢ Recovering → m.phase ≢ Recovering
+works-before m zero works ne = absurd (ne refl)
+works-before m (suc w) works ne = works (omega arith)
+
 -- something other than a store is started
-pub started-world : (m : SwapMemory) (words descriptors workers : ℕ) (marks : List Bool) (w : ℕ) (doing : Doing) → w < length m.workers → ((a v : ℕ) → doing ≢ Storing a v)
-    → IsTestWorld m words descriptors workers marks → IsTestWorld (started m w doing) words descriptors workers marks
-started-world m words descriptors workers marks w doing within other t = record {
+pub started-world : (m : SwapMemory) (words descriptors workers : ℕ) (marks stored : List Bool) (w : ℕ) (doing : Doing) → w < length m.workers → (0 < w → m.phase ≢ Recovering) → ((a v : ℕ) → doing ≢ Storing a v)
+    → IsTestWorld m words descriptors workers marks stored → IsTestWorld (started m w doing) words descriptors workers marks stored
+started-world m words descriptors workers marks stored w doing within works other t = record {
+  noted = t.noted;
+  settled = λ a out ne private fresh. t.settled a out (works-before m w works ne) private fresh;
   sized = started-sized m words descriptors workers marks w doing t.sized;
   calm = changed-calm m (started m w doing) w (λ u ne. t.calm u) (λ u ne. get_or-set_other m.workers w u _ idle ne) (here-calm m w _ within other);
 }
@@ -119,9 +132,15 @@ pub record AreMarked (old : List Bool) (entries : List Entry) (new : List Bool) 
   pub size : length new ≡ length old
   pub each : (a : ℕ) → get_or new a false ≡ (get_or old a false || is_target entries a)
 
-pub begun-world : (m : SwapMemory) (words descriptors workers : ℕ) (marks new : List Bool) (w : ℕ) (entries : List Entry) → w < length m.workers → AreMarked marks entries new
-    → IsTestWorld m words descriptors workers marks → IsTestWorld (swapping m w entries) words descriptors workers new
-begun-world m words descriptors workers marks new w entries within marked t = record {
+left-false : (a b : Bool) → (a || b) ≡ false → a ≡ false
+left-false true b is = is
+left-false false b is = refl
+
+pub begun-world : (m : SwapMemory) (words descriptors workers : ℕ) (marks new stored : List Bool) (w : ℕ) (entries : List Entry) → w < length m.workers → (0 < w → m.phase ≢ Recovering) → AreMarked marks entries new
+    → IsTestWorld m words descriptors workers marks stored → IsTestWorld (swapping m w entries) words descriptors workers new stored
+begun-world m words descriptors workers marks new stored w entries within works marked t = record {
+  noted = t.noted;
+  settled = λ a out ne private fresh. t.settled a out (works-before m w works ne) (left-false (is_named m a) (is_target entries a) (sym (among-last m.begun entries a) ∙ private)) fresh;
   sized = record {
     cached = t.sized.cached;
     durable = t.sized.durable;
@@ -187,14 +206,165 @@ one-act Opened old new w act done told s = s.one
 one-act Running old new w act done told s = s.one
 one-act Recovering old new w act done told s = s.one
 
-pub stepped-world : (p : Phase) (old new : SwapMemory) (words descriptors workers : ℕ) (marks : List Bool) (w : ℕ) (act : Act) (done : Done) (told : Option ℕ) → StepsIn p old w act done told new
-    → IsTestWorld old words descriptors workers marks → IsTestWorld new words descriptors workers marks
-stepped-world p old new words descriptors workers marks w act done told s t =
-    let one = one-act p old new w act done told s in
+-- a step leaves a settled word so, unless it is a store at it
+step-settles : (p : Phase) (old new : SwapMemory) (w : ℕ) (act : Act) (done : Done) (told : Option ℕ) (a : ℕ) → StepsIn p old w act done told new → p ≢ Recovering → IsOutside old.swaps a → is_named old a ≡ false
+    → ((v : ℕ) → doing_of old w ≢ Storing a v) → is_settled_at old a ≡ true → is_settled_at new a ≡ true
+step-settles Opened old new w act done told a s ne out private not settled = settled_words_stay.step old new w act done told a s (s.untouched a out private not) settled
+step-settles Running old new w act done told a s ne out private not settled = settled_words_stay.step old new w act done told a s (s.untouched a out private not) settled
+step-settles Recovering old new w act done told a s ne out private not settled = absurd (ne refl)
+
+-- a step of a worker that stores nothing, or into a word that is noted
+pub stepped-world : (old new : SwapMemory) (words descriptors workers : ℕ) (marks stored : List Bool) (w : ℕ) (act : Act) (done : Done) (told : Option ℕ) → StepsIn old.phase old w act done told new
+    → ((a v : ℕ) → doing_of old w ≡ Storing a v → get_or stored a false ≡ true) → ((a v : ℕ) → doing_after (doing_of old w) done ≢ Storing a v) → ((u : ℕ) → u ≢ w → (a v : ℕ) → doing_of old u ≢ Storing a v)
+    → IsSized old words descriptors workers marks → length stored ≡ words → AreSettled old stored → IsTestWorld new words descriptors workers marks stored
+stepped-world old new words descriptors workers marks stored w act done told s noted ends others sized long settled =
+    let one = one-act old.phase old new w act done told s in
     record {
-      sized = one-sized old new words descriptors workers marks w act done one t.sized;
-      calm = changed-calm old new w (λ u ne. t.calm u) one.others.workers (λ a v is. after-calm (doing_of old w) done (t.calm w) a v (sym one.doing ∙ is));
+      sized = one-sized old new words descriptors workers marks w act done one sized;
+      calm = changed-calm old new w others one.others.workers (λ a v is. ends a v (sym one.doing ∙ is));
+      noted = long;
+      settled = λ a out ne private fresh.
+          let out-was : IsOutside old.swaps a = subst (λ n. IsOutside n a) one.others.swaps out in
+          let phase-was : old.phase ≢ Recovering = λ is. ne (one.others.phase ∙ is) in
+          let private-was : is_named old a ≡ false = ap (λ begun. is_among begun a) (sym one.others.begun) ∙ private in
+          step-settles old.phase old new w act done told a s phase-was out-was private-was (λ v is. (let both : true ≡ false = sym (noted a v is) ∙ fresh in absurd cc)) (settled a out-was phase-was private-was fresh);
     }
+
+-- a step of a worker where nobody is about to store
+pub calm-step : (old new : SwapMemory) (words descriptors workers : ℕ) (marks stored : List Bool) (w : ℕ) (act : Act) (done : Done) (told : Option ℕ) → StepsIn old.phase old w act done told new
+    → IsTestWorld old words descriptors workers marks stored → IsTestWorld new words descriptors workers marks stored
+calm-step old new words descriptors workers marks stored w act done told s t =
+    stepped-world old new words descriptors workers marks stored w act done told s (λ a v is. absurd (t.calm w a v is)) (after-calm (doing_of old w) done (t.calm w)) (λ u ne. t.calm u) t.sized t.noted t.settled
+
+-- who may flush or store outside a recovery time
+pub flush-works : (m : SwapMemory) (w line : ℕ) → MayFlush m w line → 0 < w → m.phase ≢ Recovering
+flush-works m zero line may some = absurd (omega (arith, some))
+flush-works m (suc w) line may some = may.work.phase
+
+pub store-works : (m : SwapMemory) (w a v : ℕ) → MayStore m w a v → 0 < w → m.phase ≢ Recovering
+store-works m zero a v may some = absurd (omega (arith, some))
+store-works m (suc w) a v may some = may.work.phase
+
+pub store-lies : (m : SwapMemory) (w a v : ℕ) → MayStore m w a v → a < length m.cached
+store-lies m zero a v may = may.within
+store-lies m (suc w) a v may = may.address.within
+
+-- a store that is begun and made at once, of a word that is noted
+stored-doing : (m : SwapMemory) (w b x : ℕ) → w < length m.workers → doing_of (started m w (Storing b x)) w ≡ Storing b x
+stored-doing m w b x within = ap (λ (l : Working). l.doing) (get_or-set_same m.workers w (record { doing = Storing b x; flush_next = false }) idle within)
+
+stores-at : (b x a v : ℕ) (marks : List Bool) → b < length marks → Storing b x ≡ Storing a v → get_or (slice_set marks b true) a false ≡ true
+stores-at b x a v marks within is = (let same : b ≡ a = cc in rw (← same) (get_or-set_same marks b true false within))
+
+stored-ends : (p : Phase) (old new : SwapMemory) (w b x : ℕ) (act : Act) (done : Done) (told : Option ℕ) → StepsIn p old w act done told new → doing_of old w ≡ Storing b x → (a v : ℕ) → doing_after (doing_of old w) done ≢ Storing a v
+stored-ends p old new w b x act done told s is a v =
+    let answer : IsAnswer new (Storing b x) act done = subst (λ d. IsAnswer new d act done) is (one-act p old new w act done told s).answer in
+    ends done answer
+  where
+    ends : (d : Done) → IsAnswer new (Storing b x) act d → doing_after (doing_of old w) d ≢ Storing a v
+    ends Stored answer = busy-calm _ a v refl
+    ends Busy answer = absurd answer
+    ends (Read y) answer = absurd answer
+    ends (Swapped y) answer = absurd answer
+    ends Flushed answer = absurd answer
+
+fresh-before : (marks : List Bool) (b a : ℕ) → b < length marks → get_or (slice_set marks b true) a false ≡ false → get_or marks a false ≡ false
+fresh-before marks b a within is = elim (cases_eq a b) [
+  | inl same ↦ (let both : true ≡ false = sym (get_or-set_same marks b true false within) ∙ (rw same at is) in absurd cc)
+  | inr other ↦ sym (get_or-set_other marks b a true false other) ∙ is
+]
+
+pub stored-world : (m new : SwapMemory) (words descriptors workers : ℕ) (marks stored : List Bool) (w b x : ℕ) (act : Act) (done : Done) (told : Option ℕ) → w < length m.workers → b < words → (0 < w → m.phase ≢ Recovering)
+    → StepsIn (started m w (Storing b x)).phase (started m w (Storing b x)) w act done told new → IsTestWorld m words descriptors workers marks stored → IsTestWorld new words descriptors workers marks (slice_set stored b true)
+stored-world m new words descriptors workers marks stored w b x act done told within lies works s t =
+    let old : SwapMemory = started m w (Storing b x) in
+    let inside : b < length stored = rw t.noted lies in
+    let doing : doing_of old w ≡ Storing b x = stored-doing m w b x within in
+    stepped-world old new words descriptors workers marks (slice_set stored b true) w act done told s
+    (λ a v is. stores-at b x a v stored inside (sym doing ∙ is))
+    (stored-ends old.phase old new w b x act done told s doing)
+    (λ u ne a v is. t.calm u a v (ap (λ (l : Working). l.doing) (sym (get_or-set_other m.workers w u _ idle ne)) ∙ is))
+    (started-sized m words descriptors workers marks w (Storing b x) t.sized) (length-set stored b true ∙ t.noted)
+    (λ a out ne private fresh. t.settled a out (works-before m w works ne) private (fresh-before stored b a inside fresh))
+
+-- an eviction leaves settled words so
+pub evicted-world : (old new : SwapMemory) (words descriptors workers : ℕ) (marks stored : List Bool) (e : ℕ) (told : Option ℕ) → IsEviction old e told new → IsTestWorld old words descriptors workers marks stored → IsTestWorld new words descriptors workers marks stored
+evicted-world old new words descriptors workers marks stored e told h t = record {
+  sized = subst (λ (m : SwapMemory). IsSized m words descriptors workers marks) (sym h.is) (record {
+    cached = t.sized.cached;
+    durable = length-set old.durable e (slice_index old.cached e) ∙ t.sized.durable;
+    count = t.sized.count;
+    swaps = t.sized.swaps;
+    some = t.sized.some;
+    room = t.sized.room;
+    size = t.sized.size;
+    marked = t.sized.marked;
+  });
+  calm = subst IsCalm (sym h.is) t.calm;
+  noted = t.noted;
+  settled = λ a out ne private fresh. settled_words_stay.eviction old new e told a h
+      (t.settled a (subst (λ (m : SwapMemory). IsOutside m.swaps a) h.is out) (λ is. ne (ap (λ (m : SwapMemory). m.phase) h.is ∙ is)) (ap (λ (m : SwapMemory). is_named m a) (sym h.is) ∙ private) fresh);
+}
+
+-- in a cut nobody does anything, nothing is named, and a recovery time begins
+idle-cut : (m : SwapMemory) → IsCalm (after_cut m)
+idle-cut m u a v is = busy-calm _ a v (ap (λ (l : Working). l.doing) (all-same (length m.workers) u idle)) is
+
+pub cut-world : (m : SwapMemory) (words descriptors workers : ℕ) (marks new stored : List Bool) → length new ≡ length marks → ((a : ℕ) → get_or new a false ≡ false) → IsTestWorld m words descriptors workers marks stored
+    → IsTestWorld (after_cut m) words descriptors workers new stored
+cut-world m words descriptors workers marks new stored long none t = record {
+  sized = record {
+    cached = t.sized.durable;
+    durable = t.sized.durable;
+    count = length-replicate (length m.workers) idle ∙ t.sized.count;
+    swaps = t.sized.swaps;
+    some = t.sized.some;
+    room = t.sized.room;
+    size = long ∙ t.sized.size;
+    marked = none;
+  };
+  calm = idle-cut m;
+  noted = t.noted;
+  settled = λ a out ne private fresh. absurd (ne refl);
+}
+
+-- after a renewal every word is settled
+pub renewed-world : (m : SwapMemory) (words descriptors workers : ℕ) (marks new stored after : List Bool) → MayRenew m → length new ≡ length marks → ((a : ℕ) → get_or new a false ≡ false) → length after ≡ length stored
+    → IsTestWorld m words descriptors workers marks stored → IsTestWorld (renewed m) words descriptors workers new after
+renewed-world m words descriptors workers marks new stored after may long none same t = record {
+  sized = record {
+    cached = t.sized.cached;
+    durable = t.sized.durable;
+    count = t.sized.count;
+    swaps = t.sized.swaps;
+    some = t.sized.some;
+    room = t.sized.room;
+    size = long ∙ t.sized.size;
+    marked = none;
+  };
+  calm = t.calm;
+  noted = same ∙ t.noted;
+  settled = λ a out ne private fresh. settled_words_stay.renewal m a (may.same a out);
+}
+
+-- as it is opened
+pub opened-world : (m : SwapMemory) (start : List ℕ) (swaps workers : ℕ) (marks stored : List Bool) → IsOpened m start swaps workers → swap_address swaps ≤ length start → marks ≡ replicate (length start) false → stored ≡ replicate (length start) false
+    → IsTestWorld m (length start) swaps (workers + 1) marks stored
+opened-world m start swaps workers marks stored o room none fresh = record {
+  sized = subst (λ (n : SwapMemory). IsSized n (length start) swaps (workers + 1) marks) (sym o.is) (record {
+    cached = refl;
+    durable = refl;
+    count = length-replicate (workers + 1) idle;
+    swaps = refl;
+    some = omega arith;
+    room = room;
+    size = rw none (length-replicate (length start) false);
+    marked = λ a. rw none (all-same (length start) a false);
+  });
+  calm = subst IsCalm (sym o.is) (λ u a v is. busy-calm _ a v (ap (λ (l : Working). l.doing) (all-same (workers + 1) u idle)) is);
+  noted = rw fresh (length-replicate (length start) false);
+  settled = λ a out ne private new. subst (λ (n : SwapMemory). is_settled_at n a ≡ true) (sym o.is) (settled_words_stay.opening o.phase start swaps workers a);
+}
 
 -- renewals
 

@@ -5,7 +5,7 @@ use Rattle.bz_running.specs.FromDescend.Way.{Way}
 use Rattle.bz_running.specs.FromDescend.Way.TheVariants as way
 use Rattle.bz_running.specs.FromFind.Phases.{find_asks}
 use Rattle.bz_running.specs.FromFind.Find.{Find}
-use Rattle.bz_running.specs.FromFind.FindPhase.{MergeFindPhase as FindPhase}
+use Rattle.bz_running.specs.FromFind.FindPhase.{FindPhase}
 use Rattle.bz_running.specs.FromFind.FindPhase.TheVariants as find
 use Rattle.bz_layout.specs.declared.config.Config.{Config}
 use Rattle.bz_leaf.specs.Facts.{leaf_asks}

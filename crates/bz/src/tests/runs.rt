@@ -219,7 +219,7 @@ fn expect_either<R: Threads + Wait + Abort + Sync>(
 fn two_inserts_of_one_key_are_one_insert(rt: HostRuntime) -> Result<(), Fail> {
     let first = "w1.1 insert a 1 = inserted\nw2.1 insert a 2 = exists\n";
     let second = "w2.1 insert a 2 = inserted\nw1.1 insert a 1 = exists\n";
-    for k in 1..61u32 {
+    for k in 1..73u32 {
         let input = format!(in rt.alloc();
             "memory 16 256\nw 1 insert a 1\nw 2 insert a 2\nrun list 1*{k} 2*{k}\nrun alone\n"
         )?;

@@ -168,7 +168,7 @@ fn beside(rt: &impl Abort, alloc: Global, acts: u32, other: u32) {
 fn a_stopped_split_holds_nobody_up(rt: HostRuntime) {
     for turn in 0..9 {
         for other in [30, 63, 10] {
-            beside(&rt, rt.alloc(), 110 * turn, other);
+            beside(&rt, rt.alloc(), 113 * turn, other);
         }
     }
 }

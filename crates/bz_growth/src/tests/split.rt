@@ -180,7 +180,7 @@ fn beside(rt: &impl Abort, alloc: Global, acts: u32, first: u8, second: u8) {
 
 #[test]
 fn a_stopped_split_holds_nobody_up(rt: HostRuntime) {
-    for turn in 0..17 {
+    for turn in 0..18 {
         beside(&rt, rt.alloc(), 50 * turn, 21, 1);
         beside(&rt, rt.alloc(), 50 * turn, 1, 21);
     }

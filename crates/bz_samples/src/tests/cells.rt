@@ -1,4 +1,4 @@
-ghost use Rattle.std.specs.Prelude.{◌≡◌, false, IfOk, replicate};
+ghost use Rattle.std.specs.Prelude.{◌≡◌, false, [], IfOk, replicate};
 ghost use Rattle.bz_cells.specs.Store.{IsStore};
 
 use super::bench::same;
@@ -21,7 +21,7 @@ const WORKERS: u8 = 2;
 
 // A memory of two descriptors and two lines, all of it zero.
 fn zeros(alloc: Global) -> Result<Cells, Memory>
-    ensures words { IfOk result (λ c. c ≡ record { cached = replicate 64 0; durable = replicate 64 0; swaps = 2; next_tags = replicate 3 0; missed = replicate 2 false; taken = 0 }) }
+    ensures words { IfOk result (λ c. c ≡ record { cached = replicate 64 0; durable = replicate 64 0; past = record { count = 0; since = replicate 64 0; asks = replicate 3 [] }; swaps = 2; next_tags = replicate 3 0; missed = replicate 2 false; taken = 0 }) }
     ensures typed { IfOk result IsStore }
 {
     let words = vec![in alloc; 0u64; 64]?;
@@ -44,18 +44,20 @@ fn a_word_is_durable_once_its_line_is_flushed(rt: HostRuntime) -> Result<(), Fai
     Ok(())
 }
 
-// Descriptor 1 after a store into each of its lines, and a cut before which these were flushed: its status, and two fields.
+// Descriptor 1 after a store into each of its lines, and a cut before which a worker asked for these and fenced: its status, and
+// two fields.
 fn cut_after(alloc: Global, head: bool, tail: bool) -> Result<(SwapStatus, u64, u64), Memory> {
     let mut cells = zeros(alloc)?;
     cells.store_status(1, SwapStatus::Undecided);
     cells.store_field(1, 6, 5);
     cells.store_field(1, 7, 6);
-    if head {
-        cells.flush_head(1);
+    if head && cells.may_ask(WORKERS) {
+        cells.ask_head(WORKERS, 1);
     }
-    if tail {
-        cells.flush_tail(1);
+    if tail && cells.may_ask(WORKERS) {
+        cells.ask_tail(WORKERS, 1);
     }
+    cells.fence(WORKERS);
     cells.cut();
     let (low, high) = (cells.load_field(1, 6), cells.load_field(1, 7));
     Ok((cells.durable_status(1), low, high))

@@ -93,7 +93,7 @@ fn holds_after<R: Abort + Threads + Wait + Sync>(rt: &R, alloc: Global, acts: u3
 
 #[test]
 fn a_whole_call_happens_between_two_acts_of_another(rt: HostRuntime) {
-    for acts in [1, 2, 5, 6, 7, 22, 37, 52, 62] {
+    for acts in [1, 2, 5, 6, 7, 24, 41, 58, 72] {
         holds_after(&rt, rt.alloc(), acts);
     }
 }

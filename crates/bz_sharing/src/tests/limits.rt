@@ -96,8 +96,8 @@ fn many_inserts() -> [Part; 1] {
 // The journal has no more room, and each insert was answered before that or told of it.
 fn is_full(rt: &impl Abort, alloc: Global, world: &World, told: &[Told], marks: u32) {
     let tally = read(rt, alloc, world, told);
-    // Each insert makes 71 acts at least.
-    holds(rt, tally.inserted <= marks / 71);
+    // Each insert makes 81 acts at least.
+    holds(rt, tally.inserted <= marks / 81);
     same(rt, tally.inserted.saturating_add(tally.no_marks), 4 * 64);
     holds(rt, world.journal().room() < 3);
 }

@@ -7,18 +7,20 @@ use bz_mark::Mark;
 use bz_world::World;
 use std::process::Abort;
 
-// Acts by their kinds.
+// Acts by their kinds; a flush is one of the fences.
 #[derive(Clone, Copy, Debug, PartialEq, Eq)]
 struct Costs {
     stores: u32,
     swaps: u32,
-    flushes: u32,
+    asks: u32,
+    fences: u32,
 }
 
 const NONE: Costs = Costs {
     stores: 0,
     swaps: 0,
-    flushes: 0,
+    asks: 0,
+    fences: 0,
 };
 
 // The acts from a mark on.
@@ -28,7 +30,8 @@ fn costs_from(world: &World, from: u32) -> Costs {
         let kind = match mark(world, i) {
             Some(Mark::Store { .. }) => &mut costs.stores,
             Some(Mark::Cas { .. }) => &mut costs.swaps,
-            Some(Mark::Flush { .. }) => &mut costs.flushes,
+            Some(Mark::Ask { .. }) => &mut costs.asks,
+            Some(Mark::Fence { .. } | Mark::Flush { .. }) => &mut costs.fences,
             _ => continue,
         };
         *kind = kind.saturating_add(1);
@@ -36,17 +39,20 @@ fn costs_from(world: &World, from: u32) -> Costs {
     costs
 }
 
-// Whether the next act of worker 1 is a flush, as the world foretells it.
+// Whether the next act of worker 1 is a fence or a flush, as the world foretells it.
 fn flushes_next(rt: &impl Abort, world: &World) -> bool {
     assert!(rt; world.config().workers >= 1);
     world.flush_next(1)
 }
 
 fn is_at_most(costs: &Costs, most: &Costs) -> bool {
-    costs.stores <= most.stores && costs.swaps <= most.swaps && costs.flushes <= most.flushes
+    costs.stores <= most.stores
+        && costs.swaps <= most.swaps
+        && costs.asks <= most.asks
+        && costs.fences <= most.fences
 }
 
-// Makes a whole call of worker 1, which costs at most this; each of its flushes was foretold.
+// Makes a whole call of worker 1, which costs at most this; each of its fences was foretold.
 fn costs_at_most(rt: &impl Abort, world: &mut World, call: Call, answer: Answer, most: Costs) {
     let from = world.journal().length();
     holds(rt, begin(world, 1, call));
@@ -61,7 +67,7 @@ fn costs_at_most(rt: &impl Abort, world: &mut World, call: Call, answer: Answer,
         }
     }
     let costs = costs_from(world, from);
-    same(rt, costs.flushes, foretold);
+    same(rt, costs.fences, foretold);
     holds(rt, is_at_most(&costs, &most));
 }
 
@@ -75,19 +81,22 @@ fn cost_at_most(rt: &impl Abort, world: &mut World, asked: &[(Call, Answer, Cost
 const INSERT: Costs = Costs {
     stores: 18,
     swaps: 20,
-    flushes: 15,
+    asks: 14,
+    fences: 11,
 };
 
 const UPDATE: Costs = Costs {
     stores: 15,
     swaps: 16,
-    flushes: 13,
+    asks: 12,
+    fences: 10,
 };
 
 const DELETE: Costs = Costs {
     stores: 8,
     swaps: 10,
-    flushes: 7,
+    asks: 7,
+    fences: 5,
 };
 
 // Two keys come, of which one is updated.

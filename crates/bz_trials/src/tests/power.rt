@@ -161,7 +161,7 @@ fn recovery_cut_at_will(rt: &impl Abort, alloc: Global, kind: u32, acts: u32) ->
 #[test]
 fn a_recovery_that_is_cut_begins_anew(rt: HostRuntime) {
     for kind in 0..3 {
-        let acts = recovery_cut_at_will(&rt, rt.alloc(), kind, 50);
+        let acts = recovery_cut_at_will(&rt, rt.alloc(), kind, 56);
         holds(&rt, acts >= 500 && acts < 1_000);
     }
 }

@@ -17,19 +17,21 @@ const SIXTY_FOUR: Config = Config {
     nodes: 4,
     swaps: 256,
     workers: 64,
-    marks: 1 << 13,
+    marks: 1 << 14,
     calls: 256,
     pages: 1,
 };
 
-// Four records in its leaf, of which one is updated so often that a short record has no room beside them.
+// Five records in its leaf, of which one is updated so often that a short record has no room beside them.
 fn crowd(rt: &impl Abort, world: &mut World) {
     let long = payload(rt, &[b'x'; 28]);
     for number in 0..4 {
         let insert = Call::Insert(numbered(rt, number), long);
         answers(rt, world, insert, Answer::Inserted);
     }
-    for _ in 0..19 {
+    let short = Call::Insert(numbered(rt, 5), payload(rt, b"1"));
+    answers(rt, world, short, Answer::Inserted);
+    for _ in 0..18 {
         let update = Call::Update(numbered(rt, 0), long);
         answers(rt, world, update, Answer::Updated(long));
     }
@@ -106,7 +108,7 @@ fn found_beside(rt: &impl Abort, alloc: Global, full: bool, stops: u32, step: u3
     found
 }
 
-// The insert into an empty leaf takes sixty-three acts. Into a full one, which is copied for it, it takes more than a thousand.
+// The insert into an empty leaf takes seventy-three acts. Into a full one, which is copied for it, it takes some five hundred and fifty.
 #[test]
 fn a_get_beside_a_stopped_insert_ends_alone(rt: HostRuntime) {
     for (full, stops, step) in [(false, 200, 1), (true, 40, 40)] {
@@ -120,7 +122,7 @@ fn a_get_beside_a_stopped_insert_ends_alone(rt: HostRuntime) {
 fn stopped(rt: &impl Abort, world: &mut World, k: Key, acts: u32, apart: u32) {
     for w in 1..64u8 {
         holds(rt, begin(world, w, Call::Insert(k, payload(rt, &[w]))));
-        let more = u32::from(w).saturating_mul(apart) % 64;
+        let more = u32::from(w).saturating_mul(apart) % 74;
         steps(world, w, acts.saturating_add(more));
     }
 }
@@ -149,7 +151,7 @@ fn each_ends(rt: &impl Abort, alloc: Global, acts: u32, apart: u32) {
 #[test]
 fn each_of_sixty_four_workers_ends_alone(rt: HostRuntime) {
     for apart in [0, 1, 5, 13] {
-        for acts in 0..16 {
+        for acts in 0..19 {
             each_ends(&rt, rt.alloc(), 4 * acts, apart);
         }
     }

@@ -116,7 +116,7 @@ fn stray_link(world: &mut World, link: u8) {
     let last = 128 + link as u32;
     let ended = [kept(world, place + 2), kept(world, last)];
     world.begin(64, &ended);
-    steps(world, 64, 13);
+    steps(world, 64, 14);
     let own = [
         kept(world, place),
         raised(world, place + 1),
@@ -124,7 +124,7 @@ fn stray_link(world: &mut World, link: u8) {
         raised(world, last),
     ];
     world.begin(w, &own);
-    steps(world, w, 32);
+    steps(world, w, 33);
     steps(world, 64, 100);
     steps(world, w, 1);
 }
@@ -138,7 +138,7 @@ fn scatter(world: &mut World, random: &mut Random, places: u32) {
             let last = place + 3 + random.below(9);
             begin(world, w, place, last);
         }
-        let count = random.below(60);
+        let count = random.below(68);
         steps(world, w, count);
     }
 }
@@ -220,8 +220,8 @@ fn beside_scattered(alloc: Global, seed: u64, places: u32) -> Result<Option<u32>
 // The greatest count beside chains whose links have stopped after each number of steps.
 fn beside_each_chain(rt: &impl Abort, alloc: Global) -> u32 {
     let mut greatest = 0;
-    for least in 0..=48 {
-        for (rise, span) in [(0, 1), (1, 2), (1, 12), (5, 27), (17, 40)] {
+    for least in 0..=55 {
+        for (rise, span) in [(0, 1), (1, 2), (1, 12), (5, 31), (17, 46)] {
             let stops = Stops { least, rise, span };
             let count = beside_chains(alloc, stops).expect(rt, "a memory");
             greatest = count.expect(rt, "a bound").max(greatest);

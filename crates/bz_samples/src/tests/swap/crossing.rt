@@ -19,7 +19,7 @@ enum Winners {
 enum Schedule {
     // so many acts of worker 1, of worker 2, and of worker 1 again
     Turns(u32, u32, u32),
-    // forty acts in blocks of so many, each of which a bit gives to one of the workers
+    // forty-eight acts in blocks of so many, each of which a bit gives to one of the workers
     Blocks(u32, u32),
 }
 
@@ -38,7 +38,7 @@ impl Schedule {
                 }
             }
             Schedule::Blocks(length, bits) => {
-                if n >= 40 {
+                if n >= 48 {
                     return None;
                 }
                 let block = n / length.max(1) % 12;
@@ -51,7 +51,7 @@ impl Schedule {
 // Makes the acts of the schedule, and then those of each worker to its end.
 fn play(watched: &mut Watched, schedule: Schedule) -> (Done, Done) {
     let mut answers = [Done::Busy; 2];
-    for n in 0..120 {
+    for n in 0..140 {
         let Some(w) = schedule.worker(n) else {
             break;
         };
@@ -97,9 +97,9 @@ fn first_bad(
     swaps: (&[Change], &[Change]),
     winners: Winners,
 ) -> Result<Option<Schedule>, Memory> {
-    for i in 0..=38 {
-        for j in 0..=40 {
-            for k in 0..=18 {
+    for i in 0..=44 {
+        for j in 0..=46 {
+            for k in 0..=21 {
                 let schedule = Schedule::Turns(i, j, 2 * k + (i + j) % 2);
                 if !goes_well(alloc, swaps, winners, schedule)? {
                     return Ok(Some(schedule));

@@ -109,7 +109,7 @@ fn cut_after(rt: &impl Abort, alloc: Global, entries: &[Entry], count: u32, evic
 
 // A power cut after each step.
 fn cut_after_each(rt: &impl Abort, alloc: Global, entries: &[Entry], evicted: &[u32]) {
-    for count in 0..=47 {
+    for count in 0..=54 {
         cut_after(rt, alloc, entries, count, evicted);
     }
 }

@@ -118,7 +118,7 @@ fn run(world: &mut World, w: u8) -> Option<(Done, u32, [Option<u16>; 2])> {
 // The swap of these entries takes a descriptor, and effect once.
 fn swaps(rt: &impl Abort, world: &mut World, swap: u16, entries: &[Entry; 2]) {
     same(rt, world.begin(1, entries), Some(Ok(swap)));
-    let answer = (Done::Swapped(true), 27, [Some(swap), None]);
+    let answer = (Done::Swapped(true), 32, [Some(swap), None]);
     same(rt, run(world, 1), Some(answer));
     for entry in entries {
         // only the cached word loses the dirty bit

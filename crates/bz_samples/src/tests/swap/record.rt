@@ -80,7 +80,7 @@ fn goes_well(alloc: Global, layout: Layout, count: u32, seed: u64) -> Result<boo
     let mut random = Random::from_seed(seed);
     act_and_evict(&mut watched, &mut random, layout, count);
     let published = matches!(watched.fate(0), Fate::Effective | Fate::Answered(true));
-    let ended = count < 31 || published;
+    let ended = count < 36 || published;
     watched.cut();
     let cut = is_whole(&watched, layout, published);
     let recovered = recover(&mut watched, &mut random) && is_whole(&watched, layout, published);
@@ -91,7 +91,7 @@ fn goes_well(alloc: Global, layout: Layout, count: u32, seed: u64) -> Result<boo
 fn a_published_record_is_whole(rt: HostRuntime) -> Result<(), Fail> {
     for (words, published) in [([1, 2], [0, 3]), ([3, 6], [0, 7]), ([0, 7], [1, 2])] {
         let layout = Layout { words, published };
-        for count in 0..=31 {
+        for count in 0..=36 {
             for seed in 0..200 {
                 let well = goes_well(rt.alloc(), layout, count, seed)?;
                 assert!(rt; well, "{layout:?} {count} {seed}");

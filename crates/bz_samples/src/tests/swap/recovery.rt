@@ -9,8 +9,8 @@ use bz_word::Entry;
 use std::alloc::Global;
 use std::test::Fail;
 
-// The step of a swap of two words whose flush makes its success durable.
-const EFFECT: u32 = 20;
+// The step of a swap of two words whose fence makes its success durable.
+const EFFECT: u32 = 23;
 
 // Stores a word and flushes its line.
 fn put(world: &mut World, a: u32, v: u64) -> bool {
@@ -57,7 +57,7 @@ fn recover_and_swap(alloc: Global, count: u32) -> Result<Option<((u64, u64), (u6
     let recovered = recover(&mut world) && world.phase() == Phase::Running;
     let between = values(&world);
     let next = begin_next(&mut world);
-    let told = steps(&mut world, 27, &[]);
+    let told = steps(&mut world, 32, &[]);
     let done = begun == Some(Ok(0)) && recovered && next == Some(0) && told == 1;
     Ok(if done {
         Some((between, values(&world)))
@@ -68,7 +68,7 @@ fn recover_and_swap(alloc: Global, count: u32) -> Result<Option<((u64, u64), (u6
 
 #[test]
 fn a_recovery_gives_the_descriptors_back(rt: HostRuntime) -> Result<(), Fail> {
-    for count in 0..=27 {
+    for count in 0..=32 {
         let between = if count < EFFECT { (0, 0) } else { (11, 12) };
         let is = recover_and_swap(rt.alloc(), count)?;
         assert_eq!(rt; is, Some((between, (21, 22))), "{count} steps");

@@ -89,9 +89,9 @@ fn first_bad(alloc: Global, case: Case, own: u32, asleep: u32) -> Result<Option<
     } else if case.two {
         4
     } else {
-        10
+        12
     };
-    for late in 0..=22 {
+    for late in 0..=25 {
         for more in 0..=longest {
             let acts = Acts {
                 own,
@@ -122,7 +122,7 @@ fn sleeping_helpers_change_nothing(rt: HostRuntime) -> Result<(), Fail> {
             sleeper_swaps,
             late_ends,
         };
-        let (longest, last) = if two { (27, 40) } else { (17, 30) };
+        let (longest, last) = if two { (32, 46) } else { (21, 34) };
         for own in 0..=longest {
             for asleep in 0..=last {
                 let bad = first_bad(rt.alloc(), case, own, asleep)?;

@@ -24,11 +24,14 @@ pub(crate) struct World {
     count: u8,
     // whether a swap begun since the last cut and renewal names the address
     named: Vec<bool>,
+    // whether a word was stored there by itself since the last renewal: what was not is settled outside a recovery time
+    stored: Vec<bool>,
 }
 
 impl Model for World {
     ghost use Rattle.std.specs.Prelude.{◌≡◌, ◌≢◌, ◌<◌, ◌≤◌, ◌^◌, ℕ, false, length, get_or};
     ghost use Rattle.bz_layout.specs.Addresses.{swap_address};
+    ghost use Rattle.bz_samples.specs.Settled.{AreSettled};
     ghost use Rattle.bz_swap.specs.SwapMemory.{SwapMemory, Storing, doing_of, is_named};
 
     ghost Value = { SwapMemory };
@@ -36,7 +39,7 @@ impl Model for World {
     ghost view = { λ w. w.access };
 
     // no worker is between the start of a store and the store
-    ghost invariant = { λ w. (w.swaps ≤ 2 ^ 16) × (w.count ≤ 65) × (0 < w.count) × (swap_address w.swaps ≤ w.words) × (length w.access.cached ≡ w.words) × (length w.access.durable ≡ w.words) × (length w.access.workers ≡ w.count) × (w.access.swaps ≡ w.swaps) × (length w.named.items ≡ w.words) × ((a : ℕ) → get_or w.named.items a false ≡ is_named w.access a) × ((u a v : ℕ) → doing_of w.access u ≢ Storing a v) };
+    ghost invariant = { λ w. (w.swaps ≤ 2 ^ 16) × (w.count ≤ 65) × (0 < w.count) × (swap_address w.swaps ≤ w.words) × (length w.access.cached ≡ w.words) × (length w.access.durable ≡ w.words) × (length w.access.workers ≡ w.count) × (w.access.swaps ≡ w.swaps) × (length w.named.items ≡ w.words) × ((a : ℕ) → get_or w.named.items a false ≡ is_named w.access a) × ((u a v : ℕ) → doing_of w.access u ≢ Storing a v) × (length w.stored.items ≡ w.words) × AreSettled w.access w.stored.items };
 }
 
 // The list of these entries, of which there are one to four in the order of their targets.
@@ -83,6 +86,7 @@ impl World {
         requires workers { (1 ≤ workers) × (workers ≤ 64) }
     {
         let named = vec![in alloc; false; start.len()]?;
+        let stored = vec![in alloc; false; start.len()]?;
         let access = Access::open(alloc, start, swaps, workers as u32)?;
         Ok(World {
             access,
@@ -90,6 +94,7 @@ impl World {
             swaps,
             count: workers + 1,
             named,
+            stored,
         })
     }
 
@@ -155,7 +160,8 @@ impl World {
         if !self.is_address(a) || entry.expected >= VALUES || entry.new >= VALUES {
             return false;
         }
-        self.named[a as usize] || self.access.cached(a) == self.access.durable(a)
+        self.access.phase() != Phase::Recovering
+            && (self.named[a as usize] || !self.stored[a as usize])
     }
 
     // Whether a swap may have these entries.
@@ -257,6 +263,7 @@ impl World {
         if w >= self.count || self.access.steps() >= 1 << 36 || !self.may_store(w, a, v) {
             return None;
         }
+        self.stored[a as usize] = true;
         self.access.start_store(w, a, v);
         Some(self.access.step(w))
     }
@@ -334,6 +341,7 @@ impl World {
         if may {
             self.access.renew();
             self.named.fill(false);
+            self.stored.fill(false);
         }
         may
     }

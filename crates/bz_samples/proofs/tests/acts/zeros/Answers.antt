@@ -1,13 +1,13 @@
 use Rattle.std.specs.Prelude.{◌≡◌, length}
-use Rattle.std.proofs.Common.{arith, refl}
+use Rattle.std.proofs.Common.{refl}
 use Rattle.bz_cells.specs.Store.{Store, IsStore}
-use Rattle.bz_samples.proofs.Zeros.{if_opened, zero_store}
+use Rattle.bz_samples.proofs.Zeros.{if_opened, opened_store, zero_store}
 use Rattle.bz_samples.proofs.tests.acts.zeros.Goals as goal
 
 pub returns-clause-typed : goal.returns-clause-typed
 returns-clause-typed c =
     let opened = rw (c.deref.ensures.value, c.in_ok-words.ensures.items_if_clones_equal (λ y e. e)) at c.open.ensures.words in
-    if_opened IsStore c.open.result _ opened (zero_store 4 96 3 refl (omega arith) (omega arith) (omega arith))
+    opened_store c.open.result _ opened c.open.ensures.room (zero_store 4 96 3)
 
 pub returns-clause-swaps : goal.returns-clause-swaps
 returns-clause-swaps c = if_opened (λ (st : Store). st.swaps ≡ 4) c.open.result _ c.open.ensures.words refl
