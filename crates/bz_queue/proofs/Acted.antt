@@ -19,6 +19,7 @@ use Rattle.bz_marked.specs.Marks.{mark_of}
 use Rattle.bz_queue.specs.Inside.Acted.{IsActed, HasActed, HasEnded}
 use Rattle.bz_queue.specs.Inside.Going.{MustGoOn}
 use Rattle.bz_queue.specs.Inside.Kept.{IsTabled, IsKept}
+use Rattle.bz_queue.specs.Inside.Left.{PaysFor}
 use Rattle.bz_queue.specs.Inside.Serving.{IsSlot}
 use Rattle.bz_queue.specs.QueueView.{IsStruck}
 use Rattle.bz_queue.specs.declared.parts.Parts.{Parts}
@@ -56,8 +57,8 @@ worker-inside p w k open_is =
 
 -- with the mark of an effect, or none
 pub struck-acted : (old mid new : Parts) (w : ℕ) (made : Act) (ended : Done) (told : Option ℕ) → IsActed old w made ended told mid → IsStruck mid.journal.past new.journal.past
-    → new ≡ record mid { journal = record mid.journal { past = new.journal.past }; workers = new.workers } → HasActed old w new
-struck-acted old mid new w made ended told a struck rest = record {
+    → new ≡ record mid { journal = record mid.journal { past = new.journal.past }; workers = new.workers } → PaysFor old new w → HasActed old w new
+struck-acted old mid new w made ended told a struck rest pays = record {
   made = made;
   flush = a.step.one.flush;
   struck = subst (λ (past : List QMark). IsStruck past new.journal.past) (ap (λ (q : Parts). q.journal.past) a.rest) struck;
@@ -67,6 +68,7 @@ struck-acted old mid new w made ended told a struck rest = record {
       ∙ ap (λ (m : SwapMemory). let after : Parts = record old { access = m; journal = record old.journal { past = new.journal.past }; workers = new.workers } in after) (sym (ap (λ (q : Parts). q.access) rest));
   others = λ v other. ap (λ (q : Parts). worker_of q.access v) rest ∙ a.step.one.others.workers v other;
   count = ap (λ (q : Parts). length q.access.workers) rest ∙ a.step.one.others.count;
+  pays = pays;
 }
 
 module _ (old new : Parts) (w : ℕ) (made : Act) (ended : Done) (k : IsKept old) (open_is : open_call w old.journal.past ≢ None) (room : length old.journal.past < old.journal.most) (a : IsActed old w made ended None new) where
@@ -127,6 +129,7 @@ module _ (old new : Parts) (w : ℕ) (made : Act) (ended : Done) (k : IsKept old
       memory = (quiet old.numbers.ring old.access new.access old.journal old.owners.items old.numbers.workers w made ended k.tabled.swaps k.memory k.sound s.x s.served held a.step).0;
       sound = sound;
       opened = still-opened old.numbers.ring old.access new.access old.journal old.owners.items old.numbers.workers w made ended k.tabled.swaps k.memory k.sound s.x s.served held a.step;
+      is = s.is;
       idle = now-idle old.numbers.ring old.access new.access old.journal old.owners.items old.numbers.workers w made ended k.tabled.swaps k.memory k.sound s.x s.served held a.step other;
       others = other-slot;
     };
@@ -140,12 +143,13 @@ module _ (old new : Parts) (w : ℕ) (made : Act) (ended : Done) (k : IsKept old
     must = subst (λ (q : Parts). MustGoOn q w s.x ended) (sym a.rest) (must other);
   }
 
-  pub has-acted : HasActed old w new
-  has-acted = record {
+  pub has-acted : PaysFor old new w → HasActed old w new
+  has-acted pays = record {
     made = made;
     flush = a.step.one.flush;
     struck = inl (ap (λ (q : Parts). q.journal.past) a.rest);
     rest = a.rest ∙ ap (λ (q : Parts). let after : Parts = record old { access = new.access; journal = record old.journal { past = q.journal.past }; workers = q.workers } in after) (sym a.rest);
     others = a.step.one.others.workers;
     count = a.step.one.others.count;
+    pays = pays;
   }

@@ -18,6 +18,7 @@ use Rattle.bz_ring.proofs.Proved.{sound_journals_grow}
 use Rattle.bz_change.specs.Changes as change
 use Rattle.bz_queue.specs.Inside.Begun.{MayBegin}
 use Rattle.bz_queue.specs.Inside.Kept.{IsTabled, IsMemory, IsKept, view_of}
+use Rattle.bz_queue.specs.Inside.Left.{lefts_of}
 use Rattle.bz_queue.specs.Inside.Serving.{IsFree, IsServed, IsSlot}
 use Rattle.bz_queue.specs.QueueView.{QueueView, IsCall, begin_answer, after_begin}
 use Rattle.bz_queue.specs.declared.answers.QBegun.TheVariants.{Begun}
@@ -185,7 +186,7 @@ answer-is p w called n k may number =
 
 pub after-is : (old new : Parts) (w : ℕ) (called : QCall) (n : ℕ)
     → new ≡ record old { access = started old.access w (Reading (change.counter_of called)); journal = with_mark old.journal (Begin w n called); workers = new.workers; last = new.last; begun = old.begun + 1 }
-    → view_of new ≡ after_begin (view_of old) w called (Begun n)
+    → view_of new ≡ after_begin (view_of old) w called (view_of new).left (Begun n)
 after-is old new w called n rest =
-    ap view_of rest
-    ∙ ap (λ (flushes : List Bool). let after : QueueView = record { numbers = old.numbers; log = with_mark old.journal (Begin w n called); flushes = flushes } in after) (map-set (λ (it : Working). it.flush_next) old.access.workers w (record { doing = Reading (change.counter_of called); flush_next = false }))
+    ap (λ (q : Parts). let after : QueueView = record (view_of q) { left = lefts_of new } in after) rest
+    ∙ ap (λ (flushes : List Bool). let after : QueueView = record { numbers = old.numbers; log = with_mark old.journal (Begin w n called); flushes = flushes; left = lefts_of new } in after) (map-set (λ (it : Working). it.flush_next) old.access.workers w (record { doing = Reading (change.counter_of called); flush_next = false }))

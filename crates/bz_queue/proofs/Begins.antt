@@ -12,6 +12,7 @@ use Rattle.bz_ring.specs.declared.calls.QCall.TheVariants as call
 use Rattle.bz_change.specs.Changes as change
 use Rattle.bz_queue.specs.Inside.Going.{IsBetween, MustJudge, WentOn}
 use Rattle.bz_queue.specs.Inside.Kept.{IsTabled, IsKept}
+use Rattle.bz_queue.specs.Inside.Left.{PaysFor}
 use Rattle.bz_queue.specs.Inside.Serving.{counter_now, IsChanged, IsAt, IsServed, IsSlot}
 use Rattle.bz_queue.specs.declared.answers.QApplied.TheVariants.{Stepped}
 use Rattle.bz_queue.specs.declared.parts.Parts.{Parts}
@@ -68,16 +69,16 @@ may-swap p w x counter word h = record {
       h.plain (omega (arith, h.look.between.opened.fits)));
 }
 
-appended-here : (begun : List (List Entry)) (entries : List Entry) (s : ℕ) → length begun ≡ s → get_or (begun ++ entries ∷ []) s [] ≡ entries
+pub appended-here : (begun : List (List Entry)) (entries : List Entry) (s : ℕ) → length begun ≡ s → get_or (begun ++ entries ∷ []) s [] ≡ entries
 appended-here begun entries s is = grind (arith, common_steps)
 
-appended-before : (begun : List (List Entry)) (entries : List Entry) (s : ℕ) → s < length begun → get_or (begun ++ entries ∷ []) s [] ≡ get_or begun s []
+pub appended-before : (begun : List (List Entry)) (entries : List Entry) (s : ℕ) → s < length begun → get_or (begun ++ entries ∷ []) s [] ≡ get_or begun s []
 appended-before begun entries s within = grind (arith, common_steps)
 
 module _ (old new : Parts) (w : ℕ) (x : OpenCall) (counter word : ℕ) (h : MustJudge old w x counter word) (suits : change.Suits x.call word) (may : MaySwap old.access w (change.entries_of old.numbers.ring x.call counter word))
     (left : old.access.taken < old.access.swaps) (held : IsHeld (swapping old.access w (change.entries_of old.numbers.ring x.call counter word)))
     (rest : new ≡ record old { access = swapping old.access w (change.entries_of old.numbers.ring x.call counter word); owners = new.owners; workers = new.workers })
-    (owners : new.owners.items ≡ slice_set old.owners.items old.access.taken w) (table : new.workers.items ≡ slice_set old.workers.items w (Some (record x { place = Swap counter word }))) where
+    (owners : new.owners.items ≡ slice_set old.owners.items old.access.taken w) (table : new.workers.items ≡ slice_set old.workers.items w (Some (record x { place = Swap counter word }))) (pays : PaysFor old new w) where
   abbrev b : IsBetween old w x
   b = h.look.between
 
@@ -174,4 +175,5 @@ module _ (old new : Parts) (w : ℕ) (x : OpenCall) (counter word : ℕ) (h : Mu
     ends = ap (λ (q : Parts). q.journal.past) rest;
     others = λ v other. ap (λ (q : Parts). worker_of q.access v) rest ∙ others-same v other;
     count = ap (λ (q : Parts). length q.access.workers) rest ∙ set-length old.access.workers w (record { doing = Swapping s; flush_next = false });
+    pays = pays;
   }

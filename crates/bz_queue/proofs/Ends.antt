@@ -14,6 +14,7 @@ use Rattle.bz_ring.proofs.EachMoment.{at_moment-earlier}
 use Rattle.bz_ring.proofs.Proved.{sound_journals_grow}
 use Rattle.bz_queue.specs.Inside.Going.{IsBetween, MustEnd, WentOn}
 use Rattle.bz_queue.specs.Inside.Kept.{IsTabled, IsMemory, IsKept}
+use Rattle.bz_queue.specs.Inside.Left.{PaysFor}
 use Rattle.bz_queue.specs.Inside.Serving.{IsSlot}
 use Rattle.bz_queue.specs.declared.answers.QApplied.TheVariants.{Ended}
 use Rattle.bz_queue.specs.declared.parts.Parts.{Parts}
@@ -32,7 +33,7 @@ pub last-of : (p : Parts) (w : ℕ) (x : OpenCall) → IsBetween p w x → slice
 last-of p w x b = b.tabled.counted w (omega (arith, b.opened.within, b.tabled.numbers.workers.at_most))
 
 module _ (old new : Parts) (w : ℕ) (x : OpenCall) (answer : QReply) (moment n : ℕ) (h : MustEnd old w x answer moment) (room : length old.journal.past < old.journal.most) (number : n ≡ begun_calls w old.journal.past)
-    (rest : new ≡ record old { journal = with_mark old.journal (End w n answer moment); workers = new.workers }) (table : new.workers.items ≡ slice_set old.workers.items w None) where
+    (rest : new ≡ record old { journal = with_mark old.journal (End w n answer moment); workers = new.workers }) (table : new.workers.items ≡ slice_set old.workers.items w None) (pays : PaysFor old new w) where
   abbrev b : IsBetween old w x
   b = h.between
 
@@ -113,4 +114,5 @@ module _ (old new : Parts) (w : ℕ) (x : OpenCall) (answer : QReply) (moment n 
     ends = (answer, (moment, ap (λ (q : Parts). q.journal.past) rest));
     others = λ v other. ap (λ (q : Parts). worker_of q.access v) rest;
     count = ap (λ (q : Parts). length q.access.workers) rest;
+    pays = pays;
   }

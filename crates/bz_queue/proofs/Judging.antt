@@ -1,5 +1,6 @@
 -- What a call makes of what it has read.
-use Rattle.std.proofs.Common.{◌≡◌, ◌<◌, ℕ, true, List, [], length, get_or, refl, sym, ap, subst, ◌∙◌, arith, Option, Some, None}
+use Rattle.std.proofs.Common.{◌≡◌, ◌≢◌, ◌<◌, ℕ, true, false, List, [], length, get_or, refl, sym, ap, subst, ◌∙◌, arith, Option, Some, None}
+use Rattle.bz_machine.specs.Allowed.{for_word}
 use Rattle.bz_machine.specs.declared.done.Done.{Done}
 use Rattle.bz_machine.specs.declared.done.Done.TheVariants.{Read, Swapped}
 use Rattle.bz_swap.specs.SwapMemory.{value_at}
@@ -18,12 +19,13 @@ use Rattle.bz_ring.proofs.EachMoment.{at_moment-now}
 use Rattle.bz_change.specs.Changes as change
 use Rattle.bz_change.proofs.Proved.{lists_follow}
 use Rattle.bz_queue.specs.Inside.Acted.{HasEnded}
-use Rattle.bz_queue.specs.Inside.Going.{IsBetween, HasRead, HasReadAt, HasSwapped, HasSwappedAt, MustGoOn, MustRead, MustLook, MustJudge, MustEnd}
+use Rattle.bz_queue.specs.Inside.Going.{IsBetween, HasRead, HasReadAt, HasSwapped, HasSwappedAt, MustGoOn, MustRead, MustLook, MustJudge, MustEnd, Starts}
 use Rattle.bz_queue.specs.Inside.Serving.{counter_now, RepliesAt, DidNotSuit}
 use Rattle.bz_queue.specs.declared.parts.Parts.{Parts}
 use Rattle.bz_queue.specs.declared.serving.OpenCall.{OpenCall}
 use Rattle.bz_queue.specs.declared.serving.Place.{Place}
-use Rattle.bz_queue.specs.declared.serving.Place.TheVariants.{Cell, Again, Swap}
+use Rattle.bz_queue.specs.declared.serving.Place.TheVariants.{Counter, Cell, Again, Swap}
+use Rattle.bz_queue.proofs.Pays.{again-starts, cell-starts, look-starts, miss-starts}
 use Rattle.bz_queue.proofs.Contents.{begins-empty, holds-now}
 use Rattle.bz_queue.proofs.Tables.{ring-of}
 
@@ -31,8 +33,8 @@ first-of : (p : Parts) (w : ℕ) (x : OpenCall) → IsBetween p w x → first_it
 first-of p w x b = begins-empty p.numbers.ring p.journal.start (ring-of p.numbers b.tabled.numbers) b.tabled.start
 
 -- it goes on to the cell of the value that it has read
-pub look-next : (p : Parts) (w : ℕ) (x : OpenCall) (counter : ℕ) → MustLook p w x counter → MustRead p w x (Cell counter) (cell_of p.numbers.ring counter)
-look-next p w x counter h = record { between = h.between; none = h.none; reads = (refl, h.rose) }
+pub look-next : (p : Parts) (w : ℕ) (x : OpenCall) (counter : ℕ) → MustLook p w x counter → Starts p w x (Cell counter) for_word → MustRead p w x (Cell counter) (cell_of p.numbers.ring counter)
+look-next p w x counter h pays = record { between = h.between; none = h.none; pays = pays; reads = (refl, h.rose) }
 
 -- it has read its counter
 pub read-counter : (p : Parts) (w : ℕ) (x : OpenCall) (v : ℕ) (b : IsBetween p w x) → HasRead p.access p.journal.past w (change.counter_of x.call) v x.effect → MustLook p w x v
@@ -43,6 +45,7 @@ pub unsuited : (p : Parts) (w : ℕ) (x : OpenCall) (counter word : ℕ) → Mus
 unsuited p w x counter word h unsuits = record {
   between = h.look.between;
   none = h.look.none;
+  pays = cell-starts p w x counter (length p.journal.past) h.place;
   reads = (
     refl,
     record {
@@ -63,6 +66,27 @@ unsuited p w x counter word h unsuits = record {
     },
   );
 }
+
+-- what is allowed once the counter was read, for the first time and again; and once the swap has missed
+pub counter-pays : (p : Parts) (w : ℕ) (x : OpenCall) (v : ℕ) → MustGoOn p w x (Read v) → x.place ≡ Counter → Starts p w x (Cell v) for_word
+counter-pays p w x v must place =
+    let read = subst (λ (it : Place). HasReadAt p.numbers.ring p.access p.journal.past w x.call must.between.opened.begun v x.effect it) place must.answered in
+    look-starts p w x v place read.value
+
+pub again-pays : (p : Parts) (w : ℕ) (x : OpenCall) (v counter at : ℕ) → MustGoOn p w x (Read v) → x.place ≡ Again counter at → v ≢ counter → Starts p w x (Cell v) for_word
+again-pays p w x v counter at must place other =
+    let read = subst (λ (it : Place). HasReadAt p.numbers.ring p.access p.journal.past w x.call must.between.opened.begun v x.effect it) place must.answered in
+    again-starts p w x v counter at place read.0.value other
+
+pub missed-next : (p : Parts) (w : ℕ) (x : OpenCall) (a : ℕ) → MustGoOn p w x (Swapped false) → a ≡ change.counter_of x.call → MustRead p w x Counter a
+missed-next p w x a must address = by x.place x.effect refl refl must.answered
+  where
+    by : (place : Place) (effect : Option ℕ) → x.place ≡ place → x.effect ≡ effect → HasSwappedAt p.numbers.ring p.journal.past x.call must.between.opened.begun false effect place → MustRead p w x Counter a
+    by (Swap counter word) None place none h = record { between = must.between; none = none; pays = miss-starts p w x counter word place must.between.idle; reads = address }
+    by (Swap counter word) (Some at) place some h = absurd h
+    by Counter effect place some h = absurd h
+    by (Cell counter) effect place some h = absurd h
+    by (Again counter at) effect place some h = absurd h
 
 -- a call without an effect may be told so
 right-none : (r : Ring) (first : List ℕ) (past : List QMark) (w : ℕ) (opened : Open) (called : QCall) (at : ℕ) → IsAfterLoad w (at_moment at past) → ListReplies r first past (record { worker = w; opened = opened; reply = change.none_reply called; at = at })

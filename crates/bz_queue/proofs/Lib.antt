@@ -19,3 +19,11 @@ pub mod Views
 pub mod Opening
 pub mod Counts
 pub mod Spending
+pub mod Movers
+pub mod Winning
+pub mod Rounds
+pub mod Moved
+pub mod Left
+pub mod Pays
+pub mod Few
+pub mod Solo

@@ -23,8 +23,9 @@ use Rattle.bz_ring.specs.Fresh.{fresh_words}
 use Rattle.bz_ring.specs.Journal.{QLog}
 use Rattle.bz_ring.proofs.Proved.{fresh_journals_are_sound, fresh_memory_is_empty}
 use Rattle.bz_queue.specs.Inside.Kept.{IsTabled, IsMemory, IsKept, view_of}
+use Rattle.bz_queue.specs.Inside.Left.{each_from, left_of, lefts_of, marks_left}
 use Rattle.bz_queue.specs.Inside.Serving.{IsSlot}
-use Rattle.bz_queue.specs.QueueView.{AreNumbers, new_view}
+use Rattle.bz_queue.specs.QueueView.{QueueView, AreNumbers, new_view}
 use Rattle.bz_queue.specs.declared.open.Numbers.{Numbers}
 use Rattle.bz_queue.specs.declared.parts.Parts.{Parts}
 use Rattle.bz_queue.specs.declared.serving.OpenCall.{OpenCall}
@@ -135,5 +136,19 @@ module _ (n : Numbers) (are : AreNumbers n) where
     map-same zero = refl
     map-same (suc k) = ap (λ (all : List Bool). false ∷ all) (map-same k)
 
+    -- no call is open
+    nothing-left : (w : ℕ) → marks_left p w ≡ 0
+    nothing-left w = ap (λ (all : List (Option OpenCall)). left_of p.access w (get_or all w None)) workers ∙ ap (left_of p.access w) (everywhere 65 w None)
+
+    each-none : (f : ℕ → ℕ) (a k : ℕ) → ((w : ℕ) → f w ≡ 0) → each_from f a k ≡ replicate k 0
+    each-none f a zero none = refl
+    each-none f a (suc k) none = ap (λ (first : ℕ). first ∷ each_from f (a + 1) k) (none a) ∙ ap (λ (all : List ℕ). 0 ∷ all) (each-none f (a + 1) k none)
+
+    lefts-none : lefts_of p ≡ replicate (n.workers + 1) 0
+    lefts-none = each-none (marks_left p) 0 (length p.access.workers) nothing-left ∙ ap (λ (k : ℕ). replicate k 0) (ap (λ (q : Parts). length q.access.workers) is ∙ length-replicate (n.workers + 1) idle)
+
     pub fresh-view : view_of p ≡ new_view n
-    fresh-view = ap view_of is ∙ ap (λ (flushes : List Bool). record (new_view n) { flushes = flushes }) (map-same (n.workers + 1))
+    fresh-view =
+        ap (λ (z : Parts). let it : QueueView = record (view_of z) { left = lefts_of p } in it) is
+        ∙ ap (λ (flushes : List Bool). let it : QueueView = record (new_view n) { flushes = flushes; left = lefts_of p } in it) (map-same (n.workers + 1))
+        ∙ ap (λ (left : List ℕ). let it : QueueView = record (new_view n) { left = left } in it) lefts-none

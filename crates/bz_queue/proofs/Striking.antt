@@ -42,7 +42,7 @@ swap-is old s new k t = has-swap old.numbers.ring old.access old.journal.past ol
 is-swap-of : (old : Parts) (s : ℕ) (new : SwapMemory) (k : IsKept old) (t : TakesEffect old.access new s) → IsSwapOf old.numbers.ring old.access s (swap-is old s new k t).x.call (swap-is old s new k t).counter (swap-is old s new k t).word
 is-swap-of old s new k t = record { swaps = k.tabled.swaps; entries = ap (entries_of old.access) (sym (swap-is old s new k t).same) ∙ (swap-is old s new k t).swapping.entries }
 
-busy-then : (done : Done) (s : ℕ) → (done ≡ Busy) ⊎ (Some s ≡ None) → done ≡ Busy
+pub busy-then : (done : Done) (s : ℕ) → (done ≡ Busy) ⊎ (Some s ≡ None) → done ≡ Busy
 busy-then done s (inl is) = is
 busy-then done s (inr is) = absurd (cc)
 

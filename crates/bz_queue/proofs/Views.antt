@@ -9,6 +9,7 @@ use Rattle.bz_ring.specs.Journal.{QLog}
 use Rattle.bz_queue.specs.Inside.Acted.{HasActed}
 use Rattle.bz_queue.specs.Inside.Going.{WentOn}
 use Rattle.bz_queue.specs.Inside.Kept.{IsKept, view_of}
+use Rattle.bz_queue.specs.Inside.Left.{each_from, lefts_of, marks_left, PaysFor}
 use Rattle.bz_queue.specs.Inside.Serving.{IsSlot}
 use Rattle.bz_queue.specs.QueueView.{QueueView, GoesOn, Steps, IsApplied, is_short}
 use Rattle.bz_queue.specs.declared.answers.QEvent.TheVariants as event
@@ -16,6 +17,8 @@ use Rattle.bz_queue.specs.declared.answers.QApplied.{QApplied}
 use Rattle.bz_queue.specs.declared.answers.QApplied.TheVariants.{Stepped}
 use Rattle.bz_queue.specs.declared.open.Numbers.{Numbers}
 use Rattle.bz_queue.specs.declared.parts.Parts.{Parts}
+use Rattle.bz_queue.proofs.Acted.{worker-inside}
+use Rattle.bz_queue.proofs.Few.{few-left}
 use Rattle.bz_queue.specs.declared.serving.OpenCall.{OpenCall}
 
 flush-told : (workers : List Working) (v : ℕ) → get_or (map (λ (it : Working). it.flush_next) workers) v false ≡ (get_or workers v idle).flush_next
@@ -23,30 +26,42 @@ flush-told [] v = refl
 flush-told (x ∷ workers) zero = refl
 flush-told (x ∷ workers) (suc v) = flush-told workers v
 
-same-view : (n n' : Numbers) (log log' : QLog) (flushes : List Bool) → n ≡ n' → log.start ≡ log'.start → log.most ≡ log'.most
-    → (let there : QueueView = record { numbers = n; log = log; flushes = flushes } in there) ≡ record { numbers = n'; log = record log' { past = log.past }; flushes = flushes }
-same-view n n' log log' flushes numbers start most =
-    ap (λ (z : Numbers). let it : QueueView = record { numbers = z; log = log; flushes = flushes } in it) numbers
-    ∙ ap (λ (z : List ℕ). let it : QueueView = record { numbers = n'; log = record { start = z; past = log.past; most = log.most }; flushes = flushes } in it) start
-    ∙ ap (λ (z : ℕ). let it : QueueView = record { numbers = n'; log = record { start = log'.start; past = log.past; most = z }; flushes = flushes } in it) most
+-- what is left to a worker
+each-told : (f : ℕ → ℕ) (a n i : ℕ) → i < n → get_or (each_from f a n) i 0 ≡ f (a + i)
+each-told f a zero i within = absurd (omega arith)
+each-told f a (suc n) zero within = ap f (omega arith)
+each-told f a (suc n) (suc i) within = each-told f (a + 1) n i (omega arith) ∙ ap f (omega arith)
+
+left-told : (p : Parts) (w : ℕ) → w < length p.access.workers → get_or (lefts_of p) w 0 ≡ marks_left p w
+left-told p w within = each-told (marks_left p) 0 (length p.access.workers) w within ∙ ap (marks_left p) (omega arith)
+
+same-view : (n n' : Numbers) (log log' : QLog) (flushes : List Bool) (left : List ℕ) → n ≡ n' → log.start ≡ log'.start → log.most ≡ log'.most
+    → (let there : QueueView = record { numbers = n; log = log; flushes = flushes; left = left } in there) ≡ record { numbers = n'; log = record log' { past = log.past }; flushes = flushes; left = left }
+same-view n n' log log' flushes left numbers start most =
+    ap (λ (z : Numbers). let it : QueueView = record { numbers = z; log = log; flushes = flushes; left = left } in it) numbers
+    ∙ ap (λ (z : List ℕ). let it : QueueView = record { numbers = n'; log = record { start = z; past = log.past; most = log.most }; flushes = flushes; left = left } in it) start
+    ∙ ap (λ (z : ℕ). let it : QueueView = record { numbers = n'; log = record { start = log'.start; past = log.past; most = z }; flushes = flushes; left = left } in it) most
 
 steps-of : (old mid new : Parts) (w : ℕ) (answer : QApplied) → HasActed old w mid → GoesOn mid.journal.past w answer new.journal.past → new.numbers ≡ mid.numbers → new.journal.start ≡ mid.journal.start → new.journal.most ≡ mid.journal.most
-    → ((v : ℕ) → v ≢ w → worker_of new.access v ≡ worker_of mid.access v) → Steps (view_of old) w answer (view_of new)
-steps-of old mid new w answer a ends numbers start most others = record {
+    → ((v : ℕ) → v ≢ w → worker_of new.access v ≡ worker_of mid.access v) → PaysFor old new w → IsKept old → w < length old.access.workers → length new.access.workers ≡ length old.access.workers → Steps (view_of old) w answer (view_of new)
+steps-of old mid new w answer a ends numbers start most others pays k within count = record {
   made = a.made;
   flush = a.flush ∙ sym (flush-told old.access.workers w);
   struck = mid.journal.past;
   effect = a.struck;
   ends = ends;
-  rest = same-view new.numbers old.numbers new.journal old.journal (view_of new).flushes (numbers ∙ ap (λ (q : Parts). q.numbers) a.rest) (start ∙ ap (λ (q : Parts). q.journal.start) a.rest) (most ∙ ap (λ (q : Parts). q.journal.most) a.rest);
+  rest = same-view new.numbers old.numbers new.journal old.journal (view_of new).flushes (lefts_of new) (numbers ∙ ap (λ (q : Parts). q.numbers) a.rest) (start ∙ ap (λ (q : Parts). q.journal.start) a.rest)
+      (most ∙ ap (λ (q : Parts). q.journal.most) a.rest);
+  pays = omega (arith, pays, left-told old w within, left-told new w (omega (arith, within, count)));
+  few = omega (arith, few-left old w k, left-told old w within);
   others = λ v other. flush-told new.access.workers v ∙ ap (λ (it : Working). it.flush_next) (others v other ∙ a.others v other) ∙ sym (flush-told old.access.workers v);
 }
 
-pub steps-on : (old new : Parts) (w : ℕ) → HasActed old w new → Steps (view_of old) w Stepped (view_of new)
-steps-on old new w a = steps-of old new new w Stepped a refl refl refl refl (λ v other. refl)
+pub steps-on : (old new : Parts) (w : ℕ) → IsKept old → open_call w old.journal.past ≢ None → HasActed old w new → Steps (view_of old) w Stepped (view_of new)
+steps-on old new w k is_open a = steps-of old new new w Stepped a refl refl refl refl (λ v other. refl) a.pays k (worker-inside old w k is_open) a.count
 
-pub steps-went : (old mid new : Parts) (w : ℕ) (answer : QApplied) → HasActed old w mid → WentOn mid w answer new → Steps (view_of old) w answer (view_of new)
-steps-went old mid new w answer a h = steps-of old mid new w answer a h.ends h.numbers h.start h.most h.others
+pub steps-went : (old mid new : Parts) (w : ℕ) (answer : QApplied) → IsKept old → open_call w old.journal.past ≢ None → HasActed old w mid → WentOn mid w answer new → Steps (view_of old) w answer (view_of new)
+steps-went old mid new w answer k is_open a h = steps-of old mid new w answer a h.ends h.numbers h.start h.most h.others (omega (arith, a.pays, h.pays)) k (worker-inside old w k is_open) (h.count ∙ a.count)
 
 free-none : (p : Parts) (w : ℕ) (slot : Option OpenCall) → slot ≡ None → IsSlot p.numbers.ring p.access p.journal.past p.owners.items p.numbers.workers w slot → open_call w p.journal.past ≡ None
 free-none p w None is h = h.none

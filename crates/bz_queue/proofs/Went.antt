@@ -15,6 +15,7 @@ use Rattle.bz_ring.specs.Fresh.{IsRing}
 use Rattle.bz_change.specs.Changes as change
 use Rattle.bz_queue.specs.Inside.Going.{IsBetween, MustRead, ReadsAt, WentOn}
 use Rattle.bz_queue.specs.Inside.Kept.{IsTabled, IsKept}
+use Rattle.bz_queue.specs.Inside.Left.{PaysFor}
 use Rattle.bz_queue.specs.Inside.Serving.{IsAt, IsServed, IsSlot}
 use Rattle.bz_queue.specs.declared.answers.QApplied.TheVariants.{Stepped}
 use Rattle.bz_queue.specs.declared.parts.Parts.{Parts}
@@ -65,7 +66,7 @@ pub same-past : (past : List QMark) → Extends past past
 same-past past = record { longer = omega arith; earlier = λ at within. refl }
 
 module _ (old new : Parts) (w : ℕ) (x : OpenCall) (place : Place) (a : ℕ) (h : MustRead old w x place a) (held : IsHeld (started old.access w (Reading a)))
-    (rest : new ≡ record old { access = started old.access w (Reading a); workers = new.workers }) (table : new.workers.items ≡ slice_set old.workers.items w (Some (record x { place = place }))) where
+    (rest : new ≡ record old { access = started old.access w (Reading a); workers = new.workers }) (table : new.workers.items ≡ slice_set old.workers.items w (Some (record x { place = place }))) (pays : PaysFor old new w) where
   abbrev b : IsBetween old w x
   b = h.between
 
@@ -153,4 +154,5 @@ module _ (old new : Parts) (w : ℕ) (x : OpenCall) (place : Place) (a : ℕ) (h
     ends = ap (λ (q : Parts). q.journal.past) rest;
     others = λ v other. ap (λ (q : Parts). worker_of q.access v) rest ∙ others-same v other;
     count = ap (λ (q : Parts). length q.access.workers) rest ∙ set-length old.access.workers w (record { doing = Reading a; flush_next = false });
+    pays = pays;
   }

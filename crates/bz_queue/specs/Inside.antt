@@ -4,3 +4,4 @@ pub mod Serving
 pub mod Going
 pub mod Acted
 pub mod Begun
+pub mod Left

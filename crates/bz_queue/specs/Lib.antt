@@ -1,3 +1,4 @@
 pub mod Acts
 pub mod QueueView
+pub mod Solo
 pub mod Inside

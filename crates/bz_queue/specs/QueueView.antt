@@ -1,8 +1,9 @@
 -- What callers see of a queue, and what it answers.
-use Rattle.std.specs.Prelude.{◌≡◌, ◌≢◌, ◌<◌, ◌≤◌, ◌⊎◌, ℕ, ◌+◌, ◌-◌, ◌^◌, Bool, false, ◌==◌, ◌||◌, nat_lt, nat_le, if◌then◌else◌, is_some, is_none, get_or, slice_set, replicate, List, [], ◌∷◌, length, Option, Some, None, option_map, MatchOption}
+use Rattle.std.specs.Prelude.{◌≡◌, ◌≢◌, ◌<◌, ◌≤◌, ◌⊎◌, ℕ, ◌+◌, ◌*◌, ◌-◌, ◌^◌, Bool, false, ◌==◌, ◌||◌, nat_lt, nat_le, if◌then◌else◌, is_some, is_none, get_or, slice_set, replicate, List, [], ◌∷◌, length, Option, Some, None, option_map, MatchOption}
 use Rattle.bz_acts.specs.Rule.{is_flush_act}
 use Rattle.bz_acts.specs.declared.acted.Act.{Act}
 use Rattle.bz_layout.specs.declared.limits.TheConstants.{MIN_CAPACITY, MAX_CAPACITY, MIN_SWAPS, MAX_SWAPS, MIN_WORKERS, MAX_WORKERS, MIN_MARKS, MAX_MARKS, MIN_CALLS, MAX_CALLS}
+use Rattle.bz_machine.specs.Allowed.{for_worker}
 use Rattle.bz_mark.specs.declared.marks.Mark.TheVariants.{Evict}
 use Rattle.bz_ring.specs.declared.calls.QCall.{QCall}
 use Rattle.bz_ring.specs.declared.calls.QCall.TheVariants as call
@@ -25,11 +26,13 @@ use Rattle.bz_queue.specs.declared.answers.QOpenError.{QOpenError}
 use Rattle.bz_queue.specs.declared.answers.QOpenError.TheVariants as open_error
 use Rattle.bz_queue.specs.declared.open.Numbers.{Numbers}
 
--- the numbers that the queue was made with; its journal; and of each worker, from worker 0 on, whether its next act is a flush
+-- the numbers that the queue was made with; its journal; of each worker, from worker 0 on, whether its next act is a flush; and how many marks its open call has left
+-- at most while it alone steps
 pub record QueueView : Type 0 where
   pub numbers : Numbers
   pub log : QLog
   pub flushes : List Bool
+  pub left : List ℕ
 
 -- in the order in which they are asked: each number is in its range
 pub record IsWithin (number low high : ℕ) : Type 0 where
@@ -76,11 +79,16 @@ new_view n = record {
   numbers = n;
   log = record { start = fresh_words n.ring; past = []; most = n.marks };
   flushes = replicate (n.workers + 1) false;
+  left = replicate (n.workers + 1) 0;
 }
 
 -- whether the next act of a worker is a flush
 abbrev pub flush_of : QueueView → ℕ → Bool
 flush_of q w = get_or q.flushes w false
+
+-- how many marks a worker's open call has left
+abbrev pub left_in : QueueView → ℕ → ℕ
+left_in q w = get_or q.left w 0
 
 -- the number of a worker's open call, if one is open
 abbrev pub open_number : QueueView → ℕ → Option ℕ
@@ -104,10 +112,10 @@ begin_answer q w =
     else (if nat_le q.numbers.calls (count_begins q.log.past) then begun.Limit limit.Calls
     else begun.Begun (begun_calls w q.log.past + 1))))
 
--- a begin adds its mark where it is no refusal: a call's first act is no flush
-abbrev pub after_begin : QueueView → ℕ → QCall → QBegun → QueueView
-after_begin q w called (begun.Begun n) = record q { log = with_mark q.log (Begin w n called); flushes = slice_set q.flushes w false }
-after_begin q w called refusal = q
+-- a begin adds its mark where it is no refusal: a call's first act is no flush. So much is left to the calls then
+abbrev pub after_begin : QueueView → ℕ → QCall → List ℕ → QBegun → QueueView
+after_begin q w called left (begun.Begun n) = record q { log = with_mark q.log (Begin w n called); flushes = slice_set q.flushes w false; left = left }
+after_begin q w called left refusal = q
 
 -- the first refusal of a step that applies
 abbrev pub step_refusal : QueueView → ℕ → Option QApplied
@@ -139,14 +147,17 @@ pub record Steps (old : QueueView) (w : ℕ) (answer : QApplied) (new : QueueVie
   pub struck : List QMark
   pub effect : IsStruck (Memory (mark_of w made) ∷ old.log.past) struck
   pub ends : GoesOn struck w answer new.log.past
-  pub rest : new ≡ record old { log = record old.log { past = new.log.past }; flushes = new.flushes }
+  pub rest : new ≡ record old { log = record old.log { past = new.log.past }; flushes = new.flushes; left = new.left }
+  -- the marks are of those that the call had left, which are at most so many for each worker and for two more
+  pub pays : length new.log.past + left_in new w ≤ length old.log.past + left_in old w
+  pub few : left_in old w ≤ for_worker * (old.numbers.workers + 2)
   pub others : (v : ℕ) → v ≢ w → flush_of new v ≡ flush_of old v
 
 -- an eviction: its mark, and at most one effect
 pub record Evicts (old : QueueView) (a : ℕ) (answer : QApplied) (new : QueueView) : Type 0 where
   pub answered : answer ≡ applied.Evicted
   pub effect : IsStruck (Memory (Evict a) ∷ old.log.past) new.log.past
-  pub rest : new ≡ record old { log = record old.log { past = new.log.past } }
+  pub rest : new ≡ record old { log = record old.log { past = new.log.past }; left = new.left }
 
 -- the answer to an event: a refusal exactly where one applies, and then nothing changes
 abbrev pub IsApplied : QueueView → QEvent → QApplied → QueueView → Type 0

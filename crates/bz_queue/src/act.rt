@@ -7,7 +7,7 @@ ghost use Rattle.bz_ring.specs.declared.marks.QMark.TheVariants.{Memory};
 ghost use Rattle.bz_mark.specs.declared.marks.Mark.TheVariants.{Evict};
 ghost use Rattle.bz_swap.specs.SwapMemory.{Idle, doing_of};
 ghost use Rattle.bz_swap.specs.declared.phase.Phase.TheVariants.{Recovering};
-ghost use Rattle.bz_queue.specs.Inside.Acted.{IsActed, IsEvicted, IsStriking, HasActed, HasEnded};
+ghost use Rattle.bz_queue.specs.Inside.Acted.{IsActed, IsEvicted, IsStriking, HasActed, HasEnded, HasMarked};
 ghost use Rattle.bz_queue.specs.Inside.Kept.{IsKept, view_of};
 ghost use Rattle.bz_queue.specs.Inside.Serving.{with_moment};
 ghost use Rattle.bz_queue.specs.QueueView.{IsStruck, Evicts};
@@ -39,6 +39,7 @@ fn mark_effect(parts: &mut Parts, swap: u16)
     requires room { length parts.old.journal.past < parts.old.journal.most }
     ensures kept { IsKept parts.new }
     ensures struck { IsStruck parts.old.journal.past parts.new.journal.past }
+    ensures marked { HasMarked parts.old swap parts.new }
     ensures rest { parts.new ≡ record parts.old { journal = record parts.old.journal { past = parts.new.journal.past }; workers = parts.new.workers } }
 {
     let w = parts.owners[swap as usize];

@@ -55,7 +55,7 @@ pub(crate) fn begin(parts: &mut Parts, w: u8, call: QCall) -> QBegun
     requires call { IsCall call }
     ensures kept { IsKept parts.new }
     ensures answer { result ≡ begin_answer (view_of parts.old) w }
-    ensures after { view_of parts.new ≡ after_begin (view_of parts.old) w call result }
+    ensures after { view_of parts.new ≡ after_begin (view_of parts.old) w call (view_of parts.new).left result }
 {
     match refusal(parts, w) {
         Some(refusal) => refusal,

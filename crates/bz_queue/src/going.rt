@@ -1,10 +1,12 @@
 //! How a call goes on once its read or its swap has answered.
 ghost use Rattle.std.specs.Prelude.{◌≡◌, ◌≢◌, ◌<◌, true, false};
 ghost use Rattle.std.specs.Prelude.{length};
+ghost use Rattle.bz_machine.specs.Allowed.{for_word};
 ghost use Rattle.bz_machine.specs.declared.done.Done.TheVariants.{Busy, Read, Swapped};
 ghost use Rattle.bz_change.specs.Changes.{Suits};
 ghost use Rattle.bz_queue.specs.Inside.Acted.{HasEnded};
-ghost use Rattle.bz_queue.specs.Inside.Going.{MustGoOn, MustRead, MustLook, MustJudge, MustEnd, WentOn};
+ghost use Rattle.bz_queue.specs.declared.serving.Place.TheVariants.{Cell};
+ghost use Rattle.bz_queue.specs.Inside.Going.{MustGoOn, MustRead, MustLook, MustJudge, MustEnd, Starts, WentOn};
 
 use crate::answers::QApplied;
 use crate::parts::Parts;
@@ -37,7 +39,8 @@ fn read_next(parts: &mut Parts, w: u8, serving: OpenCall, place: Place, a: u32) 
 
 // The call has read its counter, and goes on to the cell that this names.
 fn look(parts: &mut Parts, w: u8, serving: OpenCall, counter: u64) -> QApplied
-    requires { MustLook parts.old w serving counter }
+    requires look { MustLook parts.old w serving counter }
+    requires pays { Starts parts.old w serving (Cell counter) for_word }
     ensures { WentOn parts.old w result parts.new }
 {
     let cell = parts.numbers.ring.cell_at(counter);

@@ -5,6 +5,7 @@ mod act;
 mod answers;
 mod begin;
 mod going;
+pub mod laws;
 mod open;
 mod parts;
 mod queue;

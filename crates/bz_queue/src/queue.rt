@@ -60,7 +60,7 @@ impl QueueWorld {
     pub fn begin(&mut self, w: u8, call: QCall) -> QBegun
         requires { IsCall call }
         ensures answer { result ≡ begin_answer self.old w }
-        ensures after { self.new ≡ after_begin self.old w call result }
+        ensures after { self.new ≡ after_begin self.old w call self.new.left result }
     {
         begin(&mut self.parts, w, call)
     }

@@ -1,5 +1,5 @@
 -- What stands between an act and its effect.
-use Rattle.std.specs.Prelude.{◌≡◌, ◌≢◌, ◌≤◌, ◌+◌, ℕ, ◌∷◌, length, Option, Some, None, get_or}
+use Rattle.std.specs.Prelude.{◌≡◌, ◌≢◌, ◌≤◌, ◌+◌, ℕ, ◌∷◌, length, Option, Some, None, get_or, slice_set}
 use Rattle.bz_acts.specs.Rule.{is_flush_act}
 use Rattle.bz_acts.specs.declared.acted.Act.{Act}
 use Rattle.bz_machine.specs.declared.done.Done.{Done}
@@ -13,7 +13,7 @@ use Rattle.bz_swap.specs.Evictions.{IsEviction}
 use Rattle.bz_swap.specs.Held.{Holds}
 use Rattle.bz_swap.specs.Steps.{IsStep}
 use Rattle.bz_swap.specs.Settled.{AreOwned}
-use Rattle.bz_swap.specs.SwapMemory.{SwapMemory, memory_words, doing_of, worker_of}
+use Rattle.bz_swap.specs.SwapMemory.{SwapMemory, Swapping, memory_words, doing_of, worker_of}
 use Rattle.bz_ring.specs.declared.marks.QMark.TheVariants.{Memory}
 use Rattle.bz_ring.specs.declared.calls.QCall.{QCall}
 use Rattle.bz_ring.specs.declared.ring.Ring.{Ring}
@@ -26,6 +26,8 @@ use Rattle.bz_marked.specs.Marks.{mark_of}
 use Rattle.bz_queue.specs.Acts.{IsPlain}
 use Rattle.bz_queue.specs.Inside.Going.{MustGoOn}
 use Rattle.bz_queue.specs.Inside.Kept.{AreShown, IsKept}
+use Rattle.bz_queue.specs.Inside.Left.{PaysFor}
+use Rattle.bz_queue.specs.Inside.Serving.{with_moment}
 use Rattle.bz_queue.specs.QueueView.{IsStruck}
 use Rattle.bz_queue.specs.declared.parts.Parts.{Parts}
 use Rattle.bz_queue.specs.declared.serving.OpenCall.{OpenCall}
@@ -75,6 +77,14 @@ pub record IsStriking (p : Parts) (s : ℕ) : Type 0 where
   pub moves : Moves before.access p.access
   pub rest : p ≡ record before { access = p.access; journal = with_mark before.journal (Memory memory) }
 
+-- it is marked now: the call whose swap it is has its moment
+pub record HasMarked (old : Parts) (s : ℕ) (new : Parts) : Type 0 where
+  pub v : ℕ
+  pub x : OpenCall
+  pub doing : doing_of old.access v ≡ Swapping s
+  pub was : get_or old.workers.items v None ≡ Some x
+  pub table : new.workers.items ≡ slice_set old.workers.items v (Some (with_moment (length old.journal.past) x))
+
 -- the act that was made, with its effect if it had one
 pub record HasActed (old : Parts) (w : ℕ) (new : Parts) : Type 0 where
   pub made : Act
@@ -83,6 +93,7 @@ pub record HasActed (old : Parts) (w : ℕ) (new : Parts) : Type 0 where
   pub rest : new ≡ record old { access = new.access; journal = record old.journal { past = new.journal.past }; workers = new.workers }
   pub others : (v : ℕ) → v ≢ w → worker_of new.access v ≡ worker_of old.access v
   pub count : length new.access.workers ≡ length old.access.workers
+  pub pays : PaysFor old new w
 
 -- the call goes on with nothing to hear, or has this to hear
 pub record HasEnded (p : Parts) (w : ℕ) (done : Done) : Type 0 where

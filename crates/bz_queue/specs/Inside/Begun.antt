@@ -1,5 +1,5 @@
 -- Begins of calls: the refusal that applies, and what a begin adds.
-use Rattle.std.specs.Prelude.{◌≡◌, ◌<◌, ◌≤◌, ◌+◌, ℕ, Option, Some, None, get_or, length}
+use Rattle.std.specs.Prelude.{◌≡◌, ◌<◌, ◌≤◌, ◌+◌, ℕ, List, Option, Some, None, get_or, length}
 use Rattle.bz_ring.specs.declared.calls.QCall.{QCall}
 use Rattle.bz_queue.specs.Inside.Kept.{IsKept, view_of}
 use Rattle.bz_queue.specs.QueueView.{IsCall, begin_answer, after_begin}
@@ -19,10 +19,10 @@ pub record MayBegin (p : Parts) (w : ℕ) (called : QCall) : Type 0 where
 -- why not: then this is the answer
 abbrev pub IsRefusal : Parts → ℕ → Option QBegun → Type 0
 IsRefusal p w None = (called : QCall) → IsCall called → MayBegin p w called
-IsRefusal p w (Some refusal) = (begin_answer (view_of p) w ≡ refusal) × ((called : QCall) → after_begin (view_of p) w called refusal ≡ view_of p)
+IsRefusal p w (Some refusal) = (begin_answer (view_of p) w ≡ refusal) × ((called : QCall) (left : List ℕ) → after_begin (view_of p) w called left refusal ≡ view_of p)
 
 -- it has begun, with this number
 pub record HasBegun (old : Parts) (w : ℕ) (called : QCall) (n : ℕ) (new : Parts) : Type 0 where
   pub kept : IsKept new
   pub answer : begin_answer (view_of old) w ≡ Begun n
-  pub after : view_of new ≡ after_begin (view_of old) w called (Begun n)
+  pub after : view_of new ≡ after_begin (view_of old) w called (view_of new).left (Begun n)

@@ -1,5 +1,6 @@
 -- What stands between an act and the next: a call whose read or swap has been answered, which does nothing.
-use Rattle.std.specs.Prelude.{◌≡◌, ◌≢◌, ◌<◌, ◌≤◌, ◌^◌, ℕ, Bool, true, false, List, length, get_or, Option, Some, None}
+use Rattle.std.specs.Prelude.{◌≡◌, ◌≢◌, ◌<◌, ◌≤◌, ◌+◌, ◌^◌, ℕ, Bool, true, false, List, length, get_or, Option, Some, None}
+use Rattle.bz_machine.specs.Allowed.{for_word}
 use Rattle.bz_machine.specs.declared.done.Done.{Done}
 use Rattle.bz_machine.specs.declared.done.Done.TheVariants as done
 use Rattle.bz_swap.specs.SwapMemory.{SwapMemory, Idle, worker_of, value_at, doing_of}
@@ -13,6 +14,7 @@ use Rattle.bz_ring.specs.Replies.{IsAfterLoad, IsRightReply}
 use Rattle.bz_ring.specs.Sound.{IsSound, first_items}
 use Rattle.bz_change.specs.Changes as change
 use Rattle.bz_queue.specs.Inside.Kept.{IsTabled, IsMemory, IsKept}
+use Rattle.bz_queue.specs.Inside.Left.{starts_left, PaysFor}
 use Rattle.bz_queue.specs.Inside.Serving.{IsSlot, IsOpened, DidNotSuit, counter_now, RepliesAt}
 use Rattle.bz_queue.specs.QueueView.{GoesOn}
 use Rattle.bz_queue.specs.declared.answers.QApplied.{QApplied}
@@ -28,6 +30,7 @@ pub record IsBetween (p : Parts) (w : ℕ) (x : OpenCall) : Type 0 where
   pub sound : IsSound p.numbers.ring p.journal.start p.journal.past
   pub opened : IsOpened p.journal.past p.numbers.workers w x
   pub idle : doing_of p.access w ≡ Idle
+  pub is : get_or p.workers.items w None ≡ Some x
   pub others : (v : ℕ) → v ≢ w → IsSlot p.numbers.ring p.access p.journal.past p.owners.items p.numbers.workers v (get_or p.workers.items v None)
 
 -- a value that the call has read just now
@@ -71,9 +74,14 @@ ReadsAt r m past w called begun (Cell counter) a = (a ≡ cell_of r counter) × 
 ReadsAt r m past w called begun (Again counter at) a = (a ≡ change.counter_of called) × DidNotSuit r m past w called begun counter at
 ReadsAt r m past w called begun (Swap counter word) a = ⊥
 
+-- from there on it is allowed less, by what it starts
+abbrev pub Starts : Parts → ℕ → OpenCall → Place → ℕ → Type 0
+Starts p w x place cost = starts_left p.access w x.call None place + cost ≤ starts_left p.access w x.call None x.place
+
 pub record MustRead (p : Parts) (w : ℕ) (x : OpenCall) (place : Place) (a : ℕ) : Type 0 where
   pub between : IsBetween p w x
   pub none : x.effect ≡ None
+  pub pays : Starts p w x place for_word
   pub reads : ReadsAt p.numbers.ring p.access p.journal.past w x.call between.opened.begun place a
 
 -- it has read its counter, which is at least so much still
@@ -85,6 +93,7 @@ pub record MustLook (p : Parts) (w : ℕ) (x : OpenCall) (counter : ℕ) : Type 
 -- it has read the cell of that value just now
 pub record MustJudge (p : Parts) (w : ℕ) (x : OpenCall) (counter word : ℕ) : Type 0 where
   pub look : MustLook p w x counter
+  pub place : x.place ≡ Cell counter
   pub value : value_at p.access (cell_of p.numbers.ring counter) ≡ word
   pub plain : word < 2 ^ 61
   pub loaded : IsAfterLoad w p.journal.past
@@ -104,3 +113,4 @@ pub record WentOn (old : Parts) (w : ℕ) (answer : QApplied) (new : Parts) : Ty
   pub ends : GoesOn old.journal.past w answer new.journal.past
   pub others : (v : ℕ) → v ≢ w → worker_of new.access v ≡ worker_of old.access v
   pub count : length new.access.workers ≡ length old.access.workers
+  pub pays : PaysFor old new w

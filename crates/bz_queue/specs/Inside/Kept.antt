@@ -18,6 +18,7 @@ use Rattle.bz_ring.specs.Follows.{power_after}
 use Rattle.bz_ring.specs.Fresh.{fresh_words}
 use Rattle.bz_ring.specs.Journal.{QLog, memory_of}
 use Rattle.bz_ring.specs.Sound.{IsSound}
+use Rattle.bz_queue.specs.Inside.Left.{lefts_of}
 use Rattle.bz_queue.specs.Inside.Serving.{IsSlot}
 use Rattle.bz_queue.specs.QueueView.{QueueView, AreNumbers}
 use Rattle.bz_queue.specs.declared.parts.Parts.{Parts}
@@ -66,4 +67,4 @@ pub record IsKept (p : Parts) : Type 0 where
 
 -- what callers see
 abbrev pub view_of : Parts → QueueView
-view_of p = record { numbers = p.numbers; log = p.journal; flushes = map (λ (worker : Working). worker.flush_next) p.access.workers }
+view_of p = record { numbers = p.numbers; log = p.journal; flushes = map (λ (worker : Working). worker.flush_next) p.access.workers; left = lefts_of p }

@@ -1,6 +1,8 @@
-use Rattle.std.proofs.Common.{subst, arith, ◌<◌, ℕ, length, Option, None}
+use Rattle.std.proofs.Common.{subst, ap, arith, ◌<◌, ℕ, length, Option, Some, None}
 use Rattle.bz_queue.specs.Inside.Acted.{IsActed}
+use Rattle.bz_queue.specs.declared.parts.Parts.{Parts}
 use Rattle.bz_queue.proofs.Acted.{is-busy, worker-inside, struck-acted, kept-on, has-ended, has-acted}
+use Rattle.bz_queue.proofs.Left.{quiet-pays, struck-pays}
 use Rattle.bz_queue.proofs.Striking.{act-strikes}
 use Rattle.bz_queue.proofs.act.act.Goals as goal
 
@@ -17,8 +19,15 @@ mark_effect-requires-clause-striking c =
 
 pub returns-in-Some-clause-made : goal.returns-in-Some-clause-made
 returns-in-Some-clause-made c =
-    struck-acted c.args.parts.now c.make_act-progress.new.parts c.mark_effect.new.parts c.args.w c.make_act-progress.result.act c.make_act-progress.result.done c.make_act-progress.result.effect c.make_act-progress.ensures
-    c.mark_effect.ensures.struck c.mark_effect.ensures.rest
+    let p = c.args.parts.now in
+    let mid = c.make_act-progress.new.parts in
+    let new = c.mark_effect.new.parts in
+    let w = c.args.w in
+    let made = c.make_act-progress.result.act in
+    let ended = c.make_act-progress.result.done in
+    let acted : IsActed p w made ended (Some c.in-Some.swap) mid = subst (λ (o : Option ℕ). IsActed p w made ended o mid) c.in-Some.is c.make_act-progress.ensures in
+    struck-acted p mid new w made ended c.make_act-progress.result.effect c.make_act-progress.ensures c.mark_effect.ensures.struck c.mark_effect.ensures.rest
+    (struck-pays p mid new w made ended c.in-Some.swap c.requires.kept c.requires.open acted c.mark_effect.ensures.marked c.mark_effect.ensures.struck (ap (λ (q : Parts). q.access) c.mark_effect.ensures.rest))
 
 pub returns : goal.returns
 returns c =
@@ -30,7 +39,7 @@ returns c =
     let acted : IsActed p w made ended None q = subst (λ (o : Option ℕ). IsActed p w made ended o q) c.in_default.is c.make_act-progress.ensures in
     let room : length p.journal.past < p.journal.most = omega (arith, c.requires.room) in
     record {
-      made = has-acted p q w made ended c.requires.kept c.requires.open room acted;
+      made = has-acted p q w made ended c.requires.kept c.requires.open room acted (quiet-pays p q w made ended c.requires.kept c.requires.open acted);
       busy = λ is. kept-on p q w made ended c.requires.kept c.requires.open room acted is;
       ended = λ other. has-ended p q w made ended c.requires.kept c.requires.open room acted other;
     }

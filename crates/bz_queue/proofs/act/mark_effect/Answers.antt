@@ -5,6 +5,7 @@ use Rattle.std.proofs.lemmas.List.{get_or_read_under}
 use Rattle.bz_ring.specs.declared.marks.QMark.TheVariants.{Effect}
 use Rattle.bz_ring.specs.Calls.{begun_calls}
 use Rattle.bz_ring.specs.Journal.{QLog, with_mark}
+use Rattle.bz_swap.specs.SwapMemory.{Swapping, doing_of}
 use Rattle.bz_queue.specs.Inside.Acted.{IsStriking}
 use Rattle.bz_queue.specs.Inside.Serving.{with_moment}
 use Rattle.bz_queue.specs.declared.parts.Parts.{Parts}
@@ -96,3 +97,37 @@ returns-clause-kept c = kept-struck p c.args.swap h _ c.requires.room rest table
 
     table : (with_item p.workers u c.with_effect.result).items ≡ slice_set p.workers.items v (Some (with_moment (length p.journal.past) (swap-of p c.args.swap h).x))
     table = ap (λ (k : ℕ). slice_set p.workers.items k c.with_effect.result) named ∙ ap (slice_set p.workers.items v) slot
+
+pub returns-clause-marked : goal.returns-clause-marked
+returns-clause-marked c = record {
+  v = u;
+  x = (swap-of p c.args.swap h).x;
+  doing = doing;
+  was = ap (λ (k : ℕ). get_or p.workers.items k None) named ∙ serves p c.args.swap h;
+  table = ap (slice_set p.workers.items u) slot;
+}
+  where
+    p : Parts
+    p = c.args.parts.now
+
+    h : IsStriking p c.args.swap
+    h = c.requires.striking
+
+    v : ℕ
+    v = h.strikes.takes.worker
+
+    u : ℕ
+    u = c.index-w.result.now
+
+    named : u ≡ v
+    named = get_or_read_under p.owners.items c.args.swap (length p.owners.items) u 0 c.index-w.ensures (swap-inside p c.args.swap h) refl ∙ owner p c.args.swap h
+
+    was : c.index-slot.result.now ≡ Some (swap-of p c.args.swap h).x
+    was = get_or_read_under p.workers.items u (length p.workers.items) c.index-slot.result.now None c.index-slot.ensures (omega (arith, place-inside p c.args.swap h, named)) refl
+        ∙ ap (λ (k : ℕ). get_or p.workers.items k None) named ∙ serves p c.args.swap h
+
+    slot : c.with_effect.result ≡ Some (with_moment (length p.journal.past) (swap-of p c.args.swap h).x)
+    slot = c.with_effect.ensures ∙ ap (option_map (with_moment c.length-moment.result)) was ∙ ap (λ (k : ℕ). let it : Option OpenCall = Some (with_moment k (swap-of p c.args.swap h).x) in it) c.length-moment.ensures
+
+    doing : doing_of p.access u ≡ Swapping c.args.swap
+    doing = ap (doing_of p.access) named ∙ ap (λ (q : Parts). doing_of q.access v) h.rest ∙ h.strikes.doing v ∙ h.strikes.takes.pending

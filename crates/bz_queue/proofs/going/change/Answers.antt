@@ -11,6 +11,7 @@ use Rattle.bz_queue.specs.declared.parts.Parts.{Parts}
 use Rattle.bz_queue.specs.declared.serving.Place.TheVariants.{Swap}
 use Rattle.bz_queue.proofs.Acted.{swapping-held}
 use Rattle.bz_queue.proofs.Begins.{may-swap, swap-begun}
+use Rattle.bz_queue.proofs.Pays.{swap-pays}
 use Rattle.bz_queue.proofs.Spending.{spent-end}
 use Rattle.bz_ring.specs.declared.calls.QReply.TheVariants.{Spent}
 use Rattle.bz_queue.proofs.going.change.Goals as goal
@@ -34,9 +35,10 @@ returns-in-Ok c =
     let begun = c.in-Ok.ensures.begun in
     let is : c.start_swap.new.self ≡ swapping p.access c.args.w entries = begun.2 ∙ ap (swapping p.access c.args.w) c.entries-entries.ensures in
     let held : IsHeld (swapping p.access c.args.w entries) = swapping-held p.access c.args.w entries c.requires.judge.look.between.opened.worker (subst Holds is c.start_swap.ensures.held) in
-    swap-begun p _ c.args.w x c.args.counter c.args.word c.requires.judge c.requires.suits (may-swap p c.args.w x c.args.counter c.args.word c.requires.judge) begun.1 held
-    (ap (λ (it : SwapMemory). let after : Parts = record p { access = it; owners = with_item p.owners c.in-Ok.swap c.args.w; workers = with_item p.workers c.args.w (Some (record x { place = Swap c.args.counter c.args.word })) } in after) is)
-    (ap (λ (k : ℕ). slice_set p.owners.items k c.args.w) begun.0) refl
+    let after : SwapMemory → Parts = λ (it : SwapMemory). record p { access = it; owners = with_item p.owners c.in-Ok.swap c.args.w; workers = with_item p.workers c.args.w (Some (record x { place = Swap c.args.counter c.args.word })) } in
+    let rest : after c.start_swap.new.self ≡ after (swapping p.access c.args.w entries) = ap after is in
+    swap-begun p _ c.args.w x c.args.counter c.args.word c.requires.judge c.requires.suits (may-swap p c.args.w x c.args.counter c.args.word c.requires.judge) begun.1 held rest
+    (ap (λ (k : ℕ). slice_set p.owners.items k c.args.w) begun.0) refl (swap-pays p _ c.args.w x c.args.counter c.args.word c.requires.judge rest refl)
 
 pub returns-in-Err : goal.returns-in-Err
 returns-in-Err c =

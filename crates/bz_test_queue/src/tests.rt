@@ -1,0 +1,8 @@
+//! Queues and their journals, beside a plain list.
+
+mod bench;
+mod list;
+mod pairs;
+mod random;
+mod solo;
+mod worked;
