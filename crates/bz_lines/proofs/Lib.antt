@@ -1,9 +1,3 @@
-pub mod Again
-pub mod Good
-pub mod GoodLines
-pub mod HeadAgain
-pub mod ListLemmas
-pub mod PageRange
 mod FloatLemmas
 mod HeadLemmas
 mod Plain

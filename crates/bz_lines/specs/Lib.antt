@@ -1,5 +1,3 @@
 pub mod Objects
 pub mod Lines
 pub mod Ranges
-pub mod Reading
-pub mod Heads

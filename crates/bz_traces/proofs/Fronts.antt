@@ -3,7 +3,7 @@ use Rattle.std.proofs.Common.{◌≡◌, ◌<◌, ◌+◌, ◌^◌, ℕ, List, [
 use Rattle.bz_mark.specs.declared.marks.Mark.{Mark}
 use Rattle.bz_traces.specs.Journals.{pages_with, IsNext, AreTold, none, more}
 use Rattle.bz_lines.specs.Lines.{line_of, with_end}
-use Rattle.bz_lines.proofs.Good.{cut_once}
+use Rattle.bz_reading.proofs.Good.{cut_once}
 use Rattle.bz_traces.proofs.Unique.{Pages, Pairs, text_back, one_line_more, next_bytes, next_once}
 
 -- what follows a line

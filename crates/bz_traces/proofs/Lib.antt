@@ -1,4 +1,5 @@
 mod Feeds
+mod Fitting
 mod Fronts
 mod LineLemmas
 mod Unique

@@ -11,12 +11,12 @@ use Rattle.bz_traces.specs.Journals.{pages_with, IsNext, AreTold, none, more}
 use Rattle.bz_lines.specs.Lines.{line_of, with_end}
 use Rattle.bz_lines.specs.Objects.{pair_data, data_of}
 use Rattle.bz_lines.specs.Ranges.{ArePairs, IsNumbered, tells_page}
-use Rattle.bz_lines.specs.Reading.{mark_in, page_in, pairs_in}
-use Rattle.bz_lines.proofs.Again.{mark_again, pairs_again}
+use Rattle.bz_reading.specs.Reading.{mark_in, page_in, pairs_in}
+use Rattle.bz_reading.proofs.Again.{mark_again, pairs_again}
 use Rattle.serde_json.specs.Written.{compact_text}
-use Rattle.bz_lines.proofs.Good.{read_again, AreLineBytes, good_bytes, bytes_utf8}
-use Rattle.bz_lines.proofs.GoodLines.{mark_good, MarkHasPage}
-use Rattle.bz_lines.proofs.ListLemmas.{listed-items_of}
+use Rattle.bz_reading.proofs.Good.{read_again, AreLineBytes, good_bytes, bytes_utf8}
+use Rattle.bz_reading.proofs.GoodLines.{mark_good, MarkHasPage}
+use Rattle.bz_reading.proofs.ListLemmas.{listed-items_of}
 
 abbrev pub Pages : Type 0
 Pages = List (List (List ℕ × List ℕ))

@@ -7,7 +7,7 @@ use Rattle.bz_layout.specs.declared.config.Config.{Config}
 use Rattle.bz_mark.specs.declared.marks.Mark.{Mark}
 use Rattle.bz_layout.specs.declared.limits.TheConstants.{MAX_MARKS}
 use Rattle.bz_mark.specs.Log.{Log, Limits, with_mark}
-use Rattle.bz_lines.specs.Heads.{IsStart, config_in, start_in}
+use Rattle.bz_reading.specs.Heads.{IsStart, config_in, start_in}
 use Rattle.bz_traces.specs.Journals.{pages_with, IsNext, AreTold, none, more, HasLines, BeginWith, GoesOn, BreaksAt}
 use Rattle.bz_lines.specs.Lines.{head_line, line_of, lines_of, text_of, with_end}
 use Rattle.bz_lines.specs.Objects.{head_data}
@@ -15,8 +15,8 @@ use Rattle.bz_traces.specs.Steps.{MarkAdded, NoNext, HasRoomFor, with_pages}
 use Rattle.bz_traces.specs.Opened.{IsOpened}
 use Rattle.bz_traces.proofs.Fronts.{behind_line, told_once}
 use Rattle.std.proofs.lemmas.List.{take-append-drop}
-use Rattle.bz_lines.proofs.Good.{AreLineBytes, cut_once}
-use Rattle.bz_lines.proofs.HeadAgain.{words_small, head_read, head_bytes, config_again, start_again}
+use Rattle.bz_reading.proofs.Good.{AreLineBytes, cut_once}
+use Rattle.bz_reading.proofs.HeadAgain.{words_small, head_read, head_bytes, config_again, start_again}
 use Rattle.bz_traces.proofs.Unique.{Pages, Pairs, text_back, one_line_more}
 
 text_snoc : (f : Mark → List ℕ) (xs : List Mark) (m : Mark) → text_of (map f (xs ++ m ∷ [])) ≡ text_of (map f xs) ++ with_end (f m)

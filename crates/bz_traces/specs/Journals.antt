@@ -6,7 +6,7 @@ use Rattle.bz_layout.specs.declared.limits.TheConstants.{MAX_MARKS, MAX_CALLS, M
 use Rattle.bz_mark.specs.declared.marks.Mark.{Mark}
 use Rattle.bz_mark.specs.declared.marks.Mark.TheVariants.{Begin, End}
 use Rattle.bz_mark.specs.Log.{Log, count_begins, count_ends}
-use Rattle.bz_lines.specs.Heads.{IsStart}
+use Rattle.bz_reading.specs.Heads.{IsStart}
 use Rattle.bz_lines.specs.Lines.{lines_of, text_of}
 use Rattle.bz_lines.specs.Ranges.{IsInRange, IsNumbered, ArePairs, tells_page}
 
@@ -39,6 +39,13 @@ pub data AreTold (words : ℕ) : List Mark → List (List (List ℕ × List ℕ)
 pub record HasLines (c : Config) (log : Log) : Type 0 where
   pub start : IsStart c log.start
   pub marks : AreTold (words_of c) log.past log.pages
+
+-- the same journal: its sizes, its start, its marks and its pages. How many marks there is room for is told by no line
+pub record IsSameJournal (c c' : Config) (log log' : Log) : Type 0 where
+  pub config : c ≡ c'
+  pub start : log.start ≡ log'.start
+  pub marks : log.past ≡ log'.past
+  pub pages : log.pages ≡ log'.pages
 
 -- the bytes begin with so many lines of a journal
 abbrev pub BeginWith : ℕ → List ℕ → Type 0

@@ -1,4 +1,5 @@
 pub mod Journals
+pub mod Fitting
 pub mod Writes
 pub mod Steps
 pub mod Opened

@@ -8,7 +8,7 @@ use Rattle.bz_traces.specs.declared.read_marks.Counts.{Counts}
 use Rattle.bz_traces.specs.Journals.{IsNext, HasCallRoom, pages_with}
 use Rattle.bz_lines.specs.Lines.{line_of, with_end}
 use Rattle.bz_lines.specs.Ranges.{ArePairs, tells_page}
-use Rattle.bz_lines.specs.Reading.{page_in}
+use Rattle.bz_reading.specs.Reading.{page_in}
 
 -- the journal has room for as many calls and pages as may be, and for one mark more where the lines may have one
 pub record HasSpace (log : Log) : Type 0 where

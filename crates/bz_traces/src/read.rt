@@ -1,8 +1,10 @@
 //! Reading a journal.
-ghost use Rattle.std.specs.Prelude.{◌≡◌, ◌≢◌, ◌<◌, ◌≤◌, ◌+◌, ◌^◌, ◌∷◌, ◌++◌, [], ℕ, List, IfOk, OnOk, IfSome, IsErrOf, IsNone, drop, length, slice_index};
-ghost use Rattle.bz_lines.specs.Heads.{IsStart};
+ghost use Rattle.std.specs.Prelude.{◌≡◌, ◌≢◌, ◌<◌, ◌≤◌, ◌+◌, ◌^◌, ◌∷◌, ◌++◌, [], ℕ, List, IfOk, OnOk, IfSome, IsErrOf, IsNone, MatchResult, drop, length, slice_index};
+ghost use Rattle.bz_reading.specs.Heads.{IsStart};
+ghost use Rattle.bz_layout.specs.declared.config.Config.{Config as ConfigValue};
+ghost use Rattle.bz_mark.specs.Log.{Log};
 ghost use Rattle.bz_lines.specs.Lines.{head_line, lines_of, text_of};
-ghost use Rattle.bz_traces.specs.Journals.{HasLines, BreaksAt};
+ghost use Rattle.bz_traces.specs.Journals.{HasLines, IsSameJournal, BreaksAt};
 ghost use Rattle.bz_traces.specs.Opened.{IsOpened};
 ghost use Rattle.bz_traces.specs.Steps.{HasSpace, AreCounts, HasRoomFor, feeds, LineTaken, NoNext};
 
@@ -10,9 +12,9 @@ use crate::error::ReadError;
 use crate::read_marks::{Counts, read_mark};
 use bz_key::PageBuf;
 use bz_layout::{Config, MAX_CALLS, MAX_MARKS, MAX_PAGES};
-use bz_lines::{LineFault, read_head};
 use bz_mark::Journal;
 use bz_memory::Memory;
+use bz_reading::{LineFault, read_head};
 use std::alloc::Global;
 
 /// The place of the first line feed.
@@ -128,6 +130,8 @@ pub fn read_journal(alloc: Global, bytes: &[u8]) -> Result<(Config, Journal), Re
     ensures text { IfOk result (λ r. bytes.now ≡ text_of (lines_of r.0 r.1)) }
     // the first line with which they are no lines of a journal any more
     ensures line { (line : ℕ) → IsErrOf result (ReadError.Line line) → BreaksAt bytes.now line }
+    // what was written of a journal gives that journal again
+    ensures again { (c : ConfigValue) (log : Log) → HasLines c log → bytes.now ≡ text_of (lines_of c log) → MatchResult result (λ r. IsSameJournal c r.0 log r.1) (λ e. e ≡ ReadError.Memory) }
 {
     let (config, start, end) = match read_first(alloc, bytes) {
         Ok(first) => first,

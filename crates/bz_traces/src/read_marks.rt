@@ -7,15 +7,16 @@ ghost use Rattle.bz_traces.specs.Journals.{IsNext, HasCallRoom, pages_with};
 ghost use Rattle.bz_lines.specs.Lines.{line_of};
 ghost use Rattle.bz_lines.specs.Objects.{data_of};
 ghost use Rattle.bz_lines.specs.Ranges.{IsInRange, IsNumbered, tells_page};
-ghost use Rattle.bz_lines.specs.Reading.{page_in as page_of};
+ghost use Rattle.bz_reading.specs.Reading.{page_in as page_of};
 ghost use Rattle.bz_traces.specs.Steps.{HasSpace, AreCounts, HasPlace, PageAdded, MarkAdded};
 
 use bz_call::Reply;
 use bz_key::PageBuf;
 use bz_layout::{MAX_CALLS, MAX_MARKS, MAX_PAGES};
-use bz_lines::{LineFault, mark_in, mark_text, page_in, value_of};
+use bz_lines::mark_text;
 use bz_mark::{Journal, Mark};
 use bz_memory::Memory;
+use bz_reading::{LineFault, mark_in, page_in, value_of};
 use serde_json::Value;
 use std::alloc::Global;
 

@@ -2,9 +2,10 @@
 use crate::{ReadError, read_journal, write_journal};
 use bz_call::{Call, Reply};
 use bz_io::MemSink;
-use bz_key::{Key, Payload};
+use bz_key::{Key, PAGE_PAIRS, Payload};
 use bz_layout::Config;
 use bz_mark::{Journal, Mark};
+use std::alloc::Global;
 use std::test::Fail;
 
 const CALLS: &[u8] = b"{\"format\":1,\"nodes\":1,\"start\":[[0,1],[1,1],[3,1],[4,1]],\"swaps\":1}
@@ -36,6 +37,20 @@ const BROKEN: [&[u8]; 12] = [
     b"{\"a\":4096,\"mark\":\"evict\"}\n",
     b"{\"at\":1,\"mark\":\"end\",\"n\":1,\"reply\":[\"exists\"],\"w\":1}\n",
     b"\n",
+];
+
+/// The lines of a small journal, and below each byte whether there is another journal's line with the next lower or higher
+/// byte in its place.
+const CHANGED: [(&str, &str); 3] = [
+    (
+        r#"{"format":1,"nodes":1,"start":[[3,1]],"swaps":1}"#,
+        "................................+...............",
+    ),
+    (
+        r#"{"a":16,"mark":"load","v":5,"w":1}"#,
+        "......+...................+.....+.",
+    ),
+    (r#"{"mark":"cut"}"#, ".............."),
 ];
 
 /// Sizes as the first lines here tell them.
@@ -135,5 +150,77 @@ fn broken_lines_are_named(rt: HostRuntime) -> Result<(), Fail> {
         text.extend_from_slice(line)?;
         assert_eq!(rt; read_journal(alloc, &text).err(), Some(ReadError::Line(2)));
     }
+    Ok(())
+}
+
+/// Each byte of a small journal changed to the next one, in turn: the line in which it stands is named, or it is another journal.
+#[test]
+fn a_changed_byte_is_told(rt: HostRuntime) -> Result<(), Fail> {
+    let alloc = rt.alloc();
+    let mut whole: Vec<u8> = Vec::new(alloc);
+    let mut answers: Vec<Option<ReadError>> = Vec::new(alloc);
+    let mut number = 1u32;
+    for (line, others) in CHANGED {
+        whole.extend_from_slice(line.as_bytes())?;
+        whole.push(b'\n')?;
+        for other in others.bytes() {
+            answers.push(if other == b'+' {
+                None
+            } else {
+                Some(ReadError::Line(number))
+            })?;
+        }
+        answers.push(Some(ReadError::Line(number)))?;
+        number = number.saturating_add(1);
+    }
+    assert_eq!(rt; answers.len(), whole.len());
+    for (place, answer) in answers.iter().enumerate() {
+        let mut text = whole.clone()?;
+        if let Some(byte) = text.get_mut(place) {
+            *byte ^= 1;
+        }
+        assert_eq!(rt; read_journal(alloc, &text).err(), *answer);
+    }
+    Ok(())
+}
+
+/// What reading answers of an End that tells a page of so many pairs.
+fn page_answer(alloc: Global, pairs: usize) -> Result<Option<ReadError>, Fail> {
+    let mut text: Vec<u8> = Vec::new(alloc);
+    text.extend_from_slice(HEAD)?;
+    text.extend_from_slice(b"{\"at\":0,\"mark\":\"end\",\"n\":1,\"reply\":[\"page\",[")?;
+    for pair in 0..pairs {
+        if pair > 0 {
+            text.push(b',')?;
+        }
+        text.extend_from_slice(b"[\"a\",\"1\"]")?;
+    }
+    text.extend_from_slice(b"],null],\"w\":1}\n")?;
+    Ok(read_journal(alloc, &text).err())
+}
+
+/// What reading answers of a line in which so many arrays stand one in the other.
+fn nested_answer(alloc: Global, depth: usize) -> Result<Option<ReadError>, Fail> {
+    let mut text: Vec<u8> = Vec::new(alloc);
+    text.extend_from_slice(HEAD)?;
+    for bracket in [b'[', b']'] {
+        for _ in 0..depth {
+            text.push(bracket)?;
+        }
+    }
+    text.push(b'\n')?;
+    Ok(read_journal(alloc, &text).err())
+}
+
+/// A page has room for so many pairs, and for no more; arrays one in the other are no mark, however deep.
+#[test]
+fn what_is_too_long_or_too_deep_is_no_line(rt: HostRuntime) -> Result<(), Fail> {
+    let alloc = rt.alloc();
+    assert_eq!(rt; page_answer(alloc, PAGE_PAIRS)?, None);
+    assert_eq!(rt;
+        page_answer(alloc, PAGE_PAIRS + 1)?,
+        Some(ReadError::Line(2))
+    );
+    assert_eq!(rt; nested_answer(alloc, 200)?, Some(ReadError::Line(2)));
     Ok(())
 }

@@ -1,9 +1,9 @@
 use Rattle.std.proofs.Common.{◌≡◌, ap, subst}
 use Rattle.std.specs.Prelude.{Err, is_some}
-use Rattle.bz_lines.specs.declared.error.LineFault.TheVariants.{Broken}
+use Rattle.bz_reading.specs.declared.error.LineFault.TheVariants.{Broken}
 use Rattle.bz_traces.specs.Journals.{BreaksAt}
 use Rattle.bz_lines.specs.Lines.{head_line}
-use Rattle.bz_lines.proofs.HeadAgain.{head_bytes}
+use Rattle.bz_reading.proofs.HeadAgain.{head_bytes}
 use Rattle.bz_traces.proofs.Whole.{head_breaks, no_feed, first_line}
 use Rattle.bz_traces.proofs.read.read_first.Goals as goal
 

@@ -5,6 +5,7 @@ use Rattle.bz_traces.specs.declared.error.ReadError.TheVariants.{Line}
 use Rattle.bz_lines.specs.Lines.{head_line, lines_of, text_of}
 use Rattle.bz_traces.specs.Steps.{HasRoomFor, feeds}
 use Rattle.bz_traces.specs.Opened.{IsOpened}
+use Rattle.bz_traces.proofs.Apart.{one_journal, fault_is_memory}
 use Rattle.bz_traces.proofs.Feeds.{feeds_less}
 use Rattle.bz_traces.proofs.Whole.{opened_lines, opened_room, opened_text, to_end}
 use Rattle.bz_traces.proofs.read.read_journal.Goals as goal
@@ -41,3 +42,15 @@ returns-clause-line c = λ line is.
     (c.in-Ok.ensures.cut.1 ∙ ap (λ (xs : List ℕ). head_line c.in-Ok.first.0 c.in-Ok.first.1.items ++ 10 ∷ xs) (sym (to_end c.args.bytes.now c.in-Ok.first.2))) in
     let same : c.in-Err-read_rest.error ≡ Line line = cc in
     c.read_rest.ensures.line line (c.in-Err-read_rest.is ∙ ap (λ (x : ReadError). Err x) same) c.args.bytes.now front
+
+pub returns-in-Err-clause-again : goal.returns-in-Err-clause-again
+returns-in-Err-clause-again c = λ config log h is.
+    fault_is_memory config log c.args.bytes.now c.in-Err.error h is (λ line same. c.read_first.ensures.line line (c.in-Err.is ∙ ap (λ (x : ReadError). Err x) same))
+
+pub returns-in-Ok-read_rest-clause-again : goal.returns-in-Ok-read_rest-clause-again
+returns-in-Ok-read_rest-clause-again c = λ config log h is.
+    one_journal config c.in-Ok.first.0 log c.read_rest.new.journal c.args.bytes.now h c.in-Ok-read_rest.ensures.lines is (returns-in-Ok-read_rest-clause-text c)
+
+pub returns-clause-again : goal.returns-clause-again
+returns-clause-again c = λ config log h is.
+    fault_is_memory config log c.args.bytes.now c.in-Err-read_rest.error h is (λ line same. returns-clause-line c line (ap (λ (x : ReadError). Err x) same))

@@ -1,6 +1,6 @@
 use Rattle.std.proofs.Common.{◌≡◌, ◌+◌, ℕ, sym, ap, ◌∙◌}
 use Rattle.std.specs.Prelude.{Err, is_some}
-use Rattle.bz_lines.specs.declared.error.LineFault.TheVariants.{Broken}
+use Rattle.bz_reading.specs.declared.error.LineFault.TheVariants.{Broken}
 use Rattle.bz_traces.specs.Journals.{pages_with}
 use Rattle.bz_lines.specs.Lines.{line_of}
 use Rattle.bz_traces.proofs.Unique.{next_bytes}

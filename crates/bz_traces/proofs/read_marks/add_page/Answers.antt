@@ -1,7 +1,7 @@
 use Rattle.std.proofs.Common.{◌≡◌, Some, sym, ◌∙◌}
 use Rattle.serde_json.specs.View.{view}
-use Rattle.bz_lines.specs.Reading.{page_in}
-use Rattle.bz_lines.proofs.PageRange.{page_right}
+use Rattle.bz_reading.specs.Reading.{page_in}
+use Rattle.bz_reading.proofs.PageRange.{page_right}
 use Rattle.bz_traces.proofs.read_marks.add_page.Goals as goal
 
 pub returns-clause-added : goal.returns-clause-added

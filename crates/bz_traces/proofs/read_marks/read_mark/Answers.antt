@@ -2,11 +2,11 @@ use Rattle.std.proofs.Common.{◌≡◌, Some, None, true, IsTrue, sym, ap, ◌�
 use Rattle.serde_json.specs.View.{view}
 use Rattle.bz_mark.specs.declared.marks.Mark.{Mark}
 use Rattle.bz_mark.specs.Log.{Log, with_mark}
-use Rattle.bz_lines.specs.declared.error.LineFault.TheVariants.{Broken}
+use Rattle.bz_reading.specs.declared.error.LineFault.TheVariants.{Broken}
 use Rattle.bz_traces.specs.Journals.{pages_with}
 use Rattle.bz_lines.specs.Lines.{line_of}
 use Rattle.bz_lines.specs.Ranges.{tells_page}
-use Rattle.bz_lines.proofs.ListLemmas.{moved}
+use Rattle.bz_reading.proofs.ListLemmas.{moved}
 use Rattle.bz_traces.proofs.Unique.{Pages, next_value, next_no_value, page_told}
 use Rattle.bz_traces.proofs.read_marks.read_mark.Goals as goal
 

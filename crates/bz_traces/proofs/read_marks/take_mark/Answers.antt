@@ -1,6 +1,6 @@
 use Rattle.std.proofs.Common.{◌≡◌, Some, None, true, sym, ap, ◌∙◌}
 use Rattle.bz_lines.specs.Ranges.{tells_page}
-use Rattle.bz_lines.specs.Reading.{page_in}
+use Rattle.bz_reading.specs.Reading.{page_in}
 use Rattle.bz_traces.proofs.Unique.{page_again}
 use Rattle.bz_traces.proofs.read_marks.take_mark.Goals as goal
 
