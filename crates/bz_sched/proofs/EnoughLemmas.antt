@@ -275,7 +275,7 @@ goes-well most w old new calls applied.Stepped r i s =
         is_open = ap (λ (z : List Mark). is_some (open_call w z)) past ∙ (m.opens ∙ i.is_open);
         others = λ v ne. ap (open_call v) past ∙ m.others v (i.others v ne);
         begins = ap (begins_solitary new.config w) before ∙ (ap (λ (c : Config). begins_solitary c w (before_run w old.log.past)) s.config ∙ i.begins);
-        in_time = subst (λ (z : List Mark). length new.log.past ≤ deadline new.config w z) (sym past) s.undisturbed;
+        in_time = subst (λ (z : List Mark). length new.log.past ≤ deadline new.config w z) (sym past) s.solo;
         enough = omega (arith, i.enough, ap length before);
         keeps = s.supplied whole;
         lasts = subst (λ (z : Supply). SupplyLastsIn most.ration z (length calls + 1)) (sym s.at_begin) i.lasts;
@@ -285,7 +285,7 @@ goes-well most w old new calls (applied.Ended n) r i s =
     let m = moves w s.made old.log.past s.struck s.effect in
     let past = ap (λ (log : Log). log.past) s.ends.is in
     let whole : RunsWhole new.config w s.struck = ap (begins_solitary new.config w) m.before ∙ (ap (λ (c : Config). begins_solitary c w (before_run w old.log.past)) s.config ∙ i.begins) in
-    let by : length new.log.past ≤ deadline new.config w s.struck = s.undisturbed in
+    let by : length new.log.past ≤ deadline new.config w s.struck = s.solo in
     let end : IsEndIn w (length calls) old new s.struck = record { n = n; reply = s.ends.reply; at = s.ends.at; past = past; before = m.wanting; config = s.config; at_begin = s.at_begin; little = s.little whole } in (
       record {
         marks = omega (arith, r.marks, ap (λ (log : Log). log.limits.marks) s.ends.is);

@@ -8,7 +8,7 @@ use Rattle.bz_call.specs.declared.calls.Call.{Call}
 use Rattle.bz_mark.specs.Log.{Log}
 use Rattle.bz_mark.specs.declared.marks.Mark.{Mark}
 use Rattle.bz_sound.specs.Calls.{Open, open_call}
-use Rattle.bz_world.specs.Solo.{StepsOn, MayStep, RunsAlone}
+use Rattle.bz_world.specs.Solo.{StepsOn, MayStep, RunsSolo}
 use Rattle.bz_world.specs.WorldView.{WorldView, flush_of, mark_of, Steps}
 use Rattle.bz_world.specs.declared.answers.Applied.{Applied}
 use Rattle.bz_world.specs.declared.answers.Applied.TheVariants as applied
@@ -125,7 +125,7 @@ call_closed w old ready none = (no_change old, ready, λ calls. (0, (no_open (op
 
 -- it steps alone until its call has ended, or a limit is met
 module _ (w : ℕ) (old : WorldView) (one : IsOneOfAll w) (ready : IsReady old) (is_open : is_some (open_call w old.log.past) ≡ true) where
-  pub call_ends : (n : ℕ) (new : WorldView) → RunsAlone old w (applied.Ended n) new → EndsOpenBy (EndsCall w) (λ why. EndsCallInPart why w) old None new
+  pub call_ends : (n : ℕ) (new : WorldView) → RunsSolo old w (applied.Ended n) new → EndsOpenBy (EndsCall w) (λ why. EndsCallInPart why w) old None new
   call_ends n new runs =
       let last = runs.last in
       let e = gone_on w runs.steps old last one ready is_open runs.stepped in
@@ -136,7 +136,7 @@ module _ (w : ℕ) (old : WorldView) (one : IsOneOfAll w) (ready : IsReady old) 
             (stays_both old last new e.stays t.stays, t.ready, λ calls. e.whole calls (point_with new calls) (1, (e.is_open, (point_with new calls, t.turn calls, (now_closed w n last new goes.steps, refl)))))
       ]
 
-  pub call_stops : (new : WorldView) → RunsAlone old w applied.Limit new → EndsOpenBy (EndsCall w) (λ why. EndsCallInPart why w) old (Some which.Marks) new
+  pub call_stops : (new : WorldView) → RunsSolo old w applied.Limit new → EndsOpenBy (EndsCall w) (λ why. EndsCallInPart why w) old (Some which.Marks) new
   call_stops new runs =
       let last = runs.last in
       let e = gone_on w runs.steps old last one ready is_open runs.stepped in
@@ -150,7 +150,7 @@ module _ (w : ℕ) (old : WorldView) (one : IsOneOfAll w) (ready : IsReady old) 
       ]
 
   -- nothing else is answered
-  pub call_answers : (answer : Applied) (new : WorldView) → RunsAlone old w answer new → ((n : ℕ) → answer ≡ applied.Ended n → ⊥) → (answer ≡ applied.Limit → ⊥) → ⊥
+  pub call_answers : (answer : Applied) (new : WorldView) → RunsSolo old w answer new → ((n : ℕ) → answer ≡ applied.Ended n → ⊥) → (answer ≡ applied.Limit → ⊥) → ⊥
   call_answers answer new runs not_ended not_limit =
       let may : MayStep old w = record { on = ready.powered; within = (is_worker old w ready one).in_range; is_open = some_open (open_call w old.log.past) is_open } in
       elim (runs.ends may).answered [

@@ -21,10 +21,11 @@ actor (Ask w line) = Some w
 actor (Fence w) = Some w
 actor mark = None
 
--- how many of these marks are flushes
+-- how many of these marks are flushes or fences
 abbrev pub flushes_of : List Mark → ℕ
 flushes_of [] = 0
 flushes_of (Flush w line ∷ past) = flushes_of past + 1
+flushes_of (Fence w ∷ past) = flushes_of past + 1
 flushes_of (mark ∷ past) = flushes_of past
 
 -- at most the effect of one call, of whatever worker
