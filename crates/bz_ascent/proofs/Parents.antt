@@ -11,8 +11,8 @@ use Rattle.bz_layout.proofs.Laws.{full_inner_is_above_limit}
 use Rattle.bz_node.specs.Layout.{needed}
 use Rattle.bz_node.specs.Reading.{children_in}
 use Rattle.bz_node.specs.Records.{child_entry}
-use Rattle.bz_shape.specs.Form.{Fits, Stands}
-use Rattle.bz_shape.proofs.Proved.{trees_have_forms}
+use Rattle.bz_tree.specs.Form.{Fits, Stands}
+use Rattle.bz_tree.proofs.Proved.{trees_have_forms}
 use Rattle.bz_slotted.specs.Readers.{count_of, child_of}
 use Rattle.bz_slotted.specs.ReadingLaws.{node_of}
 use Rattle.bz_content.specs.Content.{IsWellFormed, view_in}

@@ -2,8 +2,8 @@
 use Rattle.std.proofs.Common.{ap, ◌≡◌, ℕ, ◌+◌, ◌<◌, ◌≤◌, ◌==◌, Bool, true, false, List, arith, refl, sym, subst, ◌∙◌}
 use Rattle.std.specs.Prelude.{slice_get}
 use Rattle.std.proofs.lemmas.Bool.Decides.{nat_tests}
-use Rattle.bz_shape.specs.Form.{Stands}
-use Rattle.bz_shape.specs.Order.{is_within}
+use Rattle.bz_tree.specs.Form.{Stands}
+use Rattle.bz_tree.specs.Order.{is_within}
 use Rattle.bz_content.specs.Content.{view_in}
 use Rattle.bz_task.specs.Good.{IsGood}
 use Rattle.bz_task.specs.Instant.{form_at}

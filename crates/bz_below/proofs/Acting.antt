@@ -7,8 +7,8 @@ use Rattle.bz_layout.specs.Addresses.{node_address, SlotsApart}
 use Rattle.bz_layout.specs.declared.config.Config.{Config}
 use Rattle.bz_layout.specs.declared.sizes.TheConstants.{NODE_WORDS, STATUS_AT}
 use Rattle.bz_node.specs.Reading.{children_in}
-use Rattle.bz_shape.specs.Slots.{Wider}
-use Rattle.bz_shape.specs.Split.{AreThree}
+use Rattle.bz_tree.specs.Slots.{Wider}
+use Rattle.bz_tree.specs.Split.{AreThree}
 use Rattle.bz_slotted.specs.Readers.{found_of}
 use Rattle.bz_slotted.specs.ReadingLaws.{node_of}
 use Rattle.bz_slotted.specs.Rules.{node_fault}

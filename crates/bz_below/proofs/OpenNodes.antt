@@ -4,8 +4,8 @@ use Rattle.std.specs.Prelude.{None}
 use Rattle.std.proofs.lemmas.Bool.{true≢false}
 use Rattle.std.proofs.lemmas.Bool.Decides.{nat_tests}
 use Rattle.bz_layout.specs.declared.config.Config.{Config}
-use Rattle.bz_shape.specs.Form.{Fits}
-use Rattle.bz_shape.specs.TreeLaws.{TreesHaveForms}
+use Rattle.bz_tree.specs.Form.{Fits}
+use Rattle.bz_tree.specs.TreeLaws.{TreesHaveForms}
 use Rattle.bz_slotted.specs.Laws.{InnerRulesAreFacts}
 use Rattle.bz_slotted.specs.Rules.{node_fault}
 use Rattle.bz_content.specs.Content.{IsWellFormed, view_in}

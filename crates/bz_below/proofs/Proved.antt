@@ -2,7 +2,7 @@
 use Rattle.bz_content.proofs.Proved.{well_formed_images_have_no_fault}
 use Rattle.bz_halves.proofs.Proved.{read_children_may_be_parted}
 use Rattle.bz_renew.proofs.Proved.{guarded_links_stand, links_may_be_turned}
-use Rattle.bz_shape.proofs.Proved.{trees_have_forms}
+use Rattle.bz_tree.proofs.Proved.{trees_have_forms}
 use Rattle.bz_slotted.proofs.Proved.{inner_rules_are_facts, whole_inners_are_readable}
 use Rattle.bz_task.proofs.Proved.{fronts_stay, headers_say_the_level, nodes_stay, nodes_were_inside, ranges_stay, separators_stay}
 use Rattle.bz_below.proofs.Briefness.{costs-little}

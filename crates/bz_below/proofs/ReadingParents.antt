@@ -11,8 +11,8 @@ use Rattle.bz_layout.specs.declared.sizes.TheConstants.{NODE_WORDS, STATUS_AT}
 use Rattle.bz_node.specs.Reading.{children_in}
 use Rattle.bz_node.specs.Records.{IsAbove, IsBelow}
 use Rattle.bz_node.specs.declared.child.Child.{Child}
-use Rattle.bz_shape.specs.Form.{Form, Stands, Hangs}
-use Rattle.bz_shape.specs.View.{View}
+use Rattle.bz_tree.specs.Form.{Form, Stands, Hangs}
+use Rattle.bz_tree.specs.View.{View}
 use Rattle.bz_slotted.specs.Readers.{count_of, child_of, key_of}
 use Rattle.bz_slotted.specs.ReadingLaws.{node_of, child_read, ReadsAsChildren, WholeInnersAreReadable}
 use Rattle.bz_slotted.specs.Rules.{node_fault}

@@ -6,7 +6,7 @@ use Rattle.bz_layout.specs.Addresses.{node_address}
 use Rattle.bz_layout.specs.declared.config.Config.{Config}
 use Rattle.bz_layout.specs.declared.sizes.TheConstants.{STATUS_AT, HEADER_AT, META_AT}
 use Rattle.bz_node.specs.Reading.{payload_at}
-use Rattle.bz_shape.specs.Form.{Stands}
+use Rattle.bz_tree.specs.Form.{Stands}
 use Rattle.bz_slotted.specs.Page.{page, meta_of, extent_of}
 use Rattle.bz_slotted.specs.Readers.{count_of, child_of}
 use Rattle.bz_slotted.specs.Records.{pointer_at}

@@ -1,7 +1,7 @@
 -- What this crate proves, as lemmas that other crates cite by these names.
 use Rattle.bz_content.proofs.Proved.{well_formed_images_have_no_fault}
 use Rattle.bz_parted.proofs.Proved.{read_nodes_have_children}
-use Rattle.bz_shape.proofs.Proved.{trees_have_forms}
+use Rattle.bz_tree.proofs.Proved.{trees_have_forms}
 use Rattle.bz_slotted.proofs.Proved.{inner_rules_are_facts}
 use Rattle.bz_task.proofs.Proved.{headers_say_the_level, nodes_stay}
 use Rattle.bz_branch.proofs.InnerSplitting.{inner-splits}

@@ -4,8 +4,8 @@ use Rattle.std.specs.Prelude.{Some, None}
 use Rattle.bz_layout.specs.Addresses.{node_address}
 use Rattle.bz_layout.specs.declared.config.Config.{Config}
 use Rattle.bz_layout.specs.declared.sizes.TheConstants.{NODE_WORDS, ROOT_AT}
-use Rattle.bz_shape.specs.Outcomes.{Regrows}
-use Rattle.bz_shape.specs.Slots.{Halves, AreTwo}
+use Rattle.bz_tree.specs.Outcomes.{Regrows}
+use Rattle.bz_tree.specs.Slots.{Halves, AreTwo}
 use Rattle.bz_slotted.specs.Page.{page}
 use Rattle.bz_slotted.specs.Readers.{level_of}
 use Rattle.bz_slotted.specs.Rules.{node_fault}

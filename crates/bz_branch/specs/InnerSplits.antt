@@ -2,7 +2,7 @@
 -- halves in its place; the guard of that link gets its next stamp, and the old parent and the node are frozen.
 use Rattle.std.specs.Prelude.{ℕ, false, List, [], ◌∷◌, Some}
 use Rattle.bz_layout.specs.declared.config.Config.{Config}
-use Rattle.bz_shape.specs.Slots.{Wider, Halves}
+use Rattle.bz_tree.specs.Slots.{Wider, Halves}
 use Rattle.bz_word.specs.declared.entry.Entry.{Entry}
 use Rattle.bz_content.specs.Restructures.{children_of}
 use Rattle.bz_task.specs.Instant.{Instant, words, form_at}

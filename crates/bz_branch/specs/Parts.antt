@@ -5,7 +5,7 @@ use Rattle.bz_layout.specs.declared.sizes.TheConstants.{NODE_WORDS}
 use Rattle.bz_layout.specs.declared.thresholds.TheConstants.{INNER_LIMIT}
 use Rattle.bz_node.specs.Reading.{children_in}
 use Rattle.bz_node.specs.Records.{IsAbove, IsBelow}
-use Rattle.bz_shape.specs.Slots.{Halves}
+use Rattle.bz_tree.specs.Slots.{Halves}
 use Rattle.bz_slotted.specs.ReadingLaws.{node_of}
 use Rattle.bz_slotted.specs.Rules.{node_fault}
 use Rattle.bz_halves.specs.Parents.{children_told}

@@ -1,7 +1,7 @@
 -- The swap of the split of an inner root: the root pointer goes to a new root over the node's two halves; the root status gets its
 -- next stamp, and the node is frozen. Its entries are those of the split of a leaf below the root.
 use Rattle.std.specs.Prelude.{ℕ, ◌+◌, false, List, Some, None}
-use Rattle.bz_shape.specs.Slots.{Halves, AreTwo}
+use Rattle.bz_tree.specs.Slots.{Halves, AreTwo}
 use Rattle.bz_content.specs.Restructures.{children_of}
 use Rattle.bz_task.specs.Instant.{Instant, words, form_at}
 use Rattle.bz_task.specs.Outcomes.{IsUnderRoot}

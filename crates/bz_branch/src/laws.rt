@@ -5,9 +5,9 @@ ghost use Rattle.bz_branch.specs.Nodes.{ReadNodesWere, ParentsOfNodesWere};
 use bz_content::laws as content;
 use bz_halves::laws as halves;
 use bz_renew::laws as renew;
-use bz_shape::laws as shape;
 use bz_slotted::laws as slotted;
 use bz_task::laws;
+use bz_tree::laws as shape;
 
 /// The words of an inner node that were read one by one are those of one moment, where its status is found again.
 pub fn read_nodes_were()

@@ -9,7 +9,7 @@ use crate::bus::{Bus, Pass, SeatOf};
 use crate::rule::Stage;
 use crate::{Action, Chronicle, PASSES};
 use atomic_table::Table;
-use bz_memory::Memory;
+use bz_oom::Memory;
 use std::alloc::Global;
 use std::marker::Brand;
 use std::sync::Wait;

@@ -3,9 +3,9 @@ use Rattle.std.proofs.Common.{◌≡◌, ◌≢◌, inl, inr, ℕ, zero, suc, �
 use Rattle.std.specs.Prelude.{All}
 use Rattle.std.proofs.lemmas.Bool.{cases_Bool, ne_eqb}
 use Rattle.bz_word.specs.declared.entry.Entry.{Entry}
-use Rattle.bz_cells.specs.Store.{IsOutside, is_outside}
-use Rattle.bz_cells.proofs.Places.{told-outside}
-use Rattle.bz_machine.specs.declared.done.Done.TheVariants.{Read}
+use Rattle.bz_swap_cells.specs.Store.{IsOutside, is_outside}
+use Rattle.bz_swap_cells.proofs.Places.{told-outside}
+use Rattle.bz_swap_machine.specs.declared.done.Done.TheVariants.{Read}
 use Rattle.bz_swap.specs.Atomic.{value_of, Effect, Happens, Answers}
 use Rattle.bz_swap.specs.Held.{IsHeld}
 use Rattle.bz_swap.specs.Steps.{IsAnswer}

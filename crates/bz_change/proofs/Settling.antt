@@ -3,8 +3,8 @@ use Rattle.std.proofs.Common.{◌≡◌, ◌≢◌, ◌<◌, inl, inr, ℕ, zero
 use Rattle.std.specs.Prelude.{◌&&◌, ◌++◌, if◌then◌else◌}
 use Rattle.std.proofs.lemmas.Bool.{cases_Bool, eqb-true}
 use Rattle.bz_word.specs.declared.entry.Entry.{Entry}
-use Rattle.bz_cells.specs.Store.{IsOutside, is_outside}
-use Rattle.bz_cells.proofs.Places.{told-outside}
+use Rattle.bz_swap_cells.specs.Store.{IsOutside, is_outside}
+use Rattle.bz_swap_cells.proofs.Places.{told-outside}
 use Rattle.bz_swap.specs.declared.phase.Phase.{Phase}
 use Rattle.bz_swap.specs.declared.phase.Phase.TheVariants.{Opened, Running, Recovering}
 use Rattle.bz_swap.specs.Atomic.{value_in, value_of, Event, Quiet, changes, Happens, event_of}

@@ -1,6 +1,6 @@
 -- The values of a queue's swap memory, and what changes them.
 use Rattle.std.specs.Prelude.{◌≡◌, ◌≢◌, ℕ, true, false}
-use Rattle.bz_cells.specs.Store.{IsOutside}
+use Rattle.bz_swap_cells.specs.Store.{IsOutside}
 use Rattle.bz_swap.specs.SwapMemory.{SwapMemory, Storing, value_at, entries_of, doing_of, is_named, is_settled_at}
 use Rattle.bz_ring.specs.declared.calls.QCall.{QCall}
 use Rattle.bz_ring.specs.declared.calls.QCall.TheVariants as call

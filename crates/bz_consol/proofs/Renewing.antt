@@ -1,7 +1,7 @@
 -- The swap of a consolidation is lawful for everybody and changes no content.
 use Rattle.std.proofs.Common.{◌≡◌, ℕ, ◌+◌, true, false, List, [], ◌∷◌, arith, sym, ap, subst, ◌∙◌, inl, inr}
 use Rattle.std.specs.Prelude.{None}
-use Rattle.bz_shape.specs.Outcomes.{Regrows}
+use Rattle.bz_tree.specs.Outcomes.{Regrows}
 use Rattle.bz_layout.specs.Addresses.{node_address}
 use Rattle.bz_slotted.specs.Page.{page}
 use Rattle.bz_slotted.specs.Readers.{found_of}

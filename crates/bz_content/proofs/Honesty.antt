@@ -2,7 +2,7 @@
 use Rattle.std.proofs.Common.{◌≡◌, ◌≢◌, ℕ, ◌==◌, false, arith}
 use Rattle.std.proofs.lemmas.Bool.Decides.{nat_tests}
 use Rattle.bz_layout.specs.declared.config.Config.{Config}
-use Rattle.bz_shape.specs.Form.{IsHonest}
+use Rattle.bz_tree.specs.Form.{IsHonest}
 use Rattle.bz_slotted.specs.Laws.{RisesBetween}
 use Rattle.bz_slotted.proofs.Proved.{found_keys_are_in_range, inner_keys_rise}
 use Rattle.bz_content.specs.Image.{Image, node}

@@ -4,12 +4,12 @@ use Rattle.std.specs.Prelude.{None}
 use Rattle.std.proofs.lemmas.Bool.{cases_eq, true≢false}
 use Rattle.std.proofs.lemmas.Bool.Decides.{nat_tests}
 use Rattle.bz_layout.specs.declared.config.Config.{Config}
-use Rattle.bz_shape.specs.Descent.{leaf_of, content}
-use Rattle.bz_shape.specs.Form.{Fits, Holds}
-use Rattle.bz_shape.specs.Order.{is_at_least, is_within}
-use Rattle.bz_shape.specs.Outcomes.{SameTree, SameContent}
-use Rattle.bz_shape.specs.Walk.{IsTree}
-use Rattle.bz_shape.proofs.Proved.{leaves_tile_the_keys}
+use Rattle.bz_tree.specs.Descent.{leaf_of, content}
+use Rattle.bz_tree.specs.Form.{Fits, Holds}
+use Rattle.bz_tree.specs.Order.{is_at_least, is_within}
+use Rattle.bz_tree.specs.Outcomes.{SameTree, SameContent}
+use Rattle.bz_tree.specs.Walk.{IsTree}
+use Rattle.bz_tree.proofs.Proved.{leaves_tile_the_keys}
 use Rattle.bz_slotted.specs.LeafLaws.{AnswersAlike, AnswersRewritten}
 use Rattle.bz_slotted.specs.Page.{page, visible, extent_of}
 use Rattle.bz_slotted.specs.Readers.{found_of}

@@ -2,11 +2,11 @@
 use Rattle.std.proofs.Common.{◌≡◌, ◌≢◌, ◌⊎◌, false, [], ◌∷◌, arith, refl, sym, ap, ◌∙◌, inl, inr}
 use Rattle.std.proofs.lemmas.Bool.{cases_eq}
 use Rattle.std.proofs.lemmas.Bool.Decides.{nat_tests}
-use Rattle.bz_shape.specs.Form.{Form, Fits, Hangs}
-use Rattle.bz_shape.specs.Slots.{Wider}
-use Rattle.bz_shape.specs.Merge.{Merge}
-use Rattle.bz_shape.specs.Walk.{is_among}
-use Rattle.bz_shape.proofs.Proved.{merges_keep_the_content}
+use Rattle.bz_tree.specs.Form.{Form, Fits, Hangs}
+use Rattle.bz_tree.specs.Slots.{Wider}
+use Rattle.bz_tree.specs.Merge.{Merge}
+use Rattle.bz_tree.specs.Walk.{is_among}
+use Rattle.bz_tree.proofs.Proved.{merges_keep_the_content}
 use Rattle.bz_content.specs.Image.{node, root}
 use Rattle.bz_content.specs.Laws.{Turned, MergesKeepTheContent}
 use Rattle.bz_content.specs.Swaps.{form_in}

@@ -3,12 +3,12 @@ use Rattle.std.proofs.Common.{◌≡◌, ◌≢◌, ℕ, ◌==◌, if◌then◌e
 use Rattle.std.proofs.lemmas.Bool.{cases_eq}
 use Rattle.std.proofs.lemmas.Bool.Decides.{nat_tests}
 use Rattle.bz_layout.specs.declared.config.Config.{Config}
-use Rattle.bz_shape.specs.Form.{Form, Fits, Hangs}
-use Rattle.bz_shape.specs.Order.{is_before}
-use Rattle.bz_shape.specs.Slots.{SameTop, Children, children, Wider, Halves}
-use Rattle.bz_shape.specs.Split.{Split}
-use Rattle.bz_shape.specs.Walk.{is_among}
-use Rattle.bz_shape.proofs.Proved.{splits_keep_the_content}
+use Rattle.bz_tree.specs.Form.{Form, Fits, Hangs}
+use Rattle.bz_tree.specs.Order.{is_before}
+use Rattle.bz_tree.specs.Slots.{SameTop, Children, children, Wider, Halves}
+use Rattle.bz_tree.specs.Split.{Split}
+use Rattle.bz_tree.specs.Walk.{is_among}
+use Rattle.bz_tree.proofs.Proved.{splits_keep_the_content}
 use Rattle.bz_slotted.specs.Readers.{level_of, count_of, child_of, key_of}
 use Rattle.bz_content.specs.Image.{Image, node, root}
 use Rattle.bz_content.specs.Laws.{Turned, SplitsKeepTheContent}

@@ -4,11 +4,11 @@ use Rattle.std.specs.Prelude.{None}
 use Rattle.std.proofs.lemmas.Bool.{cases_eq}
 use Rattle.std.proofs.lemmas.Bool.Decides.{nat_tests}
 use Rattle.bz_layout.specs.declared.config.Config.{Config}
-use Rattle.bz_shape.specs.Descent.{leaf_of, content}
-use Rattle.bz_shape.specs.Form.{Form, Fits, Stands}
-use Rattle.bz_shape.specs.Walk.{IsTree, form}
-use Rattle.bz_shape.specs.Outcomes.{Agree, Moved}
-use Rattle.bz_shape.proofs.Proved.{forms_fit_trees, leaves_tile_the_keys}
+use Rattle.bz_tree.specs.Descent.{leaf_of, content}
+use Rattle.bz_tree.specs.Form.{Form, Fits, Stands}
+use Rattle.bz_tree.specs.Walk.{IsTree, form}
+use Rattle.bz_tree.specs.Outcomes.{Agree, Moved}
+use Rattle.bz_tree.proofs.Proved.{forms_fit_trees, leaves_tile_the_keys}
 use Rattle.bz_slotted.specs.Readers.{level_of, found_of}
 use Rattle.bz_slotted.specs.Rules.{node_fault}
 use Rattle.bz_content.specs.Image.{Image, node, root}

@@ -2,11 +2,11 @@
 use Rattle.std.proofs.Common.{◌≡◌, ◌≢◌, ℕ, ◌+◌, true, false, List, [], ◌∷◌, arith, refl, ap, subst, ◌∙◌}
 use Rattle.std.specs.Prelude.{Some, None}
 use Rattle.std.proofs.lemmas.Bool.Decides.{nat_tests}
-use Rattle.bz_shape.specs.Form.{Form, Fits, Stands}
-use Rattle.bz_shape.specs.Order.{is_before}
-use Rattle.bz_shape.specs.Slots.{children, Halves, AreTwo}
-use Rattle.bz_shape.specs.RootSplit.{RootSplit}
-use Rattle.bz_shape.proofs.Proved.{root_splits_keep_the_content}
+use Rattle.bz_tree.specs.Form.{Form, Fits, Stands}
+use Rattle.bz_tree.specs.Order.{is_before}
+use Rattle.bz_tree.specs.Slots.{children, Halves, AreTwo}
+use Rattle.bz_tree.specs.RootSplit.{RootSplit}
+use Rattle.bz_tree.proofs.Proved.{root_splits_keep_the_content}
 use Rattle.bz_slotted.specs.Readers.{level_of}
 use Rattle.bz_content.specs.Image.{node, root}
 use Rattle.bz_content.specs.Laws.{Turned, RootSplitsKeepTheContent}

@@ -6,7 +6,7 @@ use Rattle.std.proofs.lemmas.Bool.Decides.{nat_tests}
 use Rattle.bz_layout.specs.Addresses.{node_address}
 use Rattle.bz_layout.specs.declared.config.Config.{Config}
 use Rattle.bz_layout.specs.declared.sizes.TheConstants.{NODE_WORDS}
-use Rattle.bz_shape.specs.Slots.{SameSlot}
+use Rattle.bz_tree.specs.Slots.{SameSlot}
 use Rattle.bz_slotted.specs.InnerChanges.{StandsAlike}
 use Rattle.bz_slotted.specs.Readers.{level_of, count_of, child_of, key_of, found_of}
 use Rattle.bz_slotted.specs.Rules.{node_fault}

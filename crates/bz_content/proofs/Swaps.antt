@@ -3,11 +3,11 @@ use Rattle.std.proofs.Common.{◌≡◌, ◌≢◌, ℕ, ◌+◌, ◌-◌, ◌�
 use Rattle.std.proofs.lemmas.Bool.{cases_eq}
 use Rattle.std.proofs.lemmas.Bool.Decides.{nat_tests}
 use Rattle.bz_layout.specs.declared.config.Config.{Config}
-use Rattle.bz_shape.specs.Consolidation.{Consolidation}
-use Rattle.bz_shape.specs.Form.{Form, Fits, Hangs}
-use Rattle.bz_shape.specs.LeafSwap.{LeafSwap}
-use Rattle.bz_shape.specs.Slots.{SameSlot, SameTop}
-use Rattle.bz_shape.proofs.Proved.{consolidations_keep_the_content, leaf_swaps_keep_the_tree, unreached_slots_do_not_matter}
+use Rattle.bz_tree.specs.Consolidation.{Consolidation}
+use Rattle.bz_tree.specs.Form.{Form, Fits, Hangs}
+use Rattle.bz_tree.specs.LeafSwap.{LeafSwap}
+use Rattle.bz_tree.specs.Slots.{SameSlot, SameTop}
+use Rattle.bz_tree.proofs.Proved.{consolidations_keep_the_content, leaf_swaps_keep_the_tree, unreached_slots_do_not_matter}
 use Rattle.bz_slotted.specs.Readers.{level_of}
 use Rattle.bz_content.specs.Changes.{SameNode, SameRoot}
 use Rattle.bz_content.specs.Image.{Image, node, root}

@@ -4,9 +4,9 @@ use Rattle.std.specs.Prelude.{nat_lt, nat_le, None}
 use Rattle.std.proofs.lemmas.Bool.{cases_eq}
 use Rattle.std.proofs.lemmas.Bool.Decides.{nat_tests}
 use Rattle.bz_layout.specs.declared.config.Config.{Config}
-use Rattle.bz_shape.specs.Form.{Fits}
-use Rattle.bz_shape.specs.Slots.{SameSlot, Relinked}
-use Rattle.bz_shape.specs.Walk.{is_among}
+use Rattle.bz_tree.specs.Form.{Fits}
+use Rattle.bz_tree.specs.Slots.{SameSlot, Relinked}
+use Rattle.bz_tree.specs.Walk.{is_among}
 use Rattle.bz_slotted.specs.InnerChanges.{ChangesChild}
 use Rattle.bz_slotted.specs.Readers.{level_of, child_of}
 use Rattle.bz_slotted.proofs.Proved.{pointer_swap_changes_child}

@@ -4,8 +4,8 @@ use Rattle.std.specs.Prelude.{Some, None}
 use Rattle.std.proofs.lemmas.Bool.{cases_eq}
 use Rattle.bz_layout.specs.Addresses.{words_of}
 use Rattle.bz_layout.specs.declared.config.Config.{Config}
-use Rattle.bz_shape.specs.Walk.{IsTree, fault_of}
-use Rattle.bz_shape.specs.declared.rule.ShapeRule.TheVariants.{Super}
+use Rattle.bz_tree.specs.Walk.{IsTree, fault_of}
+use Rattle.bz_tree.specs.declared.rule.ShapeRule.TheVariants.{Super}
 use Rattle.bz_content.specs.Content.{image_fault, image_of, is_super, or_word, view_in, IsWellFormed}
 use Rattle.bz_content.specs.Lawful.{is_lawful, first_unlawful}
 use Rattle.bz_content.specs.Laws.{WellFormedImagesHaveNoFault}

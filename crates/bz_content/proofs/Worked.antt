@@ -7,9 +7,9 @@ use Rattle.bz_content.specs.Lawful.{is_lawful, first_unlawful}
 use Rattle.bz_content.specs.Resolving.{resolve, entry_for}
 use Rattle.bz_content.specs.View.{root_fault}
 use Rattle.bz_content.specs.WorkedInsert.{word_at, WorkedInsert}
-use Rattle.bz_shape.specs.Descent.{descend, pick}
-use Rattle.bz_shape.specs.Order.{is_before}
-use Rattle.bz_shape.specs.Walk.{first_fault, visits, kids, over}
+use Rattle.bz_tree.specs.Descent.{descend, pick}
+use Rattle.bz_tree.specs.Order.{is_before}
+use Rattle.bz_tree.specs.Walk.{first_fault, visits, kids, over}
 use Rattle.bz_slotted.specs.Readers.{level_of, count_of, child_of, key_of, found_of}
 use Rattle.bz_slotted.specs.Rules.{node_fault, fence_test}
 use Rattle.bz_slotted.specs.Tests.{first_of, every}

@@ -1,7 +1,7 @@
 -- Images with one word or two wrong, and what is told of each.
 use Rattle.std.specs.Prelude.{◌≡◌, ℕ, ◌+◌, ◌^◌, List, [], ◌∷◌, ◌++◌, Some}
-use Rattle.bz_shape.specs.declared.rule.ShapeRule.{ShapeRule}
-use Rattle.bz_shape.specs.declared.rule.ShapeRule.TheVariants.{Super, Word, Root, Level, Fence, Status, Record}
+use Rattle.bz_tree.specs.declared.rule.ShapeRule.{ShapeRule}
+use Rattle.bz_tree.specs.declared.rule.ShapeRule.TheVariants.{Super, Word, Root, Level, Fence, Status, Record}
 use Rattle.bz_content.specs.Content.{image_fault}
 use Rattle.bz_content.specs.WorkedInsert.{small, word_at, super, leaf, pair, publishing}
 

@@ -3,12 +3,12 @@ use Rattle.std.specs.Prelude.{◌≡◌, ℕ, ◌+◌, ◌-◌, ◌==◌, ◌&&�
 use Rattle.bz_layout.specs.Addresses.{words_of}
 use Rattle.bz_layout.specs.declared.config.Config.{Config}
 use Rattle.bz_layout.specs.declared.sizes.TheConstants.{SUPERBLOCK_WORDS, SUPERBLOCK_USED, FORMAT_AT, NODES_AT, SWAPS_AT, FORMAT}
-use Rattle.bz_shape.specs.View.{View}
-use Rattle.bz_shape.specs.Walk.{IsTree, fault_of}
-use Rattle.bz_shape.specs.Descent.{leaf_of, content}
-use Rattle.bz_shape.specs.Content.{leaf_end}
-use Rattle.bz_shape.specs.declared.rule.ShapeFault.{ShapeFault}
-use Rattle.bz_shape.specs.declared.rule.ShapeRule.TheVariants.{Super, Word}
+use Rattle.bz_tree.specs.View.{View}
+use Rattle.bz_tree.specs.Walk.{IsTree, fault_of}
+use Rattle.bz_tree.specs.Descent.{leaf_of, content}
+use Rattle.bz_tree.specs.Content.{leaf_end}
+use Rattle.bz_tree.specs.declared.rule.ShapeFault.{ShapeFault}
+use Rattle.bz_tree.specs.declared.rule.ShapeRule.TheVariants.{Super, Word}
 use Rattle.bz_slotted.specs.Tests.{every}
 use Rattle.bz_content.specs.Image.{Image}
 use Rattle.bz_content.specs.Lawful.{is_lawful, first_unlawful}

@@ -5,11 +5,11 @@ use Rattle.bz_layout.specs.Config.{IsConfig}
 use Rattle.bz_layout.specs.Fresh.{fresh_words}
 use Rattle.bz_layout.specs.declared.config.Config.{Config}
 use Rattle.bz_layout.specs.declared.sizes.TheConstants.{ROOT_AT, ROOT_STATUS_AT}
-use Rattle.bz_shape.specs.Form.{IsHonest}
-use Rattle.bz_shape.specs.Descent.{leaf_of, content}
-use Rattle.bz_shape.specs.Walk.{IsTree, is_among, form}
-use Rattle.bz_shape.specs.Slots.{SameSlot, SameTop, Relinked}
-use Rattle.bz_shape.specs.Outcomes.{SameTree, SameContent, Regrows}
+use Rattle.bz_tree.specs.Form.{IsHonest}
+use Rattle.bz_tree.specs.Descent.{leaf_of, content}
+use Rattle.bz_tree.specs.Walk.{IsTree, is_among, form}
+use Rattle.bz_tree.specs.Slots.{SameSlot, SameTop, Relinked}
+use Rattle.bz_tree.specs.Outcomes.{SameTree, SameContent, Regrows}
 use Rattle.bz_slotted.specs.Changes.{Rewrites}
 use Rattle.bz_slotted.specs.Page.{page, visible, extent_of}
 use Rattle.bz_slotted.specs.Records.{key_in, payload_in, key_at}

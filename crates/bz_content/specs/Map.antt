@@ -4,7 +4,7 @@ use Rattle.std.specs.Cmp.Lexicographic.{slice_cmp}
 use Rattle.std.specs.FinMap.{FinMap}
 use Rattle.std.specs.Ordering.{nat_cmp}
 use Rattle.bz_layout.specs.declared.config.Config.{Config}
-use Rattle.bz_shape.specs.Content.{Pairs, map_of}
+use Rattle.bz_tree.specs.Content.{Pairs, map_of}
 use Rattle.bz_slotted.specs.Page.{page}
 use Rattle.bz_slotted.specs.Records.{records}
 use Rattle.bz_content.specs.Content.{image_of}

@@ -2,10 +2,10 @@
 -- rule in their places; of the reached ones only those that go, and the one with the link, change.
 use Rattle.std.specs.Prelude.{◌≡◌, ◌≢◌, ℕ, ◌+◌, ◌<◌, true, false, List, [], ◌∷◌, Option, Some, None}
 use Rattle.bz_layout.specs.declared.config.Config.{Config}
-use Rattle.bz_shape.specs.Form.{Holds}
-use Rattle.bz_shape.specs.Order.{is_before}
-use Rattle.bz_shape.specs.Slots.{Children, Wider, Halves, AreTwo}
-use Rattle.bz_shape.specs.Split.{AreThree}
+use Rattle.bz_tree.specs.Form.{Holds}
+use Rattle.bz_tree.specs.Order.{is_before}
+use Rattle.bz_tree.specs.Slots.{Children, Wider, Halves, AreTwo}
+use Rattle.bz_tree.specs.Split.{AreThree}
 use Rattle.bz_slotted.specs.Readers.{level_of, count_of, child_of, key_of, found_of}
 use Rattle.bz_slotted.specs.Rules.{node_fault}
 use Rattle.bz_content.specs.Image.{Image, node, root}

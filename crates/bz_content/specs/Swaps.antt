@@ -3,8 +3,8 @@
 use Rattle.std.specs.Prelude.{◌≡◌, ◌≢◌, ℕ, ◌+◌, ◌^◌, ◌<◌, ◌⊎◌, true, false, List, [], ◌∷◌, None}
 use Rattle.bz_layout.specs.declared.config.Config.{Config}
 use Rattle.bz_layout.specs.declared.sizes.TheConstants.{ROOT_AT, ROOT_STATUS_AT}
-use Rattle.bz_shape.specs.Form.{Form}
-use Rattle.bz_shape.specs.Walk.{is_among, form}
+use Rattle.bz_tree.specs.Form.{Form}
+use Rattle.bz_tree.specs.Walk.{is_among, form}
 use Rattle.bz_slotted.specs.Changes.{Reserves, Grows, Restamps, StoresBeside}
 use Rattle.bz_slotted.specs.InnerChanges.{PointerSwap}
 use Rattle.bz_slotted.specs.Readers.{found_of}

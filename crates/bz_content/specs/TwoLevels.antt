@@ -1,7 +1,7 @@
 -- A small tree of two levels: what is read of it, and what is told of it with one word or two wrong.
 use Rattle.std.specs.Prelude.{◌≡◌, ℕ, ◌+◌, ◌*◌, ◌^◌, List, [], ◌∷◌, ◌++◌, Some, None}
-use Rattle.bz_shape.specs.declared.rule.ShapeRule.{ShapeRule}
-use Rattle.bz_shape.specs.declared.rule.ShapeRule.TheVariants.{Twice, Level, Fence, Status, Key, Child}
+use Rattle.bz_tree.specs.declared.rule.ShapeRule.{ShapeRule}
+use Rattle.bz_tree.specs.declared.rule.ShapeRule.TheVariants.{Twice, Level, Fence, Status, Key, Child}
 use Rattle.bz_content.specs.Content.{image_fault, content_in, leaf_in, leaf_end_in}
 use Rattle.bz_content.specs.WorkedInsert.{small, word_at, leaf, pair}
 

@@ -1,7 +1,7 @@
 //! What a check of an image answers.
 
-use bz_memory::Memory;
-use bz_shape::ShapeFault;
+use bz_oom::Memory;
+use bz_tree::ShapeFault;
 
 /// What a well-formed image holds.
 #[derive(Clone, Copy, Debug, PartialEq, Eq)]

@@ -2,43 +2,43 @@
 use Rattle.std.proofs.Common.{ℕ, ◌≤◌, arith}
 use Rattle.bz_below.specs.Duties.{below_of}
 use Rattle.bz_below.specs.Facts.{Below, below_asks, below_swaps}
-use Rattle.bz_running.specs.FromConsol.Duties.{renewal_of}
-use Rattle.bz_running.specs.FromConsol.Facts.{Renewal, consol_asks, consol_swaps}
-use Rattle.bz_running.specs.FromCrown.Duties.{crown_of}
-use Rattle.bz_running.specs.FromCrown.Facts.{Crown, crown_asks, crown_swaps}
+use Rattle.bz_any_task.specs.FromConsol.Duties.{renewal_of}
+use Rattle.bz_any_task.specs.FromConsol.Facts.{Renewal, consol_asks, consol_swaps}
+use Rattle.bz_any_task.specs.FromCrown.Duties.{crown_of}
+use Rattle.bz_any_task.specs.FromCrown.Facts.{Crown, crown_asks, crown_swaps}
 use Rattle.bz_descend.specs.SeekFacts.{seek_asks}
-use Rattle.bz_running.specs.FromFind.Phases.{find_asks}
-use Rattle.bz_running.specs.FromFind.Find.{Find}
-use Rattle.bz_running.specs.FromFork.Duties.{fork_of}
-use Rattle.bz_running.specs.FromFork.Facts.{Fork, fork_asks, fork_swaps}
+use Rattle.bz_any_task.specs.FromFind.Phases.{find_asks}
+use Rattle.bz_any_task.specs.FromFind.Find.{Find}
+use Rattle.bz_any_task.specs.FromFork.Duties.{fork_of}
+use Rattle.bz_any_task.specs.FromFork.Facts.{Fork, fork_asks, fork_swaps}
 use Rattle.bz_freeze.specs.Facts.{freeze_asks, freeze_swaps}
-use Rattle.bz_running.specs.FromInsert.Facts.{insert_asks, insert_swaps}
+use Rattle.bz_any_task.specs.FromInsert.Facts.{insert_asks, insert_swaps}
 use Rattle.bz_layout.specs.declared.config.Config.{Config}
 use Rattle.bz_leaf.specs.Facts.{leaf_asks}
-use Rattle.bz_running.specs.FromMerge.Counts.{merge_swaps}
-use Rattle.bz_running.specs.FromMerge.Duties.{merging_of}
-use Rattle.bz_running.specs.FromMerge.Facts.{merge_asks}
-use Rattle.bz_running.specs.FromMerge.Plans.{Merging as Merge}
+use Rattle.bz_any_task.specs.FromMerge.Counts.{merge_swaps}
+use Rattle.bz_any_task.specs.FromMerge.Duties.{merging_of}
+use Rattle.bz_any_task.specs.FromMerge.Facts.{merge_asks}
+use Rattle.bz_any_task.specs.FromMerge.Plans.{Merging as Merge}
 use Rattle.bz_mutate.specs.DeleteFacts.{delete_asks, delete_swaps}
 use Rattle.bz_mutate.specs.UpdateFacts.{update_asks, update_swaps}
 use Rattle.bz_node.specs.declared.image.NodeImage.{NodeImage}
-use Rattle.bz_running.specs.FromInsert.NewRecord.{NewRecord}
+use Rattle.bz_any_task.specs.FromInsert.NewRecord.{NewRecord}
 use Rattle.bz_below.specs.FromSplit.Duties.{split_of}
 use Rattle.bz_below.specs.FromSplit.Facts.{Split, split_asks, split_swaps}
 use Rattle.bz_task.specs.Requests.{swaps_in}
 use Rattle.bz_task.specs.declared.path.Link.{Link}
 use Rattle.bz_task.specs.declared.view.KeyView.{KeyView}
-use Rattle.bz_running.specs.Duties.{view_of}
-use Rattle.bz_running.specs.declared.running.AnyTask.TheVariants.{Seeking, Finding, Reading, Inserting, Updating, Deleting, Freezing, Consolidating, Splitting, SplittingBelow, SplittingInner, SplittingInnerRoot, Merging}
+use Rattle.bz_any_task.specs.Duties.{view_of}
+use Rattle.bz_any_task.specs.declared.running.AnyTask.TheVariants.{Seeking, Finding, Reading, Inserting, Updating, Deleting, Freezing, Consolidating, Splitting, SplittingBelow, SplittingInner, SplittingInnerRoot, Merging}
 use Rattle.bz_costs.specs.Laws.{AskedSwapsAreCounted}
 use Rattle.bz_descend.specs.declared.sight.Way.{Way as SeekPhase}
 use Rattle.bz_descend.specs.declared.sight.Way.TheVariants as seek
-use Rattle.bz_running.specs.FromFind.FindPhase.{FindPhase}
-use Rattle.bz_running.specs.FromFind.FindPhase.TheVariants as find
+use Rattle.bz_any_task.specs.FromFind.FindPhase.{FindPhase}
+use Rattle.bz_any_task.specs.FromFind.FindPhase.TheVariants as find
 use Rattle.bz_leaf.specs.declared.phase.LeafPhase.{LeafPhase}
 use Rattle.bz_leaf.specs.declared.phase.LeafPhase.TheVariants as leaf
-use Rattle.bz_running.specs.FromInsert.InsertPhase.{InsertPhase}
-use Rattle.bz_running.specs.FromInsert.InsertPhase.TheVariants as insert
+use Rattle.bz_any_task.specs.FromInsert.InsertPhase.{InsertPhase}
+use Rattle.bz_any_task.specs.FromInsert.InsertPhase.TheVariants as insert
 use Rattle.bz_mutate.specs.declared.update_phase.UpdatePhase.{UpdatePhase}
 use Rattle.bz_mutate.specs.declared.update_phase.UpdatePhase.TheVariants as update
 use Rattle.bz_mutate.specs.declared.delete_phase.DeletePhase.{DeletePhase}
@@ -49,12 +49,12 @@ use Rattle.bz_writer.specs.declared.phase.WritePhase.{WritePhase}
 use Rattle.bz_writer.specs.declared.phase.WritePhase.TheVariants as write
 use Rattle.bz_below.specs.declared.phase.BelowPhase.{BelowPhase}
 use Rattle.bz_below.specs.declared.phase.BelowPhase.TheVariants as below
-use Rattle.bz_running.specs.FromCrown.CrownPhase.{CrownPhase}
-use Rattle.bz_running.specs.FromCrown.CrownPhase.TheVariants as crown
-use Rattle.bz_running.specs.FromFork.ForkPhase.{ForkPhase}
-use Rattle.bz_running.specs.FromFork.ForkPhase.TheVariants as fork
-use Rattle.bz_running.specs.FromMerge.MergePhase.{MergePhase}
-use Rattle.bz_running.specs.FromMerge.MergePhase.TheVariants as merge
+use Rattle.bz_any_task.specs.FromCrown.CrownPhase.{CrownPhase}
+use Rattle.bz_any_task.specs.FromCrown.CrownPhase.TheVariants as crown
+use Rattle.bz_any_task.specs.FromFork.ForkPhase.{ForkPhase}
+use Rattle.bz_any_task.specs.FromFork.ForkPhase.TheVariants as fork
+use Rattle.bz_any_task.specs.FromMerge.MergePhase.{MergePhase}
+use Rattle.bz_any_task.specs.FromMerge.MergePhase.TheVariants as merge
 
 seek-counted : (c : Config) (p : SeekPhase) → swaps_in (seek_asks c p) ≤ 0
 seek-counted c seek.Fresh = omega arith

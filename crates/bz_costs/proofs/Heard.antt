@@ -8,9 +8,9 @@ use Rattle.bz_task.specs.Requests.{swaps_in, steps_in}
 use Rattle.bz_task.specs.declared.todo.Seen.{Seen}
 use Rattle.bz_task.specs.declared.todo.Todo.{Todo}
 use Rattle.bz_task.specs.declared.todo.Todo.TheVariants.{Read, Load, Store, Flush, Swap, Finish}
-use Rattle.bz_running.specs.Duties.{asks_of}
-use Rattle.bz_running.specs.Hearing.{HasHeard}
-use Rattle.bz_running.specs.declared.running.AnyTask.{AnyTask}
+use Rattle.bz_any_task.specs.Duties.{asks_of}
+use Rattle.bz_any_task.specs.Hearing.{HasHeard}
+use Rattle.bz_any_task.specs.declared.running.AnyTask.{AnyTask}
 use Rattle.bz_costs.proofs.Asked.{asked-counted}
 use Rattle.bz_costs.specs.Laws.{HearingIsPaid}
 use Rattle.bz_costs.specs.Resources.{Resource, Marks, Descriptors, Slots}

@@ -1,34 +1,34 @@
 -- No task has more steps left, more swaps among them, or more slots to take, than at its begin.
 use Rattle.std.proofs.Common.{ℕ, ◌-◌, ◌≤◌, Bool, true, false, arith}
 use Rattle.bz_below.specs.Facts.{below_needs, below_swaps}
-use Rattle.bz_running.specs.FromConsol.Facts.{consol_acts, consol_left, consol_needs, consol_swaps}
-use Rattle.bz_running.specs.FromCrown.Facts.{crown_acts, crown_left, crown_needs, crown_swaps}
+use Rattle.bz_any_task.specs.FromConsol.Facts.{consol_acts, consol_left, consol_needs, consol_swaps}
+use Rattle.bz_any_task.specs.FromCrown.Facts.{crown_acts, crown_left, crown_needs, crown_swaps}
 use Rattle.bz_descend.specs.SeekFacts.{asks_one}
-use Rattle.bz_running.specs.FromFind.Phases.{reads_of}
-use Rattle.bz_running.specs.FromFork.Facts.{fork_acts, fork_left, fork_needs, fork_swaps}
+use Rattle.bz_any_task.specs.FromFind.Phases.{reads_of}
+use Rattle.bz_any_task.specs.FromFork.Facts.{fork_acts, fork_left, fork_needs, fork_swaps}
 use Rattle.bz_freeze.specs.Facts.{freeze_left, freeze_swaps}
-use Rattle.bz_running.specs.FromInsert.Facts.{insert_acts, insert_left, insert_swaps}
+use Rattle.bz_any_task.specs.FromInsert.Facts.{insert_acts, insert_left, insert_swaps}
 use Rattle.bz_layout.specs.declared.swaps.TheConstants.{DELETE_SWAPS, FREEZE_SWAPS, INSERT_SWAPS, MERGE_SWAPS, RENEWAL_SWAPS, UPDATE_SWAPS}
 use Rattle.bz_layout.specs.declared.thresholds.TheConstants.{CONSOLIDATION_SLOTS, MERGE_SLOTS, SPLIT_SLOTS}
 use Rattle.bz_leaf.specs.Facts.{leaf_acts, leaf_left}
-use Rattle.bz_running.specs.FromMerge.Counts.{merge_swaps}
-use Rattle.bz_running.specs.FromMerge.Facts.{merge_acts, merge_left, merge_needs}
+use Rattle.bz_any_task.specs.FromMerge.Counts.{merge_swaps}
+use Rattle.bz_any_task.specs.FromMerge.Facts.{merge_acts, merge_left, merge_needs}
 use Rattle.bz_mutate.specs.DeleteFacts.{delete_left, delete_swaps}
 use Rattle.bz_mutate.specs.UpdateFacts.{update_acts, update_left, update_swaps}
 use Rattle.bz_below.specs.FromSplit.Facts.{split_acts, split_left, split_needs, split_swaps}
-use Rattle.bz_running.specs.Duties.{view_of}
-use Rattle.bz_running.specs.declared.running.AnyTask.TheVariants.{Seeking, Finding, Reading, Inserting, Updating, Deleting, Freezing, Consolidating, Splitting, SplittingBelow, SplittingInner, SplittingInnerRoot, Merging}
+use Rattle.bz_any_task.specs.Duties.{view_of}
+use Rattle.bz_any_task.specs.declared.running.AnyTask.TheVariants.{Seeking, Finding, Reading, Inserting, Updating, Deleting, Freezing, Consolidating, Splitting, SplittingBelow, SplittingInner, SplittingInnerRoot, Merging}
 use Rattle.bz_costs.specs.Resources.{Resource, Marks, Descriptors, Slots}
 use Rattle.bz_costs.specs.Laws.{TasksWeighLittle}
 use Rattle.bz_costs.specs.Weights.{weight}
 use Rattle.bz_descend.specs.declared.sight.Way.{Way as SeekPhase}
 use Rattle.bz_descend.specs.declared.sight.Way.TheVariants as seek
-use Rattle.bz_running.specs.FromFind.FindPhase.{FindPhase}
-use Rattle.bz_running.specs.FromFind.FindPhase.TheVariants as find
+use Rattle.bz_any_task.specs.FromFind.FindPhase.{FindPhase}
+use Rattle.bz_any_task.specs.FromFind.FindPhase.TheVariants as find
 use Rattle.bz_leaf.specs.declared.phase.LeafPhase.{LeafPhase}
 use Rattle.bz_leaf.specs.declared.phase.LeafPhase.TheVariants as leaf
-use Rattle.bz_running.specs.FromInsert.InsertPhase.{InsertPhase}
-use Rattle.bz_running.specs.FromInsert.InsertPhase.TheVariants as insert
+use Rattle.bz_any_task.specs.FromInsert.InsertPhase.{InsertPhase}
+use Rattle.bz_any_task.specs.FromInsert.InsertPhase.TheVariants as insert
 use Rattle.bz_mutate.specs.declared.update_phase.UpdatePhase.{UpdatePhase}
 use Rattle.bz_mutate.specs.declared.update_phase.UpdatePhase.TheVariants as update
 use Rattle.bz_mutate.specs.declared.delete_phase.DeletePhase.{DeletePhase}
@@ -39,12 +39,12 @@ use Rattle.bz_writer.specs.declared.phase.WritePhase.{WritePhase}
 use Rattle.bz_writer.specs.declared.phase.WritePhase.TheVariants as write
 use Rattle.bz_below.specs.declared.phase.BelowPhase.{BelowPhase}
 use Rattle.bz_below.specs.declared.phase.BelowPhase.TheVariants as below
-use Rattle.bz_running.specs.FromCrown.CrownPhase.{CrownPhase}
-use Rattle.bz_running.specs.FromCrown.CrownPhase.TheVariants as crown
-use Rattle.bz_running.specs.FromFork.ForkPhase.{ForkPhase}
-use Rattle.bz_running.specs.FromFork.ForkPhase.TheVariants as fork
-use Rattle.bz_running.specs.FromMerge.MergePhase.{MergePhase}
-use Rattle.bz_running.specs.FromMerge.MergePhase.TheVariants as merge
+use Rattle.bz_any_task.specs.FromCrown.CrownPhase.{CrownPhase}
+use Rattle.bz_any_task.specs.FromCrown.CrownPhase.TheVariants as crown
+use Rattle.bz_any_task.specs.FromFork.ForkPhase.{ForkPhase}
+use Rattle.bz_any_task.specs.FromFork.ForkPhase.TheVariants as fork
+use Rattle.bz_any_task.specs.FromMerge.MergePhase.{MergePhase}
+use Rattle.bz_any_task.specs.FromMerge.MergePhase.TheVariants as merge
 
 -- each act of the two look-ups is counted as it is asked for
 seek-one : (p : SeekPhase) → asks_one p ≤ 1

@@ -4,13 +4,13 @@ use Rattle.bz_below.specs.Duties.{below_of}
 use Rattle.bz_below.specs.Facts.{Below, below_asks, below_end, below_left, below_needs, below_swaps}
 use Rattle.bz_below.specs.declared.phase.BelowPhase.{BelowPhase}
 use Rattle.bz_below.specs.declared.phase.BelowPhase.TheVariants as below
-use Rattle.bz_running.specs.FromFork.Duties.{fork_of}
-use Rattle.bz_running.specs.FromFork.Facts.{Fork, fork_asks, fork_end, fork_left, fork_needs, fork_swaps}
-use Rattle.bz_running.specs.FromFork.ForkPhase.{ForkPhase}
-use Rattle.bz_running.specs.FromFork.ForkPhase.TheVariants as fork
+use Rattle.bz_any_task.specs.FromFork.Duties.{fork_of}
+use Rattle.bz_any_task.specs.FromFork.Facts.{Fork, fork_asks, fork_end, fork_left, fork_needs, fork_swaps}
+use Rattle.bz_any_task.specs.FromFork.ForkPhase.{ForkPhase}
+use Rattle.bz_any_task.specs.FromFork.ForkPhase.TheVariants as fork
 use Rattle.bz_writer.proofs.Sizes.{no-room}
 use Rattle.bz_layout.specs.declared.config.Config.{Config}
-use Rattle.bz_running.specs.Duties.{view_of}
+use Rattle.bz_any_task.specs.Duties.{view_of}
 use Rattle.bz_task.specs.Requests.{swaps_in}
 use Rattle.bz_task.specs.declared.todo.Outcome.TheVariants.{NeedsRoom}
 use Rattle.bz_costs.specs.Failing.{cost_of_lost_below, cost_of_lost_inner}

@@ -8,8 +8,8 @@ use Rattle.bz_costs.specs.Costs.{StretchesAreTheMost}
 use Rattle.bz_costs.specs.Solo.{rest_of_round}
 use Rattle.bz_costs.specs.Most.{most_of, most_of_freeze}
 use Rattle.bz_costs.specs.Stretches.{cost_of_view, cost_once_viewed, cost_once_found, cost_from, top_stage, cost_viewed_at, cost_found_at, cost_at, solo_stretch}
-use Rattle.bz_running.specs.declared.running.AnyTask.{AnyTask}
-use Rattle.bz_running.specs.declared.running.AnyTask.TheVariants.{Seeking}
+use Rattle.bz_any_task.specs.declared.running.AnyTask.{AnyTask}
+use Rattle.bz_any_task.specs.declared.running.AnyTask.TheVariants.{Seeking}
 
 -- what is still to come pays for the rest of the round
 rest : (r : Resource) (frozen : Bool) (stage : ℕ) → cost_once_viewed r 0 ≤ cost_viewed_at r frozen stage

@@ -3,7 +3,7 @@ use Rattle.std.specs.Prelude.{ℕ, ◌+◌, ◌*◌, ◌<◌, ◌≤◌, min, Bo
 use Rattle.bz_layout.specs.Config.{IsConfig}
 use Rattle.bz_layout.specs.declared.config.Config.{Config}
 use Rattle.bz_layout.specs.declared.thresholds.TheConstants.{MARKS_PER_CALL}
-use Rattle.bz_running.specs.declared.running.AnyTask.{AnyTask}
+use Rattle.bz_any_task.specs.declared.running.AnyTask.{AnyTask}
 use Rattle.bz_costs.specs.Resources.{Resource}
 use Rattle.bz_costs.specs.Failing.{cost_of_lost_inner}
 use Rattle.bz_costs.specs.Solo.{own_marks, promised, rest_of_round, solo_most}

@@ -1,7 +1,7 @@
 -- What a split costs that ends for want of room above: a few of its steps. It has asked for no swap, and has taken no slot.
 use Rattle.std.specs.Prelude.{ℕ}
 use Rattle.bz_below.specs.Facts.{below_fails}
-use Rattle.bz_running.specs.FromFork.Facts.{fork_fails}
+use Rattle.bz_any_task.specs.FromFork.Facts.{fork_fails}
 use Rattle.bz_costs.specs.Resources.{Resource}
 use Rattle.bz_costs.specs.Weights.{weight}
 

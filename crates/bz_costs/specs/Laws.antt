@@ -1,19 +1,19 @@
 -- The laws of weights: what a task is told lowers its weight by what its next act takes, and no task weighs more than at its begin.
 use Rattle.std.specs.Prelude.{◌≡◌, ℕ, ◌+◌, ◌≤◌, Some}
-use Rattle.bz_running.specs.FromAscent.Ascent.{Ascent}
+use Rattle.bz_any_task.specs.FromAscent.Ascent.{Ascent}
 use Rattle.bz_below.specs.Duties.{end_below}
 use Rattle.bz_below.specs.declared.split_below.SplitBelow.{SplitBelow}
-use Rattle.bz_running.specs.FromFork.Duties.{end_fork}
-use Rattle.bz_running.specs.FromFork.SplitInner.{SplitInner}
+use Rattle.bz_any_task.specs.FromFork.Duties.{end_fork}
+use Rattle.bz_any_task.specs.FromFork.SplitInner.{SplitInner}
 use Rattle.bz_layout.specs.Slots.{FreeSlots}
 use Rattle.bz_task.specs.Requests.{swaps_in}
 use Rattle.bz_task.specs.declared.todo.Outcome.TheVariants.{NeedsRoom}
 use Rattle.bz_task.specs.declared.todo.Seen.{Seen}
 use Rattle.bz_task.specs.declared.todo.Todo.{Todo}
-use Rattle.bz_running.specs.Duties.{asks_of, swaps_of}
-use Rattle.bz_running.specs.Hearing.{HasHeard}
-use Rattle.bz_running.specs.declared.running.AnyTask.{AnyTask}
-use Rattle.bz_running.specs.declared.running.AnyTask.TheVariants.{SplittingBelow, SplittingInner}
+use Rattle.bz_any_task.specs.Duties.{asks_of, swaps_of}
+use Rattle.bz_any_task.specs.Hearing.{HasHeard}
+use Rattle.bz_any_task.specs.declared.running.AnyTask.{AnyTask}
+use Rattle.bz_any_task.specs.declared.running.AnyTask.TheVariants.{SplittingBelow, SplittingInner}
 use Rattle.bz_costs.specs.Resources.{Resource}
 use Rattle.bz_costs.specs.Failing.{cost_of_lost_below, cost_of_lost_inner}
 use Rattle.bz_costs.specs.Most.{most_of, most_of_below, most_of_inner, IsWithinItsActs}

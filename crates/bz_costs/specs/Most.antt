@@ -2,24 +2,24 @@
 use Rattle.std.specs.Prelude.{ℕ, ◌+◌, ◌≤◌}
 use Rattle.bz_below.specs.Duties.{left_below}
 use Rattle.bz_below.specs.Facts.{below_acts}
-use Rattle.bz_running.specs.FromConsol.Facts.{consol_acts}
-use Rattle.bz_running.specs.FromCrown.Facts.{crown_acts}
+use Rattle.bz_any_task.specs.FromConsol.Facts.{consol_acts}
+use Rattle.bz_any_task.specs.FromCrown.Facts.{crown_acts}
 use Rattle.bz_descend.specs.SeekFacts.{seek_reads}
-use Rattle.bz_running.specs.FromFind.Facts.{find_acts}
-use Rattle.bz_running.specs.FromFork.Facts.{fork_acts}
+use Rattle.bz_any_task.specs.FromFind.Facts.{find_acts}
+use Rattle.bz_any_task.specs.FromFork.Facts.{fork_acts}
 use Rattle.bz_freeze.specs.Facts.{freeze_left}
 use Rattle.bz_freeze.specs.declared.phase.FreezePhase.TheVariants as freeze
-use Rattle.bz_running.specs.FromInsert.Facts.{insert_acts}
+use Rattle.bz_any_task.specs.FromInsert.Facts.{insert_acts}
 use Rattle.bz_layout.specs.declared.swaps.TheConstants.{DELETE_SWAPS, FREEZE_SWAPS, INSERT_SWAPS, MERGE_SWAPS, RENEWAL_SWAPS, UPDATE_SWAPS}
 use Rattle.bz_layout.specs.declared.thresholds.TheConstants.{CONSOLIDATION_SLOTS, MERGE_SLOTS, SPLIT_SLOTS}
 use Rattle.bz_leaf.specs.Facts.{leaf_acts}
-use Rattle.bz_running.specs.FromMerge.Facts.{merge_acts}
+use Rattle.bz_any_task.specs.FromMerge.Facts.{merge_acts}
 use Rattle.bz_mutate.specs.DeleteFacts.{delete_left}
 use Rattle.bz_mutate.specs.UpdateFacts.{update_acts}
 use Rattle.bz_mutate.specs.declared.delete_phase.DeletePhase.TheVariants as delete
 use Rattle.bz_below.specs.FromSplit.Facts.{split_acts}
-use Rattle.bz_running.specs.declared.running.AnyTask.{AnyTask}
-use Rattle.bz_running.specs.declared.running.AnyTask.TheVariants.{Seeking, Finding, Reading, Inserting, Updating, Deleting, Freezing, Consolidating, Splitting, SplittingBelow, SplittingInner, SplittingInnerRoot, Merging}
+use Rattle.bz_any_task.specs.declared.running.AnyTask.{AnyTask}
+use Rattle.bz_any_task.specs.declared.running.AnyTask.TheVariants.{Seeking, Finding, Reading, Inserting, Updating, Deleting, Freezing, Consolidating, Splitting, SplittingBelow, SplittingInner, SplittingInnerRoot, Merging}
 use Rattle.bz_costs.specs.Resources.{Resource}
 use Rattle.bz_costs.specs.Weights.{weight}
 

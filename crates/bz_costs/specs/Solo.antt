@@ -2,7 +2,7 @@
 use Rattle.std.specs.Prelude.{ℕ, ◌+◌, ◌-◌, ◌*◌}
 use Rattle.bz_layout.specs.declared.config.Config.{Config}
 use Rattle.bz_layout.specs.declared.thresholds.TheConstants.{MARKS_PER_CALL, SLOTS_PER_CALL, SWAPS_PER_CALL}
-use Rattle.bz_machine.specs.Allowed.{for_worker}
+use Rattle.bz_swap_machine.specs.Allowed.{for_worker}
 use Rattle.bz_costs.specs.Resources.{Resource, Marks, Descriptors, Slots}
 use Rattle.bz_costs.specs.Stretches.{cost_from, solo_stretch}
 

@@ -1,13 +1,13 @@
 -- What is still to come in a clean round while splits go up from a leaf: that of the leaf, which may find no room, and those of the nodes
 -- above, one after the other.
 use Rattle.std.specs.Prelude.{◌≡◌, ℕ, ◌+◌, ◌-◌, ◌*◌, ◌<◌, ◌≤◌, min, max, true, Some}
-use Rattle.bz_running.specs.FromAscent.Ascent.{Ascent}
+use Rattle.bz_any_task.specs.FromAscent.Ascent.{Ascent}
 use Rattle.bz_below.specs.Duties.{end_below}
 use Rattle.bz_below.specs.declared.split_below.SplitBelow.{SplitBelow}
-use Rattle.bz_running.specs.FromFork.Duties.{end_fork}
-use Rattle.bz_running.specs.FromFork.SplitInner.{SplitInner}
+use Rattle.bz_any_task.specs.FromFork.Duties.{end_fork}
+use Rattle.bz_any_task.specs.FromFork.SplitInner.{SplitInner}
 use Rattle.bz_task.specs.declared.todo.Outcome.TheVariants.{NeedsRoom}
-use Rattle.bz_running.specs.declared.running.AnyTask.TheVariants.{SplittingBelow, SplittingInner}
+use Rattle.bz_any_task.specs.declared.running.AnyTask.TheVariants.{SplittingBelow, SplittingInner}
 use Rattle.bz_costs.specs.Resources.{Resource}
 use Rattle.bz_costs.specs.Failing.{cost_of_lost_inner}
 use Rattle.bz_costs.specs.Most.{most_of_below, most_of_inner, most_of_inner_root}

@@ -1,12 +1,12 @@
 -- What a task may still take of a worker that steps alone: of marks, the steps of the swap memory that are allowed for its acts.
 use Rattle.std.specs.Prelude.{ℕ, ◌+◌, ◌-◌, ◌*◌, Some, length}
 use Rattle.bz_layout.specs.Slots.{FreeSlots}
-use Rattle.bz_machine.specs.Allowed.{for_word, for_flush, for_swap}
+use Rattle.bz_swap_machine.specs.Allowed.{for_word, for_flush, for_swap}
 use Rattle.bz_task.specs.Requests.{swaps_in}
 use Rattle.bz_task.specs.declared.todo.Todo.{Todo}
 use Rattle.bz_task.specs.declared.todo.Todo.TheVariants.{Read, Load, Store, Flush, Swap, Finish}
-use Rattle.bz_running.specs.Duties.{asks_of, left_of, needs_of, swaps_of}
-use Rattle.bz_running.specs.declared.running.AnyTask.{AnyTask}
+use Rattle.bz_any_task.specs.Duties.{asks_of, left_of, needs_of, swaps_of}
+use Rattle.bz_any_task.specs.declared.running.AnyTask.{AnyTask}
 use Rattle.bz_costs.specs.Resources.{Resource, Marks, Descriptors, Slots}
 
 -- so many steps more a swap is allowed than the one that a task counts for it

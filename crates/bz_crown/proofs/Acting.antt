@@ -4,8 +4,8 @@ use Rattle.std.specs.Prelude.{All, None}
 use Rattle.bz_layout.specs.Addresses.{node_address}
 use Rattle.bz_layout.specs.declared.config.Config.{Config}
 use Rattle.bz_layout.specs.declared.sizes.TheConstants.{NODE_WORDS, STATUS_AT}
-use Rattle.bz_shape.specs.Slots.{Halves, AreTwo}
-use Rattle.bz_shape.specs.Split.{AreThree}
+use Rattle.bz_tree.specs.Slots.{Halves, AreTwo}
+use Rattle.bz_tree.specs.Split.{AreThree}
 use Rattle.bz_slotted.specs.ReadingLaws.{node_of}
 use Rattle.bz_slotted.specs.Rules.{node_fault}
 use Rattle.bz_task.proofs.FromSwap.EntryLists.{All-inserted}

@@ -4,7 +4,7 @@ use Rattle.std.specs.Prelude.{Some, slice_get}
 use Rattle.std.proofs.lemmas.Bool.{cases_lt}
 use Rattle.bz_layout.specs.Addresses.{node_address}
 use Rattle.bz_layout.specs.declared.sizes.TheConstants.{STATUS_AT, ROOT_AT, ROOT_STATUS_AT}
-use Rattle.bz_shape.specs.Order.{is_at_least, is_below}
+use Rattle.bz_tree.specs.Order.{is_at_least, is_below}
 use Rattle.bz_word.specs.Statuses.{status}
 use Rattle.bz_task.specs.Good.{IsGood}
 use Rattle.bz_task.specs.Instant.{page_at}

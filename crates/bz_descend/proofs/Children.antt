@@ -3,10 +3,10 @@ use Rattle.std.proofs.Common.{◌≡◌, ◌≢◌, ℕ, ◌+◌, ◌<◌, ◌==
 use Rattle.std.specs.Prelude.{nat_lt, Option, Some}
 use Rattle.std.proofs.lemmas.Bool.Decides.{nat_tests}
 use Rattle.bz_layout.specs.declared.config.Config.{Config}
-use Rattle.bz_shape.specs.Form.{Fits, Stands}
-use Rattle.bz_shape.specs.Order.{is_before, is_at_least, is_below}
+use Rattle.bz_tree.specs.Form.{Fits, Stands}
+use Rattle.bz_tree.specs.Order.{is_before, is_at_least, is_below}
 use Rattle.bz_slotted.specs.Readers.{count_of, child_of, key_of}
-use Rattle.bz_shape.proofs.Proved.{trees_have_forms}
+use Rattle.bz_tree.proofs.Proved.{trees_have_forms}
 use Rattle.bz_slotted.specs.Page.{page}
 use Rattle.bz_slotted.specs.Records.{pointer_at}
 use Rattle.bz_content.specs.Content.{IsWellFormed, view_in}

@@ -7,7 +7,7 @@ use Rattle.bz_key.specs.Packing.{packed_len, unpacked_key}
 use Rattle.bz_layout.specs.declared.config.Config.{Config}
 use Rattle.bz_layout.specs.declared.sizes.TheConstants.{HEADER_AT, META_AT}
 use Rattle.bz_layout.specs.declared.thresholds.TheConstants.{MAX_LEVELS}
-use Rattle.bz_shape.specs.Order.{is_at_least, is_below}
+use Rattle.bz_tree.specs.Order.{is_at_least, is_below}
 use Rattle.bz_slotted.specs.Page.{words_at, meta_of, extent_of, Page, page}
 use Rattle.bz_slotted.specs.Records.{key_words, weight, shown, live_block}
 use Rattle.bz_slotted.specs.Rules.{node_fault}

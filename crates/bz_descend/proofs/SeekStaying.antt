@@ -1,7 +1,7 @@
 -- What a descent by halving has learnt stays.
 use Rattle.std.proofs.Common.{◌≡◌, ℕ, ◌+◌, ◌≤◌, true, List, sym, ◌∙◌}
 use Rattle.std.specs.Prelude.{slice_index}
-use Rattle.bz_shape.specs.Order.{is_before}
+use Rattle.bz_tree.specs.Order.{is_before}
 use Rattle.bz_slotted.specs.Page.{extent_of, page}
 use Rattle.bz_slotted.specs.Readers.{key_of}
 use Rattle.bz_word.specs.declared.meta.Extent.{Extent}

@@ -9,7 +9,7 @@ use Rattle.bz_layout.specs.Addresses.{node_address}
 use Rattle.bz_layout.specs.Slots.{FreeSlots}
 use Rattle.bz_layout.specs.declared.config.Config.{Config}
 use Rattle.bz_layout.specs.declared.sizes.TheConstants.{STATUS_AT, META_AT, FENCE_WORDS}
-use Rattle.bz_shape.specs.Order.{is_before}
+use Rattle.bz_tree.specs.Order.{is_before}
 use Rattle.bz_slotted.specs.Page.{meta_of, extent_of, page}
 use Rattle.bz_slotted.specs.Readers.{key_of}
 use Rattle.bz_word.specs.Headers.{header}

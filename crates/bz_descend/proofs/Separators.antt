@@ -6,7 +6,7 @@ use Rattle.std.proofs.lemmas.Bool.Decides.{nat_tests}
 use Rattle.bz_key.specs.Packing.{packed_len, unpacked}
 use Rattle.bz_layout.specs.declared.sizes.TheConstants.{META_AT}
 use Rattle.bz_node.specs.Reading.{payload_at}
-use Rattle.bz_shape.specs.Order.{is_before}
+use Rattle.bz_tree.specs.Order.{is_before}
 use Rattle.bz_slotted.specs.Page.{meta_of, extent_of, page}
 use Rattle.bz_slotted.specs.Readers.{key_of}
 use Rattle.bz_slotted.specs.Records.{key_words, key_at, pointer_at}

@@ -3,7 +3,7 @@ use Rattle.std.specs.Prelude.{◌≡◌, ℕ, ◌+◌, ◌<◌, ◌≤◌, nat_l
 use Rattle.bz_key.specs.Packing.{packed_len}
 use Rattle.bz_search.specs.Probes.{middle, probe_in}
 use Rattle.bz_search.specs.declared.probe.Probe.{Probe as Part}
-use Rattle.bz_shape.specs.Order.{is_before}
+use Rattle.bz_tree.specs.Order.{is_before}
 use Rattle.bz_slotted.specs.Page.{extent_of, page}
 use Rattle.bz_slotted.specs.Readers.{key_of}
 use Rattle.bz_word.specs.declared.meta.Extent.{Extent}

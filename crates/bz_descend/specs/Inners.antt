@@ -4,7 +4,7 @@ use Rattle.std.specs.Prelude.{◌≡◌, ◌≢◌, ℕ, ◌+◌, ◌-◌, ◌/�
 use Rattle.bz_key.specs.Packing.{unpacked_key}
 use Rattle.bz_layout.specs.declared.sizes.TheConstants.{STATUS_AT, SHARED_WORDS}
 use Rattle.bz_layout.specs.declared.thresholds.TheConstants.{LEAST_RECORD_WORDS}
-use Rattle.bz_shape.specs.Order.{is_before}
+use Rattle.bz_tree.specs.Order.{is_before}
 use Rattle.bz_slotted.specs.Page.{extent_of, page}
 use Rattle.bz_slotted.specs.Readers.{key_of}
 use Rattle.bz_slotted.specs.Records.{key_words, pointer_at}

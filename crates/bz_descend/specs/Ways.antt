@@ -4,7 +4,7 @@ use Rattle.bz_layout.specs.Addresses.{node_address}
 use Rattle.bz_layout.specs.declared.config.Config.{Config}
 use Rattle.bz_layout.specs.declared.sizes.TheConstants.{STATUS_AT}
 use Rattle.bz_layout.specs.declared.thresholds.TheConstants.{MAX_LEVELS}
-use Rattle.bz_shape.specs.Order.{is_before, is_at_least, is_below}
+use Rattle.bz_tree.specs.Order.{is_before, is_at_least, is_below}
 use Rattle.bz_slotted.specs.Page.{page}
 use Rattle.bz_slotted.specs.Readers.{key_of}
 use Rattle.bz_word.specs.Statuses.{status}

@@ -5,7 +5,7 @@ ghost use Rattle.bz_key.specs.Packing.{packed_len, unpacked_key};
 ghost use Rattle.bz_layout.specs.Addresses.{node_address};
 ghost use Rattle.bz_layout.specs.Config.{IsConfig};
 ghost use Rattle.bz_layout.specs.declared.sizes.TheConstants.{NODE_WORDS, FENCE_WORDS, SHARED_WORDS, STATUS_AT, ROOT_STATUS_AT};
-ghost use Rattle.bz_shape.specs.Order.{is_before as before};
+ghost use Rattle.bz_tree.specs.Order.{is_before as before};
 ghost use Rattle.bz_word.specs.Statuses.{status};
 ghost use Rattle.bz_task.specs.Contract.{IsBegun};
 ghost use Rattle.bz_task.specs.Outcomes.{IsPath};

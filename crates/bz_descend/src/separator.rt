@@ -3,7 +3,7 @@
 ghost use Rattle.std.specs.Prelude.{◌≡◌, ◌<◌, ◌≤◌, ◌^◌, true, false, List, ℕ, take, Some};
 ghost use Rattle.bz_key.specs.Packing.{packed_len, unpacked_key};
 ghost use Rattle.bz_key.specs.declared.limits.TheConstants.{KEY_BYTES};
-ghost use Rattle.bz_shape.specs.Order.{is_before as before};
+ghost use Rattle.bz_tree.specs.Order.{is_before as before};
 
 use crate::front::words_for;
 use bz_key::Key;
@@ -11,7 +11,7 @@ use bz_layout::FENCE_WORDS;
 use std::cmp::Ordering;
 
 // Whether one key is before another.
-#[tactic(auto, unfolding(bz_shape::specs::Order::is_before))]
+#[tactic(auto, unfolding(bz_tree::specs::Order::is_before))]
 fn precedes(a: &Key, b: &Key) -> bool
     ensures { result ≡ before a.now b.now }
 {

@@ -12,7 +12,7 @@ use Rattle.std.proofs.lemmas.Map.Lookups.{exact_bytes}
 use Rattle.bz_key.specs.Packing.{packed_len, unpacked_key}
 use Rattle.bz_layout.specs.declared.sizes.TheConstants.{META_AT, SHARED_WORDS}
 use Rattle.bz_node.specs.Reading.{payload_at, payload_len}
-use Rattle.bz_shape.specs.Order.{is_before}
+use Rattle.bz_tree.specs.Order.{is_before}
 use Rattle.bz_slotted.specs.Page.{visible, page}
 use Rattle.bz_slotted.specs.Records.{key_in, payload_in, key_at}
 use Rattle.bz_slotted.specs.Whole.{Whole}

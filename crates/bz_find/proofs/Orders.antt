@@ -4,7 +4,7 @@ use Rattle.std.specs.Cmp.Lexicographic.{slice_cmp}
 use Rattle.std.specs.Ordering.{nat_cmp}
 use Rattle.std.specs.declared.cmp.Ordering.TheVariants.{Less, Equal, Greater}
 use Rattle.std.proofs.lemmas.Cmp.{nat_list_cmp_total, tied_back}
-use Rattle.bz_shape.specs.Order.{is_before}
+use Rattle.bz_tree.specs.Order.{is_before}
 
 module _ (a b : List ℕ) where
   pub less-before : slice_cmp nat_cmp a b ≡ Less → is_before a b ≡ true

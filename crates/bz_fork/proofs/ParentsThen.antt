@@ -3,7 +3,7 @@ use Rattle.std.proofs.Common.{◌≡◌, ◌≢◌, ℕ, ◌+◌, ◌<◌, ◌�
 use Rattle.bz_layout.specs.declared.sizes.TheConstants.{NODE_WORDS, STATUS_AT, SHARED_WORDS}
 use Rattle.bz_node.specs.Records.{IsAbove, IsBelow}
 use Rattle.bz_parted.specs.Laws.{ReadNodesHaveChildren}
-use Rattle.bz_shape.specs.Form.{Form}
+use Rattle.bz_tree.specs.Form.{Form}
 use Rattle.bz_task.specs.Good.{IsGood}
 use Rattle.bz_task.specs.Instant.{Instant, words, form_at}
 use Rattle.bz_task.specs.Laws.{SamePlace, RangesStay}

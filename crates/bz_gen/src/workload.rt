@@ -6,7 +6,7 @@ ghost use Rattle.bz_gen.specs.Workload.{workload_of};
 use crate::calls::item_of;
 use crate::draws::draw_call;
 use bz_layout::{MAX_NODES, MAX_SWAPS, MAX_WORKERS, MIN_WORKERS};
-use bz_memory::Memory;
+use bz_oom::Memory;
 use bz_script::{Item, ItemList, Plan, Script};
 use std::alloc::Global;
 

@@ -1,6 +1,6 @@
 //! Why bytes are no image.
 
-use bz_memory::Memory;
+use bz_oom::Memory;
 use std::error::Error;
 use std::fmt;
 

@@ -12,7 +12,7 @@ use crate::image::{Head, Image};
 use crate::word_list::WordList;
 use byteorder::{ByteOrder, LittleEndian};
 use bz_layout::{MAX_NODES, MAX_SWAPS, MIN_NODES, MIN_SWAPS};
-use bz_memory::Memory;
+use bz_oom::Memory;
 use std::alloc::Global;
 
 /// The head at the front of the bytes, or the first fault that it has. It takes no memory.

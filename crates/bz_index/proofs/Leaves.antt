@@ -1,8 +1,8 @@
 -- What a turn leaves: the list grew by entries of its pass or of nobody.
 use Rattle.std.proofs.Common.{◌≡◌, ℕ, zero, suc, ◌+◌, ◌<◌, ◌⊎◌, inl, inr, ⊎_elim, false, List, [], ◌∷◌, ◌++◌, length, reverse, refl, sym, ap, ◌∙◌, subst, arith, append_assoc, get_or}
 use Rattle.std.specs.Prelude.{All}
-use Rattle.bz_acts.specs.declared.acted.Act.{Act}
-use Rattle.bz_acts.specs.declared.acted.Act.TheVariants as act
+use Rattle.bz_swap_acts.specs.declared.acted.Act.{Act}
+use Rattle.bz_swap_acts.specs.declared.acted.Act.TheVariants as act
 use Rattle.bz_bus.specs.Entries.{MayLeave}
 use Rattle.bz_bus.specs.declared.TheConstants.{PASSES}
 use Rattle.bz_index.specs.Entries.{has_page, maker_of, owner_of, entries_in}

@@ -11,7 +11,7 @@ use crate::index::{Index, IndexPass};
 use crate::shared::Shared;
 use crate::turns::EventTurn;
 use bz_bus::Bus;
-use bz_memory::Memory;
+use bz_oom::Memory;
 use bz_world::{Applied, Event, World};
 use std::alloc::Global;
 use std::sync::Wait;

@@ -10,7 +10,7 @@ use crate::error::Failed;
 use crate::mem::MemSource;
 use crate::plan::FaultPlan;
 use crate::store::Store;
-use bz_memory::Memory;
+use bz_oom::Memory;
 use std::alloc::Global;
 use std::marker::Model;
 

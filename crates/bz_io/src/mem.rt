@@ -7,7 +7,7 @@ ghost use Rattle.bz_io.specs.Faults.{HasCause, next_count};
 use crate::ends::{Sink, Source};
 use crate::error::Failed;
 use crate::store::Store;
-use bz_memory::Memory;
+use bz_oom::Memory;
 use std::alloc::Global;
 use std::marker::Model;
 

@@ -1,7 +1,7 @@
 //! Bytes in room that was taken at the opening.
 ghost use Rattle.std.specs.Prelude.{◌≡◌, ◌<◌, ◌≤◌, ◌-◌, ◌++◌, ◌↔◌, [], min, take, length, IsTrue, IfOk};
 
-use bz_memory::Memory;
+use bz_oom::Memory;
 use std::alloc::Global;
 use std::marker::Model;
 

@@ -16,7 +16,7 @@ use Rattle.bz_node.specs.Reading.{children_in}
 use Rattle.bz_node.specs.Records.{IsChild, IsBound, IsChildList, IsAbove, IsBelow, IsBefore, AreRising, separators_of}
 use Rattle.bz_node.specs.declared.child.Child.{Child}
 use Rattle.bz_node.proofs.Unpacked.{unpacked_key-some}
-use Rattle.bz_shape.specs.Order.{is_above, is_below}
+use Rattle.bz_tree.specs.Order.{is_above, is_below}
 use Rattle.bz_slotted.specs.Laws.{RisesBetween}
 use Rattle.bz_slotted.specs.Page.{words_at, extent_of, page}
 use Rattle.bz_slotted.specs.Readers.{count_of, child_of, key_of}

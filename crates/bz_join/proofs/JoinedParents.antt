@@ -12,7 +12,7 @@ use Rattle.bz_node.specs.Layout.{bound_of, needed}
 use Rattle.bz_node.specs.Reading.{children_in}
 use Rattle.bz_node.specs.Records.{child_entry}
 use Rattle.bz_node.specs.declared.child.Child.{Child}
-use Rattle.bz_shape.specs.Slots.{Wider}
+use Rattle.bz_tree.specs.Slots.{Wider}
 use Rattle.bz_slotted.specs.Laws.{RisesBetween}
 use Rattle.bz_slotted.specs.Page.{page}
 use Rattle.bz_slotted.specs.Readers.{count_of, child_of, key_of}

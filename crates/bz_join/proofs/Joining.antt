@@ -13,7 +13,7 @@ use Rattle.bz_node.specs.Layout.{block, needed}
 use Rattle.bz_node.specs.Records.{pair_entry, keys_of, IsPair, IsBefore, IsAtLeast, IsAbove, IsBelow, AreRising, IsLeafList}
 use Rattle.bz_node.proofs.Orders.{IsBefore-trans, is_before_other}
 use Rattle.bz_node.proofs.Parts.{needed-append}
-use Rattle.bz_shape.specs.Order.{is_before}
+use Rattle.bz_tree.specs.Order.{is_before}
 use Rattle.bz_slotted.specs.ReadingLaws.{node_of, IsLeafOf}
 use Rattle.bz_slotted.proofs.MadeLeaves.{before-test, test-before}
 use Rattle.bz_slotted.proofs.Proved.{made_leaves_are_whole}

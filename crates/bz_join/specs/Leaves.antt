@@ -8,7 +8,7 @@ use Rattle.bz_layout.specs.declared.sizes.TheConstants.{NODE_WORDS}
 use Rattle.bz_layout.specs.declared.thresholds.TheConstants.{SPLIT_ABOVE}
 use Rattle.bz_node.specs.Reading.{AreInKeyOrder, pairs_in}
 use Rattle.bz_node.specs.Records.{leaf_words, IsPair, IsBound, IsLeafList, IsAbove, IsBelow}
-use Rattle.bz_shape.specs.Order.{is_before}
+use Rattle.bz_tree.specs.Order.{is_before}
 use Rattle.bz_slotted.specs.Readers.{found_of, live_of}
 use Rattle.bz_slotted.specs.ReadingLaws.{node_of, IsLeafOf}
 use Rattle.bz_slotted.specs.Rules.{node_fault}

@@ -8,7 +8,7 @@ use Rattle.bz_node.specs.Layout.{needed}
 use Rattle.bz_node.specs.Reading.{children_in, IsReadableInner}
 use Rattle.bz_node.specs.Records.{child_entry, inner_words, IsChild, IsBound, IsChildList}
 use Rattle.bz_node.specs.declared.child.Child.{Child}
-use Rattle.bz_shape.specs.Slots.{Wider}
+use Rattle.bz_tree.specs.Slots.{Wider}
 use Rattle.bz_slotted.specs.Readers.{count_of, child_of, key_of}
 use Rattle.bz_slotted.specs.ReadingLaws.{node_of, IsInnerOf}
 use Rattle.bz_slotted.specs.Rules.{node_fault}

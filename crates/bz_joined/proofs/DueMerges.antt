@@ -7,9 +7,9 @@ use Rattle.bz_layout.specs.declared.config.Config.{Config}
 use Rattle.bz_layout.specs.declared.sizes.TheConstants.{ROOT_AT}
 use Rattle.bz_page.specs.Laws.{IsSaidBy}
 use Rattle.bz_page.proofs.Proved.{views_say_what_images_say}
-use Rattle.bz_shape.specs.Form.{Fits, Form, Holds, Stands}
-use Rattle.bz_shape.specs.View.{View}
-use Rattle.bz_shape.specs.Walk.{IsTree}
+use Rattle.bz_tree.specs.Form.{Fits, Form, Holds, Stands}
+use Rattle.bz_tree.specs.View.{View}
+use Rattle.bz_tree.specs.Walk.{IsTree}
 use Rattle.bz_slotted.specs.Page.{page}
 use Rattle.bz_slotted.specs.Readers.{child_of}
 use Rattle.bz_slotted.specs.Records.{live_words}
@@ -34,8 +34,8 @@ use Rattle.bz_joined.specs.DueMerges.{UndisturbedViewsTellTheLiveWords, Undistur
 use Rattle.bz_joined.proofs.Alike.{live-is}
 use Rattle.bz_joined.proofs.Families.{up-is, index-is}
 use Rattle.bz_joined.proofs.Quiet.{live-same}
-use Rattle.bz_shape.proofs.TreeForms.{fits}
-use Rattle.bz_shape.proofs.Proved.{leaves_tile_the_keys}
+use Rattle.bz_tree.proofs.TreeForms.{fits}
+use Rattle.bz_tree.proofs.Proved.{leaves_tile_the_keys}
 
 -- the view has as many live words as its leaf
 pub views-tell-live : UndisturbedViewsTellTheLiveWords

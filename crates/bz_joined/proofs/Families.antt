@@ -1,9 +1,9 @@
 -- A node of the tree that has a child at a place is the parent of that child.
 use Rattle.std.proofs.Common.{◌≡◌, ◌≢◌, ℕ, ◌<◌, ◌==◌, ◌||◌, if◌then◌else◌, Bool, true, false, List, [], ◌∷◌, arith, refl, sym, ap, ◌∙◌}
 use Rattle.bz_layout.specs.declared.config.Config.{Config}
-use Rattle.bz_shape.specs.Form.{Fits, Form, Stands}
-use Rattle.bz_shape.specs.View.{View}
-use Rattle.bz_shape.specs.Walk.{Visit, comes_to, visit_to, form, walk}
+use Rattle.bz_tree.specs.Form.{Fits, Form, Stands}
+use Rattle.bz_tree.specs.View.{View}
+use Rattle.bz_tree.specs.Walk.{Visit, comes_to, visit_to, form, walk}
 use Rattle.bz_slotted.specs.Readers.{child_of, count_of}
 use Rattle.bz_content.proofs.Honesty.{no}
 use Rattle.bz_content.specs.Image.{Image, node, root}

@@ -3,11 +3,11 @@ use Rattle.std.proofs.Common.{◌≡◌, ◌≢◌, ℕ, ◌+◌, ◌<◌, ◌�
 use Rattle.bz_layout.specs.declared.config.Config.{Config}
 use Rattle.bz_layout.specs.declared.sizes.TheConstants.{META_AT}
 use Rattle.bz_layout.specs.declared.thresholds.TheConstants.{SPLIT_ABOVE}
-use Rattle.bz_shape.proofs.TreeForms.{fits}
-use Rattle.bz_shape.specs.Descent.{leaf_of}
-use Rattle.bz_shape.specs.Form.{Fits, Form}
-use Rattle.bz_shape.specs.Outcomes.{SameTree}
-use Rattle.bz_shape.specs.Walk.{IsTree, form_of}
+use Rattle.bz_tree.proofs.TreeForms.{fits}
+use Rattle.bz_tree.specs.Descent.{leaf_of}
+use Rattle.bz_tree.specs.Form.{Fits, Form}
+use Rattle.bz_tree.specs.Outcomes.{SameTree}
+use Rattle.bz_tree.specs.Walk.{IsTree, form_of}
 use Rattle.bz_slotted.specs.Changes.{Restamps}
 use Rattle.bz_slotted.specs.Page.{Page, meta_of, page}
 use Rattle.bz_slotted.specs.Records.{live_to, live_words}

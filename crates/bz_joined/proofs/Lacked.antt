@@ -5,8 +5,8 @@ use Rattle.bz_layout.specs.declared.config.Config.{Config}
 use Rattle.bz_merge.specs.Facts.{NoneFitted}
 use Rattle.bz_merge.specs.Plans.{LackedAt}
 use Rattle.bz_merge.specs.Siblings.{SeenLeaf, WasSeen}
-use Rattle.bz_shape.specs.Form.{Fits, Form}
-use Rattle.bz_shape.specs.View.{View}
+use Rattle.bz_tree.specs.Form.{Fits, Form}
+use Rattle.bz_tree.specs.View.{View}
 use Rattle.bz_slotted.specs.Page.{page}
 use Rattle.bz_slotted.specs.Readers.{child_of, count_of, live_of}
 use Rattle.bz_slotted.specs.ReadingLaws.{node_of}

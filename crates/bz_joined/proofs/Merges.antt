@@ -1,11 +1,11 @@
 -- The leaf that a merge puts in the place of two has room, where it has taken few words.
 use Rattle.std.proofs.Common.{◌≡◌, ◌≢◌, ℕ, true, [], ◌∷◌, ◌⊎◌, arith, sym, ap, subst, ◌∙◌, inl, inr}
 use Rattle.std.proofs.lemmas.Bool.Decides.{nat_tests}
-use Rattle.bz_shape.proofs.TreeForms.{fits}
-use Rattle.bz_shape.proofs.Trees.{among-first, among-later}
-use Rattle.bz_shape.specs.Descent.{leaf_of}
-use Rattle.bz_shape.specs.Form.{Form, Hangs}
-use Rattle.bz_shape.specs.Walk.{is_among}
+use Rattle.bz_tree.proofs.TreeForms.{fits}
+use Rattle.bz_tree.proofs.Trees.{among-first, among-later}
+use Rattle.bz_tree.specs.Descent.{leaf_of}
+use Rattle.bz_tree.specs.Form.{Form, Hangs}
+use Rattle.bz_tree.specs.Walk.{is_among}
 use Rattle.bz_slotted.specs.Readers.{level_of}
 use Rattle.bz_content.proofs.Reached.{level-is}
 use Rattle.bz_content.specs.Image.{node}

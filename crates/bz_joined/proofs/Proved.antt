@@ -1,6 +1,6 @@
 -- What this crate proves, as lemmas that other crates cite by these names.
 use Rattle.bz_page.proofs.Proved.{ordered_pairs_are_found}
-use Rattle.bz_shape.proofs.Proved.{leaves_tile_the_keys}
+use Rattle.bz_tree.proofs.Proved.{leaves_tile_the_keys}
 use Rattle.bz_slotted.proofs.Proved.{high_fences_are_read, leaf_rules_are_facts, live_words_fit, whole_leaves_are_readable}
 use Rattle.bz_word.proofs.Proved.{statuses}
 use Rattle.bz_joined.proofs.DueMerges.{merges-are-due, roots-have-none, views-tell-live}

@@ -5,9 +5,9 @@ use Rattle.bz_layout.specs.Addresses.{node_address}
 use Rattle.bz_layout.specs.declared.config.Config.{Config}
 use Rattle.bz_layout.specs.declared.sizes.TheConstants.{NODE_WORDS, STATUS_AT, META_AT}
 use Rattle.bz_renew.proofs.Words.{node-at, node-past}
-use Rattle.bz_shape.proofs.TreeForms.{fits}
-use Rattle.bz_shape.specs.Form.{Fits}
-use Rattle.bz_shape.specs.Walk.{IsTree}
+use Rattle.bz_tree.proofs.TreeForms.{fits}
+use Rattle.bz_tree.specs.Form.{Fits}
+use Rattle.bz_tree.specs.Walk.{IsTree}
 use Rattle.bz_slotted.specs.Page.{meta_of, page, visible}
 use Rattle.bz_slotted.specs.Records.{live_to, live_words, weight}
 use Rattle.bz_word.specs.Statuses.{status}

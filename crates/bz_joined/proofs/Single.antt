@@ -4,7 +4,7 @@ use Rattle.bz_freeze.specs.Facts.{WasLeaf, entry_of, freeze_asks, freeze_facts}
 use Rattle.bz_freeze.specs.declared.phase.FreezePhase.{FreezePhase}
 use Rattle.bz_freeze.specs.declared.phase.FreezePhase.TheVariants.{Swap}
 use Rattle.bz_layout.specs.declared.config.Config.{Config}
-use Rattle.bz_shape.specs.Form.{Holds}
+use Rattle.bz_tree.specs.Form.{Holds}
 use Rattle.bz_word.specs.declared.entry.Entry.{Entry}
 use Rattle.bz_content.specs.Content.{image_of, leaf_in}
 use Rattle.bz_task.specs.Instant.{form_at}

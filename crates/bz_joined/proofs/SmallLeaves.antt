@@ -2,11 +2,11 @@
 use Rattle.std.proofs.Common.{◌≡◌, ◌≢◌, ℕ, ◌<◌, List, arith, refl, ap, inl, inr}
 use Rattle.std.proofs.lemmas.Bool.{cases_lt}
 use Rattle.bz_layout.specs.declared.config.Config.{Config}
-use Rattle.bz_shape.specs.Form.{Fits, Form, Hangs, Holds}
-use Rattle.bz_shape.specs.View.{View}
-use Rattle.bz_shape.specs.Walk.{IsTree, form}
-use Rattle.bz_shape.proofs.TreeForms.{fits}
-use Rattle.bz_shape.proofs.Proved.{leaves_tile_the_keys}
+use Rattle.bz_tree.specs.Form.{Fits, Form, Hangs, Holds}
+use Rattle.bz_tree.specs.View.{View}
+use Rattle.bz_tree.specs.Walk.{IsTree, form}
+use Rattle.bz_tree.proofs.TreeForms.{fits}
+use Rattle.bz_tree.proofs.Proved.{leaves_tile_the_keys}
 use Rattle.bz_content.specs.Content.{leaf_in, view_in}
 use Rattle.bz_content.proofs.Proved.{well_formed_images_have_no_fault}
 use Rattle.bz_stage.specs.FromLeaves.Neighbours.{parent_in, MayBeMerged}

@@ -1,9 +1,9 @@
 -- In a quiet time the key's leaf has the neighbours that it had, with as many live words.
 use Rattle.std.proofs.Common.{◌≡◌, ◌≢◌, ℕ, ◌+◌, ◌<◌, true, List, arith, refl, sym, ap, ◌∙◌, inl, inr}
 use Rattle.bz_layout.specs.declared.config.Config.{Config}
-use Rattle.bz_shape.specs.Form.{Fits, Form, Hangs, Holds, Stands}
-use Rattle.bz_shape.specs.View.{View}
-use Rattle.bz_shape.proofs.Proved.{leaves_tile_the_keys}
+use Rattle.bz_tree.specs.Form.{Fits, Form, Hangs, Holds, Stands}
+use Rattle.bz_tree.specs.View.{View}
+use Rattle.bz_tree.proofs.Proved.{leaves_tile_the_keys}
 use Rattle.bz_slotted.specs.Page.{page}
 use Rattle.bz_slotted.specs.Readers.{child_of, count_of}
 use Rattle.bz_slotted.specs.Records.{live_words}

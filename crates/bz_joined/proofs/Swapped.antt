@@ -10,8 +10,8 @@ use Rattle.bz_merge.specs.Siblings.{SeenLeaf}
 use Rattle.bz_merge.specs.declared.phase.MergePhase.{MergePhase}
 use Rattle.bz_merge.specs.declared.phase.MergePhase.TheVariants.{Swap}
 use Rattle.bz_renew.proofs.Words.{and-left, and-right}
-use Rattle.bz_shape.specs.Form.{Holds}
-use Rattle.bz_shape.specs.TreeLaws.{LeavesTileTheKeys}
+use Rattle.bz_tree.specs.Form.{Holds}
+use Rattle.bz_tree.specs.TreeLaws.{LeavesTileTheKeys}
 use Rattle.bz_slotted.specs.Page.{page}
 use Rattle.bz_merge.specs.FromSplit.BelowSplits.{below_swap}
 use Rattle.bz_word.specs.Statuses.{status}

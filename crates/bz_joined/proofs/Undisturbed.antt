@@ -12,7 +12,7 @@ use Rattle.bz_merge.specs.Siblings.{SeenLeaf, WasSeen}
 use Rattle.bz_merge.specs.declared.merge.Merge.{Merge}
 use Rattle.bz_merge.specs.declared.phase.MergePhase.{MergePhase}
 use Rattle.bz_merge.specs.declared.phase.MergePhase.TheVariants.{Freeze, FreezeBeside}
-use Rattle.bz_shape.specs.Descent.{leaf_of}
+use Rattle.bz_tree.specs.Descent.{leaf_of}
 use Rattle.bz_word.specs.Statuses.{status}
 use Rattle.bz_word.specs.declared.entry.Entry.{Entry}
 use Rattle.bz_content.specs.Content.{image_of, leaf_in}

@@ -1,4 +1,4 @@
--- What crates above take of bz_alone by this one.
+-- What crates above take of bz_undisturbed by this one.
 pub use Rattle.bz_rounds.specs.FromAlone.Undisturbed
 pub use Rattle.bz_rounds.specs.FromAlone.Brief
 pub use Rattle.bz_rounds.specs.FromAlone.Counts

@@ -1,7 +1,7 @@
 -- A delete that leaves a leaf which may be merged tells that it leaves little there, and the leaf stands below another node.
 use Rattle.std.specs.Prelude.{◌≡◌, ℕ, ◌-◌, ◌<◌, ◌≤◌, true, List, Some, slice_get}
 use Rattle.bz_layout.specs.declared.config.Config.{Config}
-use Rattle.bz_shape.specs.Walk.{IsTree}
+use Rattle.bz_tree.specs.Walk.{IsTree}
 use Rattle.bz_word.specs.declared.entry.Entry.{Entry}
 use Rattle.bz_content.specs.Content.{view_in}
 use Rattle.bz_stage.specs.FromLeaves.Neighbours.{MayBeMerged}

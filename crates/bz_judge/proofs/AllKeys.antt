@@ -8,8 +8,8 @@ use Rattle.std.specs.Ordering.{nat_cmp}
 use Rattle.std.specs.declared.cmp.Ordering.{Ordering}
 use Rattle.std.specs.declared.cmp.Ordering.TheVariants.{Less, Equal, Greater}
 use Rattle.std.proofs.lemmas.Cmp.{nat_list_cmp_total}
-use Rattle.bz_shape.specs.Content.{Pairs}
-use Rattle.bz_shape.specs.Order.{is_within}
+use Rattle.bz_tree.specs.Content.{Pairs}
+use Rattle.bz_tree.specs.Order.{is_within}
 use Rattle.bz_slotted.specs.Page.{visible, extent_of}
 use Rattle.bz_slotted.specs.Records.{key_in, payload_in, records_to}
 use Rattle.bz_word.specs.declared.meta.Meta.{Meta}

@@ -3,10 +3,10 @@ use Rattle.std.proofs.Common.{◌≡◌, ℕ, zero, suc, Bool, false, List, [], 
 use Rattle.std.specs.Prelude.{slice_index}
 use Rattle.std.proofs.lemmas.List.{length-replicate}
 use Rattle.bz_layout.specs.declared.config.Config.{Config}
-use Rattle.bz_shape.specs.Content.{Pairs, pairs_of}
-use Rattle.bz_shape.specs.Stack.{pending}
-use Rattle.bz_shape.specs.View.{View}
-use Rattle.bz_shape.specs.Walk.{Visit, start, walk, first_fault}
+use Rattle.bz_tree.specs.Content.{Pairs, pairs_of}
+use Rattle.bz_tree.specs.Stack.{pending}
+use Rattle.bz_tree.specs.View.{View}
+use Rattle.bz_tree.specs.Walk.{Visit, start, walk, first_fault}
 use Rattle.bz_content.specs.Content.{image_of, view_in}
 use Rattle.bz_content.specs.Map.{records_in}
 use Rattle.bz_content.proofs.Honesty.{no}

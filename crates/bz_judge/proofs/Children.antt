@@ -5,8 +5,8 @@ use Rattle.std.proofs.lemmas.List.{reverse-append}
 use Rattle.std.proofs.lemmas.List.FromFn.{length-map-range_with_len, get_or-map-range_with_len}
 use Rattle.bz_node.specs.Reading.{count_in, child_in}
 use Rattle.bz_node.specs.declared.child.Child.{Child}
-use Rattle.bz_shape.specs.View.{View, low_at, high_at}
-use Rattle.bz_shape.specs.Walk.{Visit, kid, kids}
+use Rattle.bz_tree.specs.View.{View, low_at, high_at}
+use Rattle.bz_tree.specs.Walk.{Visit, kid, kids}
 use Rattle.bz_slotted.specs.ReadingLaws.{node_of, child_read, ReadsAsChildren}
 use Rattle.bz_slotted.specs.Readers.{count_of, key_of}
 use Rattle.bz_content.proofs.Honesty.{no}

@@ -12,11 +12,11 @@ use Rattle.bz_content.specs.Map.{records_in, map_in}
 use Rattle.bz_content.specs.Resolving.{resolve}
 use Rattle.bz_content.proofs.Honesty.{no}
 use Rattle.bz_layout.specs.declared.config.Config.{Config}
-use Rattle.bz_shape.specs.Content.{Pairs, pairs_of}
-use Rattle.bz_shape.specs.View.{View}
-use Rattle.bz_shape.specs.Walk.{Visit, visits, start, walk, IsTree}
-use Rattle.bz_shape.proofs.CleanWalks.{Clean, clean}
-use Rattle.bz_shape.proofs.Visits.{In}
+use Rattle.bz_tree.specs.Content.{Pairs, pairs_of}
+use Rattle.bz_tree.specs.View.{View}
+use Rattle.bz_tree.specs.Walk.{Visit, visits, start, walk, IsTree}
+use Rattle.bz_tree.proofs.CleanWalks.{Clean, clean}
+use Rattle.bz_tree.proofs.Visits.{In}
 use Rattle.bz_slotted.specs.Page.{page, visible, extent_of}
 use Rattle.bz_slotted.specs.Records.{key_in, payload_in, records_to}
 use Rattle.bz_slotted.specs.Rules.{node_fault}

@@ -9,13 +9,13 @@ use Rattle.bz_content.proofs.Proved.{well_formed_images_have_no_fault}
 use Rattle.bz_layout.specs.declared.config.Config.{Config}
 use Rattle.bz_layout.specs.declared.sizes.TheConstants.{NODE_WORDS}
 use Rattle.bz_node.specs.Reading.{pairs_in}
-use Rattle.bz_shape.specs.Content.{Pairs, pairs_of}
-use Rattle.bz_shape.specs.Stack.{pending}
-use Rattle.bz_shape.specs.View.{View}
-use Rattle.bz_shape.specs.Walk.{Visit, kids, visits, start, walk, fault_of}
-use Rattle.bz_shape.proofs.CleanWalks.{clean}
-use Rattle.bz_shape.proofs.Stacks.{pending-inner, pending-leaf}
-use Rattle.bz_shape.proofs.Visits.{In, in_left, in_right, head}
+use Rattle.bz_tree.specs.Content.{Pairs, pairs_of}
+use Rattle.bz_tree.specs.Stack.{pending}
+use Rattle.bz_tree.specs.View.{View}
+use Rattle.bz_tree.specs.Walk.{Visit, kids, visits, start, walk, fault_of}
+use Rattle.bz_tree.proofs.CleanWalks.{clean}
+use Rattle.bz_tree.proofs.Stacks.{pending-inner, pending-leaf}
+use Rattle.bz_tree.proofs.Visits.{In, in_left, in_right, head}
 use Rattle.bz_slotted.specs.Page.{page}
 use Rattle.bz_slotted.specs.ReadingLaws.{node_of, ReadsAsPairs, ReadsAsChildren}
 use Rattle.bz_slotted.specs.Records.{records}

@@ -10,9 +10,9 @@ use Rattle.bz_content.specs.Map.{records_in}
 use Rattle.bz_content.specs.Resolving.{resolve}
 use Rattle.bz_content.proofs.Honesty.{no}
 use Rattle.bz_layout.specs.declared.config.Config.{Config}
-use Rattle.bz_shape.specs.Content.{Pairs, pairs_of}
-use Rattle.bz_shape.specs.Order.{is_at_least, is_below, is_within}
-use Rattle.bz_shape.specs.Walk.{Visit, walk, IsTree}
+use Rattle.bz_tree.specs.Content.{Pairs, pairs_of}
+use Rattle.bz_tree.specs.Order.{is_at_least, is_below, is_within}
+use Rattle.bz_tree.specs.Walk.{Visit, walk, IsTree}
 use Rattle.bz_slotted.specs.Page.{page}
 use Rattle.bz_slotted.specs.Rules.{node_fault}
 use Rattle.bz_slotted.specs.Whole.{Whole}

@@ -17,7 +17,7 @@ use Rattle.std.proofs.lemmas.List.Sorted.{Contains-permutation, IsPermutation-sy
 use Rattle.std.proofs.lemmas.Map.Keys.{IsDistinct-from_apart, IsDistinct-IsPermutation}
 use Rattle.std.proofs.lemmas.Map.Views.{Contains-from_lookup, lookup-from_Contains}
 use Rattle.bz_node.specs.Records.{AreRising, keys_of}
-use Rattle.bz_shape.specs.Content.{Pairs}
+use Rattle.bz_tree.specs.Content.{Pairs}
 use Rattle.bz_judge.specs.Inside.Gathers.{in_order}
 
 -- two keys are one

@@ -5,9 +5,9 @@ use Rattle.std.specs.Cmp.Lexicographic.{slice_cmp}
 use Rattle.std.specs.FinMap.{is_sorted}
 use Rattle.std.specs.FinMap.Entries.{below_all}
 use Rattle.std.specs.Ordering.{nat_cmp, is_lt}
-use Rattle.bz_shape.specs.Content.{Pairs}
-use Rattle.bz_shape.specs.Order.{is_before, is_at_least, is_above, is_below}
-use Rattle.bz_shape.proofs.OrderLaws.{before-after, below-earlier, at_least-later}
+use Rattle.bz_tree.specs.Content.{Pairs}
+use Rattle.bz_tree.specs.Order.{is_before, is_at_least, is_above, is_below}
+use Rattle.bz_tree.proofs.OrderLaws.{before-after, below-earlier, at_least-later}
 use Rattle.bz_judge.proofs.AllKeys.{KeysAre, keys-join, keys-so}
 use Rattle.bz_judge.proofs.Scanned.{Both, both}
 

@@ -5,8 +5,8 @@ use Rattle.std.proofs.lemmas.Bool.{cases_eq}
 use Rattle.bz_layout.specs.Addresses.{words_of}
 use Rattle.bz_layout.specs.Config.{IsConfig}
 use Rattle.bz_layout.specs.declared.config.Config.{Config}
-use Rattle.bz_shape.specs.Walk.{fault_of}
-use Rattle.bz_shape.specs.declared.rule.ShapeRule.TheVariants.{Super, Word}
+use Rattle.bz_tree.specs.Walk.{fault_of}
+use Rattle.bz_tree.specs.declared.rule.ShapeRule.TheVariants.{Super, Word}
 use Rattle.bz_content.specs.Content.{image_fault, is_super, view_in}
 use Rattle.bz_content.specs.Lawful.{is_lawful, first_unlawful}
 use Rattle.bz_content.specs.declared.outcomes.CheckError.{CheckError}

@@ -2,13 +2,13 @@
 use Rattle.std.proofs.Common.{◌≡◌, ◌≢◌, ℕ, zero, suc, ◌+◌, ◌-◌, ◌<◌, ◌≤◌, ◌==◌, true, List, [], arith, refl, sym, ap, subst, inl, inr, append-nil}
 use Rattle.std.specs.Prelude.{Some, None}
 use Rattle.std.proofs.lemmas.Bool.{cases_eq}
-use Rattle.bz_shape.specs.Content.{Pairs, pairs_of}
-use Rattle.bz_shape.specs.Form.{IsHonest, Rises}
-use Rattle.bz_shape.specs.Order.{is_above}
-use Rattle.bz_shape.specs.View.{View, low_at, high_at}
-use Rattle.bz_shape.specs.Walk.{Visit, kid, kids, over, visits, start, walk, IsTree}
-use Rattle.bz_shape.proofs.CleanWalks.{Clean, clean}
-use Rattle.bz_shape.proofs.Visits.{In, over_in}
+use Rattle.bz_tree.specs.Content.{Pairs, pairs_of}
+use Rattle.bz_tree.specs.Form.{IsHonest, Rises}
+use Rattle.bz_tree.specs.Order.{is_above}
+use Rattle.bz_tree.specs.View.{View, low_at, high_at}
+use Rattle.bz_tree.specs.Walk.{Visit, kid, kids, over, visits, start, walk, IsTree}
+use Rattle.bz_tree.proofs.CleanWalks.{Clean, clean}
+use Rattle.bz_tree.proofs.Visits.{In, over_in}
 use Rattle.bz_content.proofs.Honesty.{no}
 use Rattle.bz_content.proofs.Reached.{is as same}
 use Rattle.bz_judge.proofs.Joined.{Lies, lies-join}

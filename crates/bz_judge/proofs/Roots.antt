@@ -4,11 +4,11 @@ use Rattle.std.specs.Prelude.{Some, None, nat_lt, nat_le, slice_index}
 use Rattle.std.proofs.lemmas.Bool.Decides.{nat_tests}
 use Rattle.bz_layout.specs.declared.config.Config.{Config}
 use Rattle.bz_layout.specs.declared.sizes.TheConstants.{ROOT_AT, ROOT_STATUS_AT}
-use Rattle.bz_shape.specs.Stack.{pending}
-use Rattle.bz_shape.specs.View.{View}
-use Rattle.bz_shape.specs.Walk.{Visit, kid, kids, start, visits, walk, first_fault, fault_of}
-use Rattle.bz_shape.specs.declared.rule.ShapeRule.TheVariants.{Root}
-use Rattle.bz_shape.proofs.Stacks.{pending-inner}
+use Rattle.bz_tree.specs.Stack.{pending}
+use Rattle.bz_tree.specs.View.{View}
+use Rattle.bz_tree.specs.Walk.{Visit, kid, kids, start, visits, walk, first_fault, fault_of}
+use Rattle.bz_tree.specs.declared.rule.ShapeRule.TheVariants.{Root}
+use Rattle.bz_tree.proofs.Stacks.{pending-inner}
 use Rattle.bz_content.specs.Content.{view_in}
 use Rattle.bz_content.specs.Image.{node, root}
 use Rattle.bz_content.specs.Resolving.{resolve}

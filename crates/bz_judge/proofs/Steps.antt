@@ -4,11 +4,11 @@ use Rattle.std.specs.Prelude.{Some, None, slice_index}
 use Rattle.std.proofs.Math.ListN.{set}
 use Rattle.bz_layout.specs.declared.config.Config.{Config}
 use Rattle.bz_layout.specs.declared.sizes.TheConstants.{SHARED_WORDS, NODE_WORDS}
-use Rattle.bz_shape.specs.Content.{Pairs}
-use Rattle.bz_shape.specs.View.{View}
-use Rattle.bz_shape.specs.Walk.{Visit, kids}
-use Rattle.bz_shape.specs.declared.rule.ShapeRule.{ShapeRule}
-use Rattle.bz_shape.proofs.Stacks.{pending-inner, pending-leaf}
+use Rattle.bz_tree.specs.Content.{Pairs}
+use Rattle.bz_tree.specs.View.{View}
+use Rattle.bz_tree.specs.Walk.{Visit, kids}
+use Rattle.bz_tree.specs.declared.rule.ShapeRule.{ShapeRule}
+use Rattle.bz_tree.proofs.Stacks.{pending-inner, pending-leaf}
 use Rattle.bz_content.specs.Content.{image_of, view_in}
 use Rattle.bz_content.specs.Image.{node}
 use Rattle.bz_content.specs.Map.{records_in}

@@ -8,8 +8,8 @@ use Rattle.bz_layout.specs.declared.config.Config.{Config}
 use Rattle.bz_layout.specs.declared.limits.TheConstants.{MIN_CALLS, MIN_MARKS, MIN_PAGES, MIN_WORKERS}
 use Rattle.bz_layout.specs.declared.sizes.TheConstants.{SUPERBLOCK_WORDS, SUPERBLOCK_USED, FORMAT_AT, NODES_AT, SWAPS_AT, FORMAT}
 use Rattle.bz_slotted.specs.Tests.{every}
-use Rattle.bz_shape.specs.Walk.{fault_of}
-use Rattle.bz_shape.specs.declared.rule.ShapeRule.TheVariants.{Super}
+use Rattle.bz_tree.specs.Walk.{fault_of}
+use Rattle.bz_tree.specs.declared.rule.ShapeRule.TheVariants.{Super}
 use Rattle.bz_content.specs.Content.{image_fault, is_super, or_word, view_in}
 use Rattle.bz_content.specs.Image.{node}
 use Rattle.bz_content.specs.Lawful.{is_lawful, first_unlawful}

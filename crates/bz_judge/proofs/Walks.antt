@@ -5,13 +5,13 @@ use Rattle.std.proofs.lemmas.Bool.{cases_eq}
 use Rattle.std.proofs.Math.ListN.{set, length-set}
 use Rattle.std.proofs.lemmas.List.{get_or-set_same, get_or-set_other, length-append}
 use Rattle.bz_layout.specs.declared.sizes.TheConstants.{SHARED_WORDS}
-use Rattle.bz_shape.specs.Content.{Pairs, pairs_of}
-use Rattle.bz_shape.specs.Stack.{pending}
-use Rattle.bz_shape.specs.View.{View}
-use Rattle.bz_shape.specs.Walk.{Visit, kids, first_fault, fault_of, is_among, place_of}
-use Rattle.bz_shape.specs.declared.rule.ShapeRule.{ShapeRule}
-use Rattle.bz_shape.specs.declared.rule.ShapeRule.TheVariants.{Twice}
-use Rattle.bz_shape.proofs.Stacks.{pending-inner, pending-leaf}
+use Rattle.bz_tree.specs.Content.{Pairs, pairs_of}
+use Rattle.bz_tree.specs.Stack.{pending}
+use Rattle.bz_tree.specs.View.{View}
+use Rattle.bz_tree.specs.Walk.{Visit, kids, first_fault, fault_of, is_among, place_of}
+use Rattle.bz_tree.specs.declared.rule.ShapeRule.{ShapeRule}
+use Rattle.bz_tree.specs.declared.rule.ShapeRule.TheVariants.{Twice}
+use Rattle.bz_tree.proofs.Stacks.{pending-inner, pending-leaf}
 use Rattle.bz_content.proofs.Honesty.{no}
 use Rattle.bz_content.proofs.Reached.{is as same}
 use Rattle.bz_judge.specs.Inside.Stacks.{AreBelow}

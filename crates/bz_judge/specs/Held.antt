@@ -6,7 +6,7 @@ use Rattle.bz_content.specs.Map.{map_in}
 use Rattle.bz_layout.specs.Addresses.{words_of}
 use Rattle.bz_layout.specs.Config.{IsConfig}
 use Rattle.bz_layout.specs.declared.config.Config.{Config}
-use Rattle.bz_shape.specs.Content.{Pairs}
+use Rattle.bz_tree.specs.Content.{Pairs}
 
 -- a well-formed image of a memory of this configuration
 pub record IsImageOf (c : Config) (image : List ℕ) : Type 0 where

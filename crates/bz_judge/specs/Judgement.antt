@@ -7,7 +7,7 @@ use Rattle.bz_content.specs.declared.outcomes.CheckError.{CheckError}
 use Rattle.bz_content.specs.declared.outcomes.CheckError.TheVariants.{Shape, Memory}
 use Rattle.bz_content.specs.declared.outcomes.Shape.{Shape as Found}
 use Rattle.bz_layout.specs.declared.config.Config.{Config}
-use Rattle.bz_shape.specs.Walk.{walk}
+use Rattle.bz_tree.specs.Walk.{walk}
 
 -- an image has no fault and this shape: as many pairs as the map that it holds, its levels those below the superblock, and the
 -- walk comes to the superblock and to so many nodes

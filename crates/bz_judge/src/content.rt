@@ -8,7 +8,7 @@ ghost use Rattle.bz_layout.specs.declared.sizes.TheConstants.{NODES_AT as NODES,
 use crate::gathering::gather;
 use bz_key::{Key, Payload};
 use bz_layout::{Config, MIN_CALLS, MIN_MARKS, MIN_PAGES, MIN_WORKERS, NODES_AT, SWAPS_AT};
-use bz_memory::Memory;
+use bz_oom::Memory;
 use std::alloc::Global;
 
 // A configuration of the memory that an image is of.

@@ -10,8 +10,8 @@ use crate::root::root_visit;
 use crate::visit::{Visit, push_children, stack_with};
 use bz_key::{Key, PageBuf, Payload};
 use bz_layout::Config;
-use bz_memory::Memory;
 use bz_node::NodeImage;
+use bz_oom::Memory;
 use std::alloc::Global;
 
 // A walk on its way: the nodes to come, the topmost last; room for the records of one leaf; and the pairs so far.

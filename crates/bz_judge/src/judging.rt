@@ -8,7 +8,7 @@ use crate::scan::{first_unlawful, is_super};
 use crate::walk::walk_tree;
 use bz_content::{CheckError, Shape};
 use bz_layout::Config;
-use bz_shape::{ShapeFault, ShapeRule};
+use bz_tree::{ShapeFault, ShapeRule};
 use std::alloc::Global;
 
 /// The shape of an image, or the first rule that it breaks. The order of the rules is that of `ShapeRule`, and

@@ -13,8 +13,8 @@ ghost use Rattle.bz_slotted.specs.Records.{records};
 use crate::resolving::resolve;
 use bz_layout::{Config, HEADER_AT, META_AT, NODE_WORDS, STATUS_AT};
 use bz_node::NodeImage;
-use bz_shape::ShapeRule;
 use bz_slotted::Place;
+use bz_tree::ShapeRule;
 use bz_word::{Meta, Status};
 
 // What the word at a place of a slot stands for.

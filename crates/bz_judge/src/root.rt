@@ -4,14 +4,14 @@ ghost use Rattle.bz_content.specs.Content.{view_in};
 ghost use Rattle.bz_judge.specs.Inside.Nodes.{IsScanned};
 ghost use Rattle.bz_judge.specs.Inside.Stacks.{visit_of};
 ghost use Rattle.bz_judge.specs.Inside.Walking.{IsRoot};
-ghost use Rattle.bz_shape.specs.Walk.{fault_of};
+ghost use Rattle.bz_tree.specs.Walk.{fault_of};
 
 use crate::node::level_of_node;
 use crate::resolving::resolve;
 use crate::visit::Visit;
 use bz_layout::{Config, ROOT_AT, ROOT_STATUS_AT};
-use bz_shape::ShapeRule;
 use bz_slotted::Place;
+use bz_tree::ShapeRule;
 
 /// What a root status stays below: only its stamp is set.
 const STAMPS: u64 = 1 << 32;

@@ -1,14 +1,14 @@
 //! The nodes that a walk is to come to.
 ghost use Rattle.std.specs.Prelude.{◌≡◌, ◌<◌, ◌-◌, ◌++◌, ◌==◌, ◌∷◌, [], if◌then◌else◌, IfOk, OnOk};
 ghost use Rattle.bz_judge.specs.Inside.Stacks.{visit_of, stack_of, Shows};
-ghost use Rattle.bz_shape.specs.View.{View};
-ghost use Rattle.bz_shape.specs.Walk.{kids};
+ghost use Rattle.bz_tree.specs.View.{View};
+ghost use Rattle.bz_tree.specs.Walk.{kids};
 ghost use Rattle.bz_slotted.specs.ReadingLaws.{ReadsAsChildren};
 
 use bz_key::Key;
 use bz_layout::{MAX_LEVELS, SHARED_WORDS};
-use bz_memory::Memory;
 use bz_node::{Child, NodeImage};
+use bz_oom::Memory;
 use bz_slotted::Place;
 use std::alloc::Global;
 

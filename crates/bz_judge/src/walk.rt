@@ -9,8 +9,8 @@ use crate::root::root_visit;
 use crate::visit::{Visit, push_children, stack_with};
 use bz_content::{CheckError, Shape};
 use bz_layout::Config;
-use bz_memory::Memory;
-use bz_shape::{ShapeFault, ShapeRule};
+use bz_oom::Memory;
+use bz_tree::{ShapeFault, ShapeRule};
 use std::alloc::Global;
 
 // A walk on its way: the nodes to come, the topmost last; which slots were seen, how many, and the pairs in

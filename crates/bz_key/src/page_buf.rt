@@ -7,7 +7,7 @@ ghost use Rattle.std.specs.Ordering.{nat_cmp, is_ge};
 use crate::key::Key;
 use crate::limits::PAGE_PAIRS;
 use crate::payload::Payload;
-use bz_memory::Memory;
+use bz_oom::Memory;
 use std::alloc::Global;
 use std::marker::Model;
 

@@ -4,7 +4,7 @@ ghost use Rattle.bz_layout.specs.Slots.{all_free, without, IsInOrder};
 ghost use Rattle.bz_layout.specs.Table.{free_places, NoneFreeBelow};
 ghost use Rattle.bz_layout.specs.declared.limits.TheConstants.{MAX_NODES};
 
-use bz_memory::Memory;
+use bz_oom::Memory;
 use std::alloc::Global;
 use std::marker::Model;
 

@@ -4,7 +4,7 @@ ghost use Rattle.bz_layout.specs.Fresh.{fresh_words};
 
 use crate::config::Config;
 use crate::sizes::{FIRST_ROOT, FORMAT};
-use bz_memory::Memory;
+use bz_oom::Memory;
 use std::alloc::Global;
 
 /// The words of a memory that no call has changed: slot 0 is the root, an empty leaf.

@@ -1,9 +1,9 @@
 -- A copy takes the place of its leaf: there are as many leaves as before.
 use Rattle.std.proofs.Common.{◌≡◌, ℕ, ◌+◌, true, [], ◌∷◌, arith, refl, ap, ◌∙◌}
 use Rattle.std.proofs.lemmas.Bool.Decides.{nat_tests}
-use Rattle.bz_shape.proofs.Trees.{among-first}
-use Rattle.bz_shape.specs.Outcomes.{Regrows}
-use Rattle.bz_shape.specs.Walk.{is_among}
+use Rattle.bz_tree.proofs.Trees.{among-first}
+use Rattle.bz_tree.specs.Outcomes.{Regrows}
+use Rattle.bz_tree.specs.Walk.{is_among}
 use Rattle.bz_content.proofs.Reached.{level-is}
 use Rattle.bz_content.specs.Image.{node}
 use Rattle.bz_content.specs.Swaps.{form_in}

@@ -4,7 +4,7 @@ use Rattle.bz_content.specs.Image.{node}
 use Rattle.bz_content.specs.Resolving.{resolve, entry_for}
 use Rattle.bz_content.specs.WorkedInsert.{word_at}
 use Rattle.bz_key.specs.Packing.{unpacked, packed_word, packed_byte}
-use Rattle.bz_shape.specs.Walk.{kids, over, visits}
+use Rattle.bz_tree.specs.Walk.{kids, over, visits}
 use Rattle.bz_slotted.specs.Page.{words_at, meta_of, visible, held, used, extent_of}
 use Rattle.bz_slotted.specs.Readers.{level_of, count_of, child_of, key_of}
 use Rattle.bz_word.specs.Headers.{header}

@@ -4,11 +4,11 @@ use Rattle.std.specs.Prelude.{not}
 use Rattle.std.proofs.lemmas.Bool.{true≢false}
 use Rattle.std.proofs.lemmas.Bool.Decides.{nat_tests}
 use Rattle.bz_layout.specs.declared.config.Config.{Config}
-use Rattle.bz_shape.proofs.SameForms.{same-test}
-use Rattle.bz_shape.proofs.TreeForms.{fits}
-use Rattle.bz_shape.specs.Form.{Form}
-use Rattle.bz_shape.specs.Outcomes.{Moved, Regrows}
-use Rattle.bz_shape.specs.Walk.{is_among, IsTree}
+use Rattle.bz_tree.proofs.SameForms.{same-test}
+use Rattle.bz_tree.proofs.TreeForms.{fits}
+use Rattle.bz_tree.specs.Form.{Form}
+use Rattle.bz_tree.specs.Outcomes.{Moved, Regrows}
+use Rattle.bz_tree.specs.Walk.{is_among, IsTree}
 use Rattle.bz_slotted.specs.Readers.{level_of}
 use Rattle.bz_content.proofs.Reached.{level-at}
 use Rattle.bz_content.specs.Image.{Image, node}

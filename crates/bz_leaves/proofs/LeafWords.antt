@@ -3,11 +3,11 @@ use Rattle.std.proofs.Common.{◌≡◌, ℕ, ◌+◌, ◌-◌, ◌<◌, ◌==�
 use Rattle.std.specs.Prelude.{count_by}
 use Rattle.std.specs.List.{range_with_len}
 use Rattle.std.proofs.lemmas.Bool.{cases_eq}
-use Rattle.bz_shape.proofs.SameWalks.{walk-same}
-use Rattle.bz_shape.proofs.TreeForms.{fits}
-use Rattle.bz_shape.specs.Form.{Fits, Form}
-use Rattle.bz_shape.specs.Slots.{SameSlot}
-use Rattle.bz_shape.specs.Walk.{form_of, walk, Visit}
+use Rattle.bz_tree.proofs.SameWalks.{walk-same}
+use Rattle.bz_tree.proofs.TreeForms.{fits}
+use Rattle.bz_tree.specs.Form.{Fits, Form}
+use Rattle.bz_tree.specs.Slots.{SameSlot}
+use Rattle.bz_tree.specs.Walk.{form_of, walk, Visit}
 use Rattle.bz_slotted.specs.Readers.{level_of}
 use Rattle.bz_content.proofs.Reached.{root-below, root-stands}
 use Rattle.bz_content.proofs.Sames.{node-same, same-slot, same-super}

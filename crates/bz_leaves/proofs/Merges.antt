@@ -1,11 +1,11 @@
 -- The merged leaf is one in the place of two.
 use Rattle.std.proofs.Common.{◌≡◌, ◌≢◌, ℕ, ◌+◌, ◌<◌, true, List, [], ◌∷◌, arith, refl, sym, ap, ◌∙◌, inl, inr}
-use Rattle.bz_shape.proofs.Descents.{Home, home}
-use Rattle.bz_shape.proofs.TreeForms.{fits}
-use Rattle.bz_shape.proofs.Trees.{among-first, among-later, not-among, three-cases}
-use Rattle.bz_shape.specs.Form.{Fits, Form}
-use Rattle.bz_shape.specs.Outcomes.{Regrows}
-use Rattle.bz_shape.specs.Walk.{is_among}
+use Rattle.bz_tree.proofs.Descents.{Home, home}
+use Rattle.bz_tree.proofs.TreeForms.{fits}
+use Rattle.bz_tree.proofs.Trees.{among-first, among-later, not-among, three-cases}
+use Rattle.bz_tree.specs.Form.{Fits, Form}
+use Rattle.bz_tree.specs.Outcomes.{Regrows}
+use Rattle.bz_tree.specs.Walk.{is_among}
 use Rattle.bz_content.proofs.Reached.{level-is}
 use Rattle.bz_content.specs.Image.{node}
 use Rattle.bz_content.specs.Swaps.{form_in}

@@ -5,11 +5,11 @@ use Rattle.std.specs.List.{range_with_len}
 use Rattle.std.proofs.lemmas.List.FromFn.{length-range_with_len}
 use Rattle.std.proofs.lemmas.List.Sums.{count_by-le-length}
 use Rattle.bz_layout.specs.declared.config.Config.{Config}
-use Rattle.bz_shape.proofs.Descents.{leaf-found}
-use Rattle.bz_shape.proofs.TreeForms.{fits}
-use Rattle.bz_shape.specs.Descent.{leaf_of}
-use Rattle.bz_shape.specs.Form.{Holds}
-use Rattle.bz_shape.specs.Walk.{form_of, IsTree, Visit}
+use Rattle.bz_tree.proofs.Descents.{leaf-found}
+use Rattle.bz_tree.proofs.TreeForms.{fits}
+use Rattle.bz_tree.specs.Descent.{leaf_of}
+use Rattle.bz_tree.specs.Form.{Holds}
+use Rattle.bz_tree.specs.Walk.{form_of, IsTree, Visit}
 use Rattle.bz_content.specs.Image.{Image}
 use Rattle.bz_content.specs.Swaps.{form_in}
 use Rattle.bz_content.specs.View.{view_of}

@@ -5,10 +5,10 @@ use Rattle.std.proofs.lemmas.Bool.{cases_eq}
 use Rattle.std.proofs.lemmas.Bool.Decides.{nat_tests}
 use Rattle.bz_layout.specs.declared.config.Config.{Config}
 use Rattle.bz_layout.specs.declared.sizes.TheConstants.{ROOT_AT, ROOT_STATUS_AT}
-use Rattle.bz_shape.proofs.TreeForms.{fits}
-use Rattle.bz_shape.specs.Form.{Fits, Form, Hangs}
-use Rattle.bz_shape.specs.Walk.{IsTree}
-use Rattle.bz_shape.specs.declared.rule.ShapeRule.TheVariants.{Root}
+use Rattle.bz_tree.proofs.TreeForms.{fits}
+use Rattle.bz_tree.specs.Form.{Fits, Form, Hangs}
+use Rattle.bz_tree.specs.Walk.{IsTree}
+use Rattle.bz_tree.specs.declared.rule.ShapeRule.TheVariants.{Root}
 use Rattle.bz_slotted.specs.Laws.{RisesBetween}
 use Rattle.bz_slotted.specs.Readers.{count_of, child_of}
 use Rattle.bz_slotted.specs.Rules.{node_fault}

@@ -3,13 +3,13 @@ use Rattle.std.proofs.Common.{◌≡◌, ◌≢◌, ℕ, ◌+◌, ◌<◌, ◌�
 use Rattle.std.proofs.lemmas.Bool.{cases_eq}
 use Rattle.std.proofs.lemmas.Bool.Decides.{nat_tests}
 use Rattle.bz_layout.specs.declared.config.Config.{Config}
-use Rattle.bz_shape.proofs.Descents.{home}
-use Rattle.bz_shape.proofs.TreeForms.{fits}
-use Rattle.bz_shape.proofs.Trees.{among-first, among-later, not-among, three-cases}
-use Rattle.bz_shape.specs.Form.{Form}
-use Rattle.bz_shape.specs.Outcomes.{Regrows}
-use Rattle.bz_shape.specs.Split.{AreThree}
-use Rattle.bz_shape.specs.Walk.{is_among, IsTree}
+use Rattle.bz_tree.proofs.Descents.{home}
+use Rattle.bz_tree.proofs.TreeForms.{fits}
+use Rattle.bz_tree.proofs.Trees.{among-first, among-later, not-among, three-cases}
+use Rattle.bz_tree.specs.Form.{Form}
+use Rattle.bz_tree.specs.Outcomes.{Regrows}
+use Rattle.bz_tree.specs.Split.{AreThree}
+use Rattle.bz_tree.specs.Walk.{is_among, IsTree}
 use Rattle.bz_slotted.specs.Readers.{level_of}
 use Rattle.bz_content.proofs.Reached.{level-at, level-is, root-below, root-stands}
 use Rattle.bz_content.specs.Image.{Image, node, root}

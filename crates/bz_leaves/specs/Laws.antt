@@ -1,9 +1,9 @@
 -- What each kind of swap makes of the number of leaves: the split of a leaf adds one, a merge takes one away, and no other changes it.
 use Rattle.std.specs.Prelude.{◌≡◌, ◌≢◌, ℕ, ◌+◌, ◌<◌, ◌≤◌, true, List}
 use Rattle.bz_layout.specs.declared.config.Config.{Config}
-use Rattle.bz_shape.specs.Descent.{leaf_of}
-use Rattle.bz_shape.specs.Outcomes.{SameTree}
-use Rattle.bz_shape.specs.Walk.{IsTree}
+use Rattle.bz_tree.specs.Descent.{leaf_of}
+use Rattle.bz_tree.specs.Outcomes.{SameTree}
+use Rattle.bz_tree.specs.Walk.{IsTree}
 use Rattle.bz_slotted.specs.Changes.{Rewrites}
 use Rattle.bz_slotted.specs.Readers.{level_of}
 use Rattle.bz_word.specs.declared.meta.Meta.{Meta}

@@ -2,8 +2,8 @@
 use Rattle.std.specs.Prelude.{ℕ, ◌==◌, ◌&&◌, Bool, count_by}
 use Rattle.std.specs.List.{range_with_len}
 use Rattle.bz_layout.specs.declared.config.Config.{Config}
-use Rattle.bz_shape.specs.View.{View}
-use Rattle.bz_shape.specs.Walk.{form}
+use Rattle.bz_tree.specs.View.{View}
+use Rattle.bz_tree.specs.Walk.{form}
 use Rattle.bz_content.specs.Content.{image_of}
 use Rattle.bz_content.specs.Image.{Image}
 use Rattle.bz_content.specs.View.{view_of}

@@ -7,7 +7,7 @@ ghost use Rattle.bz_lines.specs.Objects.{call_data, list_of, spelling};
 use crate::texts::{key_text, payload_text, three, two};
 use bz_call::Call;
 use bz_key::{Key, Payload};
-use bz_memory::Memory;
+use bz_oom::Memory;
 use serde_json::Value;
 use std::alloc::Global;
 

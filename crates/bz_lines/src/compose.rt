@@ -8,7 +8,7 @@ use crate::head_line::head_object;
 use crate::mark_lines::mark_object;
 use bz_layout::Config;
 use bz_mark::{Journal, Mark};
-use bz_memory::Memory;
+use bz_oom::Memory;
 use serde_json::Value;
 use std::alloc::Global;
 

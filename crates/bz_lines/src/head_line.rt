@@ -4,7 +4,7 @@ ghost use Rattle.serde_json.specs.View.{view};
 ghost use Rattle.bz_lines.specs.Objects.{number_data, list_of, pair_at, word_pairs, head_data};
 
 use bz_layout::{Config, FORMAT};
-use bz_memory::Memory;
+use bz_oom::Memory;
 use serde_json::{Value, json};
 use std::alloc::Global;
 

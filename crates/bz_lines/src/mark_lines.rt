@@ -8,7 +8,7 @@ use crate::call_lines::call_words;
 use crate::reply_lines::reply_words;
 use bz_call::{Call, Reply};
 use bz_mark::{Journal, Mark};
-use bz_memory::Memory;
+use bz_oom::Memory;
 use serde_json::{Map, Value, json, put};
 use std::alloc::Global;
 

@@ -9,7 +9,7 @@ use crate::texts::{key_text, one_word, payload_text, three, two};
 use bz_call::{Reply, Spent};
 use bz_key::{Key, Payload};
 use bz_mark::Journal;
-use bz_memory::Memory;
+use bz_oom::Memory;
 use serde_json::{Value, json};
 use std::alloc::Global;
 

@@ -7,7 +7,7 @@ ghost use Rattle.bz_key.specs.Spelling.{spelled};
 ghost use Rattle.bz_lines.specs.Objects.{list_of, spelling};
 
 use bz_key::{Key, Payload, SPELLED_BYTES, spell};
-use bz_memory::Memory;
+use bz_oom::Memory;
 use serde_json::{Value, json};
 use std::alloc::Global;
 

@@ -6,7 +6,7 @@ use crate::marks::Mark;
 use crate::page_list::PageList;
 use bz_call::{Call, Reply};
 use bz_key::{Key, PAGE_PAIRS, Payload};
-use bz_memory::Memory;
+use bz_oom::Memory;
 use std::alloc::Global;
 use std::marker::Model;
 

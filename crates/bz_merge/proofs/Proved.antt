@@ -3,7 +3,7 @@ use Rattle.std.specs.Prelude.{◌≤◌}
 use Rattle.bz_content.proofs.Proved.{merges_keep_the_content, plain_words_stand_for_themselves, well_formed_images_have_no_fault}
 use Rattle.bz_layout.specs.declared.thresholds.TheConstants.{MERGE_SLOTS}
 use Rattle.bz_renew.proofs.Proved.{child_links_turn_with, guarded_links_stand, link_swaps_are_good, links_may_be_turned, root_links_turn_with}
-use Rattle.bz_shape.proofs.Proved.{trees_have_forms}
+use Rattle.bz_tree.proofs.Proved.{trees_have_forms}
 use Rattle.bz_slotted.proofs.Proved.{inner_rules_are_facts, leaf_rules_are_facts, whole_inners_are_readable}
 use Rattle.bz_task.proofs.Proved.{frozen_nodes_stay, leaves_are_in_trees, nodes_stay, ranges_stay, same_records_show_the_same, seen_leaves_are_whole}
 use Rattle.bz_merge.proofs.Merging.{merges-good}

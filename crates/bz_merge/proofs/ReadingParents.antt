@@ -6,7 +6,7 @@ use Rattle.std.proofs.lemmas.List.{get_or_past}
 use Rattle.bz_layout.specs.declared.config.Config.{Config}
 use Rattle.bz_layout.specs.declared.limits.TheConstants.{MAX_NODES}
 use Rattle.bz_layout.specs.declared.sizes.TheConstants.{NODE_WORDS, STATUS_AT, HEADER_AT}
-use Rattle.bz_shape.specs.Form.{Fits, Stands, Hangs}
+use Rattle.bz_tree.specs.Form.{Fits, Stands, Hangs}
 use Rattle.bz_slotted.specs.Laws.{InnerRulesAreFacts}
 use Rattle.bz_slotted.specs.Page.{page}
 use Rattle.bz_slotted.specs.Readers.{count_of, child_of}

@@ -8,7 +8,7 @@ use Rattle.bz_layout.specs.declared.config.Config.{Config}
 use Rattle.bz_layout.specs.declared.sizes.TheConstants.{STATUS_AT}
 use Rattle.bz_layout.specs.declared.thresholds.TheConstants.{SPLIT_ABOVE}
 use Rattle.bz_node.specs.Records.{IsAbove, IsBelow}
-use Rattle.bz_shape.specs.Order.{is_above, is_below}
+use Rattle.bz_tree.specs.Order.{is_above, is_below}
 use Rattle.bz_slotted.specs.Laws.{InnerKeysRise, RisesBetween}
 use Rattle.bz_slotted.specs.Readers.{count_of, key_of, live_of}
 use Rattle.bz_slotted.specs.ReadingLaws.{node_of}

@@ -5,9 +5,9 @@ use Rattle.std.proofs.lemmas.Bool.{true≢false}
 use Rattle.std.proofs.lemmas.Bool.Decides.{nat_tests}
 use Rattle.bz_layout.specs.Addresses.{node_address}
 use Rattle.bz_layout.specs.declared.sizes.TheConstants.{STATUS_AT}
-use Rattle.bz_shape.specs.Form.{Fits, Form, Stands}
-use Rattle.bz_shape.specs.TreeLaws.{TreesHaveForms}
-use Rattle.bz_shape.specs.View.{View}
+use Rattle.bz_tree.specs.Form.{Fits, Form, Stands}
+use Rattle.bz_tree.specs.TreeLaws.{TreesHaveForms}
+use Rattle.bz_tree.specs.View.{View}
 use Rattle.bz_slotted.specs.Readers.{count_of, child_of, key_of}
 use Rattle.bz_word.specs.Statuses.{status}
 use Rattle.bz_content.specs.Content.{view_in, IsWellFormed}

@@ -5,7 +5,7 @@ use Rattle.bz_layout.specs.Addresses.{node_address, SlotsApart}
 use Rattle.bz_layout.specs.declared.sizes.TheConstants.{NODE_WORDS, STATUS_AT}
 use Rattle.bz_layout.specs.declared.thresholds.TheConstants.{MERGE_BELOW}
 use Rattle.bz_page.specs.Laws.{ViewsSayWhatImagesSay}
-use Rattle.bz_shape.specs.Form.{Holds}
+use Rattle.bz_tree.specs.Form.{Holds}
 use Rattle.bz_slotted.specs.ReadingLaws.{node_of}
 use Rattle.bz_slotted.specs.Readers.{live_of}
 use Rattle.bz_task.specs.Good.{IsGood}

@@ -1,8 +1,8 @@
 -- The swap of a merge: the link to the parent goes to a new parent, which has one leaf in the place of two neighbours; the guard of
 -- that link gets its next stamp, and the old parent is frozen.
 use Rattle.std.specs.Prelude.{◌≡◌, ◌≢◌, ℕ, ◌+◌, ◌<◌, ◌≤◌, ◌==◌, if◌then◌else◌, true, false, List, Option, Some}
-use Rattle.bz_shape.specs.Order.{is_before}
-use Rattle.bz_shape.specs.Slots.{Children, Wider}
+use Rattle.bz_tree.specs.Order.{is_before}
+use Rattle.bz_tree.specs.Slots.{Children, Wider}
 use Rattle.bz_slotted.specs.Readers.{child_of, found_of}
 use Rattle.bz_slotted.specs.ReadingLaws.{node_of}
 use Rattle.bz_content.specs.Restructures.{children_of}

@@ -12,9 +12,9 @@ use Rattle.bz_task.specs.FromCall.Pages.{is_from}
 use Rattle.bz_task.specs.FromContent.Content.{content_in}
 use Rattle.bz_slotted.specs.FromLayout.TheConstants.{NODE_WORDS}
 use Rattle.bz_slotted.specs.FromNode.Reading.{AreInKeyOrder, pairs_in, high_in}
-use Rattle.bz_shape.specs.Form.{Holds}
-use Rattle.bz_shape.specs.Order.{is_before, is_at_least, is_below}
-use Rattle.bz_shape.proofs.OrderLaws.{before-after}
+use Rattle.bz_tree.specs.Form.{Holds}
+use Rattle.bz_tree.specs.Order.{is_before, is_at_least, is_below}
+use Rattle.bz_tree.proofs.OrderLaws.{before-after}
 use Rattle.bz_slotted.specs.ReadingLaws.{node_of}
 use Rattle.bz_slotted.specs.Readers.{found_of}
 use Rattle.bz_slotted.specs.Rules.{node_fault}

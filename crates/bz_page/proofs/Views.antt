@@ -4,9 +4,9 @@ use Rattle.std.specs.Prelude.{None}
 use Rattle.std.proofs.lemmas.Bool.Decides.{nat_tests}
 use Rattle.bz_slotted.specs.FromLayout.Config.{Config}
 use Rattle.bz_slotted.specs.FromLayout.TheConstants.{NODE_WORDS, STATUS_AT, META_AT}
-use Rattle.bz_shape.specs.Form.{Holds}
-use Rattle.bz_shape.specs.Walk.{IsTree}
-use Rattle.bz_shape.proofs.Proved.{leaves_tile_the_keys}
+use Rattle.bz_tree.specs.Form.{Holds}
+use Rattle.bz_tree.specs.Walk.{IsTree}
+use Rattle.bz_tree.proofs.Proved.{leaves_tile_the_keys}
 use Rattle.bz_slotted.specs.Page.{visible, held, meta_of, page}
 use Rattle.bz_slotted.specs.ReadingLaws.{node_of}
 use Rattle.bz_slotted.specs.Readers.{found_of, live_of}

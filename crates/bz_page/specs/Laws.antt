@@ -5,7 +5,7 @@ use Rattle.std.specs.FinMap.{find}
 use Rattle.std.specs.List.Sorted.{IsPermutation}
 use Rattle.std.specs.Ordering.{nat_cmp}
 use Rattle.bz_slotted.specs.FromNode.Records.{AreRising, keys_of}
-use Rattle.bz_shape.specs.Form.{Holds}
+use Rattle.bz_tree.specs.Form.{Holds}
 use Rattle.bz_slotted.specs.ReadingLaws.{node_of}
 use Rattle.bz_slotted.specs.Readers.{found_of, live_of}
 use Rattle.bz_task.specs.Good.{IsGood}

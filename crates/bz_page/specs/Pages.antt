@@ -7,7 +7,7 @@ use Rattle.bz_task.specs.FromCall.Pages.{is_from}
 use Rattle.bz_task.specs.FromContent.Content.{content_in, leaf_end_in}
 use Rattle.bz_slotted.specs.FromLayout.Config.{Config}
 use Rattle.bz_slotted.specs.FromNode.Reading.{AreInKeyOrder}
-use Rattle.bz_shape.specs.Order.{is_below}
+use Rattle.bz_tree.specs.Order.{is_below}
 use Rattle.bz_slotted.specs.ReadingLaws.{node_of}
 use Rattle.bz_slotted.specs.Rules.{node_fault}
 

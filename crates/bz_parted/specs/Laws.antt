@@ -9,7 +9,7 @@ use Rattle.bz_node.specs.Layout.{needed}
 use Rattle.bz_node.specs.Reading.{children_in, IsReadableInner}
 use Rattle.bz_node.specs.Records.{child_entry, IsChild, IsBound, IsChildList, IsAbove, IsBelow}
 use Rattle.bz_node.specs.declared.child.Child.{Child}
-use Rattle.bz_shape.specs.Slots.{Halves, AreTwo}
+use Rattle.bz_tree.specs.Slots.{Halves, AreTwo}
 use Rattle.bz_slotted.specs.ReadingLaws.{node_of, IsInnerOf}
 use Rattle.bz_slotted.specs.Rules.{node_fault}
 use Rattle.bz_word.specs.Statuses.{status}

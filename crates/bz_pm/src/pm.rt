@@ -8,7 +8,7 @@ ghost use Rattle.bz_pm.specs.After.{opened, acted, unacted, after_store, after_c
 use crate::asks::{Ask, Asks, LINES_ASKED, forget, no_asks};
 use crate::line::{copy_line, fill_line, words_of};
 use crate::settle::settle;
-use bz_memory::Memory;
+use bz_oom::Memory;
 use std::alloc::Global;
 use std::marker::Model;
 

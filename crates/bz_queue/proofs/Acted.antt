@@ -1,9 +1,9 @@
 -- What an act of a worker leads to, of all parts.
 use Rattle.std.proofs.Common.{◌≡◌, ◌≢◌, ◌<◌, inl, inr, ℕ, zero, suc, List, length, get_or, refl, sym, ap, subst, ◌∙◌, arith, Option, None}
 use Rattle.std.proofs.lemmas.Bool.{cases_eq}
-use Rattle.bz_acts.specs.declared.acted.Act.{Act}
-use Rattle.bz_machine.specs.declared.done.Done.{Done}
-use Rattle.bz_machine.specs.declared.done.Done.TheVariants as done
+use Rattle.bz_swap_acts.specs.declared.acted.Act.{Act}
+use Rattle.bz_swap_machine.specs.declared.done.Done.{Done}
+use Rattle.bz_swap_machine.specs.declared.done.Done.TheVariants as done
 use Rattle.bz_swap.specs.declared.phase.Phase.{Phase}
 use Rattle.bz_swap.specs.declared.phase.Phase.TheVariants.{Opened, Running, Recovering}
 use Rattle.bz_swap.specs.Held.{IsHeld, Holds, HoldsIn}
@@ -15,7 +15,7 @@ use Rattle.bz_ring.specs.declared.marks.QMark.TheVariants.{Memory}
 use Rattle.bz_ring.specs.Calls.{open_call}
 use Rattle.bz_ring.specs.Journal.{with_mark}
 use Rattle.bz_ring.specs.Sound.{IsSound}
-use Rattle.bz_marked.specs.Marks.{mark_of}
+use Rattle.bz_swap_marks.specs.Marks.{mark_of}
 use Rattle.bz_queue.specs.Inside.Acted.{IsActed, HasActed, HasEnded}
 use Rattle.bz_queue.specs.Inside.Going.{MustGoOn}
 use Rattle.bz_queue.specs.Inside.Kept.{IsTabled, IsKept}

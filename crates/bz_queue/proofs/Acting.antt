@@ -1,9 +1,9 @@
 -- What an act without effect leads to: all is as it was, or the worker's read or swap has answered.
 use Rattle.std.proofs.Common.{◌≡◌, ◌≢◌, ◌≤◌, inl, inr, ℕ, Bool, true, false, List, [], ◌∷◌, get_or, refl, sym, ap, subst, ◌∙◌, arith, Option, Some, None}
-use Rattle.bz_acts.specs.declared.acted.Act.{Act}
-use Rattle.bz_cells.specs.Store.{IsOutside}
-use Rattle.bz_machine.specs.declared.done.Done.{Done}
-use Rattle.bz_machine.specs.declared.done.Done.TheVariants as done
+use Rattle.bz_swap_acts.specs.declared.acted.Act.{Act}
+use Rattle.bz_swap_cells.specs.Store.{IsOutside}
+use Rattle.bz_swap_machine.specs.declared.done.Done.{Done}
+use Rattle.bz_swap_machine.specs.declared.done.Done.TheVariants as done
 use Rattle.bz_swap.specs.Held.{IsHeld}
 use Rattle.bz_swap.specs.Steps.{IsStep, IsAnswer, doing_after}
 use Rattle.bz_swap.specs.SwapMemory.{SwapMemory, Doing, Working, Idle, Reading, Swapping, value_at, doing_of}
@@ -25,7 +25,7 @@ use Rattle.bz_ring.proofs.Proved.{sound_journals_grow, other_words_do_not_matter
 use Rattle.bz_change.specs.Changes as change
 use Rattle.bz_change.specs.Values.{SameValues, StoresNothing}
 use Rattle.bz_change.proofs.Proved.{reads_tell}
-use Rattle.bz_marked.specs.Marks.{mark_of}
+use Rattle.bz_swap_marks.specs.Marks.{mark_of}
 use Rattle.bz_queue.specs.Inside.Going.{HasRead, HasReadAt, HasSwapped, HasSwappedAt, IsAnswered}
 use Rattle.bz_queue.specs.Inside.Kept.{IsMemory}
 use Rattle.bz_queue.specs.Inside.Serving.{counter_now, IsChanged, IsReading, IsAt, IsOpened, IsServed, IsSlot}

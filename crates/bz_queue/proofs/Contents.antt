@@ -1,6 +1,6 @@
 -- The durable words decode to the list exactly where the values of the swap memory hold it.
 use Rattle.std.proofs.Common.{◌≡◌, ℕ, List, [], sym, ap, subst, ◌∙◌}
-use Rattle.bz_cells.specs.FromPm.Words.{Words}
+use Rattle.bz_swap_cells.specs.FromPm.Words.{Words}
 use Rattle.bz_swap.specs.Resolve.{resolve}
 use Rattle.bz_swap.specs.SwapMemory.{SwapMemory, memory_words, value_at}
 use Rattle.bz_mark.specs.WordsAfter.{words_after_marks}

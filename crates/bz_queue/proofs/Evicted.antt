@@ -3,7 +3,7 @@ use Rattle.std.proofs.Common.{◌≡◌, ◌<◌, ◌≤◌, ℕ, List, ◌∷�
 use Rattle.bz_mark.specs.declared.marks.Mark.TheVariants.{Evict}
 use Rattle.bz_rivals.proofs.Proved.{notes_are_of_begun}
 use Rattle.bz_mark.specs.WordsAfter.{state_after_marks}
-use Rattle.bz_marked.proofs.Pasts.{evict-past}
+use Rattle.bz_swap_marks.proofs.Pasts.{evict-past}
 use Rattle.bz_swap.specs.Effects.{NoneTakesEffect}
 use Rattle.bz_swap.specs.Held.{IsHeld}
 use Rattle.bz_swap.specs.SwapMemory.{SwapMemory, value_at, entries_of, doing_of}

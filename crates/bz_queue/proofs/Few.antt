@@ -1,6 +1,6 @@
 -- An open call has at most so many marks left for each worker and for two more, whatever the others have come to.
 use Rattle.std.proofs.Common.{◌≡◌, ◌≤◌, ◌+◌, ◌*◌, ℕ, zero, suc, Bool, true, false, length, get_or, sym, ap, subst, arith, Option, Some, None}
-use Rattle.bz_machine.specs.Allowed.{counted, for_worker, sum_below}
+use Rattle.bz_swap_machine.specs.Allowed.{counted, for_worker, sum_below}
 use Rattle.bz_rivals.specs.Rivals.{rivals}
 use Rattle.bz_rivals.proofs.Proved.{rivals_are_few}
 use Rattle.bz_swap.specs.Solo.{allowed_while, allowed_to_all}

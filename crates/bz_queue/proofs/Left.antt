@@ -2,9 +2,9 @@
 use Rattle.std.proofs.Common.{◌≡◌, ◌≢◌, ◌≤◌, ◌<◌, ◌+◌, ◌*◌, inl, inr, not, ℕ, Bool, false, List, length, get_or, refl, sym, ap, subst, ◌∙◌, arith, Option, Some, None}
 use Rattle.std.specs.Prelude.{slice_set}
 use Rattle.std.proofs.lemmas.Bool.{cases_eq, ne_eqb}
-use Rattle.bz_acts.specs.declared.acted.Act.{Act}
-use Rattle.bz_machine.specs.Allowed.{counted}
-use Rattle.bz_machine.specs.declared.done.Done.{Done}
+use Rattle.bz_swap_acts.specs.declared.acted.Act.{Act}
+use Rattle.bz_swap_machine.specs.Allowed.{counted}
+use Rattle.bz_swap_machine.specs.declared.done.Done.{Done}
 use Rattle.bz_rivals.specs.Rivals.{is_own, rivals}
 use Rattle.bz_rivals.proofs.Proved.{rivals_fall}
 use Rattle.bz_swap.specs.Effects.{TakesEffect}
@@ -17,7 +17,7 @@ use Rattle.bz_ring.specs.Journal.{with_mark}
 use Rattle.bz_ring.specs.declared.calls.QCall.{QCall}
 use Rattle.bz_ring.specs.declared.marks.QMark.{QMark}
 use Rattle.bz_ring.specs.declared.marks.QMark.TheVariants.{Memory}
-use Rattle.bz_marked.specs.Marks.{mark_of}
+use Rattle.bz_swap_marks.specs.Marks.{mark_of}
 use Rattle.bz_change.specs.Values.{SameValues, IsChanged, IsSwapOf}
 use Rattle.bz_change.proofs.Proved.{effects_change}
 use Rattle.bz_queue.specs.Inside.Acted.{HasMarked, IsActed}

@@ -1,10 +1,10 @@
 -- The mark of an act, and of an eviction: the words after it, what it found, that it may stand there, and that it leaves every call.
 use Rattle.std.proofs.Common.{◌≡◌, ◌<◌, ℕ, zero, suc, List, ◌∷◌, length, refl, subst, arith}
-use Rattle.bz_acts.specs.Rule.{IsWithin, FoundRightly}
-use Rattle.bz_acts.specs.declared.acted.Act.{Act}
-use Rattle.bz_acts.specs.declared.acted.Act.TheVariants.{Load, Store, Cas, Flush, Ask, Fence}
-use Rattle.bz_cells.specs.FromPm.Words.{Words}
-use Rattle.bz_machine.specs.declared.done.Done.{Done}
+use Rattle.bz_swap_acts.specs.Rule.{IsWithin, FoundRightly}
+use Rattle.bz_swap_acts.specs.declared.acted.Act.{Act}
+use Rattle.bz_swap_acts.specs.declared.acted.Act.TheVariants.{Load, Store, Cas, Flush, Ask, Fence}
+use Rattle.bz_swap_cells.specs.FromPm.Words.{Words}
+use Rattle.bz_swap_machine.specs.declared.done.Done.{Done}
 use Rattle.bz_mark.specs.WordsAfter.{state_after_marks, words_after_marks, Found}
 use Rattle.bz_mark.specs.declared.marks.Mark.{Mark}
 use Rattle.bz_mark.specs.declared.marks.Mark.TheVariants as mark
@@ -16,9 +16,9 @@ use Rattle.bz_ring.specs.declared.marks.QMark.TheVariants.{Memory}
 use Rattle.bz_ring.specs.Calls.{open_call}
 use Rattle.bz_ring.specs.Follows.{HasOpenCall, MayHappen, power_after}
 use Rattle.bz_ring.specs.Journal.{IsOfMemory}
-use Rattle.bz_marked.specs.Marks.{mark_of}
-use Rattle.bz_marked.specs.Past.{SamePast}
-use Rattle.bz_marked.proofs.Pasts.{act-words, act-past}
+use Rattle.bz_swap_marks.specs.Marks.{mark_of}
+use Rattle.bz_swap_marks.specs.Past.{SamePast}
+use Rattle.bz_swap_marks.proofs.Pasts.{act-words, act-past}
 use Rattle.bz_queue.specs.Acts.{IsPlain}
 
 pub act-plain : (w : ℕ) (made : Act) → IsPlain (mark_of w made)

@@ -1,8 +1,8 @@
 -- The swap memory over quiet acts and starts.
 use Rattle.std.proofs.Common.{◌≡◌, ◌≢◌, ◌<◌, ◌≤◌, ℕ, List, subst, ◌∙◌, arith, None}
 use Rattle.bz_word.specs.declared.entry.Entry.{Entry}
-use Rattle.bz_acts.specs.declared.acted.Act.{Act}
-use Rattle.bz_machine.specs.declared.done.Done.{Done}
+use Rattle.bz_swap_acts.specs.declared.acted.Act.{Act}
+use Rattle.bz_swap_machine.specs.declared.done.Done.{Done}
 use Rattle.bz_rivals.proofs.Proved.{notes_are_of_begun}
 use Rattle.bz_swap.specs.Held.{IsHeld}
 use Rattle.bz_swap.specs.Starts.{MaySwap, started, swapping}
@@ -14,7 +14,7 @@ use Rattle.bz_ring.specs.declared.ring.TheConstants.{TAIL_AT}
 use Rattle.bz_ring.specs.Journal.{QLog, with_mark, memory_of}
 use Rattle.bz_change.specs.Values.{SameValues, StoresNothing}
 use Rattle.bz_change.proofs.Proved.{quiet_acts_leave, starts_leave}
-use Rattle.bz_marked.specs.Marks.{mark_of}
+use Rattle.bz_swap_marks.specs.Marks.{mark_of}
 use Rattle.bz_queue.specs.Inside.Kept.{IsMemory}
 use Rattle.bz_queue.proofs.Marks.{act-marked, act-kept}
 use Rattle.bz_queue.proofs.Shown.{shown-step}

@@ -2,7 +2,7 @@
 use Rattle.std.proofs.Common.{◌≡◌, ◌≢◌, ◌≤◌, ◌<◌, inl, inr, ◌==◌, ◌&&◌, not, ℕ, zero, suc, Bool, true, false, List, length, refl, sym, ap, subst, ◌∙◌, arith}
 use Rattle.std.proofs.lemmas.Bool.{cases_eq, and_from, and_parts, eqb-false, false_from_ne_true, ne_eqb, not-true, not_from_false, or_cases, or_left, or_right}
 use Rattle.bz_word.specs.declared.entry.Entry.{Entry}
-use Rattle.bz_machine.specs.Allowed.{counted}
+use Rattle.bz_swap_machine.specs.Allowed.{counted}
 use Rattle.bz_swap.specs.SwapMemory.{SwapMemory, Doing, Swapping, value_at, has_effect, entries_of, doing_of}
 use Rattle.bz_rivals.specs.Rivals.{is_pending}
 use Rattle.bz_queue.specs.Inside.Left.{moves_from, moves_in, is_mover, some_below, may_move}

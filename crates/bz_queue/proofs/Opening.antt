@@ -5,7 +5,7 @@ use Rattle.std.proofs.lemmas.Bool.{cases_lt, cases_Bool}
 use Rattle.std.proofs.lemmas.List.{length-replicate, get_or-replicate}
 use Rattle.std.proofs.Math.ListN.{get_or-eq_default}
 use Rattle.std.proofs.Math.Seq.{get_or-append_right}
-use Rattle.bz_cells.specs.Store.{status_of}
+use Rattle.bz_swap_cells.specs.Store.{status_of}
 use Rattle.bz_layout.specs.Addresses.{swap_address}
 use Rattle.bz_layout.specs.declared.sizes.TheConstants.{SUPERBLOCK_USED}
 use Rattle.bz_rivals.proofs.Proved.{notes_are_of_begun}
@@ -15,7 +15,7 @@ use Rattle.bz_swap.specs.Held.{IsHeld, Holds}
 use Rattle.bz_swap.specs.Power.{AreRecovered, IsOpened, opened}
 use Rattle.bz_swap.specs.SwapMemory.{SwapMemory, Working, idle, has_effect}
 use Rattle.bz_swap.proofs.Proved.{begun_stay_taken, owned_stay, settled_words_stay}
-use Rattle.bz_marked.proofs.Pasts.{fresh-past}
+use Rattle.bz_swap_marks.proofs.Pasts.{fresh-past}
 use Rattle.bz_ring.specs.declared.ring.Ring.{Ring}
 use Rattle.bz_ring.specs.declared.ring.TheConstants.{TAIL_AT}
 use Rattle.bz_ring.specs.Content.{size_of}

@@ -3,7 +3,7 @@ use Rattle.std.proofs.Common.{◌≡◌, ◌≢◌, ◌≤◌, ◌<◌, ◌+◌,
 use Rattle.std.specs.Prelude.{slice_set}
 use Rattle.std.proofs.lemmas.Bool.{cases_eq, eq-eqb, ne_eqb, not_from_false}
 use Rattle.bz_word.specs.declared.entry.Entry.{Entry}
-use Rattle.bz_machine.specs.Allowed.{counted, for_word, for_swap}
+use Rattle.bz_swap_machine.specs.Allowed.{counted, for_word, for_swap}
 use Rattle.bz_rivals.specs.Rivals.{rivals}
 use Rattle.bz_rivals.specs.Wins.{Stand}
 use Rattle.bz_rivals.proofs.Proved.{rivals_fall}

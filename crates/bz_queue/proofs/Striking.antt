@@ -1,16 +1,16 @@
 -- An act or an eviction that gave a swap its effect strikes.
 use Rattle.std.proofs.Common.{◌≡◌, ◌≢◌, ◌⊎◌, inl, inr, ℕ, List, ◌∷◌, length, get_or, refl, sym, ap, subst, ◌∙◌, arith, Option, Some, None}
 use Rattle.std.proofs.lemmas.Bool.{cases_eq}
-use Rattle.bz_acts.specs.declared.acted.Act.{Act}
-use Rattle.bz_cells.specs.FromPm.Acts.{evicted}
-use Rattle.bz_cells.specs.FromPm.Words.{Words}
-use Rattle.bz_machine.specs.declared.done.Done.{Done}
-use Rattle.bz_machine.specs.declared.done.Done.TheVariants.{Busy}
+use Rattle.bz_swap_acts.specs.declared.acted.Act.{Act}
+use Rattle.bz_swap_cells.specs.FromPm.Acts.{evicted}
+use Rattle.bz_swap_cells.specs.FromPm.Words.{Words}
+use Rattle.bz_swap_machine.specs.declared.done.Done.{Done}
+use Rattle.bz_swap_machine.specs.declared.done.Done.TheVariants.{Busy}
 use Rattle.bz_mark.specs.WordsAfter.{state_after_marks, words_after_marks}
 use Rattle.bz_mark.specs.declared.marks.Mark.TheVariants.{Evict}
 use Rattle.bz_mark.specs.declared.power.Power.TheVariants as power
 use Rattle.bz_rivals.proofs.Proved.{notes_are_of_begun}
-use Rattle.bz_marked.proofs.Pasts.{evict-past}
+use Rattle.bz_swap_marks.proofs.Pasts.{evict-past}
 use Rattle.bz_swap.specs.Effects.{TakesEffect}
 use Rattle.bz_swap.specs.Evictions.{IsEviction, EvictsIn}
 use Rattle.bz_swap.specs.Effects.{EffectIs}
@@ -25,7 +25,7 @@ use Rattle.bz_ring.specs.Follows.{MakesDurable, power_after}
 use Rattle.bz_ring.specs.Journal.{memory_of}
 use Rattle.bz_change.specs.Values.{IsSwapOf}
 use Rattle.bz_change.proofs.Proved.{effects_change}
-use Rattle.bz_marked.specs.Marks.{mark_of}
+use Rattle.bz_swap_marks.specs.Marks.{mark_of}
 use Rattle.bz_queue.specs.Inside.Acted.{IsActed, IsEvicted, IsStriking}
 use Rattle.bz_queue.specs.Inside.Kept.{IsKept}
 use Rattle.bz_queue.specs.declared.parts.Parts.{Parts}

@@ -2,9 +2,9 @@
 use Rattle.std.proofs.Common.{◌≡◌, inl, inr, ◌==◌, not, ℕ, zero, suc, true, false, List, [], ◌∷◌, refl, sym, ap, subst, ◌∙◌, arith, Option, None}
 use Rattle.std.proofs.lemmas.Bool.{and_from, and_parts, cases_Bool, eq-eqb, eqb-true, not-true, not_from_false}
 use Rattle.bz_word.specs.declared.entry.Entry.{Entry}
-use Rattle.bz_acts.specs.declared.acted.Act.{Act}
-use Rattle.bz_machine.specs.declared.done.Done.{Done}
-use Rattle.bz_machine.specs.declared.done.Done.TheVariants as done
+use Rattle.bz_swap_acts.specs.declared.acted.Act.{Act}
+use Rattle.bz_swap_machine.specs.declared.done.Done.{Done}
+use Rattle.bz_swap_machine.specs.declared.done.Done.TheVariants as done
 use Rattle.bz_swap.specs.Steps.{IsStep, IsAnswer, doing_after}
 use Rattle.bz_swap.specs.SwapMemory.{SwapMemory, Doing, Swapping, value_at, has_effect, is_missed, entries_of, doing_of}
 use Rattle.bz_rivals.specs.Wins.{Stand, GoesWell}

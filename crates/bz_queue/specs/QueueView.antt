@@ -1,9 +1,9 @@
 -- What callers see of a queue, and what it answers.
 use Rattle.std.specs.Prelude.{◌≡◌, ◌≢◌, ◌<◌, ◌≤◌, ◌⊎◌, ℕ, ◌+◌, ◌*◌, ◌-◌, ◌^◌, Bool, false, ◌==◌, ◌||◌, nat_lt, nat_le, if◌then◌else◌, is_some, is_none, get_or, slice_set, replicate, List, [], ◌∷◌, length, Option, Some, None, option_map, MatchOption}
-use Rattle.bz_acts.specs.Rule.{is_flush_act}
-use Rattle.bz_acts.specs.declared.acted.Act.{Act}
+use Rattle.bz_swap_acts.specs.Rule.{is_flush_act}
+use Rattle.bz_swap_acts.specs.declared.acted.Act.{Act}
 use Rattle.bz_layout.specs.declared.limits.TheConstants.{MIN_CAPACITY, MAX_CAPACITY, MIN_SWAPS, MAX_SWAPS, MIN_WORKERS, MAX_WORKERS, MIN_MARKS, MAX_MARKS, MIN_CALLS, MAX_CALLS}
-use Rattle.bz_machine.specs.Allowed.{for_worker}
+use Rattle.bz_swap_machine.specs.Allowed.{for_worker}
 use Rattle.bz_mark.specs.declared.marks.Mark.TheVariants.{Evict}
 use Rattle.bz_ring.specs.declared.calls.QCall.{QCall}
 use Rattle.bz_ring.specs.declared.calls.QCall.TheVariants as call
@@ -14,7 +14,7 @@ use Rattle.bz_ring.specs.Calls.{Open, open_call, begun_calls, count_begins}
 use Rattle.bz_ring.specs.Content.{size_of}
 use Rattle.bz_ring.specs.Fresh.{fresh_words}
 use Rattle.bz_ring.specs.Journal.{QLog, with_mark}
-use Rattle.bz_marked.specs.Marks.{mark_of}
+use Rattle.bz_swap_marks.specs.Marks.{mark_of}
 use Rattle.bz_queue.specs.declared.answers.QApplied.{QApplied}
 use Rattle.bz_queue.specs.declared.answers.QApplied.TheVariants as applied
 use Rattle.bz_queue.specs.declared.answers.QBegun.{QBegun}

@@ -1,6 +1,6 @@
 -- What comes of a queue in which one worker steps alone: its call ends.
 use Rattle.std.specs.Prelude.{◌≡◌, ◌≢◌, ◌⊎◌, ◌≤◌, ℕ, zero, suc, ◌+◌, ◌*◌, true, length, None}
-use Rattle.bz_machine.specs.Allowed.{for_worker}
+use Rattle.bz_swap_machine.specs.Allowed.{for_worker}
 use Rattle.bz_ring.specs.Calls.{open_call}
 use Rattle.bz_queue.specs.QueueView.{QueueView, IsApplied, is_short}
 use Rattle.bz_queue.specs.declared.answers.QApplied.{QApplied}

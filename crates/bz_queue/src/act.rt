@@ -1,6 +1,6 @@
 //! One memory act of a worker, or an eviction; its mark, and its effect.
 ghost use Rattle.std.specs.Prelude.{◌≡◌, ◌≢◌, ◌<◌, ◌≤◌, ◌+◌, ◌^◌, length, None, Some, option_map};
-ghost use Rattle.bz_machine.specs.declared.done.Done.TheVariants.{Busy};
+ghost use Rattle.bz_swap_machine.specs.declared.done.Done.TheVariants.{Busy};
 ghost use Rattle.bz_ring.specs.Calls.{open_call};
 ghost use Rattle.bz_ring.specs.Content.{size_of};
 ghost use Rattle.bz_ring.specs.declared.marks.QMark.TheVariants.{Memory};
@@ -16,9 +16,9 @@ ghost use Rattle.bz_queue.specs.declared.answers.QApplied.TheVariants.{Evicted};
 use crate::parts::Parts;
 use crate::serving::OpenCall;
 use bz_mark::Mark;
-use bz_marked::mark_of;
 use bz_ring::QMark;
 use bz_swap::{Done, Progress};
+use bz_swap_marks::mark_of;
 
 // The call with its moment, if one is open.
 fn with_effect(slot: Option<OpenCall>, moment: u32) -> Option<OpenCall>

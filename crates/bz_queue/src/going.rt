@@ -1,8 +1,8 @@
 //! How a call goes on once its read or its swap has answered.
 ghost use Rattle.std.specs.Prelude.{◌≡◌, ◌≢◌, ◌<◌, true, false};
 ghost use Rattle.std.specs.Prelude.{length};
-ghost use Rattle.bz_machine.specs.Allowed.{for_word};
-ghost use Rattle.bz_machine.specs.declared.done.Done.TheVariants.{Busy, Read, Swapped};
+ghost use Rattle.bz_swap_machine.specs.Allowed.{for_word};
+ghost use Rattle.bz_swap_machine.specs.declared.done.Done.TheVariants.{Busy, Read, Swapped};
 ghost use Rattle.bz_change.specs.Changes.{Suits};
 ghost use Rattle.bz_queue.specs.Inside.Acted.{HasEnded};
 ghost use Rattle.bz_queue.specs.declared.serving.Place.TheVariants.{Cell};

@@ -10,7 +10,7 @@ use bz_layout::{
     MAX_CALLS, MAX_CAPACITY, MAX_MARKS, MAX_SWAPS, MAX_WORKERS, MIN_CALLS, MIN_CAPACITY, MIN_MARKS,
     MIN_SWAPS, MIN_WORKERS,
 };
-use bz_memory::Memory;
+use bz_oom::Memory;
 use bz_ring::{QJournal, Ring, fresh};
 use bz_swap::Access;
 use std::alloc::Global;

@@ -7,7 +7,7 @@ ghost use Rattle.std.specs.declared.alloc.Global.{Global};
 
 use crate::numbers_in::number_in;
 use bz_layout::{Config, MAX_CALLS, MAX_MARKS, MAX_NODES, MAX_PAGES, MAX_SWAPS, MAX_WORKERS};
-use bz_memory::Memory;
+use bz_oom::Memory;
 use serde_json::Value;
 use std::alloc::Global;
 

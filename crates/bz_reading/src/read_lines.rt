@@ -11,7 +11,7 @@ use crate::error::LineFault;
 use crate::head_in::{config_in, start_in};
 use bz_layout::Config;
 use bz_lines::head_text;
-use bz_memory::Memory;
+use bz_oom::Memory;
 use serde_json::Value;
 use std::alloc::Global;
 

@@ -5,7 +5,7 @@ use Rattle.std.proofs.lemmas.Bool.{cases_eq, true≢false}
 use Rattle.std.proofs.lemmas.Slice.Eq.{bytes_eq-Decides}
 use Rattle.bz_layout.specs.Addresses.{node_address}
 use Rattle.bz_layout.specs.declared.sizes.TheConstants.{NODE_WORDS, STATUS_AT, HEADER_AT, META_AT}
-use Rattle.bz_shape.specs.Order.{is_within}
+use Rattle.bz_tree.specs.Order.{is_within}
 use Rattle.bz_slotted.specs.Changes.{Rewrites}
 use Rattle.bz_slotted.specs.LeafLaws.{AnswersRewritten}
 use Rattle.bz_slotted.specs.Page.{meta_of, visible, extent_of, page}

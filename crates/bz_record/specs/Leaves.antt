@@ -1,7 +1,7 @@
 -- What is known of a leaf that a record is put into.
 use Rattle.std.specs.Prelude.{◌≡◌, ℕ, ◌+◌, ◌^◌, ◌<◌, ◌≤◌, true, List, Option, None}
 use Rattle.bz_layout.specs.declared.sizes.TheConstants.{STATUS_AT, META_AT}
-use Rattle.bz_shape.specs.Order.{is_within}
+use Rattle.bz_tree.specs.Order.{is_within}
 use Rattle.bz_slotted.specs.Readers.{found_of}
 use Rattle.bz_word.specs.Metas.{meta_word}
 use Rattle.bz_word.specs.Statuses.{status}

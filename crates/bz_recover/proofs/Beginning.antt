@@ -13,10 +13,10 @@ use Rattle.bz_layout.specs.declared.config.Config.{Config}
 use Rattle.bz_layout.specs.declared.sizes.TheConstants.{HEADER_AT}
 use Rattle.bz_layout.specs.declared.thresholds.TheConstants.{MAX_LEVELS}
 use Rattle.bz_layout.proofs.Laws.{all_slots_are_free}
-use Rattle.bz_shape.specs.Stack.{pending}
-use Rattle.bz_shape.specs.View.{View}
-use Rattle.bz_shape.specs.Walk.{Visit, kid, kids, start, visits, walk}
-use Rattle.bz_shape.proofs.Stacks.{pending-inner, pending-leaf}
+use Rattle.bz_tree.specs.Stack.{pending}
+use Rattle.bz_tree.specs.View.{View}
+use Rattle.bz_tree.specs.Walk.{Visit, kid, kids, start, visits, walk}
+use Rattle.bz_tree.proofs.Stacks.{pending-inner, pending-leaf}
 use Rattle.bz_slotted.specs.Readers.{level_of}
 use Rattle.bz_word.specs.Headers.{header}
 use Rattle.bz_recover.specs.Walking.{IsTreeOf, IsBetween, IsBefore, IsInner, HasCome, above}

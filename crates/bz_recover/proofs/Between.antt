@@ -8,11 +8,11 @@ use Rattle.std.proofs.lemmas.List.Filters.{length-filter_both}
 use Rattle.std.proofs.lemmas.List.Sorted.{IsPermutation-filter_both, Contains-permutation}
 use Rattle.bz_layout.specs.Slots.{without, IsHeld}
 use Rattle.bz_layout.proofs.Laws.{held_slot_is_gone}
-use Rattle.bz_shape.specs.Stack.{pending}
-use Rattle.bz_shape.specs.View.{View}
-use Rattle.bz_shape.specs.Walk.{Visit, walk, comes_to, ComesOnce, fault_of}
-use Rattle.bz_shape.proofs.CleanWalks.{clean}
-use Rattle.bz_shape.proofs.Visits.{In, in_right}
+use Rattle.bz_tree.specs.Stack.{pending}
+use Rattle.bz_tree.specs.View.{View}
+use Rattle.bz_tree.specs.Walk.{Visit, walk, comes_to, ComesOnce, fault_of}
+use Rattle.bz_tree.proofs.CleanWalks.{clean}
+use Rattle.bz_tree.proofs.Visits.{In, in_right}
 use Rattle.bz_recover.specs.Walking.{IsBetween}
 
 -- a walk of two parts comes to what either of them comes to

@@ -8,8 +8,8 @@ use Rattle.bz_layout.specs.Config.{IsConfig}
 use Rattle.bz_layout.specs.Slots.{FreeSlots}
 use Rattle.bz_layout.specs.declared.config.Config.{Config}
 use Rattle.bz_layout.specs.declared.sizes.TheConstants.{NODE_WORDS, HEADER_AT, STATUS_AT, META_AT}
-use Rattle.bz_shape.specs.Stack.{pending}
-use Rattle.bz_shape.specs.Walk.{Visit, walk, comes_to}
+use Rattle.bz_tree.specs.Stack.{pending}
+use Rattle.bz_tree.specs.Walk.{Visit, walk, comes_to}
 use Rattle.bz_task.specs.declared.todo.Outcome.TheVariants.{Recovered}
 use Rattle.bz_task.specs.declared.todo.Todo.{Todo}
 use Rattle.bz_recover.specs.Sweep.{IsShared}

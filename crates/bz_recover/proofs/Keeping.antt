@@ -15,10 +15,10 @@ use Rattle.bz_content.proofs.Proved.{views_are_honest, well_formed_images_have_n
 use Rattle.bz_layout.specs.Addresses.{node_address}
 use Rattle.bz_layout.specs.declared.config.Config.{Config}
 use Rattle.bz_layout.specs.declared.sizes.TheConstants.{NODE_WORDS, SUPERBLOCK_WORDS, ROOT_AT, ROOT_STATUS_AT}
-use Rattle.bz_shape.specs.Outcomes.{SameTree, SameContent}
-use Rattle.bz_shape.specs.Slots.{SameSlot, SameTop}
-use Rattle.bz_shape.specs.Walk.{form, form_of}
-use Rattle.bz_shape.proofs.Proved.{unreached_slots_do_not_matter}
+use Rattle.bz_tree.specs.Outcomes.{SameTree, SameContent}
+use Rattle.bz_tree.specs.Slots.{SameSlot, SameTop}
+use Rattle.bz_tree.specs.Walk.{form, form_of}
+use Rattle.bz_tree.proofs.Proved.{unreached_slots_do_not_matter}
 use Rattle.bz_slotted.specs.Page.{page, words_at}
 use Rattle.bz_slotted.specs.Readers.{level_of, count_of, child_of, key_of, found_of}
 use Rattle.bz_slotted.specs.Rules.{node_fault}

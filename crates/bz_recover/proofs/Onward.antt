@@ -5,9 +5,9 @@ use Rattle.std.proofs.lemmas.Bool.{cases_eq}
 use Rattle.bz_content.proofs.Honesty.{no}
 use Rattle.bz_content.proofs.Reached.{is as same}
 use Rattle.bz_layout.specs.Slots.{without}
-use Rattle.bz_shape.specs.View.{View}
-use Rattle.bz_shape.specs.Walk.{Visit, kid, kids, walk, ComesOnce, fault_of}
-use Rattle.bz_shape.proofs.Stacks.{pending-inner, pending-leaf}
+use Rattle.bz_tree.specs.View.{View}
+use Rattle.bz_tree.specs.Walk.{Visit, kid, kids, walk, ComesOnce, fault_of}
+use Rattle.bz_tree.proofs.Stacks.{pending-inner, pending-leaf}
 use Rattle.bz_recover.specs.Walking.{IsBetween, IsWay, HasCome, GoesOn, way_at, above}
 use Rattle.bz_recover.specs.declared.walk.Way.{Way}
 use Rattle.bz_recover.proofs.Between.{Taken, takes}

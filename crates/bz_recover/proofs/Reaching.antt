@@ -7,7 +7,7 @@ use Rattle.bz_content.specs.Resolving.{resolve}
 use Rattle.bz_layout.specs.Addresses.{node_address}
 use Rattle.bz_layout.specs.Slots.{without}
 use Rattle.bz_layout.specs.declared.config.Config.{Config}
-use Rattle.bz_shape.specs.View.{View}
+use Rattle.bz_tree.specs.View.{View}
 use Rattle.bz_slotted.specs.Page.{page}
 use Rattle.bz_slotted.specs.Records.{pointer_at}
 use Rattle.bz_recover.specs.Walking.{IsTreeOf, HasCome, GoesOn, way_at}

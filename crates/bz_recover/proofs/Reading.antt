@@ -9,8 +9,8 @@ use Rattle.bz_content.proofs.Honesty.{no}
 use Rattle.bz_layout.specs.Addresses.{node_address}
 use Rattle.bz_layout.specs.declared.config.Config.{Config}
 use Rattle.bz_layout.specs.declared.sizes.TheConstants.{NODE_WORDS, STATUS_AT, META_AT, SHARED_WORDS}
-use Rattle.bz_shape.specs.View.{View}
-use Rattle.bz_shape.specs.Walk.{Visit}
+use Rattle.bz_tree.specs.View.{View}
+use Rattle.bz_tree.specs.Walk.{Visit}
 use Rattle.bz_slotted.specs.Page.{page, meta_of, extent_of, visible}
 use Rattle.bz_slotted.specs.Readers.{count_of, child_of}
 use Rattle.bz_slotted.specs.Records.{pointer_at}
@@ -22,11 +22,11 @@ use Rattle.bz_layout.specs.declared.sizes.TheConstants.{ROOT_AT, ROOT_STATUS_AT}
 use Rattle.bz_node.specs.Reading.{payload_at}
 use Rattle.bz_content.proofs.Reached.{is as same}
 use Rattle.bz_content.proofs.Proved.{well_formed_images_have_no_fault}
-use Rattle.bz_shape.specs.Walk.{start, walk}
-use Rattle.bz_shape.specs.declared.rule.ShapeRule.TheVariants.{Root}
-use Rattle.bz_shape.proofs.CleanWalks.{clean}
-use Rattle.bz_shape.proofs.Visits.{head}
-use Rattle.bz_shape.proofs.Proved.{slots_come_once}
+use Rattle.bz_tree.specs.Walk.{start, walk}
+use Rattle.bz_tree.specs.declared.rule.ShapeRule.TheVariants.{Root}
+use Rattle.bz_tree.proofs.CleanWalks.{clean}
+use Rattle.bz_tree.proofs.Visits.{head}
+use Rattle.bz_tree.proofs.Proved.{slots_come_once}
 use Rattle.bz_word.specs.Statuses.{status}
 use Rattle.bz_recover.specs.Walking.{IsTreeOf, IsInner}
 use Rattle.bz_recover.proofs.Onward.{IsSound}

@@ -3,7 +3,7 @@
 use Rattle.std.specs.Prelude.{◌≡◌, ◌⊎◌, ℕ, List, None}
 use Rattle.bz_content.specs.Content.{image_fault, view_in, content_in}
 use Rattle.bz_layout.specs.declared.config.Config.{Config}
-use Rattle.bz_shape.specs.Walk.{form}
+use Rattle.bz_tree.specs.Walk.{form}
 use Rattle.bz_recover.specs.Sweep.{IsShared, IsImage}
 
 -- both images are lawful and resolve to the same values, and each word outside the descriptors stands as it stood or is its

@@ -1,8 +1,8 @@
 -- The laws on which the turn of a link rests, and the form of a tree.
 use Rattle.bz_layout.specs.Addresses.{SlotsApart}
 use Rattle.bz_layout.specs.declared.config.Config.{Config}
-use Rattle.bz_shape.specs.Form.{Fits}
-use Rattle.bz_shape.specs.TreeLaws.{TreesHaveForms}
+use Rattle.bz_tree.specs.Form.{Fits}
+use Rattle.bz_tree.specs.TreeLaws.{TreesHaveForms}
 use Rattle.bz_slotted.specs.Laws.{InnerRulesAreFacts}
 use Rattle.bz_word.specs.Statements.{IsCodec}
 use Rattle.bz_word.specs.Statuses.{status_word, status, IsStatus, IsStatusWord}

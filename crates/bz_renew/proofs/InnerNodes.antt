@@ -5,7 +5,7 @@ use Rattle.std.proofs.lemmas.Bool.{true≢false}
 use Rattle.std.proofs.lemmas.Bool.Decides.{nat_tests}
 use Rattle.bz_layout.specs.declared.config.Config.{Config}
 use Rattle.bz_layout.specs.declared.sizes.TheConstants.{STATUS_AT, META_AT}
-use Rattle.bz_shape.specs.Form.{Stands}
+use Rattle.bz_tree.specs.Form.{Stands}
 use Rattle.bz_slotted.specs.Page.{page}
 use Rattle.bz_slotted.specs.Readers.{count_of, child_of}
 use Rattle.bz_slotted.specs.Records.{pointer_at}

@@ -7,7 +7,7 @@ use Rattle.bz_layout.specs.Addresses.{node_address, slot_of, line_of, SlotsApart
 use Rattle.bz_layout.specs.Slots.{FreeSlots}
 use Rattle.bz_layout.specs.declared.config.Config.{Config}
 use Rattle.bz_layout.specs.declared.sizes.TheConstants.{NODE_WORDS, LINE_WORDS, NODE_LINES}
-use Rattle.bz_shape.specs.Walk.{is_among}
+use Rattle.bz_tree.specs.Walk.{is_among}
 use Rattle.bz_task.specs.OwnActs.{Stores, Flushes, AreUnreached, is_gained, gained}
 use Rattle.bz_task.specs.Requests.{IsOwnStore, IsReadable}
 use Rattle.bz_task.specs.Scene.{Scene, IsMine, IsFlushed, IsLawful, HasFilled, here}

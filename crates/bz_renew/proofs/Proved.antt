@@ -1,7 +1,7 @@
 -- What this crate proves, as lemmas that other crates cite by these names.
 use Rattle.bz_layout.proofs.Laws.{slots_apart}
 use Rattle.bz_page.proofs.Proved.{views_say_what_images_say}
-use Rattle.bz_shape.proofs.Proved.{trees_have_forms}
+use Rattle.bz_tree.proofs.Proved.{trees_have_forms}
 use Rattle.bz_slotted.proofs.Proved.{inner_rules_are_facts}
 use Rattle.bz_task.proofs.FromContent.Proved.{plain_words_stand_for_themselves, well_formed_images_have_no_fault}
 use Rattle.bz_task.proofs.Proved.{fronts_stay, frozen_nodes_stay, headers_say_the_level, leaves_are_in_trees, nodes_stay, ranges_stay, same_records_show_the_same, seen_leaves_are_whole, separators_stay, swaps_show_in_slots}

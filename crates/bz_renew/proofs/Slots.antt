@@ -5,7 +5,7 @@ use Rattle.std.proofs.lemmas.Bool.{cases_lt, true≢false}
 use Rattle.std.proofs.lemmas.Bool.Decides.{nat_tests}
 use Rattle.std.proofs.lemmas.List.{get_or_append_left, get_or-take, length-take-le}
 use Rattle.bz_layout.specs.Slots.{FreeSlots, IsInOrder, TakenSlotsAreGone}
-use Rattle.bz_shape.specs.Walk.{is_among}
+use Rattle.bz_tree.specs.Walk.{is_among}
 use Rattle.bz_renew.specs.Nodes.{AreSlotsTaken}
 use Rattle.bz_renew.proofs.Words.{or-right}
 

@@ -22,7 +22,7 @@ use Rattle.bz_node.specs.Reading.{AreInKeyOrder, pairs_in, high_in, payload_len}
 use Rattle.bz_node.specs.Records.{pair_entry, IsPair, IsBound, IsBefore, IsAtLeast, IsBelow, IsLeafList}
 use Rattle.bz_page.specs.Pages.{IsLeafByItself}
 use Rattle.bz_page.specs.Laws.{OrderedPairsAreFound}
-use Rattle.bz_shape.specs.Order.{is_before, is_at_least, is_below, is_within}
+use Rattle.bz_tree.specs.Order.{is_before, is_at_least, is_below, is_within}
 use Rattle.bz_slotted.specs.Laws.{LeafRulesAreFacts, LiveWordsFit}
 use Rattle.bz_slotted.specs.Page.{visible, extent_of, page}
 use Rattle.bz_slotted.specs.ReadingLaws.{node_of, ReadsAsPairs, WholeLeavesAreReadable, HighFencesAreRead}

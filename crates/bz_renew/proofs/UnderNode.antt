@@ -5,8 +5,8 @@ use Rattle.std.proofs.lemmas.Bool.Decides.{nat_tests}
 use Rattle.bz_layout.specs.Addresses.{node_address}
 use Rattle.bz_layout.specs.declared.sizes.TheConstants.{NODE_WORDS, STATUS_AT, HEADER_AT, META_AT, ROOT_AT, ROOT_STATUS_AT}
 use Rattle.bz_node.specs.Reading.{payload_at}
-use Rattle.bz_shape.specs.Form.{Stands}
-use Rattle.bz_shape.specs.Walk.{is_among}
+use Rattle.bz_tree.specs.Form.{Stands}
+use Rattle.bz_tree.specs.Walk.{is_among}
 use Rattle.bz_slotted.specs.InnerChanges.{PointerSwap}
 use Rattle.bz_slotted.specs.Page.{meta_of, extent_of, page}
 use Rattle.bz_slotted.specs.Records.{pointer_at}

@@ -6,9 +6,9 @@ use Rattle.std.proofs.lemmas.Bool.Decides.{nat_tests}
 use Rattle.bz_layout.specs.Addresses.{node_address}
 use Rattle.bz_layout.specs.declared.config.Config.{Config}
 use Rattle.bz_layout.specs.declared.sizes.TheConstants.{NODE_WORDS, STATUS_AT, ROOT_AT, ROOT_STATUS_AT}
-use Rattle.bz_shape.specs.Form.{Fits, Stands}
-use Rattle.bz_shape.specs.declared.rule.ShapeRule.TheVariants.{Root}
-use Rattle.bz_shape.specs.Walk.{is_among}
+use Rattle.bz_tree.specs.Form.{Fits, Stands}
+use Rattle.bz_tree.specs.declared.rule.ShapeRule.TheVariants.{Root}
+use Rattle.bz_tree.specs.Walk.{is_among}
 use Rattle.bz_task.specs.FromSwap.SwapMemory.{is_target}
 use Rattle.bz_word.specs.declared.entry.Entry.{Entry}
 use Rattle.bz_task.specs.FromContent.Changes.{SameNode}

@@ -1,7 +1,7 @@
 -- What a view of a frozen leaf shows.
 use Rattle.std.proofs.Common.{◌≡◌, ℕ, true, List, sym, ap, ◌∙◌}
 use Rattle.bz_page.specs.Laws.{ViewsSayWhatImagesSay}
-use Rattle.bz_shape.specs.Form.{Holds}
+use Rattle.bz_tree.specs.Form.{Holds}
 use Rattle.bz_word.specs.Statuses.{status}
 use Rattle.bz_task.specs.Good.{IsGood}
 use Rattle.bz_task.specs.Instant.{words, durable, form_at}

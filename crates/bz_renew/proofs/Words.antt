@@ -6,7 +6,7 @@ use Rattle.std.proofs.lemmas.Bool.Decides.{nat_tests}
 use Rattle.bz_layout.specs.Addresses.{node_address}
 use Rattle.bz_layout.specs.declared.config.Config.{Config}
 use Rattle.bz_layout.specs.declared.sizes.TheConstants.{NODE_WORDS, SUPERBLOCK_WORDS}
-use Rattle.bz_shape.specs.Walk.{is_among}
+use Rattle.bz_tree.specs.Walk.{is_among}
 use Rattle.bz_slotted.specs.Tests.{every}
 use Rattle.bz_task.specs.FromSwap.SwapMemory.{is_target}
 use Rattle.bz_word.specs.declared.entry.Entry.{Entry}

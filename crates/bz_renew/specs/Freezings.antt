@@ -3,7 +3,7 @@ use Rattle.std.specs.Prelude.{◌≡◌, ℕ, ◌+◌, ◌^◌, ◌<◌, true, f
 use Rattle.bz_layout.specs.Addresses.{node_address}
 use Rattle.bz_layout.specs.declared.config.Config.{Config}
 use Rattle.bz_layout.specs.declared.sizes.TheConstants.{STATUS_AT}
-use Rattle.bz_shape.specs.Walk.{is_among}
+use Rattle.bz_tree.specs.Walk.{is_among}
 use Rattle.bz_task.specs.FromSwap.EntryLists.{inserted}
 use Rattle.bz_word.specs.Statuses.{status}
 use Rattle.bz_word.specs.declared.entry.Entry.{Entry}

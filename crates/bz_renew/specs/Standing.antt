@@ -1,6 +1,6 @@
 -- While the guard of a link below a parent has the value that was read, the parent is as it was, and the link leads where it led.
 use Rattle.std.specs.Prelude.{◌≡◌, ℕ, ◌<◌, true, false}
-use Rattle.bz_shape.specs.Form.{Stands}
+use Rattle.bz_tree.specs.Form.{Stands}
 use Rattle.bz_word.specs.Statuses.{status}
 use Rattle.bz_task.specs.FromContent.Content.{view_in}
 use Rattle.bz_task.specs.Instant.{page_at, form_at, is_inside}

@@ -1,6 +1,6 @@
 -- The worked journals, by computation.
 use Rattle.std.proofs.Common.{◌≡◌, ℕ, zero, suc, ◌-◌, List, [], ◌∷◌, length, drop, refl, subst, arith, Some, None}
-use Rattle.bz_cells.specs.Store.{status_of}
+use Rattle.bz_swap_cells.specs.Store.{status_of}
 use Rattle.bz_word.specs.Kinds.{kind}
 use Rattle.bz_mark.specs.declared.marks.Mark.TheVariants.{Evict, Cut, On}
 use Rattle.bz_ring.specs.declared.calls.QCall.TheVariants as call

@@ -5,8 +5,8 @@ use Rattle.std.proofs.lemmas.Bool.{cases_lt}
 use Rattle.std.proofs.Math.ListN.{get_or-eq_default}
 use Rattle.std.proofs.Math.Seq.{get_or-append_right}
 use Rattle.bz_word.specs.Kinds.{kind}
-use Rattle.bz_cells.specs.Store.{is_outside}
-use Rattle.bz_cells.proofs.Places.{outside-told}
+use Rattle.bz_swap_cells.specs.Store.{is_outside}
+use Rattle.bz_swap_cells.proofs.Places.{outside-told}
 use Rattle.bz_layout.specs.declared.sizes.TheConstants.{SUPERBLOCK_USED}
 use Rattle.bz_swap.specs.Resolve.{resolve}
 use Rattle.bz_ring.specs.declared.ring.Ring.{Ring}

@@ -3,7 +3,7 @@ ghost use Rattle.std.specs.Prelude.{◌≡◌, IfOk};
 ghost use Rattle.bz_ring.specs.Fresh.{fresh_words, IsRing};
 
 use bz_layout::{LINE_WORDS, SUPERBLOCK_WORDS, SWAP_WORDS};
-use bz_memory::Memory;
+use bz_oom::Memory;
 use std::alloc::Global;
 
 /// How many cells and descriptors a memory has.

@@ -2,7 +2,7 @@
 use Rattle.std.specs.Prelude.{◌≡◌, ◌≢◌, ◌==◌, ◌&&◌, ℕ, ◌+◌, ◌≤◌, Bool, true, false, not, length, Option, None, Some}
 use Rattle.std.proofs.Common.{arith, refl, ap, ◌∙◌, inl, inr}
 use Rattle.std.proofs.lemmas.Bool.{cases_eq, eqb-true, eq-eqb}
-use Rattle.bz_machine.specs.Allowed.{counted}
+use Rattle.bz_swap_machine.specs.Allowed.{counted}
 use Rattle.bz_swap.specs.Effects.{EffectIs, TakesEffect}
 use Rattle.bz_swap.specs.Settled.{AreOwned}
 use Rattle.bz_swap.specs.SwapMemory.{SwapMemory, Doing, Idle, Reading, Swapping, Loading, Storing, Flushing, has_effect, doing_of}

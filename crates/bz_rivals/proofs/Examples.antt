@@ -1,6 +1,6 @@
 -- The worked rivals, by computing.
 use Rattle.std.proofs.Common.{refl}
-use Rattle.bz_cells.specs.Store.{status_of}
+use Rattle.bz_swap_cells.specs.Store.{status_of}
 use Rattle.bz_rivals.specs.Examples.{RivalsAreTold}
 
 pub rivals-are-told : RivalsAreTold

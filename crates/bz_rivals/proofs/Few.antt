@@ -2,7 +2,7 @@
 use Rattle.std.specs.Prelude.{◌≡◌, ◌≢◌, ◌==◌, ◌&&◌, ℕ, ◌+◌, ◌<◌, ◌≤◌, Bool, true, false, not, length}
 use Rattle.std.proofs.Common.{arith, refl, inl, inr}
 use Rattle.std.proofs.lemmas.Bool.{cases_eq, eq-eqb, ne_eqb}
-use Rattle.bz_machine.specs.Allowed.{sum_below, counted}
+use Rattle.bz_swap_machine.specs.Allowed.{sum_below, counted}
 use Rattle.bz_swap.specs.SwapMemory.{SwapMemory, Doing, Idle, Reading, Swapping, Loading, Storing, Flushing, doing_of}
 use Rattle.bz_rivals.specs.Laws.{RivalsAreFew}
 use Rattle.bz_rivals.specs.Notes.{SwapsNothing}

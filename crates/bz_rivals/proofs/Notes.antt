@@ -5,8 +5,8 @@ use Rattle.std.proofs.lemmas.Bool.{cases_Bool}
 use Rattle.std.proofs.lemmas.List.{get_or-set_other, get_or_past, length_push}
 use Rattle.std.proofs.lemmas.List.Elements.{All-nil, All-same}
 use Rattle.bz_word.specs.declared.entry.Entry.{Entry}
-use Rattle.bz_acts.specs.declared.acted.Act.{Act}
-use Rattle.bz_machine.specs.declared.done.Done.{Done}
+use Rattle.bz_swap_acts.specs.declared.acted.Act.{Act}
+use Rattle.bz_swap_machine.specs.declared.done.Done.{Done}
 use Rattle.bz_swap.specs.Evictions.{IsEviction}
 use Rattle.bz_swap.specs.Power.{after_cut, opened, renewed}
 use Rattle.bz_swap.specs.Starts.{swapping, begins_by_flush}

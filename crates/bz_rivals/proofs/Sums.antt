@@ -1,7 +1,7 @@
 -- Sums below a number that are compared term by term.
 use Rattle.std.proofs.Common.{◌≡◌, ◌≢◌, ℕ, zero, suc, ◌+◌, ◌<◌, ◌≤◌, arith, refl, subst, inl, inr}
 use Rattle.std.proofs.lemmas.Bool.{cases_eq}
-use Rattle.bz_machine.specs.Allowed.{sum_below}
+use Rattle.bz_swap_machine.specs.Allowed.{sum_below}
 
 pub sum-same : (f g : ℕ → ℕ) (n : ℕ) → ((v : ℕ) → f v ≡ g v) → sum_below f n ≡ sum_below g n
 sum-same f g zero same = refl

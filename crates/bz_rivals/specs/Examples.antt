@@ -1,10 +1,10 @@
 -- Rivals, worked out: five workers over three descriptors.
 use Rattle.std.specs.Prelude.{◌≡◌, ℕ, ◌-◌, false, List, [], ◌∷◌, ◌++◌, replicate, None, Some}
 use Rattle.bz_layout.specs.declared.sizes.TheConstants.{SUPERBLOCK_WORDS, SWAP_WORDS}
-use Rattle.bz_machine.specs.declared.status.SwapStatus.{SwapStatus}
-use Rattle.bz_machine.specs.declared.status.SwapStatus.TheVariants.{Undecided, Decided}
-use Rattle.bz_machine.specs.declared.status.Verdict.TheVariants.{Succeeded, Failed}
-use Rattle.bz_cells.specs.Store.{status_word}
+use Rattle.bz_swap_machine.specs.declared.status.SwapStatus.{SwapStatus}
+use Rattle.bz_swap_machine.specs.declared.status.SwapStatus.TheVariants.{Undecided, Decided}
+use Rattle.bz_swap_machine.specs.declared.status.Verdict.TheVariants.{Succeeded, Failed}
+use Rattle.bz_swap_cells.specs.Store.{status_word}
 use Rattle.bz_swap.specs.declared.phase.Phase.TheVariants.{Running}
 use Rattle.bz_swap.specs.SwapMemory.{SwapMemory, Working, Doing, Idle, Reading, Swapping}
 use Rattle.bz_rivals.specs.Rivals.{rivals, foreign}

@@ -1,7 +1,7 @@
 -- The rivals of a worker: the other workers that have a swap under way which has had no effect. While the worker steps alone, only
 -- these swaps can still take effect beside its own.
 use Rattle.std.specs.Prelude.{◌==◌, ◌&&◌, ℕ, Bool, false, not, length, Option, None, Some}
-use Rattle.bz_machine.specs.Allowed.{sum_below, counted}
+use Rattle.bz_swap_machine.specs.Allowed.{sum_below, counted}
 use Rattle.bz_swap.specs.SwapMemory.{SwapMemory, Doing, Swapping, has_effect, doing_of}
 
 -- this is a swap, and it has had no effect. One that has missed is such a swap too, until it is answered

@@ -1,6 +1,6 @@
 -- The foreign effects of a run of one worker alone.
 use Rattle.std.specs.Prelude.{◌≡◌, ℕ, ◌+◌, List, [], ◌∷◌}
-use Rattle.bz_machine.specs.declared.done.Done.TheVariants.{Busy}
+use Rattle.bz_swap_machine.specs.declared.done.Done.TheVariants.{Busy}
 use Rattle.bz_swap.specs.SoloRuns.{Turn, Start, Begin, Step, Evict, IsSoloRun}
 use Rattle.bz_swap.specs.SwapMemory.{SwapMemory}
 use Rattle.bz_rivals.specs.Rivals.{foreign}

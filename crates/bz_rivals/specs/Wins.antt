@@ -1,9 +1,9 @@
 -- A swap whose expected values stand is answered with true.
 use Rattle.std.specs.Prelude.{◌≡◌, ◌≢◌, ℕ, Bool, true, false, List, All, Option}
 use Rattle.bz_word.specs.declared.entry.Entry.{Entry}
-use Rattle.bz_acts.specs.declared.acted.Act.{Act}
-use Rattle.bz_machine.specs.declared.done.Done.{Done}
-use Rattle.bz_machine.specs.declared.done.Done.TheVariants.{Swapped}
+use Rattle.bz_swap_acts.specs.declared.acted.Act.{Act}
+use Rattle.bz_swap_machine.specs.declared.done.Done.{Done}
+use Rattle.bz_swap_machine.specs.declared.done.Done.TheVariants.{Swapped}
 use Rattle.bz_swap.specs.declared.phase.Phase.TheVariants.{Recovering}
 use Rattle.bz_swap.specs.Atomic.{value_of}
 use Rattle.bz_swap.specs.Evictions.{IsEviction}

@@ -21,15 +21,15 @@ use Rattle.bz_renew.specs.Renewals.{renewal}
 use Rattle.bz_renew.specs.Turning.{TurnsAt}
 use Rattle.bz_renew.proofs.FreshSlots.{outside-tree, raw-is, durable-is}
 use Rattle.bz_renew.proofs.Proved.{child_links_turn, frozen_leaves_stand_still, root_links_turn}
-use Rattle.bz_alone.specs.FromConsol.Duties.{renewal_of}
-use Rattle.bz_alone.specs.FromConsol.Facts.{Renewal, consol_plan, consol_asks, consol_facts}
+use Rattle.bz_undisturbed.specs.FromConsol.Duties.{renewal_of}
+use Rattle.bz_undisturbed.specs.FromConsol.Facts.{Renewal, consol_plan, consol_asks, consol_facts}
 use Rattle.bz_writer.specs.Laws.{IsWritten}
 use Rattle.bz_writer.specs.declared.phase.WritePhase.{WritePhase}
 use Rattle.bz_writer.specs.declared.phase.WritePhase.TheVariants.{Swap}
 use Rattle.bz_writer.proofs.Written.{holds, fresh as fresh-slot}
 use Rattle.bz_stage.specs.Swaps.{IsRoomy}
 use Rattle.bz_stage.proofs.Proved.{copies_give_room}
-use Rattle.bz_alone.proofs.Proved.{consolidations_go_on}
+use Rattle.bz_undisturbed.proofs.Proved.{consolidations_go_on}
 use Rattle.bz_rounds.specs.Laws.{UndisturbedCopiesGiveRoom}
 use Rattle.bz_rounds.proofs.Lacking.{lacks-room}
 use Rattle.bz_rounds.proofs.Undisturbed.{tree-now, leaf-now, same-entries}

@@ -23,9 +23,9 @@ use Rattle.bz_stage.specs.Paths.{StandsOver, on_path}
 use Rattle.bz_stage.specs.Rooms.{words_taken}
 use Rattle.bz_stage.specs.Stages.{page_on_path}
 use Rattle.bz_stage.proofs.Proved.{paths_are_of_keys}
-use Rattle.bz_alone.specs.Undisturbed.{IsUndisturbed}
-use Rattle.bz_alone.specs.Quiet.{IsQuietSince}
-use Rattle.bz_alone.proofs.Proved.{undisturbed_times_are_quiet, paths_lead_to_leaves}
+use Rattle.bz_undisturbed.specs.Undisturbed.{IsUndisturbed}
+use Rattle.bz_undisturbed.specs.Quiet.{IsQuietSince}
+use Rattle.bz_undisturbed.proofs.Proved.{undisturbed_times_are_quiet, paths_lead_to_leaves}
 use Rattle.bz_rounds.specs.Due.{UndisturbedLeavesAreDue, UndisturbedAscentsAreDue}
 use Rattle.bz_rounds.proofs.Rising.{full-now}
 use Rattle.bz_rounds.proofs.Seeing.{viewed-now}

@@ -6,7 +6,7 @@ use Rattle.bz_layout.specs.Addresses.{node_address}
 use Rattle.bz_layout.specs.declared.config.Config.{Config}
 use Rattle.bz_layout.specs.declared.sizes.TheConstants.{NODE_WORDS, STATUS_AT, SUPERBLOCK_WORDS, ROOT_AT, ROOT_STATUS_AT}
 use Rattle.bz_layout.proofs.Laws.{slots_apart}
-use Rattle.bz_shape.specs.Form.{Holds}
+use Rattle.bz_tree.specs.Form.{Holds}
 use Rattle.bz_slotted.specs.Changes.{Restamps}
 use Rattle.bz_word.specs.Statuses.{status}
 use Rattle.bz_word.specs.declared.entry.Entry.{Entry}
@@ -30,7 +30,7 @@ use Rattle.bz_freeze.specs.declared.phase.FreezePhase.TheVariants.{Swap}
 use Rattle.bz_stage.specs.Stages.{stage_in}
 use Rattle.bz_stage.specs.Swaps.{FreezesLeaf}
 use Rattle.bz_stage.proofs.Proved.{freezes_lower_the_stage}
-use Rattle.bz_alone.proofs.Proved.{freezes_go_on}
+use Rattle.bz_undisturbed.proofs.Proved.{freezes_go_on}
 use Rattle.bz_rounds.specs.Laws.{UndisturbedFreezesLowerTheStage}
 use Rattle.bz_rounds.proofs.Wanting.{lacks-now}
 use Rattle.bz_rounds.proofs.Undisturbed.{at-most, good-now, tree-now, leaf-now, holds-now, below-top, same-entries}

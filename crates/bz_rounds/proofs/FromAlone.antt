@@ -1,2 +1,2 @@
--- What crates above take of bz_alone by this one.
-pub use Rattle.bz_alone.proofs.Proved
+-- What crates above take of bz_undisturbed by this one.
+pub use Rattle.bz_undisturbed.proofs.Proved

@@ -5,7 +5,7 @@ use Rattle.bz_ascent.specs.declared.ascent.Ascent.{Ascent}
 use Rattle.bz_layout.specs.declared.config.Config.{Config}
 use Rattle.bz_layout.specs.declared.thresholds.TheConstants.{SPLIT_SLOTS}
 use Rattle.bz_node.specs.Reading.{children_in}
-use Rattle.bz_shape.specs.Slots.{Wider, Halves}
+use Rattle.bz_tree.specs.Slots.{Wider, Halves}
 use Rattle.bz_slotted.specs.ReadingLaws.{node_of}
 use Rattle.bz_slotted.specs.Rules.{node_fault}
 use Rattle.bz_word.specs.declared.entry.Entry.{Entry}
@@ -25,20 +25,20 @@ use Rattle.bz_tally.specs.FromSplit.BelowSplits.{AreLinksDown}
 use Rattle.bz_ascent.specs.FromBranch.InnerSplits.{both_freezings, inner_swap}
 use Rattle.bz_ascent.specs.FromBranch.Nodes.{IsOpenLink}
 use Rattle.bz_ascent.proofs.FromBranch.Standing.{node-below}
-use Rattle.bz_alone.specs.FromFork.Duties.{asks_fork, facts_fork, fork_of}
-use Rattle.bz_alone.specs.FromFork.Facts.{Fork, fork_plan, fork_asks, fork_facts, parent_words}
-use Rattle.bz_alone.specs.FromFork.ForkPhase.{ForkPhase}
-use Rattle.bz_alone.specs.FromFork.ForkPhase.TheVariants.{Writing}
+use Rattle.bz_undisturbed.specs.FromFork.Duties.{asks_fork, facts_fork, fork_of}
+use Rattle.bz_undisturbed.specs.FromFork.Facts.{Fork, fork_plan, fork_asks, fork_facts, parent_words}
+use Rattle.bz_undisturbed.specs.FromFork.ForkPhase.{ForkPhase}
+use Rattle.bz_undisturbed.specs.FromFork.ForkPhase.TheVariants.{Writing}
 use Rattle.bz_writer.specs.Laws.{IsWritten}
 use Rattle.bz_writer.specs.declared.phase.WritePhase.TheVariants.{Swap}
-use Rattle.bz_alone.specs.FromFork.SplitInner.{SplitInner}
+use Rattle.bz_undisturbed.specs.FromFork.SplitInner.{SplitInner}
 use Rattle.bz_stage.specs.Laws.{LeavesALevel}
 use Rattle.bz_stage.specs.Paths.{on_path}
 use Rattle.bz_stage.specs.Swaps.{IsRoomyInner}
 use Rattle.bz_stage.proofs.Proved.{inner_splits_lower_the_stage, paths_are_of_keys, splits_leave_a_level}
-use Rattle.bz_alone.specs.Quiet.{IsQuietSince}
-use Rattle.bz_alone.specs.FromRunning.MadeFor.{HasComeTo, WasCrowded}
-use Rattle.bz_alone.proofs.Proved.{inner_splits_go_on, undisturbed_times_are_quiet}
+use Rattle.bz_undisturbed.specs.Quiet.{IsQuietSince}
+use Rattle.bz_undisturbed.specs.FromRunning.MadeFor.{HasComeTo, WasCrowded}
+use Rattle.bz_undisturbed.proofs.Proved.{inner_splits_go_on, undisturbed_times_are_quiet}
 use Rattle.bz_rounds.specs.Crowded.{IsRisen}
 use Rattle.bz_rounds.specs.Falls.{Falls}
 use Rattle.bz_rounds.specs.Laws.{UndisturbedInnerSplitsLowerTheStage}

@@ -9,8 +9,8 @@ use Rattle.bz_task.specs.Instant.{durable, page_at}
 use Rattle.bz_task.specs.Scene.{Scene, IsScene, here}
 use Rattle.bz_stage.proofs.Leaves.{stage-frozen}
 use Rattle.bz_stage.specs.Stages.{full_above, frozen_stage, stage_of, stage_in}
-use Rattle.bz_alone.specs.Undisturbed.{IsUndisturbed}
-use Rattle.bz_alone.specs.FromRunning.MadeFor.{WasLeafOf}
+use Rattle.bz_undisturbed.specs.Undisturbed.{IsUndisturbed}
+use Rattle.bz_undisturbed.specs.FromRunning.MadeFor.{WasLeafOf}
 use Rattle.bz_rounds.proofs.Undisturbed.{good-now, leaf-now, holds-now, below-top}
 
 pub some : (p : Page) (full words : ℕ) → p.frozen ≡ true → 0 < stage_of p full words

@@ -7,11 +7,11 @@ use Rattle.bz_layout.specs.Addresses.{node_address}
 use Rattle.bz_layout.specs.declared.config.Config.{Config}
 use Rattle.bz_layout.specs.declared.sizes.TheConstants.{NODE_WORDS, STATUS_AT, HEADER_AT, META_AT, SHARED_WORDS, ROOT_AT}
 use Rattle.bz_layout.specs.declared.thresholds.TheConstants.{SPLIT_ABOVE, INNER_LIMIT}
-use Rattle.bz_shape.proofs.TreeForms.{fits}
-use Rattle.bz_shape.specs.Form.{Fits, Holds}
-use Rattle.bz_shape.specs.Order.{is_at_least, is_below}
-use Rattle.bz_shape.specs.Walk.{IsTree}
-use Rattle.bz_shape.proofs.Proved.{leaves_tile_the_keys}
+use Rattle.bz_tree.proofs.TreeForms.{fits}
+use Rattle.bz_tree.specs.Form.{Fits, Holds}
+use Rattle.bz_tree.specs.Order.{is_at_least, is_below}
+use Rattle.bz_tree.specs.Walk.{IsTree}
+use Rattle.bz_tree.proofs.Proved.{leaves_tile_the_keys}
 use Rattle.bz_slotted.specs.Page.{page, meta_of}
 use Rattle.bz_slotted.specs.Readers.{level_of}
 use Rattle.bz_slotted.specs.Records.{live_to, live_words}
@@ -34,9 +34,9 @@ use Rattle.bz_stage.proofs.Runs.{run-same}
 use Rattle.bz_stage.specs.Paths.{on_path, run_from, StandsOver}
 use Rattle.bz_stage.specs.Rooms.{is_crowded, is_full, words_taken}
 use Rattle.bz_stage.specs.Stages.{page_on_path, root_level, full_above}
-use Rattle.bz_alone.specs.Quiet.{IsQuietSince, IsIn}
-use Rattle.bz_alone.specs.Trees.{SameTree}
-use Rattle.bz_alone.proofs.Proved.{read_values_stand, trees_stand}
+use Rattle.bz_undisturbed.specs.Quiet.{IsQuietSince, IsIn}
+use Rattle.bz_undisturbed.specs.Trees.{SameTree}
+use Rattle.bz_undisturbed.proofs.Proved.{read_values_stand, trees_stand}
 use Rattle.bz_rounds.specs.Stands.{SameStage, StagesStand}
 use Rattle.bz_tally.proofs.Lives.{live-same}
 

@@ -6,11 +6,11 @@ use Rattle.bz_content.specs.Content.{image_of}
 use Rattle.bz_task.specs.Instant.{Instant, form_at}
 use Rattle.bz_task.specs.Scene.{Scene, IsScene, here}
 use Rattle.bz_stage.specs.Laws.{LeavesALevel}
-use Rattle.bz_alone.specs.Undisturbed.{IsUndisturbed}
-use Rattle.bz_alone.specs.FromRunning.AnyTask.TheVariants.{Seeking, Finding, Reading, Inserting, Updating, Deleting, Freezing, Consolidating, Splitting, SplittingBelow, SplittingInner, SplittingInnerRoot, Merging}
-use Rattle.bz_alone.specs.FromRunning.Duties.{view_of}
-use Rattle.bz_alone.specs.FromRunning.Kinds.{kind_of}
-use Rattle.bz_alone.specs.FromRunning.MadeFor.{IsMadeFor}
+use Rattle.bz_undisturbed.specs.Undisturbed.{IsUndisturbed}
+use Rattle.bz_undisturbed.specs.FromRunning.AnyTask.TheVariants.{Seeking, Finding, Reading, Inserting, Updating, Deleting, Freezing, Consolidating, Splitting, SplittingBelow, SplittingInner, SplittingInnerRoot, Merging}
+use Rattle.bz_undisturbed.specs.FromRunning.Duties.{view_of}
+use Rattle.bz_undisturbed.specs.FromRunning.Kinds.{kind_of}
+use Rattle.bz_undisturbed.specs.FromRunning.MadeFor.{IsMadeFor}
 use Rattle.bz_rounds.specs.Falls.{Falls}
 use Rattle.bz_rounds.specs.Left.{HasSplit, UndisturbedSwapsLeave}
 use Rattle.bz_rounds.proofs.Whichever.{viewed, own}

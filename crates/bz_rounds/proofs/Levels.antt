@@ -26,8 +26,8 @@ use Rattle.bz_stage.proofs.Runs.{run-reaches}
 use Rattle.bz_stage.specs.Rooms.{words_taken, is_full}
 use Rattle.bz_stage.specs.Stages.{page_on_path, root_level, full_above, stage}
 use Rattle.bz_stage.specs.Swaps.{IsCrowdedBelow}
-use Rattle.bz_alone.specs.Quiet.{IsQuietSince}
-use Rattle.bz_alone.proofs.Proved.{undisturbed_times_are_quiet}
+use Rattle.bz_undisturbed.specs.Quiet.{IsQuietSince}
+use Rattle.bz_undisturbed.proofs.Proved.{undisturbed_times_are_quiet}
 use Rattle.bz_rounds.specs.Crowded.{IsRisen}
 use Rattle.bz_rounds.specs.Levels.{AscentsStandAtLevels, UndisturbedAscentsAreBelowTheStage}
 use Rattle.bz_rounds.proofs.Staying.{not-top, below-height, word-stays, inside-now}

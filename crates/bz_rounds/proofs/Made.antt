@@ -19,7 +19,7 @@ use Rattle.bz_tally.specs.FromSplit.Parts.{AreHalvesFrom}
 use Rattle.bz_stage.specs.Rooms.{words_taken}
 use Rattle.bz_stage.specs.Swaps.{IsRoomy}
 use Rattle.bz_stage.proofs.Proved.{made_inners_take_their_entries, made_leaves_are_roomy}
-use Rattle.bz_alone.specs.FromRunning.MadeFor.{IsSmallCopy, AreLargeHalves}
+use Rattle.bz_undisturbed.specs.FromRunning.MadeFor.{IsSmallCopy, AreLargeHalves}
 
 -- a leaf with these words has room
 abbrev pub HasRoom : List ℕ → Type 0

@@ -1,7 +1,7 @@
 -- A full node above the key's leaf that a swap splits, below a parent and at the root.
 use Rattle.std.proofs.Common.{◌≡◌, ℕ, ◌<◌, List}
 use Rattle.bz_layout.specs.declared.config.Config.{Config}
-use Rattle.bz_shape.specs.Walk.{IsTree}
+use Rattle.bz_tree.specs.Walk.{IsTree}
 use Rattle.bz_content.specs.Image.{Image}
 use Rattle.bz_content.specs.Restructures.{Splits, SplitsRoot}
 use Rattle.bz_content.specs.View.{view_of}

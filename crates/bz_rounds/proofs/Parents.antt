@@ -15,8 +15,8 @@ use Rattle.bz_renew.proofs.Proved.{guarded_links_stand, links_may_be_turned}
 use Rattle.bz_tally.specs.FromSplit.BelowSplits.{AreLinksDown}
 use Rattle.bz_ascent.specs.FromBranch.Nodes.{IsOpenLink}
 use Rattle.bz_ascent.proofs.FromBranch.Standing as open_link
-use Rattle.bz_alone.specs.Quiet.{IsQuietSince}
-use Rattle.bz_alone.proofs.Proved.{read_values_stand}
+use Rattle.bz_undisturbed.specs.Quiet.{IsQuietSince}
+use Rattle.bz_undisturbed.proofs.Proved.{read_values_stand}
 
 module _ (s : Scene) (good : IsScene s) (quiet : IsQuietSince s.past.since s.past) where
   abbrev c : Config

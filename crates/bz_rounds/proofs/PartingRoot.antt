@@ -6,7 +6,7 @@ use Rattle.bz_ascent.specs.declared.ascent.Ascent.{Ascent}
 use Rattle.bz_layout.specs.declared.config.Config.{Config}
 use Rattle.bz_layout.specs.declared.sizes.TheConstants.{ROOT_AT}
 use Rattle.bz_layout.specs.declared.thresholds.TheConstants.{SPLIT_SLOTS}
-use Rattle.bz_shape.specs.Slots.{Halves, AreTwo}
+use Rattle.bz_tree.specs.Slots.{Halves, AreTwo}
 use Rattle.bz_slotted.specs.ReadingLaws.{node_of}
 use Rattle.bz_slotted.specs.Readers.{level_of}
 use Rattle.bz_slotted.specs.Rules.{node_fault}
@@ -36,20 +36,20 @@ use Rattle.bz_renew.proofs.Proved.{root_links_turn_with}
 use Rattle.bz_tally.specs.FromSplit.BelowSplits.{parent_freezing, below_swap}
 use Rattle.bz_ascent.specs.FromBranch.Nodes.{IsOpenLink}
 use Rattle.bz_ascent.proofs.FromBranch.Standing.{node-below}
-use Rattle.bz_alone.specs.FromCrown.Duties.{asks_crown, facts_crown, crown_of}
-use Rattle.bz_alone.specs.FromCrown.Facts.{Crown, crown_plan, crown_asks, crown_facts}
-use Rattle.bz_alone.specs.FromCrown.CrownPhase.{CrownPhase}
-use Rattle.bz_alone.specs.FromCrown.CrownPhase.TheVariants.{Writing}
+use Rattle.bz_undisturbed.specs.FromCrown.Duties.{asks_crown, facts_crown, crown_of}
+use Rattle.bz_undisturbed.specs.FromCrown.Facts.{Crown, crown_plan, crown_asks, crown_facts}
+use Rattle.bz_undisturbed.specs.FromCrown.CrownPhase.{CrownPhase}
+use Rattle.bz_undisturbed.specs.FromCrown.CrownPhase.TheVariants.{Writing}
 use Rattle.bz_writer.specs.Laws.{IsWritten}
 use Rattle.bz_writer.specs.declared.phase.WritePhase.TheVariants.{Swap}
-use Rattle.bz_alone.specs.FromCrown.SplitInnerRoot.{SplitInnerRoot}
+use Rattle.bz_undisturbed.specs.FromCrown.SplitInnerRoot.{SplitInnerRoot}
 use Rattle.bz_stage.specs.Laws.{LeavesALevel}
 use Rattle.bz_stage.specs.Stages.{root_level}
 use Rattle.bz_stage.specs.Swaps.{IsCrowdedBelow, IsRoomyInner}
 use Rattle.bz_stage.proofs.Proved.{root_splits_lower_the_stage, splits_leave_a_level}
-use Rattle.bz_alone.specs.Quiet.{IsQuietSince}
-use Rattle.bz_alone.specs.FromRunning.MadeFor.{HasComeTo, WasCrowded}
-use Rattle.bz_alone.proofs.Proved.{inner_root_splits_go_on, undisturbed_times_are_quiet}
+use Rattle.bz_undisturbed.specs.Quiet.{IsQuietSince}
+use Rattle.bz_undisturbed.specs.FromRunning.MadeFor.{HasComeTo, WasCrowded}
+use Rattle.bz_undisturbed.proofs.Proved.{inner_root_splits_go_on, undisturbed_times_are_quiet}
 use Rattle.bz_rounds.specs.Crowded.{IsRisen}
 use Rattle.bz_rounds.specs.Falls.{Falls}
 use Rattle.bz_rounds.specs.Laws.{UndisturbedRootSplitsLowerTheStage}

@@ -22,9 +22,9 @@ use Rattle.bz_stage.specs.Paths.{StandsOver, on_path}
 use Rattle.bz_stage.specs.Rooms.{words_taken}
 use Rattle.bz_stage.specs.Stages.{page_on_path}
 use Rattle.bz_stage.proofs.Proved.{entries_take_the_words, paths_are_of_keys}
-use Rattle.bz_alone.specs.Quiet.{IsQuietSince}
-use Rattle.bz_alone.specs.FromRunning.MadeFor.{WasCrowded}
-use Rattle.bz_alone.proofs.Proved.{undisturbed_times_are_quiet}
+use Rattle.bz_undisturbed.specs.Quiet.{IsQuietSince}
+use Rattle.bz_undisturbed.specs.FromRunning.MadeFor.{WasCrowded}
+use Rattle.bz_undisturbed.proofs.Proved.{undisturbed_times_are_quiet}
 use Rattle.bz_rounds.specs.Crowded.{AscentsAreCrowded}
 use Rattle.bz_rounds.proofs.Staying.{tree-at, below-height, no-fault, good-then, place-now, inner-stays, stands-over}
 use Rattle.bz_rounds.proofs.Viewing.{frozen-now, live-now}

@@ -2,10 +2,10 @@
 use Rattle.std.proofs.Common.{◌≡◌, ◌≢◌, ℕ, zero, suc, ◌+◌, ◌-◌, ◌<◌, ◌≤◌, ◌⊎◌, List, [], ◌∷◌, Some, arith, refl, sym, ap, subst, ◌∙◌, inl, inr}
 use Rattle.bz_layout.specs.declared.config.Config.{Config}
 use Rattle.bz_layout.specs.declared.thresholds.TheConstants.{SPLIT_SLOTS}
-use Rattle.bz_shape.proofs.Descents.{pick-le}
-use Rattle.bz_shape.specs.Descent.{choice, descend, leaf_of}
-use Rattle.bz_shape.specs.Slots.{AreTwo}
-use Rattle.bz_shape.specs.View.{View}
+use Rattle.bz_tree.proofs.Descents.{pick-le}
+use Rattle.bz_tree.specs.Descent.{choice, descend, leaf_of}
+use Rattle.bz_tree.specs.Slots.{AreTwo}
+use Rattle.bz_tree.specs.View.{View}
 use Rattle.bz_slotted.specs.Page.{page}
 use Rattle.bz_slotted.specs.ReadingLaws.{node_of}
 use Rattle.bz_slotted.specs.Readers.{level_of}
@@ -37,7 +37,7 @@ use Rattle.bz_writer.specs.declared.phase.WritePhase.TheVariants.{Swap}
 use Rattle.bz_stage.proofs.Leaves.{roomy-ready}
 use Rattle.bz_stage.specs.Stages.{full_above}
 use Rattle.bz_stage.specs.Swaps.{IsRoomy, IsRoomyLeaf}
-use Rattle.bz_alone.proofs.Proved.{root_splits_go_on}
+use Rattle.bz_undisturbed.proofs.Proved.{root_splits_go_on}
 use Rattle.bz_rounds.specs.Laws.{UndisturbedRootLeafSplitsGiveRoom}
 use Rattle.bz_rounds.proofs.Lacking.{lacks-room}
 use Rattle.bz_rounds.proofs.Undisturbed.{same-entries}

@@ -3,8 +3,8 @@ use Rattle.std.proofs.Common.{◌≡◌, ℕ, ◌+◌, ◌<◌, ◌≤◌, Bool,
 use Rattle.bz_layout.specs.declared.config.Config.{Config}
 use Rattle.bz_layout.specs.declared.sizes.TheConstants.{STATUS_AT, SHARED_WORDS}
 use Rattle.bz_tally.specs.FromRecord.Records.{HasRoom, LacksRoom}
-use Rattle.bz_shape.specs.Form.{Holds}
-use Rattle.bz_shape.proofs.Proved.{leaves_tile_the_keys}
+use Rattle.bz_tree.specs.Form.{Holds}
+use Rattle.bz_tree.proofs.Proved.{leaves_tile_the_keys}
 use Rattle.bz_slotted.specs.Page.{Page, page}
 use Rattle.bz_slotted.specs.Rules.{node_fault}
 use Rattle.bz_slotted.specs.Whole.{Whole}
@@ -23,10 +23,10 @@ use Rattle.bz_task.specs.declared.view.LeafView.{LeafView}
 use Rattle.bz_stage.proofs.Leaves.{stage-lacking, stage-ready}
 use Rattle.bz_stage.specs.Rooms.{words_taken}
 use Rattle.bz_stage.specs.Stages.{full_above, frozen_stage, stage_of, stage_in}
-use Rattle.bz_alone.specs.Undisturbed.{IsUndisturbed}
-use Rattle.bz_alone.specs.FromRunning.MadeFor.{WasLeafOf}
-use Rattle.bz_alone.specs.Quiet.{IsQuietSince}
-use Rattle.bz_alone.proofs.Proved.{undisturbed_times_are_quiet}
+use Rattle.bz_undisturbed.specs.Undisturbed.{IsUndisturbed}
+use Rattle.bz_undisturbed.specs.FromRunning.MadeFor.{WasLeafOf}
+use Rattle.bz_undisturbed.specs.Quiet.{IsQuietSince}
+use Rattle.bz_undisturbed.proofs.Proved.{undisturbed_times_are_quiet}
 use Rattle.bz_rounds.specs.Stands.{UndisturbedKeyViewsTellTheLeaf}
 use Rattle.bz_rounds.specs.Viewed.{TellsTheStage, UndisturbedKeyViewsTellTheStage, UndisturbedViewsTellTheStage, UndisturbedViewsAgree}
 use Rattle.bz_rounds.proofs.Lacking.{some}

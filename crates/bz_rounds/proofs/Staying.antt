@@ -5,10 +5,10 @@ use Rattle.std.proofs.lemmas.Bool.{cases_lt}
 use Rattle.bz_layout.specs.Addresses.{node_address}
 use Rattle.bz_layout.specs.declared.config.Config.{Config}
 use Rattle.bz_layout.specs.declared.sizes.TheConstants.{NODE_WORDS}
-use Rattle.bz_shape.proofs.TreeForms.{fits}
-use Rattle.bz_shape.specs.Form.{Fits}
-use Rattle.bz_shape.specs.Order.{is_at_least, is_below, is_within}
-use Rattle.bz_shape.specs.Walk.{IsTree}
+use Rattle.bz_tree.proofs.TreeForms.{fits}
+use Rattle.bz_tree.specs.Form.{Fits}
+use Rattle.bz_tree.specs.Order.{is_at_least, is_below, is_within}
+use Rattle.bz_tree.specs.Walk.{IsTree}
 use Rattle.bz_slotted.specs.Rules.{node_fault}
 use Rattle.bz_content.proofs.Honesty.{no}
 use Rattle.bz_content.specs.Content.{view_in}
@@ -22,9 +22,9 @@ use Rattle.bz_task.specs.Shown.{IsShown}
 use Rattle.bz_task.proofs.Proved.{headers_say_the_level}
 use Rattle.bz_renew.proofs.Words.{node-at, node-past, and-left, and-right}
 use Rattle.bz_stage.specs.Paths.{StandsOver}
-use Rattle.bz_alone.specs.Quiet.{IsQuietSince, IsIn}
-use Rattle.bz_alone.specs.Trees.{SameTree}
-use Rattle.bz_alone.proofs.Proved.{read_values_stand, trees_stand}
+use Rattle.bz_undisturbed.specs.Quiet.{IsQuietSince, IsIn}
+use Rattle.bz_undisturbed.specs.Trees.{SameTree}
+use Rattle.bz_undisturbed.proofs.Proved.{read_values_stand, trees_stand}
 
 -- a node of the tree, in a good memory
 module _ (c : Config) (x : Instant) (k : ℕ) (g : IsGood c x) (within : k < c.nodes) (inside : is_inside c x k ≡ true) where

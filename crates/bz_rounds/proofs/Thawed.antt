@@ -8,8 +8,8 @@ use Rattle.bz_layout.specs.Addresses.{node_address}
 use Rattle.bz_layout.specs.declared.config.Config.{Config}
 use Rattle.bz_layout.specs.declared.sizes.TheConstants.{STATUS_AT, HEADER_AT, ROOT_AT, ROOT_STATUS_AT}
 use Rattle.bz_renew.specs.Due.{IsStatusOf}
-use Rattle.bz_shape.proofs.TreeForms.{fits}
-use Rattle.bz_shape.specs.declared.rule.ShapeRule.TheVariants.{Root}
+use Rattle.bz_tree.proofs.TreeForms.{fits}
+use Rattle.bz_tree.specs.declared.rule.ShapeRule.TheVariants.{Root}
 use Rattle.bz_slotted.specs.Page.{page}
 use Rattle.bz_slotted.specs.Whole.{WholeInner}
 use Rattle.bz_slotted.proofs.Proved.{inner_rules_are_facts}
@@ -28,8 +28,8 @@ use Rattle.bz_task.specs.declared.path.Link.{Link}
 use Rattle.bz_task.specs.declared.path.Path.{Path}
 use Rattle.bz_task.proofs.Proved.{headers_say_the_level}
 use Rattle.bz_renew.proofs.Words.{node-at}
-use Rattle.bz_alone.specs.Quiet.{IsQuietSince}
-use Rattle.bz_alone.proofs.Proved.{undisturbed_times_are_quiet}
+use Rattle.bz_undisturbed.specs.Quiet.{IsQuietSince}
+use Rattle.bz_undisturbed.proofs.Proved.{undisturbed_times_are_quiet}
 use Rattle.bz_rounds.specs.Due.{UndisturbedGuardsAreThawed}
 use Rattle.bz_rounds.proofs.Staying.{not-top, reached-at, no-fault, good-then, word-stays, inside-now}
 

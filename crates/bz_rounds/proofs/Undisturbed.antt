@@ -1,9 +1,9 @@
 -- What is common to these swaps: the tree as it is now, and the leaf of the key in it.
 use Rattle.std.proofs.Common.{◌≡◌, ◌≢◌, ℕ, ◌≤◌, List, Some, arith, ap, ◌∙◌}
-use Rattle.bz_shape.proofs.TreeForms.{fits}
-use Rattle.bz_shape.specs.Form.{Fits, Holds}
-use Rattle.bz_shape.specs.Walk.{IsTree}
-use Rattle.bz_shape.proofs.Proved.{leaves_tile_the_keys}
+use Rattle.bz_tree.proofs.TreeForms.{fits}
+use Rattle.bz_tree.specs.Form.{Fits, Holds}
+use Rattle.bz_tree.specs.Walk.{IsTree}
+use Rattle.bz_tree.proofs.Proved.{leaves_tile_the_keys}
 use Rattle.bz_word.specs.declared.entry.Entry.{Entry}
 use Rattle.bz_content.specs.Content.{view_in, leaf_in}
 use Rattle.bz_content.proofs.Proved.{well_formed_images_have_no_fault}
@@ -11,9 +11,9 @@ use Rattle.bz_task.specs.Good.{IsGood}
 use Rattle.bz_task.specs.Instant.{form_at}
 use Rattle.bz_task.specs.Scene.{Scene, IsScene, here}
 use Rattle.bz_task.specs.declared.todo.Todo.TheVariants.{Swap}
-use Rattle.bz_alone.specs.Undisturbed.{IsUndisturbed}
-use Rattle.bz_alone.specs.FromRunning.MadeFor.{WasLeafOf}
-use Rattle.bz_alone.proofs.Proved.{undisturbed_times_are_quiet, trees_stand}
+use Rattle.bz_undisturbed.specs.Undisturbed.{IsUndisturbed}
+use Rattle.bz_undisturbed.specs.FromRunning.MadeFor.{WasLeafOf}
+use Rattle.bz_undisturbed.proofs.Proved.{undisturbed_times_are_quiet, trees_stand}
 
 pub same-entries : (a b : List Entry) → Some (Swap a) ≡ Some (Swap b) → a ≡ b
 same-entries a b e = cc

@@ -6,8 +6,8 @@ use Rattle.bz_stage.specs.FromLeaves.Neighbours.{leaf_page}
 use Rattle.bz_task.specs.Instant.{words}
 use Rattle.bz_task.specs.Scene.{Scene, IsScene, here}
 use Rattle.bz_stage.specs.Rooms.{words_taken}
-use Rattle.bz_alone.specs.Undisturbed.{IsUndisturbed}
-use Rattle.bz_alone.specs.FromRunning.MadeFor.{LackedWords}
+use Rattle.bz_undisturbed.specs.Undisturbed.{IsUndisturbed}
+use Rattle.bz_undisturbed.specs.FromRunning.MadeFor.{LackedWords}
 use Rattle.bz_rounds.proofs.Seeing.{taken-now}
 
 pub lacks-now : (s : Scene) → IsScene s → IsUndisturbed 0 s.past → (key : List ℕ) (need k : ℕ) → LackedWords key need k s.past → SHARED_WORDS < words_taken (leaf_page s.past.config (image_of (here s).image) key) + need

@@ -7,9 +7,9 @@ use Rattle.bz_task.specs.Outcomes.{IsView}
 use Rattle.bz_task.specs.Scene.{Past, Scene, Stage, here}
 use Rattle.bz_task.specs.declared.todo.Todo.{Todo}
 use Rattle.bz_task.specs.declared.view.LeafView.{LeafView}
-use Rattle.bz_alone.specs.FromRunning.Duties.{view_of}
-use Rattle.bz_alone.specs.FromRunning.MadeFor.{WasLeafOf, IsMadeFor}
-use Rattle.bz_alone.specs.FromRunning.AnyTask.TheVariants.{Seeking, Finding, Reading, Inserting, Updating, Deleting, Freezing, Consolidating, Splitting, SplittingBelow, SplittingInner, SplittingInnerRoot, Merging}
+use Rattle.bz_undisturbed.specs.FromRunning.Duties.{view_of}
+use Rattle.bz_undisturbed.specs.FromRunning.MadeFor.{WasLeafOf, IsMadeFor}
+use Rattle.bz_undisturbed.specs.FromRunning.AnyTask.TheVariants.{Seeking, Finding, Reading, Inserting, Updating, Deleting, Freezing, Consolidating, Splitting, SplittingBelow, SplittingInner, SplittingInnerRoot, Merging}
 use Rattle.bz_rounds.specs.Falls.{Falls, GivesRoom}
 use Rattle.bz_rounds.specs.Laws.{UndisturbedSwapsLowerTheStage}
 use Rattle.bz_rounds.specs.Undisturbed.{IsUndisturbedSwap}

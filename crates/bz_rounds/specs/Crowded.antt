@@ -8,8 +8,8 @@ use Rattle.bz_content.specs.Content.{image_of}
 use Rattle.bz_task.specs.Instant.{form_at}
 use Rattle.bz_task.specs.Scene.{Scene, IsScene, here}
 use Rattle.bz_task.specs.declared.view.LeafView.{LeafView}
-use Rattle.bz_alone.specs.Undisturbed.{IsUndisturbed}
-use Rattle.bz_alone.specs.FromRunning.MadeFor.{WasCrowded}
+use Rattle.bz_undisturbed.specs.Undisturbed.{IsUndisturbed}
+use Rattle.bz_undisturbed.specs.FromRunning.MadeFor.{WasCrowded}
 
 -- the node to which an ascent has come stands at a level on the way to its key; the leaf has to be split, and all nodes above it up to
 -- this one are full

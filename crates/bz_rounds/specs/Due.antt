@@ -4,7 +4,7 @@ use Rattle.std.specs.Prelude.{◌≡◌, ℕ, ◌+◌, ◌<◌, ◌≤◌, true,
 use Rattle.bz_ascent.specs.Ascents.{IsAscent}
 use Rattle.bz_ascent.specs.declared.ascent.Ascent.{Ascent}
 use Rattle.bz_tally.specs.FromBelow.Facts.{IsThawedAbove}
-use Rattle.bz_alone.specs.FromMerge.Thawed.{IsLedTo}
+use Rattle.bz_undisturbed.specs.FromMerge.Thawed.{IsLedTo}
 use Rattle.bz_renew.specs.Due.{IsStatusOf, IsDue}
 use Rattle.bz_word.specs.Statuses.{status}
 use Rattle.bz_task.specs.Outcomes.{IsPath, IsView}
@@ -12,8 +12,8 @@ use Rattle.bz_task.specs.Scene.{Scene, IsScene}
 use Rattle.bz_task.specs.declared.path.Link.{Link}
 use Rattle.bz_task.specs.declared.path.Path.{Path}
 use Rattle.bz_task.specs.declared.view.LeafView.{LeafView}
-use Rattle.bz_alone.specs.Undisturbed.{IsUndisturbed}
-use Rattle.bz_alone.specs.FromRunning.GoingUp.{MayBeSplit}
+use Rattle.bz_undisturbed.specs.Undisturbed.{IsUndisturbed}
+use Rattle.bz_undisturbed.specs.FromRunning.GoingUp.{MayBeSplit}
 
 -- no guard of a link of the path, as it was read, was a frozen node's
 abbrev pub UndisturbedGuardsAreThawed : Type 0

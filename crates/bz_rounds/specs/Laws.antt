@@ -4,12 +4,12 @@ use Rattle.bz_ascent.specs.Ascents.{IsAscent}
 use Rattle.bz_ascent.specs.declared.ascent.Ascent.{Ascent}
 use Rattle.bz_tally.specs.FromBelow.Duties.{asks_below, facts_below}
 use Rattle.bz_tally.specs.FromBelow.SplitBelow.{SplitBelow}
-use Rattle.bz_alone.specs.FromConsol.Duties as consol
-use Rattle.bz_alone.specs.FromConsol.Consolidate.{Consolidate}
-use Rattle.bz_alone.specs.FromCrown.Duties.{asks_crown, facts_crown}
-use Rattle.bz_alone.specs.FromCrown.SplitInnerRoot.{SplitInnerRoot}
-use Rattle.bz_alone.specs.FromFork.Duties.{asks_fork, facts_fork}
-use Rattle.bz_alone.specs.FromFork.SplitInner.{SplitInner}
+use Rattle.bz_undisturbed.specs.FromConsol.Duties as consol
+use Rattle.bz_undisturbed.specs.FromConsol.Consolidate.{Consolidate}
+use Rattle.bz_undisturbed.specs.FromCrown.Duties.{asks_crown, facts_crown}
+use Rattle.bz_undisturbed.specs.FromCrown.SplitInnerRoot.{SplitInnerRoot}
+use Rattle.bz_undisturbed.specs.FromFork.Duties.{asks_fork, facts_fork}
+use Rattle.bz_undisturbed.specs.FromFork.SplitInner.{SplitInner}
 use Rattle.bz_freeze.specs.Facts.{freeze_asks, freeze_facts}
 use Rattle.bz_freeze.specs.declared.freeze.Freeze.{Freeze}
 use Rattle.bz_layout.specs.declared.thresholds.TheConstants.{LEAF_RECORD_WORDS}
@@ -18,9 +18,9 @@ use Rattle.bz_tally.specs.FromSplit.SplitRoot.{SplitRoot}
 use Rattle.bz_task.specs.Instant.{Instant}
 use Rattle.bz_task.specs.Scene.{Scene, here}
 use Rattle.bz_word.specs.declared.entry.Entry.{Entry}
-use Rattle.bz_alone.specs.FromRunning.Duties.{config_of, asks_of, facts_of}
-use Rattle.bz_alone.specs.FromRunning.MadeFor.{WasLeafOf, LackedWords, IsSmallCopy, AreLargeHalves, HasComeTo, IsMadeFor}
-use Rattle.bz_alone.specs.FromRunning.AnyTask.{AnyTask}
+use Rattle.bz_undisturbed.specs.FromRunning.Duties.{config_of, asks_of, facts_of}
+use Rattle.bz_undisturbed.specs.FromRunning.MadeFor.{WasLeafOf, LackedWords, IsSmallCopy, AreLargeHalves, HasComeTo, IsMadeFor}
+use Rattle.bz_undisturbed.specs.FromRunning.AnyTask.{AnyTask}
 use Rattle.bz_rounds.specs.Falls.{Falls, GivesRoom}
 use Rattle.bz_rounds.specs.Undisturbed.{IsUndisturbedSwap}
 

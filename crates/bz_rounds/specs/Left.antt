@@ -2,10 +2,10 @@
 use Rattle.std.specs.Prelude.{◌≡◌, ℕ, ◌+◌, ◌-◌, ◌≤◌, List, Some, slice_get}
 use Rattle.bz_ascent.specs.Ascents.{IsAscent}
 use Rattle.bz_ascent.specs.declared.ascent.Ascent.{Ascent}
-use Rattle.bz_alone.specs.FromCrown.Duties.{asks_crown, facts_crown}
-use Rattle.bz_alone.specs.FromCrown.SplitInnerRoot.{SplitInnerRoot}
-use Rattle.bz_alone.specs.FromFork.Duties.{asks_fork, facts_fork}
-use Rattle.bz_alone.specs.FromFork.SplitInner.{SplitInner}
+use Rattle.bz_undisturbed.specs.FromCrown.Duties.{asks_crown, facts_crown}
+use Rattle.bz_undisturbed.specs.FromCrown.SplitInnerRoot.{SplitInnerRoot}
+use Rattle.bz_undisturbed.specs.FromFork.Duties.{asks_fork, facts_fork}
+use Rattle.bz_undisturbed.specs.FromFork.SplitInner.{SplitInner}
 use Rattle.bz_layout.specs.declared.config.Config.{Config}
 use Rattle.bz_layout.specs.declared.thresholds.TheConstants.{LEAF_RECORD_WORDS, MAX_LEVELS}
 use Rattle.bz_word.specs.declared.entry.Entry.{Entry}
@@ -15,10 +15,10 @@ use Rattle.bz_task.specs.Scene.{Scene, here}
 use Rattle.bz_task.specs.declared.path.Link.{Link}
 use Rattle.bz_stage.specs.Laws.{LeavesALevel}
 use Rattle.bz_stage.specs.Stages.{stage_in}
-use Rattle.bz_alone.specs.FromRunning.AnyTask.{AnyTask}
-use Rattle.bz_alone.specs.FromRunning.Duties.{config_of, asks_of, facts_of}
-use Rattle.bz_alone.specs.FromRunning.Kinds.{Kind, Seek, Find, ReadWhole, Insert, Update, Delete, Freeze, Copy, SplitRootLeaf, SplitLeaf, SplitNode, SplitRootNode, Merge, kind_of, level_of}
-use Rattle.bz_alone.specs.FromRunning.MadeFor.{HasComeTo, IsMadeFor}
+use Rattle.bz_undisturbed.specs.FromRunning.AnyTask.{AnyTask}
+use Rattle.bz_undisturbed.specs.FromRunning.Duties.{config_of, asks_of, facts_of}
+use Rattle.bz_undisturbed.specs.FromRunning.Kinds.{Kind, Seek, Find, ReadWhole, Insert, Update, Delete, Freeze, Copy, SplitRootLeaf, SplitLeaf, SplitNode, SplitRootNode, Merge, kind_of, level_of}
+use Rattle.bz_undisturbed.specs.FromRunning.MadeFor.{HasComeTo, IsMadeFor}
 use Rattle.bz_rounds.specs.Falls.{Falls, GivesRoom}
 use Rattle.bz_rounds.specs.Undisturbed.{IsUndisturbedSwap}
 

@@ -7,9 +7,9 @@ use Rattle.bz_task.specs.Scene.{Scene, IsScene, here}
 use Rattle.bz_task.specs.declared.path.Link.{Link}
 use Rattle.bz_task.specs.declared.view.LeafView.{LeafView}
 use Rattle.bz_stage.specs.Stages.{stage_in}
-use Rattle.bz_alone.specs.Undisturbed.{IsUndisturbed}
-use Rattle.bz_alone.specs.FromRunning.Kinds.{level_of}
-use Rattle.bz_alone.specs.FromRunning.MadeFor.{WasCrowded}
+use Rattle.bz_undisturbed.specs.Undisturbed.{IsUndisturbed}
+use Rattle.bz_undisturbed.specs.FromRunning.Kinds.{level_of}
+use Rattle.bz_undisturbed.specs.FromRunning.MadeFor.{WasCrowded}
 
 -- the node is at the level that its place on the path tells, where the last link is among those of the path
 abbrev pub AscentsStandAtLevels : Type 0

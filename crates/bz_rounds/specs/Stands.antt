@@ -15,8 +15,8 @@ use Rattle.bz_task.specs.declared.view.KeyView.{KeyView}
 use Rattle.bz_task.specs.declared.view.LeafView.{LeafView}
 use Rattle.bz_stage.specs.Rooms.{is_crowded}
 use Rattle.bz_stage.specs.Stages.{stage_in}
-use Rattle.bz_alone.specs.Undisturbed.{IsUndisturbed}
-use Rattle.bz_alone.specs.Quiet.{IsQuietSince, IsIn}
+use Rattle.bz_undisturbed.specs.Undisturbed.{IsUndisturbed}
+use Rattle.bz_undisturbed.specs.Quiet.{IsQuietSince, IsIn}
 
 -- the key's leaf is frozen or not, crowded or not, with the live words that it had, the tree is as high as it was, and the stage is the same,
 -- for however many words

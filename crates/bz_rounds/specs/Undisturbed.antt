@@ -7,7 +7,7 @@ use Rattle.bz_task.specs.Scene.{Scene, Stage, Waiting, IsScene, here}
 use Rattle.bz_task.specs.Swaps.{SwapsTo}
 use Rattle.bz_task.specs.declared.todo.Todo.{Todo}
 use Rattle.bz_task.specs.declared.todo.Todo.TheVariants.{Swap}
-use Rattle.bz_alone.specs.Undisturbed.{IsUndisturbed}
+use Rattle.bz_undisturbed.specs.Undisturbed.{IsUndisturbed}
 
 -- a task over this memory, which knows these facts, asks for a swap of these entries; nobody's swap took effect since the look-up began;
 -- and this one leads to y

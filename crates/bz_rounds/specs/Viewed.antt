@@ -7,7 +7,7 @@ use Rattle.bz_task.specs.Outcomes.{IsView, IsKeyView}
 use Rattle.bz_task.specs.Scene.{Scene, IsScene, here}
 use Rattle.bz_task.specs.declared.view.KeyView.{KeyView}
 use Rattle.bz_task.specs.declared.view.LeafView.{LeafView}
-use Rattle.bz_alone.specs.Undisturbed.{IsUndisturbed}
+use Rattle.bz_undisturbed.specs.Undisturbed.{IsUndisturbed}
 
 -- a leaf with this status has no room now: not for a record of so many words and its metadata word, and if it is frozen for nothing. Or
 -- it has, and if it is not frozen for the change of a delete, which asks for no words

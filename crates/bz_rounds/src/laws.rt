@@ -6,8 +6,8 @@ ghost use Rattle.bz_rounds.specs.Levels.{UndisturbedAscentsAreBelowTheStage};
 ghost use Rattle.bz_rounds.specs.Stands.{StagesStand, UndisturbedViewsTellTheLeaf};
 ghost use Rattle.bz_rounds.specs.Viewed.{UndisturbedKeyViewsTellTheStage, UndisturbedViewsTellTheStage};
 
-pub use bz_alone::laws as alone;
 pub use bz_tally::laws as tally;
+pub use bz_undisturbed::laws as alone;
 
 /// What a look-up of the key saw of the status of its leaf tells whether the stage is 0.
 pub fn undisturbed_key_views_tell_the_stage()

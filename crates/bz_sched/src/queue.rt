@@ -4,7 +4,7 @@ ghost use Rattle.bz_sched.specs.Queued.{calls_of, without_first, is_busy_by, IsF
 ghost use Rattle.bz_sched.specs.QueueKept.{IsFound};
 
 use bz_call::Call;
-use bz_memory::Memory;
+use bz_oom::Memory;
 use std::alloc::Global;
 use std::marker::Model;
 

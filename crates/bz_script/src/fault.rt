@@ -1,6 +1,6 @@
 //! Why bytes are no script.
 
-use bz_memory::Memory;
+use bz_oom::Memory;
 use std::alloc::{AllocError, AllocFailed};
 use std::error::Error;
 use std::fmt;

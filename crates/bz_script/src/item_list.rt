@@ -2,7 +2,7 @@
 ghost use Rattle.std.specs.Prelude.{◌≡◌, ◌<◌, ◌+◌, ◌++◌, ◌∷◌, [], IfOk};
 
 use crate::item::{Item, Plan};
-use bz_memory::Memory;
+use bz_oom::Memory;
 use std::alloc::Global;
 use std::marker::Model;
 

@@ -1,7 +1,7 @@
 //! The turns of a run by a list.
 ghost use Rattle.std.specs.Prelude.{◌≡◌, IfOk};
 
-use bz_memory::Memory;
+use bz_oom::Memory;
 use std::alloc::Global;
 use std::marker::Model;
 

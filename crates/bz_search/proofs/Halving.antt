@@ -4,8 +4,8 @@ use Rattle.std.specs.Prelude.{Some, None, nat_lt}
 use Rattle.std.proofs.lemmas.Bool.{cases_lt, cases_eq, true≢false}
 use Rattle.std.proofs.lemmas.Bool.Decides.{nat_tests}
 use Rattle.bz_layout.specs.declared.sizes.TheConstants.{SHARED_WORDS}
-use Rattle.bz_shape.specs.Order.{is_before}
-use Rattle.bz_shape.proofs.OrderLaws.{before-trans, before-asymmetric}
+use Rattle.bz_tree.specs.Order.{is_before}
+use Rattle.bz_tree.proofs.OrderLaws.{before-trans, before-asymmetric}
 use Rattle.bz_slotted.specs.Page.{visible, Page, page}
 use Rattle.bz_slotted.specs.Records.{key_at}
 use Rattle.bz_slotted.specs.Whole.{KeysRise}

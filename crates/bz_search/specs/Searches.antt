@@ -1,7 +1,7 @@
 -- What is known of a leaf's key while it is searched for among the sorted records by halving, and at how many records it looks
 -- that are not visible.
 use Rattle.std.specs.Prelude.{◌≡◌, ◌≢◌, ℕ, zero, suc, ◌+◌, ◌<◌, ◌≤◌, if◌then◌else◌, true, false, List, Option, Some, None}
-use Rattle.bz_shape.specs.Order.{is_before}
+use Rattle.bz_tree.specs.Order.{is_before}
 use Rattle.bz_slotted.specs.Page.{visible, Page, page}
 use Rattle.bz_slotted.specs.Records.{key_at}
 use Rattle.bz_search.specs.Probes.{middle, IsProbe, probe_in, lower_of, upper_of, down_of, still}

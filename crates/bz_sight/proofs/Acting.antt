@@ -5,13 +5,13 @@ use Rattle.std.proofs.lemmas.List.{get_or-set_same, get_or-set_other, length-set
 use Rattle.bz_layout.specs.declared.config.Config.{Config}
 use Rattle.bz_pm.specs.After.{after_store}
 use Rattle.bz_pm.specs.State.{State}
-use Rattle.bz_cells.proofs.Pasts.{past_of}
-use Rattle.bz_acts.specs.Rule.{after_act}
-use Rattle.bz_acts.specs.declared.acted.Act.{Act}
-use Rattle.bz_acts.specs.declared.acted.Act.TheVariants.{Store, Flush}
-use Rattle.bz_cells.specs.Store.{IsOutside}
-use Rattle.bz_machine.specs.declared.done.Done.{Done}
-use Rattle.bz_machine.specs.declared.done.Done.TheVariants.{Busy, Read, Swapped, Stored, Flushed}
+use Rattle.bz_swap_cells.proofs.Pasts.{past_of}
+use Rattle.bz_swap_acts.specs.Rule.{after_act}
+use Rattle.bz_swap_acts.specs.declared.acted.Act.{Act}
+use Rattle.bz_swap_acts.specs.declared.acted.Act.TheVariants.{Store, Flush}
+use Rattle.bz_swap_cells.specs.Store.{IsOutside}
+use Rattle.bz_swap_machine.specs.declared.done.Done.{Done}
+use Rattle.bz_swap_machine.specs.declared.done.Done.TheVariants.{Busy, Read, Swapped, Stored, Flushed}
 use Rattle.bz_swap.specs.Effects.{NoneTakesEffect, TakesEffect}
 use Rattle.bz_swap.specs.Evictions.{IsEviction, EvictsIn}
 use Rattle.bz_swap.specs.Held.{Holds, IsHeld}

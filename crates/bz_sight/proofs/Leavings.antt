@@ -6,7 +6,7 @@ use Rattle.std.proofs.lemmas.Bool.Decides.{nat_tests}
 use Rattle.std.proofs.lemmas.Bool.{cases_lt}
 use Rattle.bz_layout.specs.Addresses.{swap_address, node_address}
 use Rattle.bz_layout.specs.declared.config.Config.{Config}
-use Rattle.bz_cells.specs.Store.{IsOutside, is_outside}
+use Rattle.bz_swap_cells.specs.Store.{IsOutside, is_outside}
 use Rattle.bz_swap.specs.SwapMemory.{SwapMemory, is_named, is_among, is_settled_at}
 use Rattle.bz_swap.proofs.SettledWords.{settled-same, settled-alike}
 use Rattle.bz_task.specs.Instant.{Instant, IsDurableAt}

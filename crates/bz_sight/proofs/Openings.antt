@@ -7,7 +7,7 @@ use Rattle.bz_layout.specs.Fresh.{SaysFresh, fresh_words}
 use Rattle.bz_layout.specs.declared.config.Config.{Config}
 use Rattle.bz_layout.specs.declared.sizes.TheConstants.{SUPERBLOCK_USED}
 use Rattle.bz_layout.proofs.Laws.{fresh_words_say}
-use Rattle.bz_cells.specs.Store.{is_outside, field_address}
+use Rattle.bz_swap_cells.specs.Store.{is_outside, field_address}
 use Rattle.bz_content.specs.Resolving.{resolve}
 use Rattle.bz_content.proofs.Proved.{fresh_memory_is_empty, plain_words_stand_for_themselves}
 use Rattle.bz_swap.specs.Held.{Holds}

@@ -7,10 +7,10 @@ use Rattle.bz_layout.specs.Addresses.{swap_address, node_address, words_of as si
 use Rattle.bz_layout.specs.declared.config.Config.{Config}
 use Rattle.bz_layout.specs.declared.sizes.TheConstants.{NODE_WORDS, SHARED_WORDS, META_AT, STATUS_AT, ROOT_AT, ROOT_STATUS_AT, SUPERBLOCK_WORDS, SWAP_STATUS_AT}
 use Rattle.bz_layout.proofs.Laws.{addresses_are_placed, slots_apart}
-use Rattle.bz_cells.specs.Store.{IsOutside, is_outside, status_word, status_at}
-use Rattle.bz_machine.specs.declared.status.SwapStatus.{SwapStatus}
-use Rattle.bz_machine.specs.declared.status.SwapStatus.TheVariants.{Free, Undecided, Deciding, Decided}
-use Rattle.bz_machine.specs.declared.status.Verdict.TheVariants.{Succeeded, Failed}
+use Rattle.bz_swap_cells.specs.Store.{IsOutside, is_outside, status_word, status_at}
+use Rattle.bz_swap_machine.specs.declared.status.SwapStatus.{SwapStatus}
+use Rattle.bz_swap_machine.specs.declared.status.SwapStatus.TheVariants.{Free, Undecided, Deciding, Decided}
+use Rattle.bz_swap_machine.specs.declared.status.Verdict.TheVariants.{Succeeded, Failed}
 use Rattle.bz_swap.specs.PlainFields.{HavePlainFields}
 use Rattle.bz_swap.specs.SwapMemory.{SwapMemory, value_at, is_named, is_among, is_settled_at}
 use Rattle.bz_swap.proofs.SettledWords.{settled-same}

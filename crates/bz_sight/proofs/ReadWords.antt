@@ -2,7 +2,7 @@
 use Rattle.std.proofs.Common.{◌≡◌, ℕ, ◌≤◌, true, false, slice_index, arith, sym, ap, subst, ◌∙◌, inl, inr}
 use Rattle.bz_layout.specs.Addresses.{swap_address}
 use Rattle.bz_layout.specs.declared.config.Config.{Config}
-use Rattle.bz_cells.specs.Store.{IsOutside}
+use Rattle.bz_swap_cells.specs.Store.{IsOutside}
 use Rattle.bz_swap.specs.SwapMemory.{SwapMemory, is_named, is_settled_at}
 use Rattle.bz_swap.proofs.SettledWords.{settled-same}
 use Rattle.bz_task.specs.Instant.{Instant, words}

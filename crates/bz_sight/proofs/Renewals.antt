@@ -5,11 +5,11 @@ use Rattle.std.proofs.lemmas.Bool.{true≢false, cases_lt, and_parts}
 use Rattle.bz_layout.specs.Addresses.{swap_address, node_address}
 use Rattle.bz_layout.specs.declared.config.Config.{Config}
 use Rattle.bz_layout.specs.declared.sizes.TheConstants.{NODE_WORDS, ROOT_AT, ROOT_STATUS_AT, SUPERBLOCK_WORDS}
-use Rattle.bz_cells.specs.Store.{IsOutside}
+use Rattle.bz_swap_cells.specs.Store.{IsOutside}
 use Rattle.bz_content.specs.Content.{view_in}
 use Rattle.bz_content.specs.Resolving.{resolve}
 use Rattle.bz_content.proofs.Proved.{plain_words_stand_for_themselves}
-use Rattle.bz_shape.specs.Walk.{form}
+use Rattle.bz_tree.specs.Walk.{form}
 use Rattle.bz_swap.specs.Power.{renewed}
 use Rattle.bz_swap.specs.SwapMemory.{SwapMemory}
 use Rattle.bz_swap.proofs.Proved.{plain_fields_stay, settled_words_stay}

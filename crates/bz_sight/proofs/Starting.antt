@@ -5,7 +5,7 @@ use Rattle.std.proofs.lemmas.Bool.{true≢false}
 use Rattle.bz_layout.specs.Addresses.{swap_address, node_address, words_of as size_of, IsOutsideSwaps}
 use Rattle.bz_layout.specs.declared.config.Config.{Config}
 use Rattle.bz_layout.specs.declared.sizes.TheConstants.{LINE_WORDS}
-use Rattle.bz_cells.specs.Store.{IsOutside, is_outside}
+use Rattle.bz_swap_cells.specs.Store.{IsOutside, is_outside}
 use Rattle.bz_swap.specs.Held.{Holds, IsHeld}
 use Rattle.bz_swap.specs.Starts.{IsAddress, MayStore, MayFlush, MaySwap, IsEntry, IsPrivateStore, IsPrivateFlush, swapping, phase_of}
 use Rattle.bz_swap.specs.SwapMemory.{SwapMemory, is_named, is_among, is_settled_at, is_target}

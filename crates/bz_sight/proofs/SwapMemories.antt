@@ -1,6 +1,6 @@
 -- What a swap memory leaves outside a recovery time, and how an effect changes it.
 use Rattle.std.proofs.Common.{◌≡◌, ◌≢◌, ℕ, refl, subst, sym, ◌∙◌}
-use Rattle.bz_cells.specs.Store.{IsOutside}
+use Rattle.bz_swap_cells.specs.Store.{IsOutside}
 use Rattle.bz_swap.specs.Held.{IsHeld, HoldsIn}
 use Rattle.bz_swap.specs.SwapMemory.{SwapMemory}
 use Rattle.bz_swap.specs.declared.phase.Phase.{Phase}

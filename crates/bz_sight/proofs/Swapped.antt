@@ -9,8 +9,8 @@ use Rattle.bz_word.specs.Fields.{field}
 use Rattle.bz_word.specs.Kinds.{kind, IsWord}
 use Rattle.bz_word.specs.declared.kind.WordKind.{WordKind}
 use Rattle.bz_word.specs.declared.kind.WordKind.TheVariants.{Value, Dirty, Swap, Tag}
-use Rattle.bz_machine.specs.Machine.{resolve as resolved}
-use Rattle.bz_cells.specs.Store.{IsOutside, is_outside, kind_at, status_at}
+use Rattle.bz_swap_machine.specs.Machine.{resolve as resolved}
+use Rattle.bz_swap_cells.specs.Store.{IsOutside, is_outside, kind_at, status_at}
 use Rattle.bz_slotted.specs.Tests.{every, implies}
 use Rattle.bz_swap.specs.Lawful.{IsReadable, HasEntry, IsLawfulKind}
 use Rattle.bz_swap.specs.Resolve.{entries_at}

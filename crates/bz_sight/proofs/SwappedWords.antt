@@ -4,9 +4,9 @@ use Rattle.std.specs.Prelude.{nat_lt, slice_index}
 use Rattle.std.proofs.lemmas.Bool.{cases_eq}
 use Rattle.std.proofs.lemmas.Bool.Decides.{nat_tests}
 use Rattle.bz_layout.specs.Addresses.{swap_address}
-use Rattle.bz_machine.specs.Machine.{Entries, is_succeeded}
-use Rattle.bz_machine.specs.declared.status.SwapStatus.TheVariants.{Free}
-use Rattle.bz_cells.specs.Store.{status_of, status_at, field_count, field_address, descriptor_word_at}
+use Rattle.bz_swap_machine.specs.Machine.{Entries, is_succeeded}
+use Rattle.bz_swap_machine.specs.declared.status.SwapStatus.TheVariants.{Free}
+use Rattle.bz_swap_cells.specs.Store.{status_of, status_at, field_count, field_address, descriptor_word_at}
 use Rattle.bz_swap.specs.Lawful.{IsReadable}
 use Rattle.bz_swap.specs.Resolve.{first_entry, entries_at}
 use Rattle.bz_content.specs.Resolving.{status_in, count_in, target_in, expected_in, value_in, entry_for}

@@ -1,8 +1,8 @@
 -- Acts and evictions by which a swap takes effect.
 use Rattle.std.specs.Prelude.{◌≡◌, ℕ, ◌+◌, ◌^◌, ◌&&◌, ◌||◌, ◌<◌, nat_lt, true, false, slice_index}
 use Rattle.bz_layout.specs.declared.config.Config.{Config}
-use Rattle.bz_shape.specs.Walk.{form}
-use Rattle.bz_cells.specs.Store.{IsOutside}
+use Rattle.bz_tree.specs.Walk.{form}
+use Rattle.bz_swap_cells.specs.Store.{IsOutside}
 use Rattle.bz_swap.specs.Effects.{TakesEffect}
 use Rattle.bz_swap.specs.Held.{Holds}
 use Rattle.bz_swap.specs.PlainFields.{HavePlainFields}

@@ -2,7 +2,7 @@
 use Rattle.std.specs.Prelude.{◌≡◌, ◌≢◌, ℕ, ◌⊎◌, true, false, length, slice_index}
 use Rattle.bz_layout.specs.Addresses.{line_of}
 use Rattle.bz_layout.specs.declared.config.Config.{Config}
-use Rattle.bz_cells.specs.Store.{IsOutside}
+use Rattle.bz_swap_cells.specs.Store.{IsOutside}
 use Rattle.bz_swap.specs.Effects.{NoneTakesEffect}
 use Rattle.bz_swap.specs.Held.{Holds}
 use Rattle.bz_swap.specs.PlainFields.{HavePlainFields}

@@ -4,7 +4,7 @@ use Rattle.bz_layout.specs.Addresses.{node_address, words_of as size_of}
 use Rattle.bz_layout.specs.Config.{IsConfig}
 use Rattle.bz_layout.specs.declared.config.Config.{Config}
 use Rattle.bz_layout.specs.declared.sizes.TheConstants.{NODE_WORDS}
-use Rattle.bz_cells.specs.Store.{is_outside}
+use Rattle.bz_swap_cells.specs.Store.{is_outside}
 use Rattle.bz_swap.specs.Held.{Holds}
 use Rattle.bz_swap.specs.PlainFields.{HavePlainFields}
 use Rattle.bz_swap.specs.SwapMemory.{SwapMemory, value_at, is_named, is_settled_at}

@@ -2,7 +2,7 @@
 use Rattle.std.proofs.Common.{◌≡◌, ℕ, ◌<◌, ◌&&◌, Bool, true, false, List, ◌∷◌, arith, refl, inl, inr, Option}
 use Rattle.std.specs.Prelude.{Some}
 use Rattle.std.proofs.lemmas.Bool.{cases_eq}
-use Rattle.bz_shape.specs.declared.rule.ShapeRule.{ShapeRule}
+use Rattle.bz_tree.specs.declared.rule.ShapeRule.{ShapeRule}
 use Rattle.bz_slotted.specs.Page.{visible, Page}
 use Rattle.bz_slotted.specs.Reads.{KeysAreRead, PointersAreRead}
 use Rattle.bz_slotted.specs.Rules.{leaf_record_test, inner_record_test}

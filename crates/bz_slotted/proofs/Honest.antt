@@ -5,7 +5,7 @@ use Rattle.std.proofs.lemmas.Bool.Decides.{nat_tests}
 use Rattle.std.proofs.lemmas.Slice.Eq.{bytes_eq-Decides}
 use Rattle.bz_layout.specs.declared.sizes.TheConstants.{SHARED_WORDS}
 use Rattle.bz_slotted.proofs.Lives.{live_to-le}
-use Rattle.bz_shape.specs.Order.{is_within}
+use Rattle.bz_tree.specs.Order.{is_within}
 use Rattle.bz_word.specs.declared.meta.Meta.{Meta}
 use Rattle.bz_slotted.specs.Laws.{RisesBetween}
 use Rattle.bz_slotted.specs.Page.{visible, extent_of, page}

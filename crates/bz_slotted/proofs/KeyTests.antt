@@ -4,7 +4,7 @@ use Rattle.std.specs.Prelude.{not, nat_lt, nat_le, bytes_eq}
 use Rattle.std.specs.Bool.{Decides}
 use Rattle.std.proofs.lemmas.Bool.Decides.{Decides-ltb, Decides-and, Decides-like, Decides-not}
 use Rattle.std.proofs.lemmas.Slice.Eq.{bytes_eq-Decides}
-use Rattle.bz_shape.specs.Order.{is_before, is_above, is_below, is_within}
+use Rattle.bz_tree.specs.Order.{is_before, is_above, is_below, is_within}
 use Rattle.bz_slotted.specs.Page.{visible, Page}
 use Rattle.bz_slotted.specs.Records.{key_at, pointer_at}
 use Rattle.bz_slotted.specs.Rules.{order_test, leaf_key_test, inner_key_test, distinct_test, child_test}

@@ -14,7 +14,7 @@ use Rattle.bz_node.specs.Reading.{payload_at, key_part, low_in, child_in}
 use Rattle.bz_node.specs.Records.{child_entry, inner_words, separators_of, IsChild, IsBound, IsAbove, IsChildList}
 use Rattle.bz_node.specs.declared.child.Child.{Child}
 use Rattle.bz_node.proofs.Proved.{inner_nodes_are_read}
-use Rattle.bz_shape.specs.Order.{is_before, is_above}
+use Rattle.bz_tree.specs.Order.{is_before, is_above}
 use Rattle.bz_word.specs.declared.meta.Extent.{Extent}
 use Rattle.bz_slotted.specs.Page.{words_at, extent_of, page}
 use Rattle.bz_slotted.specs.Readers.{count_of, child_of, key_of}

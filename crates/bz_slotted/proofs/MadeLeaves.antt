@@ -17,7 +17,7 @@ use Rattle.bz_node.specs.Layout.{Entry, IsEntry}
 use Rattle.bz_node.specs.Reading.{metas_in, payload_at, payload_len, shown, extent_words, words_shown, extent_in, HasPair}
 use Rattle.bz_node.specs.Records.{pair_entry, leaf_words, keys_of, IsPair, IsBefore, IsAtLeast, IsBelow, IsLeafList}
 use Rattle.bz_node.proofs.Proved.{leaves_are_read}
-use Rattle.bz_shape.specs.Order.{is_before, is_at_least, is_below, is_within}
+use Rattle.bz_tree.specs.Order.{is_before, is_at_least, is_below, is_within}
 use Rattle.bz_word.specs.declared.meta.Meta.{Meta}
 use Rattle.bz_slotted.specs.Page.{visible, extent_of, page}
 use Rattle.bz_slotted.specs.Readers.{found_of, live_of}

@@ -1,8 +1,8 @@
 -- Records that rise do so where each rises above the last visible one before it, and have different keys.
 use Rattle.std.proofs.Common.{◌≡◌, ℕ, zero, suc, ◌+◌, ◌<◌, ◌≤◌, ◌&&◌, Bool, true, false, arith, refl, sym, ap, subst, ◌∙◌, inl, inr}
 use Rattle.std.proofs.lemmas.Bool.{true≢false, cases_eq, cases_lt}
-use Rattle.bz_shape.proofs.OrderLaws.{before-irreflexive, before-trans}
-use Rattle.bz_shape.specs.Order.{is_before}
+use Rattle.bz_tree.proofs.OrderLaws.{before-irreflexive, before-trans}
+use Rattle.bz_tree.specs.Order.{is_before}
 use Rattle.std.specs.Prelude.{◌||◌, nat_le}
 use Rattle.std.proofs.lemmas.Bool.Decides.{nat_tests}
 use Rattle.bz_slotted.specs.Page.{visible, held, extent_of, Page}

@@ -2,7 +2,7 @@
 use Rattle.std.proofs.Common.{◌≡◌, ◌≢◌, ℕ, true, false, List, refl, sym, ◌∙◌, inl, inr, Option}
 use Rattle.std.specs.Prelude.{Some}
 use Rattle.std.proofs.lemmas.Bool.{cases_eq}
-use Rattle.bz_shape.specs.declared.rule.ShapeRule.TheVariants.{Level, Fence, Status}
+use Rattle.bz_tree.specs.declared.rule.ShapeRule.TheVariants.{Level, Fence, Status}
 use Rattle.bz_slotted.specs.Page.{page}
 use Rattle.bz_slotted.specs.Rules.{level_test, fences_test, filled_test, leaf_tests, inner_tests, node_fault}
 use Rattle.bz_slotted.specs.Tests.{first_of}

@@ -2,7 +2,7 @@
 use Rattle.std.proofs.Common.{◌≡◌, ◌≢◌, ℕ, ◌+◌, ◌<◌, ◌≤◌, true, List, arith, refl, sym, ap, ◌∙◌, inl, inr, Option}
 use Rattle.std.proofs.lemmas.Bool.{cases_eq}
 use Rattle.bz_layout.specs.declared.sizes.TheConstants.{META_AT}
-use Rattle.bz_shape.specs.Order.{is_within}
+use Rattle.bz_tree.specs.Order.{is_within}
 use Rattle.bz_word.specs.declared.meta.Meta.{Meta}
 use Rattle.bz_slotted.specs.Changes.{Rewrites}
 use Rattle.bz_slotted.specs.Page.{meta_of, visible, held, used, extent_of, page}

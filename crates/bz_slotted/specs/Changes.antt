@@ -2,7 +2,7 @@
 -- and `s`. A swap names the status and at most one metadata word, so that the block stands as it stood.
 use Rattle.std.specs.Prelude.{◌≡◌, ◌≢◌, ℕ, ◌+◌, ◌^◌, ◌<◌, ◌≤◌, ◌⊎◌, true, false, List, Option}
 use Rattle.bz_layout.specs.declared.sizes.TheConstants.{NODE_WORDS, STATUS_AT, META_AT, SHARED_WORDS}
-use Rattle.bz_shape.specs.Order.{is_within}
+use Rattle.bz_tree.specs.Order.{is_within}
 use Rattle.bz_word.specs.declared.meta.Meta.{Meta}
 use Rattle.bz_slotted.specs.Page.{meta_of, visible, held, used, extent_of, page}
 use Rattle.bz_slotted.specs.Records.{key_in, key_at, weight, shown}

@@ -1,3 +1,3 @@
--- What crates above take of bz_shape by this one.
-pub use Rattle.bz_shape.specs.Order
-pub use Rattle.bz_shape.specs.Slots
+-- What crates above take of bz_tree by this one.
+pub use Rattle.bz_tree.specs.Order
+pub use Rattle.bz_tree.specs.Slots

@@ -1,7 +1,7 @@
 -- What no fault means, as facts and for keys.
 use Rattle.std.specs.Prelude.{◌≡◌, ◌≢◌, ◌↔◌, ℕ, ◌<◌, ◌≤◌, true, List, Option, None}
 use Rattle.bz_layout.specs.declared.sizes.TheConstants.{SHARED_WORDS}
-use Rattle.bz_shape.specs.Order.{is_before, is_above, is_below, is_within}
+use Rattle.bz_tree.specs.Order.{is_before, is_above, is_below, is_within}
 use Rattle.bz_slotted.specs.Page.{page}
 use Rattle.bz_slotted.specs.Readers.{count_of, child_of, key_of, found_of, live_of}
 use Rattle.bz_slotted.specs.Rules.{node_fault}

@@ -6,9 +6,9 @@ use Rattle.bz_key.specs.declared.limits.TheConstants.{KEY_BYTES, PAYLOAD_BYTES}
 use Rattle.bz_layout.specs.declared.sizes.TheConstants.{NODE_WORDS, STATUS_AT, HEADER_AT, LOW_FENCE_AT, HIGH_FENCE_AT, FENCE_WORDS, META_AT, SHARED_WORDS}
 use Rattle.bz_layout.specs.declared.thresholds.TheConstants.{MAX_LEVELS}
 use Rattle.bz_node.specs.Reading.{payload_len}
-use Rattle.bz_shape.specs.Order.{is_before, is_above, is_below, is_within}
-use Rattle.bz_shape.specs.declared.rule.ShapeRule.{ShapeRule}
-use Rattle.bz_shape.specs.declared.rule.ShapeRule.TheVariants.{Level, Fence, Status, Record, Order, Key, Child}
+use Rattle.bz_tree.specs.Order.{is_before, is_above, is_below, is_within}
+use Rattle.bz_tree.specs.declared.rule.ShapeRule.{ShapeRule}
+use Rattle.bz_tree.specs.declared.rule.ShapeRule.TheVariants.{Level, Fence, Status, Record, Order, Key, Child}
 use Rattle.bz_word.specs.declared.meta.Extent.{Extent}
 use Rattle.bz_word.specs.declared.meta.Meta.{Meta}
 use Rattle.bz_slotted.specs.Page.{words_at, visible, held, used, extent_of, Page, page}

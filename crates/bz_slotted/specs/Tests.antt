@@ -1,6 +1,6 @@
 -- Lists of tests, each with the rule that it stands for: the first that fails answers.
 use Rattle.std.specs.Prelude.{ℕ, zero, suc, ◌&&◌, if◌then◌else◌, Bool, true, false, List, [], ◌∷◌, Option, Some, None}
-use Rattle.bz_shape.specs.declared.rule.ShapeRule.{ShapeRule}
+use Rattle.bz_tree.specs.declared.rule.ShapeRule.{ShapeRule}
 
 pub record Test : Type 0 where
   pub rule : ShapeRule

@@ -13,7 +13,7 @@ use crate::entries::{
 use crate::filling::{is_filled, is_settled};
 use crate::front::{has_fences, is_at_level};
 use crate::place::Place;
-use bz_shape::ShapeRule;
+use bz_tree::ShapeRule;
 
 // The first rule that a leaf breaks, where level, fences and status break none.
 fn leaf_fault(raw: &[u64], words: &[u64], place: &Place) -> Option<ShapeRule>

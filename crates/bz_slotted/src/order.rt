@@ -1,13 +1,13 @@
 //! The order of keys, where a record that has no key has the least.
 ghost use Rattle.std.specs.Prelude.{◌≡◌, bytes_eq};
 ghost use Rattle.bz_node.specs.Layout.{bound_of};
-ghost use Rattle.bz_shape.specs.Order.{is_before as before, is_at_least as at_least, is_above as above, is_below as below};
+ghost use Rattle.bz_tree.specs.Order.{is_before as before, is_at_least as at_least, is_above as above, is_below as below};
 
 use bz_key::Key;
 use std::cmp::Ordering;
 
 // Whether one key is before another.
-#[tactic(auto, unfolding(bz_shape::specs::Order::is_before))]
+#[tactic(auto, unfolding(bz_tree::specs::Order::is_before))]
 fn precedes(a: &Key, b: &Key) -> bool
     ensures { result ≡ before a.now b.now }
 {

@@ -5,9 +5,9 @@ use Rattle.std.proofs.lemmas.Bool.{true≢false}
 use Rattle.std.proofs.lemmas.Bool.Decides.{nat_tests}
 use Rattle.bz_layout.specs.Addresses.{node_address}
 use Rattle.bz_layout.specs.declared.sizes.TheConstants.{NODE_WORDS, STATUS_AT}
-use Rattle.bz_shape.specs.Outcomes.{Regrows}
-use Rattle.bz_shape.specs.Slots.{Wider}
-use Rattle.bz_shape.specs.Walk.{is_among}
+use Rattle.bz_tree.specs.Outcomes.{Regrows}
+use Rattle.bz_tree.specs.Slots.{Wider}
+use Rattle.bz_tree.specs.Walk.{is_among}
 use Rattle.bz_slotted.specs.Page.{page}
 use Rattle.bz_slotted.specs.Readers.{found_of}
 use Rattle.bz_slotted.specs.Rules.{node_fault}

@@ -6,7 +6,7 @@ use Rattle.bz_key.specs.Bytes.{IsKey}
 use Rattle.bz_layout.specs.declared.sizes.TheConstants.{NODE_WORDS}
 use Rattle.bz_layout.specs.declared.thresholds.TheConstants.{SPLIT_ABOVE}
 use Rattle.bz_node.specs.Records.{IsPair, IsAbove, IsBelow}
-use Rattle.bz_shape.specs.Order.{is_before}
+use Rattle.bz_tree.specs.Order.{is_before}
 use Rattle.bz_slotted.specs.Readers.{found_of, live_of}
 use Rattle.bz_slotted.specs.ReadingLaws.{node_of}
 use Rattle.bz_slotted.specs.Rules.{node_fault}

@@ -4,9 +4,9 @@ use Rattle.std.specs.Prelude.{Some, None}
 use Rattle.std.proofs.lemmas.Bool.Decides.{nat_tests}
 use Rattle.bz_layout.specs.Addresses.{node_address}
 use Rattle.bz_layout.specs.declared.sizes.TheConstants.{HEADER_AT, ROOT_AT}
-use Rattle.bz_shape.specs.Outcomes.{Regrows}
-use Rattle.bz_shape.specs.Slots.{AreTwo}
-use Rattle.bz_shape.specs.Walk.{is_among}
+use Rattle.bz_tree.specs.Outcomes.{Regrows}
+use Rattle.bz_tree.specs.Slots.{AreTwo}
+use Rattle.bz_tree.specs.Walk.{is_among}
 use Rattle.bz_slotted.specs.Page.{page}
 use Rattle.bz_slotted.specs.Readers.{found_of, level_of}
 use Rattle.bz_slotted.specs.Rules.{node_fault}

@@ -2,8 +2,8 @@
 -- its place; the guard of that link gets its next stamp, and the old parent is frozen.
 use Rattle.std.specs.Prelude.{◌≡◌, ℕ, true, false, List, [], ◌∷◌, Some}
 use Rattle.bz_layout.specs.declared.config.Config.{Config}
-use Rattle.bz_shape.specs.Order.{is_before}
-use Rattle.bz_shape.specs.Slots.{Wider}
+use Rattle.bz_tree.specs.Order.{is_before}
+use Rattle.bz_tree.specs.Slots.{Wider}
 use Rattle.bz_slotted.specs.Readers.{found_of}
 use Rattle.bz_word.specs.Statuses.{status}
 use Rattle.bz_word.specs.declared.entry.Entry.{Entry}

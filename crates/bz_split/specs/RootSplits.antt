@@ -1,9 +1,9 @@
 -- The swap of a root leaf's split: the root pointer goes to a new root over the leaf's two halves, and the root status gets its
 -- next stamp.
 use Rattle.std.specs.Prelude.{◌≡◌, ℕ, true, false, List, Option, Some, None}
-use Rattle.bz_shape.specs.Order.{is_before}
-use Rattle.bz_shape.specs.Slots.{AreTwo}
-use Rattle.bz_shape.specs.Split.{AreThree}
+use Rattle.bz_tree.specs.Order.{is_before}
+use Rattle.bz_tree.specs.Slots.{AreTwo}
+use Rattle.bz_tree.specs.Split.{AreThree}
 use Rattle.bz_slotted.specs.Readers.{found_of}
 use Rattle.bz_slotted.specs.Rules.{node_fault}
 use Rattle.bz_content.specs.Restructures.{children_of}

@@ -1,9 +1,9 @@
 -- A copy of the key's leaf has room.
 use Rattle.std.proofs.Common.{◌≡◌, ℕ, true, [], ◌∷◌, arith, refl, sym, subst}
 use Rattle.std.proofs.lemmas.Bool.Decides.{nat_tests}
-use Rattle.bz_shape.proofs.Trees.{among-first}
-use Rattle.bz_shape.specs.Descent.{leaf_of}
-use Rattle.bz_shape.specs.Walk.{is_among}
+use Rattle.bz_tree.proofs.Trees.{among-first}
+use Rattle.bz_tree.specs.Descent.{leaf_of}
+use Rattle.bz_tree.specs.Walk.{is_among}
 use Rattle.bz_content.specs.View.{view_of}
 use Rattle.bz_content.proofs.Proved.{consolidations_keep_the_content}
 use Rattle.bz_stage.proofs.Anew.{leaf-anew}

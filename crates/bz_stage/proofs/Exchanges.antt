@@ -3,11 +3,11 @@
 use Rattle.std.proofs.Common.{◌≡◌, ◌≢◌, ℕ, ◌<◌, ◌≤◌, ◌||◌, ◌&&◌, ◌⊎◌, Bool, true, false, List, arith, refl, sym, ap, ◌∙◌, inl, inr}
 use Rattle.std.specs.Prelude.{not}
 use Rattle.std.proofs.lemmas.Bool.{true≢false}
-use Rattle.bz_shape.proofs.TreeForms.{fits}
-use Rattle.bz_shape.specs.Form.{Fits}
-use Rattle.bz_shape.specs.Outcomes.{Exchanges, Moved}
-use Rattle.bz_shape.specs.View.{View}
-use Rattle.bz_shape.specs.Walk.{form, is_among, IsTree}
+use Rattle.bz_tree.proofs.TreeForms.{fits}
+use Rattle.bz_tree.specs.Form.{Fits}
+use Rattle.bz_tree.specs.Outcomes.{Exchanges, Moved}
+use Rattle.bz_tree.specs.View.{View}
+use Rattle.bz_tree.specs.Walk.{form, is_among, IsTree}
 use Rattle.bz_stage.proofs.Paths.{path-found, path-unique, below-top, stays-over, stood-over}
 use Rattle.bz_stage.specs.Paths.{on_path, StandsOver}
 

@@ -1,11 +1,11 @@
 -- The halves of the key's leaf have room, below an inner node and at the root.
 use Rattle.std.proofs.Common.{◌≡◌, ◌≢◌, ℕ, ◌+◌, List, [], ◌∷◌, arith, refl, sym, ap, ◌∙◌}
 use Rattle.bz_layout.specs.declared.config.Config.{Config}
-use Rattle.bz_shape.proofs.TreeForms.{fits}
-use Rattle.bz_shape.proofs.Trees.{among-first}
-use Rattle.bz_shape.specs.Descent.{leaf_of}
-use Rattle.bz_shape.specs.Form.{Form, Hangs}
-use Rattle.bz_shape.specs.Walk.{IsTree}
+use Rattle.bz_tree.proofs.TreeForms.{fits}
+use Rattle.bz_tree.proofs.Trees.{among-first}
+use Rattle.bz_tree.specs.Descent.{leaf_of}
+use Rattle.bz_tree.specs.Form.{Form, Hangs}
+use Rattle.bz_tree.specs.Walk.{IsTree}
 use Rattle.bz_slotted.specs.Readers.{level_of}
 use Rattle.bz_content.proofs.Reached.{is, level-is}
 use Rattle.bz_content.specs.Image.{Image, node, root}

@@ -1,13 +1,13 @@
 -- The nodes on the way down to a key: each is the one of its level in whose range the key is.
 use Rattle.std.proofs.Common.{◌≡◌, ◌≢◌, ℕ, zero, suc, ◌+◌, ◌-◌, ◌<◌, ◌≤◌, true, List, arith, refl, sym, ap, subst, ◌∙◌}
-use Rattle.bz_shape.proofs.Descents.{chosen-high, chosen-low, pick-le, rises, unique}
-use Rattle.bz_shape.proofs.TreeForms.{fits}
-use Rattle.bz_shape.specs.Descent.{choice, descend, leaf_of}
-use Rattle.bz_shape.specs.Form.{Fits, Form, IsHonest, Rises, Stands}
-use Rattle.bz_shape.specs.Order.{is_at_least, is_below}
-use Rattle.bz_shape.specs.Outcomes.{Moved}
-use Rattle.bz_shape.specs.View.{View}
-use Rattle.bz_shape.specs.Walk.{form}
+use Rattle.bz_tree.proofs.Descents.{chosen-high, chosen-low, pick-le, rises, unique}
+use Rattle.bz_tree.proofs.TreeForms.{fits}
+use Rattle.bz_tree.specs.Descent.{choice, descend, leaf_of}
+use Rattle.bz_tree.specs.Form.{Fits, Form, IsHonest, Rises, Stands}
+use Rattle.bz_tree.specs.Order.{is_at_least, is_below}
+use Rattle.bz_tree.specs.Outcomes.{Moved}
+use Rattle.bz_tree.specs.View.{View}
+use Rattle.bz_tree.specs.Walk.{form}
 use Rattle.bz_stage.specs.Laws.{PathsAreOfKeys}
 use Rattle.bz_stage.specs.Paths.{on_path, StandsOver}
 

@@ -1,9 +1,9 @@
 -- The nodes on the way down to a key, by their levels, and how many of them are alike, one above the other.
 use Rattle.std.specs.Prelude.{◌≡◌, ℕ, zero, suc, ◌-◌, if◌then◌else◌, Bool, true, List}
-use Rattle.bz_shape.specs.Descent.{descend}
-use Rattle.bz_shape.specs.Form.{Form}
-use Rattle.bz_shape.specs.Order.{is_at_least, is_below}
-use Rattle.bz_shape.specs.View.{View}
+use Rattle.bz_tree.specs.Descent.{descend}
+use Rattle.bz_tree.specs.Form.{Form}
+use Rattle.bz_tree.specs.Order.{is_at_least, is_below}
+use Rattle.bz_tree.specs.View.{View}
 
 -- the slot of this level on the way down to a key; at level 0 it is the key's leaf
 abbrev pub on_path : View → List ℕ → ℕ → ℕ

@@ -2,16 +2,16 @@
 use Rattle.std.specs.Prelude.{◌≡◌, ◌==◌, if◌then◌else◌, nat_lt, ℕ, ◌+◌, ◌/◌, ◌%◌, Bool, true, false, List, [], length, replicate, slice_index, slice_set, Some, None}
 use Rattle.std.specs.declared.option.Option.{Option}
 use Rattle.std.proofs.Common.{arith, refl, ap, sym, ◌∙◌}
-use Rattle.bz_machine.specs.Pending.{Saved, Pending, with_saved, fenced_value}
-use Rattle.bz_cells.specs.FromPm.After.{after_fence}
-use Rattle.bz_cells.specs.FromPm.Changes.{AsksOnly, FencesOnly}
-use Rattle.bz_cells.specs.FromPm.State.{State, ask_for}
-use Rattle.bz_cells.specs.Store.{saved_word, word_pending}
-use Rattle.bz_cells.proofs.FromPm.Fences as memory
-use Rattle.bz_cells.proofs.Pasts.{past_of, saved-ask, fenced-fence, settled-fence}
-use Rattle.bz_acts.specs.Rule.{IsWithin, after_act}
-use Rattle.bz_acts.specs.declared.acted.Act.{Act}
-use Rattle.bz_acts.specs.declared.acted.Act.TheVariants.{Load, Store, Cas, Flush, Ask, Fence}
+use Rattle.bz_swap_machine.specs.Pending.{Saved, Pending, with_saved, fenced_value}
+use Rattle.bz_swap_cells.specs.FromPm.After.{after_fence}
+use Rattle.bz_swap_cells.specs.FromPm.Changes.{AsksOnly, FencesOnly}
+use Rattle.bz_swap_cells.specs.FromPm.State.{State, ask_for}
+use Rattle.bz_swap_cells.specs.Store.{saved_word, word_pending}
+use Rattle.bz_swap_cells.proofs.FromPm.Fences as memory
+use Rattle.bz_swap_cells.proofs.Pasts.{past_of, saved-ask, fenced-fence, settled-fence}
+use Rattle.bz_swap_acts.specs.Rule.{IsWithin, after_act}
+use Rattle.bz_swap_acts.specs.declared.acted.Act.{Act}
+use Rattle.bz_swap_acts.specs.declared.acted.Act.TheVariants.{Load, Store, Cas, Flush, Ask, Fence}
 use Rattle.bz_swap.specs.Steps.{MayAct}
 use Rattle.bz_swap.specs.SwapMemory.{SwapMemory, memory_state}
 use Rattle.bz_swap.proofs.Fresh.{all-same}

@@ -2,12 +2,12 @@
 use Rattle.std.specs.Prelude.{◌≡◌, ℕ, ◌-◌, ◌<◌, ◌≤◌, ◌*◌, ◌^◌, min}
 use Rattle.std.proofs.Common.{arith, refl, ap, sym, subst, ◌∙◌}
 use Rattle.std.proofs.lemmas.List.{length-map}
-use Rattle.bz_machine.specs.declared.place.Place.{Place}
-use Rattle.bz_machine.specs.declared.place.Place.TheVariants as place
-use Rattle.bz_machine.specs.declared.worker.Worker.{Worker}
-use Rattle.bz_machine.specs.Allowed.{for_worker, sum_below, counted, is_busy}
-use Rattle.bz_machine.specs.Sizes.{most_workers}
-use Rattle.bz_cells.specs.Store.{Store}
+use Rattle.bz_swap_machine.specs.declared.place.Place.{Place}
+use Rattle.bz_swap_machine.specs.declared.place.Place.TheVariants as place
+use Rattle.bz_swap_machine.specs.declared.worker.Worker.{Worker}
+use Rattle.bz_swap_machine.specs.Allowed.{for_worker, sum_below, counted, is_busy}
+use Rattle.bz_swap_machine.specs.Sizes.{most_workers}
+use Rattle.bz_swap_cells.specs.Store.{Store}
 use Rattle.bz_swap.specs.Solo.{allowed_while, allowed_to_all, steps_left, left_to}
 use Rattle.bz_swap.specs.SwapMemory.{Doing, Idle, Reading, Swapping, Loading, Storing, Flushing, doing_of}
 use Rattle.bz_swap.specs.Inside.Parts.{Parts, worker_at, working, seen}

@@ -5,30 +5,30 @@ use Rattle.std.proofs.lemmas.Bool.{cases_eq}
 use Rattle.std.proofs.lemmas.Grind.{common_steps}
 use Rattle.std.proofs.lemmas.List.{get_or-set_same, get_or-set_other}
 use Rattle.bz_layout.specs.Addresses.{swap_address}
-use Rattle.bz_machine.specs.declared.place.Place.{Place}
-use Rattle.bz_machine.specs.declared.place.Place.TheVariants as place
-use Rattle.bz_machine.specs.declared.place.PrepareStep.{PrepareStep}
-use Rattle.bz_machine.specs.declared.place.PrepareStep.TheVariants.{WriteWord, WriteStatus, AskHead, AskTail, FenceDescriptor}
-use Rattle.bz_machine.specs.declared.place.HelpStep.{HelpStep}
-use Rattle.bz_machine.specs.declared.place.HelpStep.TheVariants.{AskDirty, FenceDirty, AskTarget, FenceTargets, Decide, AskStatus, FenceStatus, ClearStatus, AskFinal, FenceFinal}
-use Rattle.bz_machine.specs.declared.worker.Worker.{Worker}
-use Rattle.bz_machine.specs.declared.done.Done.{Done}
-use Rattle.bz_machine.specs.Facts.{Fact}
-use Rattle.bz_machine.specs.Knows.{AtPlace}
-use Rattle.bz_machine.specs.Machine.{entries_in}
-use Rattle.bz_machine.specs.Steps.{Local, act}
-use Rattle.bz_machine.specs.Workers.{local_of}
-use Rattle.bz_cells.specs.FromPm.After.{after_ask}
-use Rattle.bz_cells.specs.FromPm.Changes.{AsksOnly}
-use Rattle.bz_cells.specs.FromPm.State.{State, asks_of, ask_for}
-use Rattle.bz_cells.specs.Store.{Store, Past, typed, store_state}
-use Rattle.bz_cells.proofs.FromPm.Dates.{lines_asked}
-use Rattle.bz_cells.proofs.FromPm.Fences as memory
-use Rattle.bz_cells.proofs.Pasts.{past_of}
-use Rattle.bz_acts.specs.Rule.{after_act}
-use Rattle.bz_acts.specs.Writes.{StaysOutside, PreparesBy, HelpsBy, WritesAt}
-use Rattle.bz_acts.specs.declared.acted.Act.{Act}
-use Rattle.bz_acts.specs.declared.acted.Act.TheVariants.{Load, Store as StoreAct, Cas, Flush, Ask, Fence}
+use Rattle.bz_swap_machine.specs.declared.place.Place.{Place}
+use Rattle.bz_swap_machine.specs.declared.place.Place.TheVariants as place
+use Rattle.bz_swap_machine.specs.declared.place.PrepareStep.{PrepareStep}
+use Rattle.bz_swap_machine.specs.declared.place.PrepareStep.TheVariants.{WriteWord, WriteStatus, AskHead, AskTail, FenceDescriptor}
+use Rattle.bz_swap_machine.specs.declared.place.HelpStep.{HelpStep}
+use Rattle.bz_swap_machine.specs.declared.place.HelpStep.TheVariants.{AskDirty, FenceDirty, AskTarget, FenceTargets, Decide, AskStatus, FenceStatus, ClearStatus, AskFinal, FenceFinal}
+use Rattle.bz_swap_machine.specs.declared.worker.Worker.{Worker}
+use Rattle.bz_swap_machine.specs.declared.done.Done.{Done}
+use Rattle.bz_swap_machine.specs.Facts.{Fact}
+use Rattle.bz_swap_machine.specs.Knows.{AtPlace}
+use Rattle.bz_swap_machine.specs.Machine.{entries_in}
+use Rattle.bz_swap_machine.specs.Steps.{Local, act}
+use Rattle.bz_swap_machine.specs.Workers.{local_of}
+use Rattle.bz_swap_cells.specs.FromPm.After.{after_ask}
+use Rattle.bz_swap_cells.specs.FromPm.Changes.{AsksOnly}
+use Rattle.bz_swap_cells.specs.FromPm.State.{State, asks_of, ask_for}
+use Rattle.bz_swap_cells.specs.Store.{Store, Past, typed, store_state}
+use Rattle.bz_swap_cells.proofs.FromPm.Dates.{lines_asked}
+use Rattle.bz_swap_cells.proofs.FromPm.Fences as memory
+use Rattle.bz_swap_cells.proofs.Pasts.{past_of}
+use Rattle.bz_swap_acts.specs.Rule.{after_act}
+use Rattle.bz_swap_acts.specs.Writes.{StaysOutside, PreparesBy, HelpsBy, WritesAt}
+use Rattle.bz_swap_acts.specs.declared.acted.Act.{Act}
+use Rattle.bz_swap_acts.specs.declared.acted.Act.TheVariants.{Load, Store as StoreAct, Cas, Flush, Ask, Fence}
 use Rattle.bz_swap.specs.Inside.Parts.{Parts, worker_at}
 use Rattle.bz_swap.specs.Inside.Kept.{IsRunning, HasAsked, HelpAsks, PlaceAsks, AsksFew, lines_preparing, lines_helping, lines_at}
 use Rattle.bz_swap.proofs.Stepped.{Acts, MayStep}

@@ -2,15 +2,15 @@
 use Rattle.std.specs.Prelude.{◌≡◌, ◌≢◌, ◌==◌, ℕ, ◌*◌, ◌/◌, ◌<◌, Bool, true, false, length, slice_index}
 use Rattle.std.proofs.Common.{arith, refl, ap, sym, subst, ◌∙◌}
 use Rattle.std.proofs.lemmas.Grind.{common_steps}
-use Rattle.bz_cells.proofs.FromPm.Lemmas.{flush}
-use Rattle.bz_cells.specs.FromPm.After.{after_flush}
-use Rattle.bz_cells.specs.FromPm.State.{State}
-use Rattle.bz_acts.specs.declared.acted.Act.{Act}
-use Rattle.bz_acts.specs.declared.acted.Act.TheVariants.{Load, Flush}
-use Rattle.bz_acts.specs.Rule.{after_act, FoundRightly, IsWithin, IsActOf}
-use Rattle.bz_cells.specs.Store.{IsOutside}
-use Rattle.bz_machine.specs.declared.done.Done.{Done}
-use Rattle.bz_machine.specs.declared.done.Done.TheVariants.{Busy, Read, Swapped, Stored, Flushed}
+use Rattle.bz_swap_cells.proofs.FromPm.Lemmas.{flush}
+use Rattle.bz_swap_cells.specs.FromPm.After.{after_flush}
+use Rattle.bz_swap_cells.specs.FromPm.State.{State}
+use Rattle.bz_swap_acts.specs.declared.acted.Act.{Act}
+use Rattle.bz_swap_acts.specs.declared.acted.Act.TheVariants.{Load, Flush}
+use Rattle.bz_swap_acts.specs.Rule.{after_act, FoundRightly, IsWithin, IsActOf}
+use Rattle.bz_swap_cells.specs.Store.{IsOutside}
+use Rattle.bz_swap_machine.specs.declared.done.Done.{Done}
+use Rattle.bz_swap_machine.specs.declared.done.Done.TheVariants.{Busy, Read, Swapped, Stored, Flushed}
 use Rattle.bz_swap.specs.Atomic.{value_of, NotesRightly, Answers}
 use Rattle.bz_swap.specs.Effects.{NotesMisses}
 use Rattle.bz_swap.specs.Held.{IsHeld}

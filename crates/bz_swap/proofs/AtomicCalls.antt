@@ -3,11 +3,11 @@ use Rattle.std.specs.Prelude.{◌≡◌, ◌≢◌, ◌⊎◌, ◌==◌, ℕ, �
 use Rattle.std.proofs.Common.{arith, refl, ap, sym, subst, ◌∙◌, inl, inr}
 use Rattle.std.proofs.lemmas.Grind.{common_steps}
 use Rattle.std.proofs.lemmas.List.{get_or-set_same}
-use Rattle.bz_cells.specs.FromPm.State.{State}
-use Rattle.bz_acts.specs.Rule.{IsWithin, after_act}
-use Rattle.bz_acts.specs.declared.acted.Act.{Act}
-use Rattle.bz_machine.specs.declared.done.Done.{Done}
-use Rattle.bz_machine.specs.declared.done.Done.TheVariants.{Busy, Stored}
+use Rattle.bz_swap_cells.specs.FromPm.State.{State}
+use Rattle.bz_swap_acts.specs.Rule.{IsWithin, after_act}
+use Rattle.bz_swap_acts.specs.declared.acted.Act.{Act}
+use Rattle.bz_swap_machine.specs.declared.done.Done.{Done}
+use Rattle.bz_swap_machine.specs.declared.done.Done.TheVariants.{Busy, Stored}
 use Rattle.bz_swap.specs.Atomic.{Event, Quiet, Effect, PrivateStore, changes, Happens, told_event, event_of, IsAtomicStep}
 use Rattle.bz_swap.specs.AtomicCalls.{AccessIsAtomic}
 use Rattle.bz_swap.specs.Effects.{EffectIs}

@@ -4,15 +4,15 @@ use Rattle.std.specs.declared.option.Option.{Option}
 use Rattle.std.proofs.Common.{arith, refl, ap, sym, subst, ◌∙◌, inl, inr}
 use Rattle.std.proofs.lemmas.Bool.{cases_eq, cases_lt}
 use Rattle.std.proofs.lemmas.Grind.{common_steps}
-use Rattle.bz_machine.specs.Pending.{Saved, fenced_value}
-use Rattle.bz_cells.specs.FromPm.Acts.{flushed}
-use Rattle.bz_cells.specs.FromPm.State.{State}
-use Rattle.bz_cells.proofs.FromPm.Fences as memory
-use Rattle.bz_cells.proofs.Pasts.{settled-fence}
-use Rattle.bz_acts.specs.Rule.{after_act}
-use Rattle.bz_acts.specs.declared.acted.Act.{Act}
-use Rattle.bz_acts.specs.declared.acted.Act.TheVariants.{Load, Store, Cas, Flush, Ask, Fence}
-use Rattle.bz_cells.specs.Store.{IsOutside, word_pending}
+use Rattle.bz_swap_machine.specs.Pending.{Saved, fenced_value}
+use Rattle.bz_swap_cells.specs.FromPm.Acts.{flushed}
+use Rattle.bz_swap_cells.specs.FromPm.State.{State}
+use Rattle.bz_swap_cells.proofs.FromPm.Fences as memory
+use Rattle.bz_swap_cells.proofs.Pasts.{settled-fence}
+use Rattle.bz_swap_acts.specs.Rule.{after_act}
+use Rattle.bz_swap_acts.specs.declared.acted.Act.{Act}
+use Rattle.bz_swap_acts.specs.declared.acted.Act.TheVariants.{Load, Store, Cas, Flush, Ask, Fence}
+use Rattle.bz_swap_cells.specs.Store.{IsOutside, word_pending}
 use Rattle.bz_swap.specs.Atomic.{value_of, WasAsked, Event, Quiet, Effect, changes, Happens}
 use Rattle.bz_swap.specs.Effects.{NoneTakesEffect, TakesEffect}
 use Rattle.bz_swap.specs.Held.{IsHeld}

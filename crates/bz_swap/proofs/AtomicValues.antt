@@ -5,8 +5,8 @@ use Rattle.std.proofs.lemmas.Grind.{common_steps}
 use Rattle.bz_word.proofs.Lemmas.KindWords.{kind-word}
 use Rattle.bz_word.specs.declared.entry.Entry.{Entry}
 use Rattle.bz_word.specs.declared.kind.WordKind.TheVariants.{Value}
-use Rattle.bz_cells.specs.Store.{IsOutside, kind_at, status_at}
-use Rattle.bz_machine.specs.Machine.{resolve as resolved}
+use Rattle.bz_swap_cells.specs.Store.{IsOutside, kind_at, status_at}
+use Rattle.bz_swap_machine.specs.Machine.{resolve as resolved}
 use Rattle.bz_swap.specs.Atomic.{value_in, value_of}
 use Rattle.bz_swap.specs.Resolve.{entries_at}
 use Rattle.bz_swap.specs.SwapMemory.{SwapMemory, value_at, entries_of, is_target, is_among, is_named}

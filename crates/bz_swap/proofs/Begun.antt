@@ -3,12 +3,12 @@ use Rattle.std.specs.Prelude.{◌≡◌, ◌⊎◌, ℕ, zero, suc, ◌<◌, Boo
 use Rattle.std.proofs.Common.{arith, refl, sym, subst, ◌∙◌, inl, inr}
 use Rattle.std.proofs.lemmas.Bool.{true≢false}
 use Rattle.std.proofs.lemmas.Grind.{common_steps}
-use Rattle.bz_machine.specs.declared.worker.Worker.{Worker}
-use Rattle.bz_machine.specs.declared.place.Place.{Place}
-use Rattle.bz_machine.specs.declared.place.Place.TheVariants as place
-use Rattle.bz_machine.specs.Knows.{Spell, AtPlace}
-use Rattle.bz_machine.specs.Workers.{local_of}
-use Rattle.bz_cells.specs.Store.{Store, typed, descriptor_word_at}
+use Rattle.bz_swap_machine.specs.declared.worker.Worker.{Worker}
+use Rattle.bz_swap_machine.specs.declared.place.Place.{Place}
+use Rattle.bz_swap_machine.specs.declared.place.Place.TheVariants as place
+use Rattle.bz_swap_machine.specs.Knows.{Spell, AtPlace}
+use Rattle.bz_swap_machine.specs.Workers.{local_of}
+use Rattle.bz_swap_cells.specs.Store.{Store, typed, descriptor_word_at}
 use Rattle.bz_swap.specs.Inside.Parts.{Parts, idle_worker, worker_at, listed, entry_list, prepares, prepares_at, words_in, begun_in}
 use Rattle.bz_swap.specs.Inside.Kept.{IsRunning}
 use Rattle.bz_swap.proofs.Spellings.{listed-same, entry_list-spelled}

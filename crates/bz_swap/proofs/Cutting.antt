@@ -2,10 +2,10 @@
 use Rattle.std.specs.Prelude.{◌≡◌, ℕ, zero, suc, ◌∷◌, length, map, get_or, replicate}
 use Rattle.std.proofs.Common.{arith, refl, ap, sym, ◌∙◌}
 use Rattle.std.proofs.lemmas.List.{length-replicate, length-map}
-use Rattle.bz_machine.specs.declared.place.Place.TheVariants as place
-use Rattle.bz_machine.specs.declared.worker.Operation.TheVariants as operation
-use Rattle.bz_cells.specs.FromPm.After.{after_power_cut}
-use Rattle.bz_cells.specs.Store.{Store, HasRoom, store_state, with_state}
+use Rattle.bz_swap_machine.specs.declared.place.Place.TheVariants as place
+use Rattle.bz_swap_machine.specs.declared.worker.Operation.TheVariants as operation
+use Rattle.bz_swap_cells.specs.FromPm.After.{after_power_cut}
+use Rattle.bz_swap_cells.specs.Store.{Store, HasRoom, store_state, with_state}
 use Rattle.bz_swap.specs.declared.phase.Phase.TheVariants.{Recovering}
 use Rattle.bz_swap.specs.Power.{after_cut}
 use Rattle.bz_swap.specs.SwapMemory.{idle}

@@ -2,16 +2,16 @@
 use Rattle.std.specs.Prelude.{◌≡◌, ◌≢◌, ℕ, length}
 use Rattle.std.proofs.Common.{refl, sym, subst}
 use Rattle.std.specs.declared.option.Option.{Option}
-use Rattle.bz_cells.specs.FromPm.After.{after_eviction as eviction_of}
-use Rattle.bz_machine.specs.declared.worker.Worker.{Worker}
-use Rattle.bz_machine.specs.Machine.{Entries}
-use Rattle.bz_machine.specs.Budgets.{IsBounded, IsAmong}
-use Rattle.bz_machine.specs.Lawful.{AreInRange, MayHold}
-use Rattle.bz_machine.specs.State.{State, IsState, MayHappen, happens}
-use Rattle.bz_machine.specs.Workers.{local_of}
-use Rattle.bz_machine.proofs.EventLaws.{keeps_state, keeps_range, stays_bounded}
-use Rattle.bz_cells.specs.Store.{Store, Beside, typed, store_state, with_state}
-use Rattle.bz_acts.specs.Ready.{LiesOutside}
+use Rattle.bz_swap_cells.specs.FromPm.After.{after_eviction as eviction_of}
+use Rattle.bz_swap_machine.specs.declared.worker.Worker.{Worker}
+use Rattle.bz_swap_machine.specs.Machine.{Entries}
+use Rattle.bz_swap_machine.specs.Budgets.{IsBounded, IsAmong}
+use Rattle.bz_swap_machine.specs.Lawful.{AreInRange, MayHold}
+use Rattle.bz_swap_machine.specs.State.{State, IsState, MayHappen, happens}
+use Rattle.bz_swap_machine.specs.Workers.{local_of}
+use Rattle.bz_swap_machine.proofs.EventLaws.{keeps_state, keeps_range, stays_bounded}
+use Rattle.bz_swap_cells.specs.Store.{Store, Beside, typed, store_state, with_state}
+use Rattle.bz_swap_acts.specs.Ready.{LiesOutside}
 use Rattle.bz_swap.specs.declared.phase.Phase.{Phase}
 use Rattle.bz_swap.specs.declared.phase.Phase.TheVariants.{Opened, Running, Recovering}
 use Rattle.bz_swap.specs.declared.role.WordRole.{WordRole}

@@ -3,14 +3,14 @@ use Rattle.std.specs.Prelude.{◌≡◌, ◌≢◌, ◌⊎◌, ℕ, ◌+◌, ◌
 use Rattle.std.proofs.Common.{arith, refl, sym, subst, ◌∙◌, inl, inr}
 use Rattle.std.specs.declared.option.Option.{Option}
 use Rattle.bz_layout.specs.Addresses.{swap_address}
-use Rattle.bz_cells.specs.FromPm.State.{State}
-use Rattle.bz_cells.specs.FromPm.Words.{IsMemory}
-use Rattle.bz_acts.specs.Rule.{IsWithin, after_act}
-use Rattle.bz_acts.specs.declared.acted.Act.{Act}
-use Rattle.bz_acts.specs.declared.acted.Act.TheVariants.{Load, Store, Cas, Flush, Ask, Fence}
-use Rattle.bz_cells.specs.Store.{IsOutside, field_address, field_count, status_word}
-use Rattle.bz_machine.specs.declared.done.Done.{Done}
-use Rattle.bz_machine.specs.declared.status.SwapStatus.TheVariants.{Undecided}
+use Rattle.bz_swap_cells.specs.FromPm.State.{State}
+use Rattle.bz_swap_cells.specs.FromPm.Words.{IsMemory}
+use Rattle.bz_swap_acts.specs.Rule.{IsWithin, after_act}
+use Rattle.bz_swap_acts.specs.declared.acted.Act.{Act}
+use Rattle.bz_swap_acts.specs.declared.acted.Act.TheVariants.{Load, Store, Cas, Flush, Ask, Fence}
+use Rattle.bz_swap_cells.specs.Store.{IsOutside, field_address, field_count, status_word}
+use Rattle.bz_swap_machine.specs.declared.done.Done.{Done}
+use Rattle.bz_swap_machine.specs.declared.status.SwapStatus.TheVariants.{Undecided}
 use Rattle.bz_swap.specs.Evictions.{IsEviction}
 use Rattle.bz_swap.specs.PlainFields.{HavePlainFields, WritesPlain, PlainFieldsStay}
 use Rattle.bz_swap.specs.Steps.{MayAct, IsStep, IsRawStep}

@@ -4,20 +4,20 @@ use Rattle.std.specs.declared.option.Option.{Option}
 use Rattle.std.proofs.Common.{arith, refl, ap, sym, ◌∙◌, inl, inr}
 use Rattle.std.proofs.lemmas.Bool.{cases_lt}
 use Rattle.std.proofs.lemmas.List.{get_or-replicate, get_or_past, length-replicate}
-use Rattle.bz_machine.specs.declared.place.Place.TheVariants as place
-use Rattle.bz_machine.specs.declared.worker.Operation.TheVariants as operation
-use Rattle.bz_machine.specs.declared.worker.Worker.{Worker}
-use Rattle.bz_machine.specs.Budgets.{IsBounded}
-use Rattle.bz_machine.specs.Changes.{no_entries}
-use Rattle.bz_machine.specs.Sizes.{most_workers}
-use Rattle.bz_machine.specs.State.{IsRenewable, idle, power_on}
-use Rattle.bz_machine.specs.Workers.{local_of}
-use Rattle.bz_machine.proofs.EventLaws.{begins_as_state, begins_in_range, begins_bounded}
-use Rattle.bz_cells.specs.Store.{Store, Past, Beside, HasRoom, IsOutside, AreAsked, typed, is_outside, status_of, field_address, field_count, saved_word, word_pending, pending_as, kind_pending, status_pending, field_pending}
+use Rattle.bz_swap_machine.specs.declared.place.Place.TheVariants as place
+use Rattle.bz_swap_machine.specs.declared.worker.Operation.TheVariants as operation
+use Rattle.bz_swap_machine.specs.declared.worker.Worker.{Worker}
+use Rattle.bz_swap_machine.specs.Budgets.{IsBounded}
+use Rattle.bz_swap_machine.specs.Changes.{no_entries}
+use Rattle.bz_swap_machine.specs.Sizes.{most_workers}
+use Rattle.bz_swap_machine.specs.State.{IsRenewable, idle, power_on}
+use Rattle.bz_swap_machine.specs.Workers.{local_of}
+use Rattle.bz_swap_machine.proofs.EventLaws.{begins_as_state, begins_in_range, begins_bounded}
+use Rattle.bz_swap_cells.specs.Store.{Store, Past, Beside, HasRoom, IsOutside, AreAsked, typed, is_outside, status_of, field_address, field_count, saved_word, word_pending, pending_as, kind_pending, status_pending, field_pending}
 use Rattle.bz_word.specs.Kinds.{kind}
 use Rattle.bz_layout.specs.Addresses.{swap_address}
-use Rattle.bz_machine.specs.Pending.{no_asks}
-use Rattle.bz_cells.specs.FromPm.State.{ask_for}
+use Rattle.bz_swap_machine.specs.Pending.{no_asks}
+use Rattle.bz_swap_cells.specs.FromPm.State.{ask_for}
 use Rattle.bz_swap.specs.Power.{AreRecovered}
 use Rattle.bz_swap.specs.SwapMemory.{idle as seen_idle}
 use Rattle.bz_swap.specs.Inside.Parts.{Parts, idle_worker, worker_at, working}

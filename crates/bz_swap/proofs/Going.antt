@@ -4,20 +4,20 @@ use Rattle.std.specs.declared.option.Option.{Option}
 use Rattle.std.proofs.Common.{refl, inl, inr}
 use Rattle.bz_word.specs.declared.kind.WordKind.{WordKind}
 use Rattle.bz_word.specs.declared.kind.WordKind.TheVariants.{Value, Dirty, Swap, Tag}
-use Rattle.bz_machine.specs.declared.status.Verdict.{Verdict}
-use Rattle.bz_machine.specs.declared.place.Place.{Place}
-use Rattle.bz_machine.specs.declared.place.Place.TheVariants.{Idle, Prepare, Learn, Help, ReadWord, AskRead, FenceRead, ClearRead, LoadWord, StoreWord, FlushLine}
-use Rattle.bz_machine.specs.declared.place.PrepareStep.TheVariants.{WriteWord, WriteStatus, AskHead, AskTail, FenceDescriptor}
-use Rattle.bz_machine.specs.declared.place.HelpStep.TheVariants.{Look}
-use Rattle.bz_machine.specs.declared.place.Next.{Next}
-use Rattle.bz_machine.specs.declared.place.Next.TheVariants.{Step, Meet, Complete}
-use Rattle.bz_machine.specs.declared.worker.Operation.{Operation}
-use Rattle.bz_machine.specs.declared.worker.Operation.TheVariants.{Nothing, Reading, Swapping}
-use Rattle.bz_machine.specs.declared.done.Done.TheVariants.{Busy, Read, Stored, Flushed}
-use Rattle.bz_machine.specs.Machine.{Memory, entries_in}
-use Rattle.bz_machine.specs.Changes.{put}
-use Rattle.bz_machine.specs.HelpActs.{help_act}
-use Rattle.bz_machine.specs.Steps.{Local, Stepped, act, is_own, completed, resumed, after_help, read_act}
+use Rattle.bz_swap_machine.specs.declared.status.Verdict.{Verdict}
+use Rattle.bz_swap_machine.specs.declared.place.Place.{Place}
+use Rattle.bz_swap_machine.specs.declared.place.Place.TheVariants.{Idle, Prepare, Learn, Help, ReadWord, AskRead, FenceRead, ClearRead, LoadWord, StoreWord, FlushLine}
+use Rattle.bz_swap_machine.specs.declared.place.PrepareStep.TheVariants.{WriteWord, WriteStatus, AskHead, AskTail, FenceDescriptor}
+use Rattle.bz_swap_machine.specs.declared.place.HelpStep.TheVariants.{Look}
+use Rattle.bz_swap_machine.specs.declared.place.Next.{Next}
+use Rattle.bz_swap_machine.specs.declared.place.Next.TheVariants.{Step, Meet, Complete}
+use Rattle.bz_swap_machine.specs.declared.worker.Operation.{Operation}
+use Rattle.bz_swap_machine.specs.declared.worker.Operation.TheVariants.{Nothing, Reading, Swapping}
+use Rattle.bz_swap_machine.specs.declared.done.Done.TheVariants.{Busy, Read, Stored, Flushed}
+use Rattle.bz_swap_machine.specs.Machine.{Memory, entries_in}
+use Rattle.bz_swap_machine.specs.Changes.{put}
+use Rattle.bz_swap_machine.specs.HelpActs.{help_act}
+use Rattle.bz_swap_machine.specs.Steps.{Local, Stepped, act, is_own, completed, resumed, after_help, read_act}
 use Rattle.bz_swap.specs.Inside.Kept.{IsBusy}
 
 -- a place on the way to an answer

@@ -8,11 +8,11 @@ use Rattle.bz_word.specs.Kinds.{kind, word, IsKind, IsWord}
 use Rattle.bz_word.proofs.Lemmas.KindWords.{word-kind, IsKind-kind}
 use Rattle.bz_word.specs.declared.kind.WordKind.{WordKind}
 use Rattle.bz_word.specs.declared.kind.WordKind.TheVariants.{Value, Dirty, Swap, Tag}
-use Rattle.bz_machine.specs.declared.status.SwapStatus.{SwapStatus}
-use Rattle.bz_machine.specs.declared.status.SwapStatus.TheVariants.{Free, Undecided, Deciding, Decided}
-use Rattle.bz_machine.specs.Machine.{resolve as resolved}
-use Rattle.bz_machine.specs.Sound.{Follows, IsPlain}
-use Rattle.bz_cells.specs.Store.{IsOutside, is_outside, kind_at, status_at}
+use Rattle.bz_swap_machine.specs.declared.status.SwapStatus.{SwapStatus}
+use Rattle.bz_swap_machine.specs.declared.status.SwapStatus.TheVariants.{Free, Undecided, Deciding, Decided}
+use Rattle.bz_swap_machine.specs.Machine.{resolve as resolved}
+use Rattle.bz_swap_machine.specs.Sound.{Follows, IsPlain}
+use Rattle.bz_swap_cells.specs.Store.{IsOutside, is_outside, kind_at, status_at}
 use Rattle.bz_swap.specs.declared.phase.Phase.{Phase}
 use Rattle.bz_swap.specs.declared.phase.Phase.TheVariants.{Opened, Running, Recovering}
 use Rattle.bz_swap.specs.Held.{IsHeld, HoldsIn}
@@ -26,7 +26,7 @@ use Rattle.bz_swap.proofs.Readable.{agree-published, index-target, value_is}
 use Rattle.bz_swap.proofs.Readies.{published-begun, begun-descriptor}
 use Rattle.bz_swap.proofs.Shown.{shows, begun-running}
 use Rattle.bz_swap.proofs.Values.{all-listed, listed-past}
-use Rattle.bz_machine.proofs.Lasting.{lasts-durable}
+use Rattle.bz_swap_machine.proofs.Lasting.{lasts-durable}
 
 not-free : (c d : SwapStatus) → Follows c d → d ≢ Free
 not-free c Free f is = no_free c f

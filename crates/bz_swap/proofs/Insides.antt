@@ -7,36 +7,36 @@ use Rattle.std.proofs.lemmas.Grind.{common_steps}
 use Rattle.bz_word.specs.declared.kind.WordKind.{WordKind}
 use Rattle.bz_word.specs.declared.kind.WordKind.TheVariants.{Value, Dirty, Swap, Tag}
 use Rattle.bz_layout.specs.Addresses.{swap_address}
-use Rattle.bz_machine.specs.declared.status.SwapStatus.{SwapStatus}
-use Rattle.bz_machine.specs.declared.status.SwapStatus.TheVariants.{Free, Undecided, Deciding, Decided}
-use Rattle.bz_machine.specs.declared.status.Verdict.{Verdict}
-use Rattle.bz_machine.specs.declared.status.Verdict.TheVariants.{Succeeded, Failed}
-use Rattle.bz_machine.specs.declared.place.Place.{Place}
-use Rattle.bz_machine.specs.declared.place.Place.TheVariants as place
-use Rattle.bz_machine.specs.declared.place.PrepareStep.TheVariants.{WriteWord, WriteStatus, AskHead, AskTail, FenceDescriptor}
-use Rattle.bz_machine.specs.declared.place.HelpStep.{HelpStep}
-use Rattle.bz_machine.specs.declared.place.HelpStep.TheVariants.{Look, InstallTag, LookUnderTag, InstallPointer, RemoveTag, AskDirty, FenceDirty, ClearDirty, AskTarget, FenceTargets, Decide, AskStatus, FenceStatus, ClearStatus, PutFinal, AskFinal, FenceFinal, ClearFinal, SweepTag}
-use Rattle.bz_machine.specs.declared.place.Next.{Next}
-use Rattle.bz_machine.specs.declared.place.Next.TheVariants.{Step, Meet, Complete}
-use Rattle.bz_machine.specs.declared.worker.Worker.{Worker}
-use Rattle.bz_machine.specs.declared.done.Done.{Done}
-use Rattle.bz_machine.specs.Changes.{fenced, with_word}
-use Rattle.bz_machine.specs.HelpActs.{After, after_install_tag, after_untag, cleared_word, after_decide, cleared_status, after_put_final, help_act}
-use Rattle.bz_machine.specs.Knows.{AtPlace, AsksAtHome, has_asked}
-use Rattle.bz_machine.specs.Machine.{Entries, Memory, entries_in, is_succeeded, is_verdict}
-use Rattle.bz_machine.specs.Steps.{Local, act, is_own, completed, after_help, read_act}
-use Rattle.bz_machine.specs.Workers.{local_of}
-use Rattle.bz_machine.proofs.Lasting.{lasts-durable}
-use Rattle.bz_cells.specs.FromPm.After.{after_fence}
-use Rattle.bz_cells.specs.FromPm.Changes.{fenced_word}
-use Rattle.bz_cells.specs.FromPm.State.{State, asks_of, ask_for}
-use Rattle.bz_cells.specs.Store.{Store, IsOutside, typed, store_state, status_of, status_at}
-use Rattle.bz_cells.proofs.FromPm.Fences as memory
-use Rattle.bz_acts.specs.Made.{made}
-use Rattle.bz_acts.specs.Rule.{after_act}
-use Rattle.bz_acts.specs.Writes.{WritesAt}
-use Rattle.bz_acts.specs.declared.acted.Act.{Act}
-use Rattle.bz_acts.specs.declared.acted.Act.TheVariants.{Fence}
+use Rattle.bz_swap_machine.specs.declared.status.SwapStatus.{SwapStatus}
+use Rattle.bz_swap_machine.specs.declared.status.SwapStatus.TheVariants.{Free, Undecided, Deciding, Decided}
+use Rattle.bz_swap_machine.specs.declared.status.Verdict.{Verdict}
+use Rattle.bz_swap_machine.specs.declared.status.Verdict.TheVariants.{Succeeded, Failed}
+use Rattle.bz_swap_machine.specs.declared.place.Place.{Place}
+use Rattle.bz_swap_machine.specs.declared.place.Place.TheVariants as place
+use Rattle.bz_swap_machine.specs.declared.place.PrepareStep.TheVariants.{WriteWord, WriteStatus, AskHead, AskTail, FenceDescriptor}
+use Rattle.bz_swap_machine.specs.declared.place.HelpStep.{HelpStep}
+use Rattle.bz_swap_machine.specs.declared.place.HelpStep.TheVariants.{Look, InstallTag, LookUnderTag, InstallPointer, RemoveTag, AskDirty, FenceDirty, ClearDirty, AskTarget, FenceTargets, Decide, AskStatus, FenceStatus, ClearStatus, PutFinal, AskFinal, FenceFinal, ClearFinal, SweepTag}
+use Rattle.bz_swap_machine.specs.declared.place.Next.{Next}
+use Rattle.bz_swap_machine.specs.declared.place.Next.TheVariants.{Step, Meet, Complete}
+use Rattle.bz_swap_machine.specs.declared.worker.Worker.{Worker}
+use Rattle.bz_swap_machine.specs.declared.done.Done.{Done}
+use Rattle.bz_swap_machine.specs.Changes.{fenced, with_word}
+use Rattle.bz_swap_machine.specs.HelpActs.{After, after_install_tag, after_untag, cleared_word, after_decide, cleared_status, after_put_final, help_act}
+use Rattle.bz_swap_machine.specs.Knows.{AtPlace, AsksAtHome, has_asked}
+use Rattle.bz_swap_machine.specs.Machine.{Entries, Memory, entries_in, is_succeeded, is_verdict}
+use Rattle.bz_swap_machine.specs.Steps.{Local, act, is_own, completed, after_help, read_act}
+use Rattle.bz_swap_machine.specs.Workers.{local_of}
+use Rattle.bz_swap_machine.proofs.Lasting.{lasts-durable}
+use Rattle.bz_swap_cells.specs.FromPm.After.{after_fence}
+use Rattle.bz_swap_cells.specs.FromPm.Changes.{fenced_word}
+use Rattle.bz_swap_cells.specs.FromPm.State.{State, asks_of, ask_for}
+use Rattle.bz_swap_cells.specs.Store.{Store, IsOutside, typed, store_state, status_of, status_at}
+use Rattle.bz_swap_cells.proofs.FromPm.Fences as memory
+use Rattle.bz_swap_acts.specs.Made.{made}
+use Rattle.bz_swap_acts.specs.Rule.{after_act}
+use Rattle.bz_swap_acts.specs.Writes.{WritesAt}
+use Rattle.bz_swap_acts.specs.declared.acted.Act.{Act}
+use Rattle.bz_swap_acts.specs.declared.acted.Act.TheVariants.{Fence}
 use Rattle.bz_swap.specs.Steps.{MayAct}
 use Rattle.bz_swap.specs.Inside.Parts.{Parts, worker_at, seen}
 use Rattle.bz_swap.specs.Inside.Kept.{IsRunning, PlaceAsks}

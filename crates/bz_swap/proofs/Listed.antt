@@ -2,8 +2,8 @@
 use Rattle.std.specs.Prelude.{◌≡◌, if◌then◌else◌, ◌||◌, ℕ, zero, suc, ◌+◌, Bool, true, false, List, [], ◌∷◌, ◌++◌}
 use Rattle.std.proofs.Common.{arith, refl, ap, ◌∙◌}
 use Rattle.bz_word.specs.declared.entry.Entry.{Entry}
-use Rattle.bz_machine.specs.Changes.{put}
-use Rattle.bz_machine.specs.Machine.{Entries}
+use Rattle.bz_swap_machine.specs.Changes.{put}
+use Rattle.bz_swap_machine.specs.Machine.{Entries}
 use Rattle.bz_swap.specs.SwapMemory.{is_target, is_among}
 use Rattle.bz_swap.specs.Inside.Parts.{listed, entry_list}
 use Rattle.bz_swap.proofs.Spellings.{listed-same}

@@ -3,13 +3,13 @@ use Rattle.std.specs.Prelude.{◌≡◌, ◌≢◌, ℕ, ◌+◌, ◌*◌, ◌<�
 use Rattle.std.proofs.Common.{arith, refl, ap, sym, subst, ◌∙◌}
 use Rattle.bz_word.specs.declared.kind.WordKind.{WordKind}
 use Rattle.bz_word.specs.declared.entry.Entry.{Entry}
-use Rattle.bz_machine.specs.declared.place.Place.TheVariants as place
-use Rattle.bz_machine.specs.Machine.{MayLast}
-use Rattle.bz_machine.specs.Ranges.{AreValues}
-use Rattle.bz_machine.specs.State as machine
-use Rattle.bz_cells.specs.Store.{kind_at, typed}
-use Rattle.bz_cells.proofs.SettledWords.{settled-lasts}
-use Rattle.bz_acts.specs.Ready.{LiesOutside}
+use Rattle.bz_swap_machine.specs.declared.place.Place.TheVariants as place
+use Rattle.bz_swap_machine.specs.Machine.{MayLast}
+use Rattle.bz_swap_machine.specs.Ranges.{AreValues}
+use Rattle.bz_swap_machine.specs.State as machine
+use Rattle.bz_swap_cells.specs.Store.{kind_at, typed}
+use Rattle.bz_swap_cells.proofs.SettledWords.{settled-lasts}
+use Rattle.bz_swap_acts.specs.Ready.{LiesOutside}
 use Rattle.bz_swap.specs.declared.phase.Phase.TheVariants.{Recovering}
 use Rattle.bz_swap.specs.Starts.{IsEntry, MaySwap}
 use Rattle.bz_swap.specs.SwapMemory.{Storing, doing_of, is_target}

@@ -3,19 +3,19 @@ use Rattle.std.specs.Prelude.{◌≡◌, ℕ, ◌<◌, true, false, None, Some}
 use Rattle.std.specs.declared.option.Option.{Option}
 use Rattle.std.proofs.Common.{arith, refl, ap, sym, ◌∙◌, inl, inr}
 use Rattle.std.proofs.lemmas.Bool.{cases_lt, true≢false}
-use Rattle.bz_machine.specs.declared.status.SwapStatus.{SwapStatus}
-use Rattle.bz_machine.specs.declared.status.SwapStatus.TheVariants.{Free, Undecided, Deciding, Decided}
-use Rattle.bz_machine.specs.declared.status.Verdict.{Verdict}
-use Rattle.bz_machine.specs.declared.status.Verdict.TheVariants.{Succeeded, Failed}
-use Rattle.bz_machine.specs.Machine.{is_verdict, is_succeeded}
-use Rattle.bz_machine.specs.Sound.{IsUnset}
-use Rattle.bz_cells.specs.Store.{typed}
+use Rattle.bz_swap_machine.specs.declared.status.SwapStatus.{SwapStatus}
+use Rattle.bz_swap_machine.specs.declared.status.SwapStatus.TheVariants.{Free, Undecided, Deciding, Decided}
+use Rattle.bz_swap_machine.specs.declared.status.Verdict.{Verdict}
+use Rattle.bz_swap_machine.specs.declared.status.Verdict.TheVariants.{Succeeded, Failed}
+use Rattle.bz_swap_machine.specs.Machine.{is_verdict, is_succeeded}
+use Rattle.bz_swap_machine.specs.Sound.{IsUnset}
+use Rattle.bz_swap_cells.specs.Store.{typed}
 use Rattle.bz_swap.specs.SwapMemory.{Swapping, doing_of}
 use Rattle.bz_swap.specs.Inside.Parts.{Parts, worker_at, seen, doing_operation}
 use Rattle.bz_swap.specs.Inside.Kept.{IsRunning, IsOwned, IsBusy}
 use Rattle.bz_swap.proofs.StepLies.{going-busy}
 use Rattle.bz_swap.proofs.Doings.{worker-seen, doing-going}
-use Rattle.bz_machine.proofs.Lasting.{lasts-durable}
+use Rattle.bz_swap_machine.proofs.Lasting.{lasts-durable}
 
 unset-undecided : (status : SwapStatus) → IsUnset status → is_succeeded status ≡ true → ⊥
 unset-undecided Free u is = absurd cc

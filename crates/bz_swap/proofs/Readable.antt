@@ -5,16 +5,16 @@ use Rattle.std.proofs.lemmas.Bool.{cases_eq}
 use Rattle.std.proofs.lemmas.Grind.{common_steps}
 use Rattle.bz_word.specs.declared.kind.WordKind.{WordKind}
 use Rattle.bz_word.specs.declared.kind.WordKind.TheVariants.{Value, Dirty, Swap, Tag}
-use Rattle.bz_machine.specs.declared.status.SwapStatus.{SwapStatus}
-use Rattle.bz_machine.specs.Agrees.{Agree, agree-spell}
-use Rattle.bz_machine.specs.Content.{content}
-use Rattle.bz_machine.specs.Machine.{Entries, resolve as resolved}
-use Rattle.bz_machine.specs.Sound.{IsTarget, IsEntry}
-use Rattle.bz_cells.specs.Store.{typed, kind_at}
+use Rattle.bz_swap_machine.specs.declared.status.SwapStatus.{SwapStatus}
+use Rattle.bz_swap_machine.specs.Agrees.{Agree, agree-spell}
+use Rattle.bz_swap_machine.specs.Content.{content}
+use Rattle.bz_swap_machine.specs.Machine.{Entries, resolve as resolved}
+use Rattle.bz_swap_machine.specs.Sound.{IsTarget, IsEntry}
+use Rattle.bz_swap_cells.specs.Store.{typed, kind_at}
 use Rattle.bz_swap.specs.Resolve.{first_entry, entries_at, resolve}
 use Rattle.bz_swap.specs.Inside.Parts.{Parts}
 use Rattle.bz_swap.specs.Inside.Kept.{IsRunning}
-use Rattle.bz_machine.proofs.Lasting.{lasts-durable}
+use Rattle.bz_swap_machine.proofs.Lasting.{lasts-durable}
 
 -- the first entry with a target is found where it is
 pub first-found : (x : Entries) (a j n i : ℕ) → i ≤ j → j < i + n → x.target j ≡ a → ((k : ℕ) → k < j → x.target k ≢ a) → first_entry x a n i ≡ j

@@ -2,20 +2,20 @@
 use Rattle.std.specs.Prelude.{◌≡◌, ℕ, ◌<◌, ◌≤◌, true, [], length, get_or, slice_index}
 use Rattle.std.proofs.Common.{arith, refl, sym, ◌∙◌, inl, inr}
 use Rattle.std.proofs.lemmas.Bool.{cases_lt, true≢false}
-use Rattle.bz_machine.specs.declared.place.Place.{Place}
-use Rattle.bz_machine.specs.declared.place.Place.TheVariants as place
-use Rattle.bz_machine.specs.declared.place.PrepareStep.{PrepareStep}
-use Rattle.bz_machine.specs.declared.place.PrepareStep.TheVariants.{WriteWord, WriteStatus, AskHead, AskTail, FenceDescriptor}
-use Rattle.bz_machine.specs.declared.place.HelpStep.{HelpStep}
-use Rattle.bz_machine.specs.declared.place.HelpStep.TheVariants.{Look, InstallTag, LookUnderTag, InstallPointer, RemoveTag, AskDirty, FenceDirty, ClearDirty, AskTarget, FenceTargets, Decide, AskStatus, FenceStatus, ClearStatus, PutFinal, AskFinal, FenceFinal, ClearFinal, SweepTag}
-use Rattle.bz_machine.specs.Agrees.{agree-spell}
-use Rattle.bz_machine.specs.Machine.{entries_in}
-use Rattle.bz_machine.specs.Facts.{Fact}
-use Rattle.bz_machine.specs.Knows.{AtPlace, Prepared, Spell, Owns}
-use Rattle.bz_machine.specs.Ranges.{StepInRange, PlaceInRange}
-use Rattle.bz_machine.specs.Workers.{local_of}
-use Rattle.bz_cells.specs.Store.{MayTag, MayAsk, typed}
-use Rattle.bz_acts.specs.Ready.{IsUsable, IsStepReady, IsPrepareReady, IsReadyAt, IsReady}
+use Rattle.bz_swap_machine.specs.declared.place.Place.{Place}
+use Rattle.bz_swap_machine.specs.declared.place.Place.TheVariants as place
+use Rattle.bz_swap_machine.specs.declared.place.PrepareStep.{PrepareStep}
+use Rattle.bz_swap_machine.specs.declared.place.PrepareStep.TheVariants.{WriteWord, WriteStatus, AskHead, AskTail, FenceDescriptor}
+use Rattle.bz_swap_machine.specs.declared.place.HelpStep.{HelpStep}
+use Rattle.bz_swap_machine.specs.declared.place.HelpStep.TheVariants.{Look, InstallTag, LookUnderTag, InstallPointer, RemoveTag, AskDirty, FenceDirty, ClearDirty, AskTarget, FenceTargets, Decide, AskStatus, FenceStatus, ClearStatus, PutFinal, AskFinal, FenceFinal, ClearFinal, SweepTag}
+use Rattle.bz_swap_machine.specs.Agrees.{agree-spell}
+use Rattle.bz_swap_machine.specs.Machine.{entries_in}
+use Rattle.bz_swap_machine.specs.Facts.{Fact}
+use Rattle.bz_swap_machine.specs.Knows.{AtPlace, Prepared, Spell, Owns}
+use Rattle.bz_swap_machine.specs.Ranges.{StepInRange, PlaceInRange}
+use Rattle.bz_swap_machine.specs.Workers.{local_of}
+use Rattle.bz_swap_cells.specs.Store.{MayTag, MayAsk, typed}
+use Rattle.bz_swap_acts.specs.Ready.{IsUsable, IsStepReady, IsPrepareReady, IsReadyAt, IsReady}
 use Rattle.bz_swap.specs.Inside.Parts.{Parts, worker_at}
 use Rattle.bz_swap.specs.Inside.Kept.{IsRunning, PlaceLies, lines_preparing, lines_helping, lines_at}
 use Rattle.bz_swap.proofs.Stepped.{MayStep}

@@ -10,9 +10,9 @@ use Rattle.bz_word.specs.declared.kind.WordKind.{WordKind}
 use Rattle.bz_word.specs.declared.kind.WordKind.TheVariants.{Value}
 use Rattle.bz_layout.specs.Addresses.{swap_address}
 use Rattle.bz_layout.specs.declared.sizes.TheConstants.{SUPERBLOCK_WORDS}
-use Rattle.bz_machine.specs.declared.status.SwapStatus.TheVariants.{Free}
-use Rattle.bz_machine.specs.Sound.{IsPlain}
-use Rattle.bz_cells.specs.Store.{IsOutside, is_outside, kind_at, status_at, status_of, IsStatusWord, AreWords}
+use Rattle.bz_swap_machine.specs.declared.status.SwapStatus.TheVariants.{Free}
+use Rattle.bz_swap_machine.specs.Sound.{IsPlain}
+use Rattle.bz_swap_cells.specs.Store.{IsOutside, is_outside, kind_at, status_at, status_of, IsStatusWord, AreWords}
 use Rattle.bz_swap.specs.Power.{AreRecovered}
 
 -- the word at this address needs no recovery

@@ -2,11 +2,11 @@
 use Rattle.std.specs.Prelude.{◌≡◌, ℕ, zero, suc, false, [], map, length, replicate}
 use Rattle.std.proofs.Common.{arith, refl, ap, sym, ◌∙◌}
 use Rattle.std.proofs.lemmas.List.{length-replicate}
-use Rattle.bz_machine.specs.declared.place.Place.{Place}
-use Rattle.bz_machine.specs.declared.place.Place.TheVariants as place
-use Rattle.bz_machine.specs.declared.worker.Operation.{Operation}
-use Rattle.bz_cells.specs.Store.{Store, renewed_store}
-use Rattle.bz_cells.proofs.Rooms.{room-renew}
+use Rattle.bz_swap_machine.specs.declared.place.Place.{Place}
+use Rattle.bz_swap_machine.specs.declared.place.Place.TheVariants as place
+use Rattle.bz_swap_machine.specs.declared.worker.Operation.{Operation}
+use Rattle.bz_swap_cells.specs.Store.{Store, renewed_store}
+use Rattle.bz_swap_cells.proofs.Rooms.{room-renew}
 use Rattle.bz_swap.specs.declared.phase.Phase.{Phase}
 use Rattle.bz_swap.specs.declared.phase.Phase.TheVariants.{Opened, Running, Recovering}
 use Rattle.bz_swap.specs.SwapMemory.{Idle, idle, doing_of}

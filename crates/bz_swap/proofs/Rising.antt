@@ -2,7 +2,7 @@
 use Rattle.std.specs.Prelude.{◌≡◌, ℕ, ◌+◌, ◌*◌, ◌<◌, List, length, get_or}
 use Rattle.std.proofs.Common.{arith, ap, sym, ◌∙◌}
 use Rattle.bz_word.specs.declared.entry.Entry.{Entry}
-use Rattle.bz_machine.specs.Machine.{entries_in}
+use Rattle.bz_swap_machine.specs.Machine.{entries_in}
 use Rattle.bz_swap.specs.EntryLists.{IsEntryList}
 use Rattle.bz_swap.specs.Inside.Parts.{entry_of, entry_list}
 use Rattle.bz_swap.proofs.EntryLists.{rising-apart}

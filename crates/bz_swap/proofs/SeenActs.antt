@@ -6,24 +6,24 @@ use Rattle.bz_word.specs.Kinds.{kind, word, IsWord}
 use Rattle.bz_word.proofs.Lemmas.KindWords.{word-kind}
 use Rattle.bz_word.specs.declared.kind.WordKind.{WordKind}
 use Rattle.bz_word.specs.declared.kind.WordKind.TheVariants.{Value, Dirty, Swap, Tag}
-use Rattle.bz_machine.specs.declared.place.Place.{Place}
-use Rattle.bz_machine.specs.declared.place.Place.TheVariants as place
-use Rattle.bz_machine.specs.declared.worker.Operation.{Operation}
-use Rattle.bz_machine.specs.declared.worker.Operation.TheVariants as operation
-use Rattle.bz_machine.specs.declared.worker.Worker.{Worker}
-use Rattle.bz_machine.specs.declared.done.Done.{Done}
-use Rattle.bz_machine.specs.declared.done.Done.TheVariants.{Busy, Read, Stored, Flushed}
-use Rattle.bz_machine.specs.Knows.{AtPlace}
-use Rattle.bz_machine.specs.Machine.{Memory}
-use Rattle.bz_machine.specs.State.{Act as Acting}
-use Rattle.bz_machine.specs.Steps.{Local, Stepped, act, read_act}
-use Rattle.bz_machine.specs.Workers.{local_of}
-use Rattle.bz_machine.proofs.EventLaws.{acts_atomically}
-use Rattle.bz_cells.specs.Store.{Store, IsOutside, kind_at, typed, store_state}
-use Rattle.bz_acts.specs.Made.{made}
-use Rattle.bz_acts.specs.Rule.{IsActOf, IsToldAt}
-use Rattle.bz_acts.specs.declared.acted.Act.{Act}
-use Rattle.bz_acts.specs.declared.acted.Act.TheVariants.{Load}
+use Rattle.bz_swap_machine.specs.declared.place.Place.{Place}
+use Rattle.bz_swap_machine.specs.declared.place.Place.TheVariants as place
+use Rattle.bz_swap_machine.specs.declared.worker.Operation.{Operation}
+use Rattle.bz_swap_machine.specs.declared.worker.Operation.TheVariants as operation
+use Rattle.bz_swap_machine.specs.declared.worker.Worker.{Worker}
+use Rattle.bz_swap_machine.specs.declared.done.Done.{Done}
+use Rattle.bz_swap_machine.specs.declared.done.Done.TheVariants.{Busy, Read, Stored, Flushed}
+use Rattle.bz_swap_machine.specs.Knows.{AtPlace}
+use Rattle.bz_swap_machine.specs.Machine.{Memory}
+use Rattle.bz_swap_machine.specs.State.{Act as Acting}
+use Rattle.bz_swap_machine.specs.Steps.{Local, Stepped, act, read_act}
+use Rattle.bz_swap_machine.specs.Workers.{local_of}
+use Rattle.bz_swap_machine.proofs.EventLaws.{acts_atomically}
+use Rattle.bz_swap_cells.specs.Store.{Store, IsOutside, kind_at, typed, store_state}
+use Rattle.bz_swap_acts.specs.Made.{made}
+use Rattle.bz_swap_acts.specs.Rule.{IsActOf, IsToldAt}
+use Rattle.bz_swap_acts.specs.declared.acted.Act.{Act}
+use Rattle.bz_swap_acts.specs.declared.acted.Act.TheVariants.{Load}
 use Rattle.bz_swap.specs.declared.phase.Phase.TheVariants.{Recovering}
 use Rattle.bz_swap.specs.Steps.{IsAnswer, IsStep, doing_after}
 use Rattle.bz_swap.specs.SwapMemory.{SwapMemory, Storing, Working, worker_of}

@@ -1,14 +1,14 @@
 -- What an operation answers, as callers see it.
 use Rattle.std.specs.Prelude.{◌≡◌, ℕ, ◌^◌, ◌<◌, true, false}
 use Rattle.std.proofs.Common.{refl, sym, ◌∙◌}
-use Rattle.bz_machine.specs.declared.worker.Operation.{Operation}
-use Rattle.bz_machine.specs.declared.worker.Operation.TheVariants as operation
-use Rattle.bz_machine.specs.declared.done.Done.{Done}
-use Rattle.bz_machine.specs.declared.done.Done.TheVariants.{Busy, Read, Swapped, Stored, Flushed}
-use Rattle.bz_machine.specs.Machine.{Entries, Memory}
-use Rattle.bz_machine.specs.Promise.{IsAnswer as IsMachineAnswer}
-use Rattle.bz_acts.specs.declared.acted.Act.{Act}
-use Rattle.bz_acts.specs.declared.acted.Act.TheVariants.{Load}
+use Rattle.bz_swap_machine.specs.declared.worker.Operation.{Operation}
+use Rattle.bz_swap_machine.specs.declared.worker.Operation.TheVariants as operation
+use Rattle.bz_swap_machine.specs.declared.done.Done.{Done}
+use Rattle.bz_swap_machine.specs.declared.done.Done.TheVariants.{Busy, Read, Swapped, Stored, Flushed}
+use Rattle.bz_swap_machine.specs.Machine.{Entries, Memory}
+use Rattle.bz_swap_machine.specs.Promise.{IsAnswer as IsMachineAnswer}
+use Rattle.bz_swap_acts.specs.declared.acted.Act.{Act}
+use Rattle.bz_swap_acts.specs.declared.acted.Act.TheVariants.{Load}
 use Rattle.bz_swap.specs.Steps.{IsAnswer}
 use Rattle.bz_swap.specs.SwapMemory.{SwapMemory}
 use Rattle.bz_swap.specs.Inside.Parts.{doing_operation}

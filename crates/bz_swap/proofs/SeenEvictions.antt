@@ -2,14 +2,14 @@
 use Rattle.std.specs.Prelude.{◌≡◌, ◌≢◌, ◌&&◌, if◌then◌else◌, not, ℕ, Bool, true, false, List, [], ◌∷◌, slice_index, slice_set, None, Some}
 use Rattle.std.specs.declared.option.Option.{Option}
 use Rattle.std.proofs.Common.{refl, ap, sym, subst, ◌∙◌}
-use Rattle.bz_cells.specs.FromPm.Acts.{evicted}
-use Rattle.bz_machine.specs.declared.worker.Worker.{Worker}
-use Rattle.bz_machine.specs.Machine.{Memory, is_succeeded, entries_in}
-use Rattle.bz_machine.specs.Promise.{EffectIs as MachineEffectIs}
-use Rattle.bz_machine.specs.State.{Evict, EvictStatus, EvictField}
-use Rattle.bz_machine.specs.Steps.{effect_of}
-use Rattle.bz_machine.proofs.EventLaws.{acts_atomically}
-use Rattle.bz_cells.specs.Store.{Store, Beside, typed, status_at}
+use Rattle.bz_swap_cells.specs.FromPm.Acts.{evicted}
+use Rattle.bz_swap_machine.specs.declared.worker.Worker.{Worker}
+use Rattle.bz_swap_machine.specs.Machine.{Memory, is_succeeded, entries_in}
+use Rattle.bz_swap_machine.specs.Promise.{EffectIs as MachineEffectIs}
+use Rattle.bz_swap_machine.specs.State.{Evict, EvictStatus, EvictField}
+use Rattle.bz_swap_machine.specs.Steps.{effect_of}
+use Rattle.bz_swap_machine.proofs.EventLaws.{acts_atomically}
+use Rattle.bz_swap_cells.specs.Store.{Store, Beside, typed, status_at}
 use Rattle.bz_swap.specs.declared.phase.Phase.{Phase}
 use Rattle.bz_swap.specs.declared.phase.Phase.TheVariants.{Opened, Running, Recovering}
 use Rattle.bz_swap.specs.declared.role.WordRole.{WordRole}

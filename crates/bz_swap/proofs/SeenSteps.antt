@@ -2,18 +2,18 @@
 use Rattle.std.specs.Prelude.{◌≡◌, ◌≢◌, ◌&&◌, if◌then◌else◌, not, ℕ, ◌<◌, Bool, true, false, None, Some}
 use Rattle.std.specs.declared.option.Option.{Option}
 use Rattle.std.proofs.Common.{refl, ap, sym, subst, ◌∙◌, inl, inr}
-use Rattle.bz_machine.specs.declared.worker.Worker.{Worker}
-use Rattle.bz_machine.specs.declared.done.Done.{Done}
-use Rattle.bz_machine.specs.declared.done.Done.TheVariants.{Busy}
-use Rattle.bz_machine.specs.Content as machine
-use Rattle.bz_machine.specs.Machine.{Entries, Memory, is_succeeded}
-use Rattle.bz_machine.specs.Promise.{EffectIs as MachineEffectIs}
-use Rattle.bz_machine.specs.State.{Act}
-use Rattle.bz_machine.specs.Steps.{effect_of}
-use Rattle.bz_machine.specs.Workers.{local_of}
-use Rattle.bz_machine.proofs.EventLaws.{acts_atomically}
-use Rattle.bz_cells.specs.Store.{Store, Beside, typed, status_at}
-use Rattle.bz_acts.specs.Made.{made}
+use Rattle.bz_swap_machine.specs.declared.worker.Worker.{Worker}
+use Rattle.bz_swap_machine.specs.declared.done.Done.{Done}
+use Rattle.bz_swap_machine.specs.declared.done.Done.TheVariants.{Busy}
+use Rattle.bz_swap_machine.specs.Content as machine
+use Rattle.bz_swap_machine.specs.Machine.{Entries, Memory, is_succeeded}
+use Rattle.bz_swap_machine.specs.Promise.{EffectIs as MachineEffectIs}
+use Rattle.bz_swap_machine.specs.State.{Act}
+use Rattle.bz_swap_machine.specs.Steps.{effect_of}
+use Rattle.bz_swap_machine.specs.Workers.{local_of}
+use Rattle.bz_swap_machine.proofs.EventLaws.{acts_atomically}
+use Rattle.bz_swap_cells.specs.Store.{Store, Beside, typed, status_at}
+use Rattle.bz_swap_acts.specs.Made.{made}
 use Rattle.bz_swap.specs.declared.phase.Phase.TheVariants.{Recovering}
 use Rattle.bz_swap.specs.Effects.{EffectIs}
 use Rattle.bz_swap.specs.SwapMemory.{SwapMemory, Swapping, doing_of}

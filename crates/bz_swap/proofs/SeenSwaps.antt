@@ -3,9 +3,9 @@ use Rattle.std.specs.Prelude.{◌≡◌, ℕ, suc, zero, ◌+◌, ◌<◌, List,
 use Rattle.std.proofs.Common.{arith, refl, ap, sym, ◌∙◌}
 use Rattle.std.proofs.lemmas.List.{length-set, map-set}
 use Rattle.bz_word.specs.declared.entry.Entry.{Entry}
-use Rattle.bz_machine.specs.declared.descriptor.DescriptorWords.{DescriptorWords}
-use Rattle.bz_machine.specs.Allowed.{for_swap, for_worker}
-use Rattle.bz_machine.specs.Machine.{entries_in}
+use Rattle.bz_swap_machine.specs.declared.descriptor.DescriptorWords.{DescriptorWords}
+use Rattle.bz_swap_machine.specs.Allowed.{for_swap, for_worker}
+use Rattle.bz_swap_machine.specs.Machine.{entries_in}
 use Rattle.bz_swap.specs.declared.phase.Phase.TheVariants.{Running}
 use Rattle.bz_swap.specs.Held.{Holds}
 use Rattle.bz_swap.specs.EntryLists.{IsEntryList}

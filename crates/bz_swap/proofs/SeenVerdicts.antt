@@ -4,25 +4,25 @@ use Rattle.std.specs.declared.option.Option.{Option}
 use Rattle.std.proofs.Common.{arith, refl, ap, sym, ◌∙◌, inl, inr}
 use Rattle.std.proofs.lemmas.Grind.{common_steps}
 use Rattle.bz_layout.specs.Addresses.{swap_address}
-use Rattle.bz_machine.specs.declared.done.Done.{Done}
-use Rattle.bz_machine.specs.declared.done.Done.TheVariants.{Swapped}
-use Rattle.bz_machine.specs.declared.place.Place.{Place}
-use Rattle.bz_machine.specs.declared.place.Place.TheVariants as place
-use Rattle.bz_machine.specs.declared.status.SwapStatus.{SwapStatus}
-use Rattle.bz_machine.specs.declared.status.SwapStatus.TheVariants.{Free, Undecided, Deciding, Decided}
-use Rattle.bz_machine.specs.declared.status.Verdict.{Verdict}
-use Rattle.bz_machine.specs.declared.status.Verdict.TheVariants.{Succeeded, Failed}
-use Rattle.bz_machine.specs.declared.worker.Operation.{Operation}
-use Rattle.bz_machine.specs.declared.worker.Operation.TheVariants as operation
-use Rattle.bz_machine.specs.declared.worker.Worker.{Worker}
-use Rattle.bz_machine.specs.Machine.{Entries, Memory, is_verdict}
-use Rattle.bz_machine.specs.Promise.{IsAnswer}
-use Rattle.bz_machine.specs.Sound.{Follows}
-use Rattle.bz_machine.specs.State.{Act}
-use Rattle.bz_machine.specs.Steps.{Stepped}
-use Rattle.bz_machine.proofs.EventLaws.{acts_atomically}
-use Rattle.bz_cells.specs.Store.{Store, Beside, IsStatusWord, typed, status_at, status_of, status_word}
-use Rattle.bz_acts.specs.Made.{made}
+use Rattle.bz_swap_machine.specs.declared.done.Done.{Done}
+use Rattle.bz_swap_machine.specs.declared.done.Done.TheVariants.{Swapped}
+use Rattle.bz_swap_machine.specs.declared.place.Place.{Place}
+use Rattle.bz_swap_machine.specs.declared.place.Place.TheVariants as place
+use Rattle.bz_swap_machine.specs.declared.status.SwapStatus.{SwapStatus}
+use Rattle.bz_swap_machine.specs.declared.status.SwapStatus.TheVariants.{Free, Undecided, Deciding, Decided}
+use Rattle.bz_swap_machine.specs.declared.status.Verdict.{Verdict}
+use Rattle.bz_swap_machine.specs.declared.status.Verdict.TheVariants.{Succeeded, Failed}
+use Rattle.bz_swap_machine.specs.declared.worker.Operation.{Operation}
+use Rattle.bz_swap_machine.specs.declared.worker.Operation.TheVariants as operation
+use Rattle.bz_swap_machine.specs.declared.worker.Worker.{Worker}
+use Rattle.bz_swap_machine.specs.Machine.{Entries, Memory, is_verdict}
+use Rattle.bz_swap_machine.specs.Promise.{IsAnswer}
+use Rattle.bz_swap_machine.specs.Sound.{Follows}
+use Rattle.bz_swap_machine.specs.State.{Act}
+use Rattle.bz_swap_machine.specs.Steps.{Stepped}
+use Rattle.bz_swap_machine.proofs.EventLaws.{acts_atomically}
+use Rattle.bz_swap_cells.specs.Store.{Store, Beside, IsStatusWord, typed, status_at, status_of, status_word}
+use Rattle.bz_swap_acts.specs.Made.{made}
 use Rattle.bz_swap.specs.Writes.{IsVerdictWord, IsDecided}
 use Rattle.bz_swap.specs.SwapMemory.{Swapping, Working, doing_of}
 use Rattle.bz_swap.specs.Inside.Parts.{Parts, worker_at, doing_at, doing_operation, seen}
@@ -31,7 +31,7 @@ use Rattle.bz_swap.proofs.Doings.{worker-seen}
 use Rattle.bz_swap.proofs.Readies.{published-begun, begun-descriptor}
 use Rattle.bz_swap.proofs.Stepped.{Acts, MayStep, after_step}
 use Rattle.bz_swap.proofs.StepRuns.{step-running}
-use Rattle.bz_machine.proofs.Lasting.{lasts-durable}
+use Rattle.bz_swap_machine.proofs.Lasting.{lasts-durable}
 
 abbrev verdict_of : Bool → Verdict
 verdict_of true = Succeeded

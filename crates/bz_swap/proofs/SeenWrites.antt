@@ -3,24 +3,24 @@ use Rattle.std.specs.Prelude.{◌≡◌, ◌≢◌, ◌⊎◌, ◌==◌, if◌th
 use Rattle.std.proofs.Common.{arith, refl, ap, sym, subst, ◌∙◌, inl, inr}
 use Rattle.std.proofs.lemmas.Grind.{common_steps}
 use Rattle.bz_layout.specs.Addresses.{swap_address}
-use Rattle.bz_machine.specs.declared.place.Place.{Place}
-use Rattle.bz_machine.specs.declared.place.Place.TheVariants as place
-use Rattle.bz_machine.specs.declared.place.PrepareStep.{PrepareStep}
-use Rattle.bz_machine.specs.declared.place.PrepareStep.TheVariants.{WriteWord, WriteStatus, AskHead, AskTail, FenceDescriptor}
-use Rattle.bz_machine.specs.declared.place.HelpStep.{HelpStep}
-use Rattle.bz_machine.specs.declared.place.HelpStep.TheVariants.{Decide, ClearStatus, AskDirty, FenceDirty, AskTarget, FenceTargets, AskStatus, FenceStatus, AskFinal, FenceFinal}
-use Rattle.bz_machine.specs.declared.status.SwapStatus.TheVariants.{Undecided, Deciding, Decided}
-use Rattle.bz_machine.specs.declared.status.Verdict.{Verdict}
-use Rattle.bz_machine.specs.declared.status.Verdict.TheVariants.{Succeeded, Failed}
-use Rattle.bz_machine.specs.declared.worker.Operation.TheVariants as operation
-use Rattle.bz_machine.specs.Knows.{AtPlace, Owns}
-use Rattle.bz_machine.specs.Machine.{spelled}
-use Rattle.bz_machine.specs.Ranges.{PlaceInRange}
-use Rattle.bz_machine.specs.Workers.{local_of}
-use Rattle.bz_cells.specs.Store.{IsOutside, status_word, typed}
-use Rattle.bz_acts.specs.Writes.{StaysOutside, PreparesBy, HelpsBy, WritesAt}
-use Rattle.bz_acts.specs.declared.acted.Act.{Act}
-use Rattle.bz_acts.specs.declared.acted.Act.TheVariants.{Load, Store, Cas, Flush, Ask, Fence}
+use Rattle.bz_swap_machine.specs.declared.place.Place.{Place}
+use Rattle.bz_swap_machine.specs.declared.place.Place.TheVariants as place
+use Rattle.bz_swap_machine.specs.declared.place.PrepareStep.{PrepareStep}
+use Rattle.bz_swap_machine.specs.declared.place.PrepareStep.TheVariants.{WriteWord, WriteStatus, AskHead, AskTail, FenceDescriptor}
+use Rattle.bz_swap_machine.specs.declared.place.HelpStep.{HelpStep}
+use Rattle.bz_swap_machine.specs.declared.place.HelpStep.TheVariants.{Decide, ClearStatus, AskDirty, FenceDirty, AskTarget, FenceTargets, AskStatus, FenceStatus, AskFinal, FenceFinal}
+use Rattle.bz_swap_machine.specs.declared.status.SwapStatus.TheVariants.{Undecided, Deciding, Decided}
+use Rattle.bz_swap_machine.specs.declared.status.Verdict.{Verdict}
+use Rattle.bz_swap_machine.specs.declared.status.Verdict.TheVariants.{Succeeded, Failed}
+use Rattle.bz_swap_machine.specs.declared.worker.Operation.TheVariants as operation
+use Rattle.bz_swap_machine.specs.Knows.{AtPlace, Owns}
+use Rattle.bz_swap_machine.specs.Machine.{spelled}
+use Rattle.bz_swap_machine.specs.Ranges.{PlaceInRange}
+use Rattle.bz_swap_machine.specs.Workers.{local_of}
+use Rattle.bz_swap_cells.specs.Store.{IsOutside, status_word, typed}
+use Rattle.bz_swap_acts.specs.Writes.{StaysOutside, PreparesBy, HelpsBy, WritesAt}
+use Rattle.bz_swap_acts.specs.declared.acted.Act.{Act}
+use Rattle.bz_swap_acts.specs.declared.acted.Act.TheVariants.{Load, Store, Cas, Flush, Ask, Fence}
 use Rattle.bz_swap.specs.declared.phase.Phase.TheVariants.{Recovering}
 use Rattle.bz_swap.specs.Writes.{StoresPrivate, StoresField, StoresOwn, ChangesStatus, WritesLawfully}
 use Rattle.bz_swap.specs.SwapMemory.{SwapMemory, Working, doing_of}
@@ -29,7 +29,7 @@ use Rattle.bz_swap.specs.Inside.Kept.{IsRunning, PlaceLies}
 use Rattle.bz_swap.proofs.Doings.{worker-seen}
 use Rattle.bz_swap.proofs.Readies.{published-begun, begun-descriptor}
 use Rattle.bz_swap.proofs.Shown.{shows}
-use Rattle.bz_machine.proofs.Lasting.{lasts-durable}
+use Rattle.bz_swap_machine.proofs.Lasting.{lasts-durable}
 
 -- an act outside the descriptors
 outside-writes : (old : SwapMemory) (w : ℕ) (made : Act) → StaysOutside old.swaps made → WritesLawfully old w made

@@ -4,20 +4,20 @@ use Rattle.std.specs.declared.option.Option.{Option}
 use Rattle.std.proofs.Common.{arith, refl, ap, sym, subst, ◌∙◌, inl, inr}
 use Rattle.std.proofs.lemmas.Bool.{cases_eq, cases_lt}
 use Rattle.std.proofs.lemmas.Grind.{common_steps}
-use Rattle.bz_machine.specs.declared.done.Done.{Done}
-use Rattle.bz_machine.specs.Pending.{Saved, Pending, with_saved, fenced_value, fenced_since}
-use Rattle.bz_cells.specs.FromPm.After.{after_flush, after_ask, after_fence, after_eviction}
-use Rattle.bz_cells.specs.FromPm.Changes.{AsksOnly, FencesOnly}
-use Rattle.bz_cells.specs.FromPm.State.{State, IsState}
-use Rattle.bz_cells.specs.Store.{word_pending}
-use Rattle.bz_cells.proofs.FromPm.Dates.{dates_flushed}
-use Rattle.bz_cells.proofs.FromPm.Fences as memory
-use Rattle.bz_cells.proofs.FromPm.Lemmas.{flush}
-use Rattle.bz_cells.proofs.Pasts.{past_of, saved-ask, fenced-fence, settled-fence, moment-asked}
-use Rattle.bz_cells.proofs.SettledWords.{settled-saves, saves-settled}
-use Rattle.bz_acts.specs.Rule.{IsWithin, after_act}
-use Rattle.bz_acts.specs.declared.acted.Act.{Act}
-use Rattle.bz_acts.specs.declared.acted.Act.TheVariants.{Load, Store, Cas, Flush, Ask, Fence}
+use Rattle.bz_swap_machine.specs.declared.done.Done.{Done}
+use Rattle.bz_swap_machine.specs.Pending.{Saved, Pending, with_saved, fenced_value, fenced_since}
+use Rattle.bz_swap_cells.specs.FromPm.After.{after_flush, after_ask, after_fence, after_eviction}
+use Rattle.bz_swap_cells.specs.FromPm.Changes.{AsksOnly, FencesOnly}
+use Rattle.bz_swap_cells.specs.FromPm.State.{State, IsState}
+use Rattle.bz_swap_cells.specs.Store.{word_pending}
+use Rattle.bz_swap_cells.proofs.FromPm.Dates.{dates_flushed}
+use Rattle.bz_swap_cells.proofs.FromPm.Fences as memory
+use Rattle.bz_swap_cells.proofs.FromPm.Lemmas.{flush}
+use Rattle.bz_swap_cells.proofs.Pasts.{past_of, saved-ask, fenced-fence, settled-fence, moment-asked}
+use Rattle.bz_swap_cells.proofs.SettledWords.{settled-saves, saves-settled}
+use Rattle.bz_swap_acts.specs.Rule.{IsWithin, after_act}
+use Rattle.bz_swap_acts.specs.declared.acted.Act.{Act}
+use Rattle.bz_swap_acts.specs.declared.acted.Act.TheVariants.{Load, Store, Cas, Flush, Ask, Fence}
 use Rattle.bz_swap.specs.declared.phase.Phase.{Phase}
 use Rattle.bz_swap.specs.Evictions.{IsEviction}
 use Rattle.bz_swap.specs.Power.{opened, renewed}

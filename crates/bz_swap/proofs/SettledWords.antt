@@ -1,8 +1,8 @@
 -- A settled word is the same in the caches and in the memory itself.
 use Rattle.std.specs.Prelude.{◌==◌, ◌&&◌, []}
 use Rattle.std.proofs.Common.{◌≡◌, ℕ, true, slice_index, ap, ◌∙◌}
-use Rattle.bz_cells.specs.Store.{Past, is_settled, all_save}
-use Rattle.bz_cells.proofs.SettledWords.{settled-same as settled-words}
+use Rattle.bz_swap_cells.specs.Store.{Past, is_settled, all_save}
+use Rattle.bz_swap_cells.proofs.SettledWords.{settled-same as settled-words}
 use Rattle.bz_swap.specs.SwapMemory.{SwapMemory, is_settled_at}
 
 pub settled-same : (m : SwapMemory) (a : ℕ) → is_settled_at m a ≡ true → slice_index m.cached a ≡ slice_index m.durable a

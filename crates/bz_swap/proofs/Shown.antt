@@ -3,9 +3,9 @@ use Rattle.std.specs.Prelude.{◌≡◌, ◌≢◌, ℕ, ◌<◌, ◌≤◌, fal
 use Rattle.std.proofs.Common.{arith, refl, ap, sym, subst, ◌∙◌, inl, inr}
 use Rattle.std.proofs.lemmas.Bool.{cases_lt, true≢false}
 use Rattle.bz_word.specs.declared.entry.Entry.{Entry}
-use Rattle.bz_machine.specs.Content as machine
-use Rattle.bz_machine.specs.Machine.{Entries, Memory}
-use Rattle.bz_cells.specs.Store.{typed}
+use Rattle.bz_swap_machine.specs.Content as machine
+use Rattle.bz_swap_machine.specs.Machine.{Entries, Memory}
+use Rattle.bz_swap_cells.specs.Store.{typed}
 use Rattle.bz_swap.specs.declared.phase.Phase.{Phase}
 use Rattle.bz_swap.specs.declared.phase.Phase.TheVariants.{Opened, Running, Recovering}
 use Rattle.bz_swap.specs.SwapMemory.{SwapMemory, Swapping, value_at, has_effect, is_missed, entries_of, is_target, is_named, is_among, doing_of}

@@ -1,9 +1,9 @@
 -- Entries that words spell are listed alike.
 use Rattle.std.specs.Prelude.{◌≡◌, ℕ, zero, suc, ◌+◌, ◌<◌, ◌≤◌, ◌∷◌}
 use Rattle.std.proofs.Common.{arith, refl}
-use Rattle.bz_machine.specs.Agrees.{Agree, agree-spell}
-use Rattle.bz_machine.specs.Machine.{Entries, entries_in}
-use Rattle.bz_machine.specs.Knows.{Spell}
+use Rattle.bz_swap_machine.specs.Agrees.{Agree, agree-spell}
+use Rattle.bz_swap_machine.specs.Machine.{Entries, entries_in}
+use Rattle.bz_swap_machine.specs.Knows.{Spell}
 use Rattle.bz_swap.specs.Inside.Parts.{listed, entry_list}
 
 -- lists whose members are the same

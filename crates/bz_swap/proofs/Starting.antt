@@ -3,16 +3,16 @@ use Rattle.std.specs.Prelude.{◌≡◌, ◌≢◌, ◌⊎◌, ℕ, zero, suc, �
 use Rattle.std.proofs.Common.{arith, refl, ap, sym, ◌∙◌, inl, inr}
 use Rattle.std.proofs.lemmas.Bool.{cases_eq}
 use Rattle.std.proofs.lemmas.List.{get_or-set_same, get_or-set_other, length-set, map-set}
-use Rattle.bz_machine.specs.declared.place.Place.TheVariants as place
-use Rattle.bz_machine.specs.declared.worker.Operation.TheVariants as operation
-use Rattle.bz_machine.specs.declared.worker.Worker.{Worker}
-use Rattle.bz_machine.specs.Allowed.{for_worker}
-use Rattle.bz_machine.specs.Budget.{budget}
-use Rattle.bz_machine.specs.Budgets.{IsAmong}
-use Rattle.bz_machine.specs.Lawful.{MayHold}
-use Rattle.bz_machine.specs.State.{State, Event, MayHappen, happens, with_local}
-use Rattle.bz_machine.specs.Workers.{local_of}
-use Rattle.bz_machine.proofs.EventLaws.{keeps_state, keeps_range, stays_bounded}
+use Rattle.bz_swap_machine.specs.declared.place.Place.TheVariants as place
+use Rattle.bz_swap_machine.specs.declared.worker.Operation.TheVariants as operation
+use Rattle.bz_swap_machine.specs.declared.worker.Worker.{Worker}
+use Rattle.bz_swap_machine.specs.Allowed.{for_worker}
+use Rattle.bz_swap_machine.specs.Budget.{budget}
+use Rattle.bz_swap_machine.specs.Budgets.{IsAmong}
+use Rattle.bz_swap_machine.specs.Lawful.{MayHold}
+use Rattle.bz_swap_machine.specs.State.{State, Event, MayHappen, happens, with_local}
+use Rattle.bz_swap_machine.specs.Workers.{local_of}
+use Rattle.bz_swap_machine.proofs.EventLaws.{keeps_state, keeps_range, stays_bounded}
 use Rattle.bz_swap.specs.declared.phase.Phase.TheVariants.{Running, Recovering}
 use Rattle.bz_swap.specs.Held.{Holds}
 use Rattle.bz_swap.specs.Solo.{allowed_by_kind}

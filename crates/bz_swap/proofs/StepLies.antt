@@ -1,19 +1,19 @@
 -- Where workers lie: one that steps, and the others.
 use Rattle.std.specs.Prelude.{◌≡◌, ℕ, ◌*◌}
 use Rattle.std.proofs.Common.{refl, ap, ◌∙◌, inl, inr}
-use Rattle.bz_machine.specs.declared.place.Place.{Place}
-use Rattle.bz_machine.specs.declared.place.Place.TheVariants as place
-use Rattle.bz_machine.specs.declared.worker.Operation.{Operation}
-use Rattle.bz_machine.specs.declared.worker.Operation.TheVariants as operation
-use Rattle.bz_machine.specs.declared.worker.Worker.{Worker}
-use Rattle.bz_machine.specs.declared.done.Done.{Done}
-use Rattle.bz_machine.specs.Machine.{Entries, Memory}
-use Rattle.bz_machine.specs.Knows.{Knows, AtPlace}
-use Rattle.bz_machine.specs.Steps.{Local}
-use Rattle.bz_machine.specs.Workers.{local_of}
-use Rattle.bz_cells.specs.Store.{Store, SameShape}
-use Rattle.bz_acts.specs.Made.{made}
-use Rattle.bz_acts.specs.Ready.{LiesOutside}
+use Rattle.bz_swap_machine.specs.declared.place.Place.{Place}
+use Rattle.bz_swap_machine.specs.declared.place.Place.TheVariants as place
+use Rattle.bz_swap_machine.specs.declared.worker.Operation.{Operation}
+use Rattle.bz_swap_machine.specs.declared.worker.Operation.TheVariants as operation
+use Rattle.bz_swap_machine.specs.declared.worker.Worker.{Worker}
+use Rattle.bz_swap_machine.specs.declared.done.Done.{Done}
+use Rattle.bz_swap_machine.specs.Machine.{Entries, Memory}
+use Rattle.bz_swap_machine.specs.Knows.{Knows, AtPlace}
+use Rattle.bz_swap_machine.specs.Steps.{Local}
+use Rattle.bz_swap_machine.specs.Workers.{local_of}
+use Rattle.bz_swap_cells.specs.Store.{Store, SameShape}
+use Rattle.bz_swap_acts.specs.Made.{made}
+use Rattle.bz_swap_acts.specs.Ready.{LiesOutside}
 use Rattle.bz_swap.specs.Inside.Parts.{Parts, worker_at}
 use Rattle.bz_swap.specs.Inside.Kept.{IsRunning, IsWorker, RestsAt, OperationLies, PlaceLies, IsBusy}
 use Rattle.bz_swap.proofs.Going.{IsGoing, Leads}

@@ -3,16 +3,16 @@ use Rattle.std.specs.Prelude.{◌≡◌, ℕ, length, slice_index}
 use Rattle.std.proofs.Common.{arith, refl, ap, subst, ◌∙◌, inl, inr}
 use Rattle.std.proofs.lemmas.Bool.{cases_eq}
 use Rattle.std.proofs.lemmas.List.{length-set}
-use Rattle.bz_machine.specs.declared.worker.Worker.{Worker}
-use Rattle.bz_machine.specs.declared.done.Done.{Done}
-use Rattle.bz_machine.specs.Machine.{Memory}
-use Rattle.bz_machine.specs.Knows.{Knows}
-use Rattle.bz_machine.specs.Steps.{Stepped}
-use Rattle.bz_machine.specs.State.{State, Act, IsState}
-use Rattle.bz_machine.specs.Workers.{local_of}
-use Rattle.bz_machine.proofs.EventLaws.{keeps_state, keeps_range, stays_bounded}
-use Rattle.bz_cells.specs.Store.{Store, typed}
-use Rattle.bz_acts.specs.Made.{made, beside_in}
+use Rattle.bz_swap_machine.specs.declared.worker.Worker.{Worker}
+use Rattle.bz_swap_machine.specs.declared.done.Done.{Done}
+use Rattle.bz_swap_machine.specs.Machine.{Memory}
+use Rattle.bz_swap_machine.specs.Knows.{Knows}
+use Rattle.bz_swap_machine.specs.Steps.{Stepped}
+use Rattle.bz_swap_machine.specs.State.{State, Act, IsState}
+use Rattle.bz_swap_machine.specs.Workers.{local_of}
+use Rattle.bz_swap_machine.proofs.EventLaws.{keeps_state, keeps_range, stays_bounded}
+use Rattle.bz_swap_cells.specs.Store.{Store, typed}
+use Rattle.bz_swap_acts.specs.Made.{made, beside_in}
 use Rattle.bz_swap.specs.Inside.Parts.{Parts, worker_at}
 use Rattle.bz_swap.specs.Inside.Kept.{IsRunning, state_of}
 use Rattle.bz_swap.proofs.Asking.{own-asked, other-asked}

@@ -4,20 +4,20 @@ use Rattle.std.proofs.Common.{arith, refl, ap, sym, ◌∙◌, inl, inr}
 use Rattle.std.proofs.lemmas.Bool.{cases_eq}
 use Rattle.std.proofs.lemmas.List.{get_or-set_same, get_or-set_other}
 use Rattle.std.proofs.lemmas.Grind.{common_steps}
-use Rattle.bz_machine.specs.declared.place.Place.TheVariants as place
-use Rattle.bz_machine.specs.declared.worker.Worker.{Worker}
-use Rattle.bz_machine.specs.declared.done.Done.{Done}
-use Rattle.bz_machine.specs.Machine.{Entries}
-use Rattle.bz_machine.specs.Changes.{put}
-use Rattle.bz_machine.specs.Sizes.{most_workers}
-use Rattle.bz_machine.specs.State.{Act, happens}
-use Rattle.bz_machine.specs.Workers.{local_of}
-use Rattle.bz_machine.specs.Flushes.{is_flush}
-use Rattle.bz_cells.specs.Store.{Store, Beside, IsStore, SameShape, typed, store_state}
-use Rattle.bz_acts.specs.declared.acted.Act.{Act as MemoryAct}
-use Rattle.bz_acts.specs.Rule.{IsActOf, IsToldAt, IsWithin, is_flush_act}
-use Rattle.bz_acts.specs.Writes.{WritesAt}
-use Rattle.bz_acts.specs.Made.{made, beside_in}
+use Rattle.bz_swap_machine.specs.declared.place.Place.TheVariants as place
+use Rattle.bz_swap_machine.specs.declared.worker.Worker.{Worker}
+use Rattle.bz_swap_machine.specs.declared.done.Done.{Done}
+use Rattle.bz_swap_machine.specs.Machine.{Entries}
+use Rattle.bz_swap_machine.specs.Changes.{put}
+use Rattle.bz_swap_machine.specs.Sizes.{most_workers}
+use Rattle.bz_swap_machine.specs.State.{Act, happens}
+use Rattle.bz_swap_machine.specs.Workers.{local_of}
+use Rattle.bz_swap_machine.specs.Flushes.{is_flush}
+use Rattle.bz_swap_cells.specs.Store.{Store, Beside, IsStore, SameShape, typed, store_state}
+use Rattle.bz_swap_acts.specs.declared.acted.Act.{Act as MemoryAct}
+use Rattle.bz_swap_acts.specs.Rule.{IsActOf, IsToldAt, IsWithin, is_flush_act}
+use Rattle.bz_swap_acts.specs.Writes.{WritesAt}
+use Rattle.bz_swap_acts.specs.Made.{made, beside_in}
 use Rattle.bz_swap.specs.Inside.Allowances.{after_step as allowance_after}
 use Rattle.bz_swap.specs.Inside.Parts.{Parts, idle_worker, worker_at}
 use Rattle.bz_swap.specs.Inside.Kept.{state_of, allowed_at}

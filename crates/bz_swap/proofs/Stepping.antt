@@ -3,17 +3,17 @@ use Rattle.std.specs.Prelude.{◌≡◌, ◌≢◌, ℕ, ◌^◌, ◌<◌, ◌�
 use Rattle.std.proofs.Common.{arith, refl, ap, sym, subst, ◌∙◌, inl, inr}
 use Rattle.std.proofs.lemmas.Bool.{cases_lt}
 use Rattle.std.proofs.lemmas.List.{get_or_default, length-map, length-set}
-use Rattle.bz_machine.specs.declared.place.Place.TheVariants as place
-use Rattle.bz_machine.specs.declared.worker.Worker.{Worker}
-use Rattle.bz_machine.specs.declared.done.Done.{Done}
-use Rattle.bz_acts.specs.declared.acted.Act.{Act}
-use Rattle.bz_machine.specs.Flushes.{is_flush}
-use Rattle.bz_machine.specs.Workers.{local_of}
-use Rattle.bz_acts.specs.Made.{made, beside_in}
-use Rattle.bz_acts.specs.Ready.{IsReady}
-use Rattle.bz_acts.specs.Rule.{IsActOf, IsToldAt, IsWithin, is_flush_act}
-use Rattle.bz_acts.specs.Writes.{WritesAt}
-use Rattle.bz_cells.specs.Store.{Store, Beside, IsStore, SameShape, typed, store_state}
+use Rattle.bz_swap_machine.specs.declared.place.Place.TheVariants as place
+use Rattle.bz_swap_machine.specs.declared.worker.Worker.{Worker}
+use Rattle.bz_swap_machine.specs.declared.done.Done.{Done}
+use Rattle.bz_swap_acts.specs.declared.acted.Act.{Act}
+use Rattle.bz_swap_machine.specs.Flushes.{is_flush}
+use Rattle.bz_swap_machine.specs.Workers.{local_of}
+use Rattle.bz_swap_acts.specs.Made.{made, beside_in}
+use Rattle.bz_swap_acts.specs.Ready.{IsReady}
+use Rattle.bz_swap_acts.specs.Rule.{IsActOf, IsToldAt, IsWithin, is_flush_act}
+use Rattle.bz_swap_acts.specs.Writes.{WritesAt}
+use Rattle.bz_swap_cells.specs.Store.{Store, Beside, IsStore, SameShape, typed, store_state}
 use Rattle.bz_swap.specs.declared.phase.Phase.{Phase}
 use Rattle.bz_swap.specs.declared.phase.Phase.TheVariants.{Opened, Running, Recovering}
 use Rattle.bz_swap.specs.Held.{Holds}

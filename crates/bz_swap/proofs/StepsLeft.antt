@@ -3,14 +3,14 @@ use Rattle.std.specs.Prelude.{◌≡◌, ◌≢◌, ◌==◌, min, ℕ, ◌+◌,
 use Rattle.std.proofs.Common.{arith, refl, subst, inl, inr}
 use Rattle.std.proofs.lemmas.Bool.{cases_eq}
 use Rattle.std.proofs.lemmas.Grind.{common_steps}
-use Rattle.bz_machine.specs.declared.place.Place.{Place}
-use Rattle.bz_machine.specs.declared.place.Place.TheVariants as place
-use Rattle.bz_machine.specs.Allowed.{allowed_by}
-use Rattle.bz_machine.specs.Budget.{budget}
-use Rattle.bz_machine.specs.Budgets.{IsBounded}
-use Rattle.bz_machine.specs.State.{State, Event, Act, happens}
-use Rattle.bz_machine.proofs.BudgetStarts.{evictions_keep_budgets}
-use Rattle.bz_machine.proofs.EventLaws.{budgets_are_allowed, acts_spend}
+use Rattle.bz_swap_machine.specs.declared.place.Place.{Place}
+use Rattle.bz_swap_machine.specs.declared.place.Place.TheVariants as place
+use Rattle.bz_swap_machine.specs.Allowed.{allowed_by}
+use Rattle.bz_swap_machine.specs.Budget.{budget}
+use Rattle.bz_swap_machine.specs.Budgets.{IsBounded}
+use Rattle.bz_swap_machine.specs.State.{State, Event, Act, happens}
+use Rattle.bz_swap_machine.proofs.BudgetStarts.{evictions_keep_budgets}
+use Rattle.bz_swap_machine.proofs.EventLaws.{budgets_are_allowed, acts_spend}
 use Rattle.bz_swap.specs.declared.allowance.Allowance.{Allowance}
 use Rattle.bz_swap.specs.declared.role.WordRole.{WordRole}
 use Rattle.bz_swap.specs.declared.role.WordRole.TheVariants.{Outside, Status, Field}

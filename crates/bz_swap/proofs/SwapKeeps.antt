@@ -4,17 +4,17 @@ use Rattle.std.proofs.Common.{arith, refl, ap, sym, ◌∙◌, inl, inr}
 use Rattle.std.proofs.lemmas.Bool.{cases_eq}
 use Rattle.std.proofs.lemmas.List.{length-set}
 use Rattle.bz_word.specs.declared.entry.Entry.{Entry}
-use Rattle.bz_machine.specs.declared.place.Place.TheVariants as place
-use Rattle.bz_machine.specs.declared.place.PrepareStep.TheVariants.{WriteWord}
-use Rattle.bz_machine.specs.declared.worker.Operation.TheVariants as operation
-use Rattle.bz_machine.specs.declared.descriptor.DescriptorWords.{DescriptorWords}
-use Rattle.bz_machine.specs.Allowed.{for_swap}
-use Rattle.bz_machine.specs.Budget.{budget}
-use Rattle.bz_machine.specs.State.{State, happens}
-use Rattle.bz_machine.specs.Budgets.{IsAmong}
-use Rattle.bz_machine.proofs.EventLaws.{keeps_state, keeps_range, stays_bounded}
-use Rattle.bz_machine.proofs.SwapStarts.{swaps_add_allowed}
-use Rattle.bz_acts.specs.Ready.{LiesOutside}
+use Rattle.bz_swap_machine.specs.declared.place.Place.TheVariants as place
+use Rattle.bz_swap_machine.specs.declared.place.PrepareStep.TheVariants.{WriteWord}
+use Rattle.bz_swap_machine.specs.declared.worker.Operation.TheVariants as operation
+use Rattle.bz_swap_machine.specs.declared.descriptor.DescriptorWords.{DescriptorWords}
+use Rattle.bz_swap_machine.specs.Allowed.{for_swap}
+use Rattle.bz_swap_machine.specs.Budget.{budget}
+use Rattle.bz_swap_machine.specs.State.{State, happens}
+use Rattle.bz_swap_machine.specs.Budgets.{IsAmong}
+use Rattle.bz_swap_machine.proofs.EventLaws.{keeps_state, keeps_range, stays_bounded}
+use Rattle.bz_swap_machine.proofs.SwapStarts.{swaps_add_allowed}
+use Rattle.bz_swap_acts.specs.Ready.{LiesOutside}
 use Rattle.bz_swap.specs.SwapMemory.{is_target, is_among}
 use Rattle.bz_swap.specs.Inside.Parts.{Parts, worker_at, listed, entry_list}
 use Rattle.bz_swap.specs.Inside.Kept.{AsksFew, IsRunning, IsWorker, IsOwned, IsPrepared, state_of}

@@ -3,7 +3,7 @@ use Rattle.std.specs.Prelude.{◌≡◌, ◌≢◌, if◌then◌else◌, ◌==�
 use Rattle.std.proofs.Common.{arith, refl, ap, sym, subst, ◌∙◌}
 use Rattle.std.proofs.lemmas.Grind.{common_steps}
 use Rattle.bz_word.specs.declared.entry.Entry.{Entry}
-use Rattle.bz_machine.specs.Machine.{Entries, entries_in, spelled}
+use Rattle.bz_swap_machine.specs.Machine.{Entries, entries_in, spelled}
 use Rattle.bz_swap.specs.Resolve.{first_entry}
 use Rattle.bz_swap.specs.SwapMemory.{is_target}
 use Rattle.bz_swap.specs.Inside.Parts.{entry_of, entry_list}

@@ -4,19 +4,19 @@ use Rattle.std.proofs.Common.{arith, ap, sym, ◌∙◌, inl, inr}
 use Rattle.std.proofs.lemmas.Bool.{cases_eq}
 use Rattle.std.proofs.lemmas.List.{get_or-set_same, get_or-set_other}
 use Rattle.bz_word.specs.declared.entry.Entry.{Entry}
-use Rattle.bz_machine.specs.declared.place.Place.TheVariants as place
-use Rattle.bz_machine.specs.declared.place.PrepareStep.TheVariants.{WriteWord}
-use Rattle.bz_machine.specs.declared.worker.Operation.TheVariants as operation
-use Rattle.bz_machine.specs.declared.worker.Worker.{Worker}
-use Rattle.bz_machine.specs.declared.descriptor.DescriptorWords.{DescriptorWords}
-use Rattle.bz_machine.specs.Allowed.{for_swap}
-use Rattle.bz_machine.specs.Machine.{Entries}
-use Rattle.bz_machine.specs.Changes.{put}
-use Rattle.bz_machine.specs.Lawful.{MayHold}
-use Rattle.bz_machine.specs.State.{State, Event, StartSwap, MayHappen, happens, swapping as beginning}
-use Rattle.bz_machine.specs.Steps.{Local}
-use Rattle.bz_machine.specs.Workers.{local_of}
-use Rattle.bz_cells.specs.Store.{Beside}
+use Rattle.bz_swap_machine.specs.declared.place.Place.TheVariants as place
+use Rattle.bz_swap_machine.specs.declared.place.PrepareStep.TheVariants.{WriteWord}
+use Rattle.bz_swap_machine.specs.declared.worker.Operation.TheVariants as operation
+use Rattle.bz_swap_machine.specs.declared.worker.Worker.{Worker}
+use Rattle.bz_swap_machine.specs.declared.descriptor.DescriptorWords.{DescriptorWords}
+use Rattle.bz_swap_machine.specs.Allowed.{for_swap}
+use Rattle.bz_swap_machine.specs.Machine.{Entries}
+use Rattle.bz_swap_machine.specs.Changes.{put}
+use Rattle.bz_swap_machine.specs.Lawful.{MayHold}
+use Rattle.bz_swap_machine.specs.State.{State, Event, StartSwap, MayHappen, happens, swapping as beginning}
+use Rattle.bz_swap_machine.specs.Steps.{Local}
+use Rattle.bz_swap_machine.specs.Workers.{local_of}
+use Rattle.bz_swap_cells.specs.Store.{Beside}
 use Rattle.bz_swap.specs.declared.phase.Phase.TheVariants.{Running}
 use Rattle.bz_swap.specs.SwapMemory.{is_target}
 use Rattle.bz_swap.specs.Starts.{MaySwap}

@@ -1,9 +1,9 @@
 -- One descriptor more is taken: what the words and the workers have stays.
 use Rattle.std.specs.Prelude.{ℕ, ◌+◌, ◌<◌}
 use Rattle.std.proofs.Common.{arith, refl}
-use Rattle.bz_machine.specs.declared.worker.Worker.{Worker}
-use Rattle.bz_cells.specs.Store.{Store, HasRoom, IsStore}
-use Rattle.bz_acts.specs.Ready.{LiesOutside}
+use Rattle.bz_swap_machine.specs.declared.worker.Worker.{Worker}
+use Rattle.bz_swap_cells.specs.Store.{Store, HasRoom, IsStore}
+use Rattle.bz_swap_acts.specs.Ready.{LiesOutside}
 use Rattle.bz_swap.specs.Inside.Kept.{IsWorker}
 use Rattle.bz_swap.proofs.StepLies.{worker-shape}
 

@@ -5,12 +5,12 @@ use Rattle.std.proofs.lemmas.Bool.{cases_eq, cases_lt}
 use Rattle.std.proofs.lemmas.Grind.{common_steps}
 use Rattle.std.proofs.lemmas.List.{get_or-set_same, get_or_past}
 use Rattle.bz_layout.specs.Addresses.{swap_address}
-use Rattle.bz_cells.specs.FromPm.State.{State}
-use Rattle.bz_acts.specs.Rule.{after_act}
-use Rattle.bz_acts.specs.declared.acted.Act.{Act}
-use Rattle.bz_acts.specs.declared.acted.Act.TheVariants.{Load, Store, Cas, Flush, Ask, Fence}
-use Rattle.bz_cells.specs.Store.{IsOutside, status_word}
-use Rattle.bz_machine.specs.declared.status.SwapStatus.TheVariants.{Undecided}
+use Rattle.bz_swap_cells.specs.FromPm.State.{State}
+use Rattle.bz_swap_acts.specs.Rule.{after_act}
+use Rattle.bz_swap_acts.specs.declared.acted.Act.{Act}
+use Rattle.bz_swap_acts.specs.declared.acted.Act.TheVariants.{Load, Store, Cas, Flush, Ask, Fence}
+use Rattle.bz_swap_cells.specs.Store.{IsOutside, status_word}
+use Rattle.bz_swap_machine.specs.declared.status.SwapStatus.TheVariants.{Undecided}
 use Rattle.bz_swap.specs.SwapMemory.{SwapMemory, memory_state}
 use Rattle.bz_swap.specs.TakenStatuses.{IsTaken, IsTaking, TakenStatusesStay}
 use Rattle.bz_swap.specs.Writes.{StoresPrivate, StoresField, StoresOwn, ChangesStatus, WritesLawfully}

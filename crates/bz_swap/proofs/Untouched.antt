@@ -4,25 +4,25 @@ use Rattle.std.proofs.Common.{refl, ap, sym, subst, ◌∙◌, inl, inr}
 use Rattle.std.proofs.lemmas.Bool.{cases_eq, true≢false}
 use Rattle.bz_word.specs.declared.kind.WordKind.{WordKind}
 use Rattle.bz_word.specs.declared.kind.WordKind.TheVariants.{Value, Dirty, Swap, Tag}
-use Rattle.bz_machine.specs.declared.status.SwapStatus.{SwapStatus}
-use Rattle.bz_machine.specs.declared.status.SwapStatus.TheVariants.{Free, Undecided, Deciding, Decided}
-use Rattle.bz_machine.specs.declared.status.Verdict.{Verdict}
-use Rattle.bz_machine.specs.declared.status.Verdict.TheVariants.{Succeeded, Failed}
-use Rattle.bz_machine.specs.declared.place.Place.{Place}
-use Rattle.bz_machine.specs.declared.place.Place.TheVariants.{Idle, Prepare, Learn, Help, ReadWord, AskRead, FenceRead, ClearRead, LoadWord, StoreWord, FlushLine}
-use Rattle.bz_machine.specs.declared.place.PrepareStep.TheVariants.{WriteWord, WriteStatus, AskHead, AskTail, FenceDescriptor}
-use Rattle.bz_machine.specs.declared.place.HelpStep.{HelpStep}
-use Rattle.bz_machine.specs.declared.place.HelpStep.TheVariants.{Look, InstallTag, LookUnderTag, InstallPointer, RemoveTag, AskDirty, FenceDirty, ClearDirty, AskTarget, FenceTargets, Decide, AskStatus, FenceStatus, ClearStatus, PutFinal, AskFinal, FenceFinal, ClearFinal, SweepTag}
-use Rattle.bz_machine.specs.declared.place.Next.{Next}
-use Rattle.bz_machine.specs.declared.place.Next.TheVariants.{Step, Meet, Complete}
-use Rattle.bz_machine.specs.Agrees.{agree-spell}
-use Rattle.bz_machine.specs.Machine.{Entries, Memory, entries_in}
-use Rattle.bz_machine.specs.Changes.{with_word}
-use Rattle.bz_machine.specs.Facts.{Fact}
-use Rattle.bz_machine.specs.Knows.{AtPlace, Spell}
-use Rattle.bz_machine.specs.Sound.{Sound, IsPlain}
-use Rattle.bz_machine.specs.HelpActs.{After, after_install_tag, after_untag, cleared_word, after_decide, cleared_status, after_put_final, help_act}
-use Rattle.bz_machine.specs.Steps.{Local, act, is_own, completed, after_help, read_act}
+use Rattle.bz_swap_machine.specs.declared.status.SwapStatus.{SwapStatus}
+use Rattle.bz_swap_machine.specs.declared.status.SwapStatus.TheVariants.{Free, Undecided, Deciding, Decided}
+use Rattle.bz_swap_machine.specs.declared.status.Verdict.{Verdict}
+use Rattle.bz_swap_machine.specs.declared.status.Verdict.TheVariants.{Succeeded, Failed}
+use Rattle.bz_swap_machine.specs.declared.place.Place.{Place}
+use Rattle.bz_swap_machine.specs.declared.place.Place.TheVariants.{Idle, Prepare, Learn, Help, ReadWord, AskRead, FenceRead, ClearRead, LoadWord, StoreWord, FlushLine}
+use Rattle.bz_swap_machine.specs.declared.place.PrepareStep.TheVariants.{WriteWord, WriteStatus, AskHead, AskTail, FenceDescriptor}
+use Rattle.bz_swap_machine.specs.declared.place.HelpStep.{HelpStep}
+use Rattle.bz_swap_machine.specs.declared.place.HelpStep.TheVariants.{Look, InstallTag, LookUnderTag, InstallPointer, RemoveTag, AskDirty, FenceDirty, ClearDirty, AskTarget, FenceTargets, Decide, AskStatus, FenceStatus, ClearStatus, PutFinal, AskFinal, FenceFinal, ClearFinal, SweepTag}
+use Rattle.bz_swap_machine.specs.declared.place.Next.{Next}
+use Rattle.bz_swap_machine.specs.declared.place.Next.TheVariants.{Step, Meet, Complete}
+use Rattle.bz_swap_machine.specs.Agrees.{agree-spell}
+use Rattle.bz_swap_machine.specs.Machine.{Entries, Memory, entries_in}
+use Rattle.bz_swap_machine.specs.Changes.{with_word}
+use Rattle.bz_swap_machine.specs.Facts.{Fact}
+use Rattle.bz_swap_machine.specs.Knows.{AtPlace, Spell}
+use Rattle.bz_swap_machine.specs.Sound.{Sound, IsPlain}
+use Rattle.bz_swap_machine.specs.HelpActs.{After, after_install_tag, after_untag, cleared_word, after_decide, cleared_status, after_put_final, help_act}
+use Rattle.bz_swap_machine.specs.Steps.{Local, act, is_own, completed, after_help, read_act}
 use Rattle.bz_swap.proofs.Stepped.{put-there}
 
 cached-if : (b : Bool) (x y : After) (a : ℕ) (z : WordKind) → x.memory.cached a ≡ z → y.memory.cached a ≡ z → (if b then x else y).memory.cached a ≡ z

@@ -3,7 +3,7 @@ use Rattle.std.specs.Prelude.{◌≡◌, ℕ, zero, suc, ◌+◌, ◌<◌, ◌�
 use Rattle.std.proofs.Common.{arith, refl, ap, subst, ◌∙◌, inl, inr}
 use Rattle.std.proofs.lemmas.Bool.{cases_eq}
 use Rattle.std.proofs.lemmas.Grind.{common_steps}
-use Rattle.bz_machine.specs.Machine.{Entries}
+use Rattle.bz_swap_machine.specs.Machine.{Entries}
 use Rattle.bz_swap.specs.SwapMemory.{is_target}
 use Rattle.bz_swap.specs.Inside.Parts.{listed}
 

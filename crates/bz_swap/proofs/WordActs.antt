@@ -4,9 +4,9 @@ use Rattle.std.proofs.Common.{arith, ap, refl, ◌∙◌, inl, inr}
 use Rattle.std.proofs.lemmas.Bool.{cases_eq, cases_lt}
 use Rattle.std.proofs.lemmas.Grind.{common_steps}
 use Rattle.std.proofs.lemmas.List.{get_or-set_same, get_or-set_other, get_or_past, length-set, take_all, drop_all, append-nil}
-use Rattle.bz_cells.specs.FromPm.Acts.{with_range, with_line, flushed}
-use Rattle.bz_cells.proofs.FromPm.Lemmas.{flush}
-use Rattle.bz_cells.specs.FromPm.Words.{Words, IsMemory}
+use Rattle.bz_swap_cells.specs.FromPm.Acts.{with_range, with_line, flushed}
+use Rattle.bz_swap_cells.proofs.FromPm.Lemmas.{flush}
+use Rattle.bz_swap_cells.specs.FromPm.Words.{Words, IsMemory}
 
 -- what holds of a word and of what is stored holds of the word afterwards
 pub set-keeps : (P : ℕ → Type 0) (words : List ℕ) (a v b : ℕ) → (b ≡ a → P v) → P (slice_index words b) → P (slice_index (slice_set words a v) b)

@@ -4,14 +4,14 @@ use Rattle.std.specs.declared.option.Option.{Option}
 use Rattle.std.proofs.Common.{arith, refl, ap, sym, subst, inl, inr}
 use Rattle.std.proofs.lemmas.Bool.{cases_lt}
 use Rattle.std.proofs.lemmas.List.{length-set}
-use Rattle.bz_cells.specs.FromPm.Acts.{flushed}
-use Rattle.bz_cells.proofs.FromPm.Lemmas.{flush}
-use Rattle.bz_cells.specs.FromPm.State.{State}
-use Rattle.bz_cells.specs.FromPm.Words.{Words, IsMemory}
-use Rattle.bz_cells.proofs.FromPm.Fences as memory
-use Rattle.bz_acts.specs.Rule.{after_act}
-use Rattle.bz_acts.specs.declared.acted.Act.{Act}
-use Rattle.bz_acts.specs.declared.acted.Act.TheVariants.{Load, Store, Cas, Flush, Ask, Fence}
+use Rattle.bz_swap_cells.specs.FromPm.Acts.{flushed}
+use Rattle.bz_swap_cells.proofs.FromPm.Lemmas.{flush}
+use Rattle.bz_swap_cells.specs.FromPm.State.{State}
+use Rattle.bz_swap_cells.specs.FromPm.Words.{Words, IsMemory}
+use Rattle.bz_swap_cells.proofs.FromPm.Fences as memory
+use Rattle.bz_swap_acts.specs.Rule.{after_act}
+use Rattle.bz_swap_acts.specs.declared.acted.Act.{Act}
+use Rattle.bz_swap_acts.specs.declared.acted.Act.TheVariants.{Load, Store, Cas, Flush, Ask, Fence}
 use Rattle.bz_swap.specs.Evictions.{IsEviction}
 use Rattle.bz_swap.specs.Sizes.{SizesStay}
 use Rattle.bz_swap.specs.Steps.{MayAct}

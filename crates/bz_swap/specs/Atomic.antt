@@ -3,12 +3,12 @@
 use Rattle.std.specs.Prelude.{◌≡◌, ◌⊎◌, ◌||◌, ◌==◌, if◌then◌else◌, ℕ, ◌<◌, Bool, true, false, All, Option, None, Some, slice_index}
 use Rattle.bz_word.specs.declared.entry.Entry.{Entry}
 use Rattle.bz_layout.specs.Addresses.{line_of}
-use Rattle.bz_acts.specs.Rule.{IsActOf}
-use Rattle.bz_acts.specs.declared.acted.Act.{Act}
-use Rattle.bz_cells.specs.Store.{IsOutside, word_pending}
-use Rattle.bz_machine.specs.Pending.{Saved}
-use Rattle.bz_machine.specs.declared.done.Done.{Done}
-use Rattle.bz_machine.specs.declared.done.Done.TheVariants.{Busy, Read, Swapped, Stored, Flushed}
+use Rattle.bz_swap_acts.specs.Rule.{IsActOf}
+use Rattle.bz_swap_acts.specs.declared.acted.Act.{Act}
+use Rattle.bz_swap_cells.specs.Store.{IsOutside, word_pending}
+use Rattle.bz_swap_machine.specs.Pending.{Saved}
+use Rattle.bz_swap_machine.specs.declared.done.Done.{Done}
+use Rattle.bz_swap_machine.specs.declared.done.Done.TheVariants.{Busy, Read, Swapped, Stored, Flushed}
 use Rattle.bz_swap.specs.declared.phase.Phase.{Phase}
 use Rattle.bz_swap.specs.declared.phase.Phase.TheVariants.{Opened, Running, Recovering}
 use Rattle.bz_swap.specs.SwapMemory.{SwapMemory, Doing, Reading, memory_state, Swapping, Loading, Storing, Flushing, value_at, has_effect, is_missed, entries_of, is_target, is_named}

@@ -1,9 +1,9 @@
 -- The calls of `Access` are the events of the atomic swap memory.
 use Rattle.std.specs.Prelude.{◌≡◌, ◌≢◌, ℕ, ◌<◌, true, List, Option}
 use Rattle.bz_word.specs.declared.entry.Entry.{Entry}
-use Rattle.bz_acts.specs.declared.acted.Act.{Act}
-use Rattle.bz_cells.specs.Store.{IsOutside}
-use Rattle.bz_machine.specs.declared.done.Done.{Done}
+use Rattle.bz_swap_acts.specs.declared.acted.Act.{Act}
+use Rattle.bz_swap_cells.specs.Store.{IsOutside}
+use Rattle.bz_swap_machine.specs.declared.done.Done.{Done}
 use Rattle.bz_swap.specs.declared.phase.Phase.TheVariants.{Recovering}
 use Rattle.bz_swap.specs.Atomic.{value_of, Quiet, Happens, told_event, IsAtomicStep, IsRecoveryStep}
 use Rattle.bz_swap.specs.Evictions.{IsEviction}

@@ -1,7 +1,7 @@
 -- What an act or an eviction may do to the values of a swap memory: nothing, or the effect of one whole swap.
 use Rattle.std.specs.Prelude.{◌≡◌, ◌≢◌, ℕ, true, false, List, slice_index, All, Option, Some, None}
 use Rattle.bz_word.specs.declared.entry.Entry.{Entry}
-use Rattle.bz_cells.specs.Store.{IsOutside}
+use Rattle.bz_swap_cells.specs.Store.{IsOutside}
 use Rattle.bz_swap.specs.SwapMemory.{SwapMemory, Swapping, value_at, has_effect, is_missed, entries_of, is_target, is_named, doing_of}
 
 -- swap s takes effect, whole: it is a worker's operation and had no effect; its targets held the expected values and

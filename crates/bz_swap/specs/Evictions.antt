@@ -1,7 +1,7 @@
 -- What an eviction does.
 use Rattle.std.specs.Prelude.{◌≡◌, ℕ, slice_set, Option, None}
-use Rattle.bz_cells.specs.FromPm.Acts.{evicted}
-use Rattle.bz_cells.specs.FromPm.State.{IsState}
+use Rattle.bz_swap_cells.specs.FromPm.Acts.{evicted}
+use Rattle.bz_swap_cells.specs.FromPm.State.{IsState}
 use Rattle.bz_swap.specs.declared.phase.Phase.{Phase}
 use Rattle.bz_swap.specs.declared.phase.Phase.TheVariants.{Opened, Running, Recovering}
 use Rattle.bz_swap.specs.SwapMemory.{SwapMemory, memory_words, memory_state}

@@ -2,9 +2,9 @@
 use Rattle.std.specs.Prelude.{All, ◌≡◌, ℕ, ◌^◌, ◌<◌, ◌≤◌, true, false, slice_index}
 use Rattle.bz_word.specs.declared.entry.Entry.{Entry}
 use Rattle.bz_word.specs.declared.kind.WordKind.TheVariants.{Value}
-use Rattle.bz_cells.specs.Store.{IsOutside, kind_at, status_word, status_at}
+use Rattle.bz_swap_cells.specs.Store.{IsOutside, kind_at, status_word, status_at}
 use Rattle.bz_layout.specs.Addresses.{swap_address}
-use Rattle.bz_cells.specs.FromPm.Words.{IsMemory}
+use Rattle.bz_swap_cells.specs.FromPm.Words.{IsMemory}
 use Rattle.bz_swap.specs.declared.phase.Phase.{Phase}
 use Rattle.bz_swap.specs.declared.phase.Phase.TheVariants.{Opened, Running, Recovering}
 use Rattle.bz_swap.specs.Lawful.{IsLawful}

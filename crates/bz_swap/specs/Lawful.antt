@@ -4,9 +4,9 @@ use Rattle.std.specs.Prelude.{◌≡◌, ◌≢◌, ℕ, ◌^◌, ◌<◌, ◌�
 use Rattle.bz_word.specs.Kinds.{IsWord}
 use Rattle.bz_word.specs.declared.kind.WordKind.{WordKind}
 use Rattle.bz_word.specs.declared.kind.WordKind.TheVariants.{Value, Dirty, Swap, Tag}
-use Rattle.bz_machine.specs.declared.status.SwapStatus.TheVariants.{Free}
-use Rattle.bz_machine.specs.Machine.{Entries}
-use Rattle.bz_cells.specs.Store.{kind_at, status_at}
+use Rattle.bz_swap_machine.specs.declared.status.SwapStatus.TheVariants.{Free}
+use Rattle.bz_swap_machine.specs.Machine.{Entries}
+use Rattle.bz_swap_cells.specs.Store.{kind_at, status_at}
 use Rattle.bz_swap.specs.Resolve.{entries_at}
 
 -- a descriptor that a pointer or tag may name: it is not free, and has one to four entries whose values fit

@@ -2,8 +2,8 @@
 use Rattle.std.specs.Prelude.{◌≡◌, ◌+◌, ◌-◌, ◌*◌}
 use Rattle.bz_layout.specs.declared.limits.TheConstants.{MAX_WORKERS}
 use Rattle.bz_layout.specs.declared.sizes.TheConstants.{SWAP_WORDS, SWAP_COUNT_AT, ENTRIES_AT, ENTRY_WORDS, MAX_ENTRIES}
-use Rattle.bz_machine.specs.Sizes.{most_entries, descriptor_words, most_workers}
-use Rattle.bz_cells.specs.Store.{field_count}
+use Rattle.bz_swap_machine.specs.Sizes.{most_entries, descriptor_words, most_workers}
+use Rattle.bz_swap_cells.specs.Store.{field_count}
 
 pub record SizesAreOfLayout : Type 0 where
   -- a swap has as many entries as a descriptor has room for

@@ -2,12 +2,12 @@
 use Rattle.std.specs.Prelude.{◌≡◌, ℕ, ◌^◌, ◌<◌, List, slice_index, Some}
 use Rattle.std.specs.declared.option.Option.{Option}
 use Rattle.bz_word.specs.declared.entry.Entry.{Entry}
-use Rattle.bz_cells.specs.FromPm.Words.{IsMemory}
-use Rattle.bz_acts.specs.declared.acted.Act.{Act}
-use Rattle.bz_acts.specs.declared.acted.Act.TheVariants.{Load, Store, Cas, Flush, Ask, Fence}
-use Rattle.bz_cells.specs.Store.{field_address, field_count, word_pending}
-use Rattle.bz_machine.specs.Pending.{Saved}
-use Rattle.bz_machine.specs.declared.done.Done.{Done}
+use Rattle.bz_swap_cells.specs.FromPm.Words.{IsMemory}
+use Rattle.bz_swap_acts.specs.declared.acted.Act.{Act}
+use Rattle.bz_swap_acts.specs.declared.acted.Act.TheVariants.{Load, Store, Cas, Flush, Ask, Fence}
+use Rattle.bz_swap_cells.specs.Store.{field_address, field_count, word_pending}
+use Rattle.bz_swap_machine.specs.Pending.{Saved}
+use Rattle.bz_swap_machine.specs.declared.done.Done.{Done}
 use Rattle.bz_swap.specs.declared.phase.Phase.{Phase}
 use Rattle.bz_swap.specs.Evictions.{IsEviction}
 use Rattle.bz_swap.specs.Power.{after_cut, opened, renewed}

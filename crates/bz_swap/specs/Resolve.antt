@@ -1,8 +1,8 @@
 -- What the words of a memory stand for, read from the durable words alone: the value of an address in the
 -- persistent multi-word swap of Wang, Levandoski and Larson (ICDE 2018), whose readers look through descriptors.
 use Rattle.std.specs.Prelude.{if◌then◌else◌, ◌==◌, ℕ, zero, suc, ◌+◌, List}
-use Rattle.bz_machine.specs.Machine.{Entries, entries_in, resolve as resolved}
-use Rattle.bz_cells.specs.Store.{kind_at, status_at, descriptor_word_at}
+use Rattle.bz_swap_machine.specs.Machine.{Entries, entries_in, resolve as resolved}
+use Rattle.bz_swap_cells.specs.Store.{kind_at, status_at, descriptor_word_at}
 
 -- the first of so many entries, from place i on, that has this target; past them where none has
 abbrev pub first_entry : Entries → ℕ → ℕ → ℕ → ℕ

@@ -3,15 +3,15 @@ use Rattle.std.specs.Prelude.{◌≡◌, ◌≢◌, ℕ, ◌<◌, Bool, true, fa
 use Rattle.std.specs.declared.option.Option.{Option}
 use Rattle.bz_word.specs.declared.entry.Entry.{Entry}
 use Rattle.bz_layout.specs.Addresses.{swap_address}
-use Rattle.bz_cells.specs.FromPm.Words.{IsMemory}
-use Rattle.bz_acts.specs.declared.acted.Act.{Act}
-use Rattle.bz_acts.specs.declared.acted.Act.TheVariants.{Load, Store, Cas, Flush, Ask, Fence}
-use Rattle.bz_cells.specs.Store.{status_of, status_at, status_word, word_pending}
-use Rattle.bz_machine.specs.declared.done.Done.{Done}
-use Rattle.bz_machine.specs.declared.done.Done.TheVariants.{Swapped}
-use Rattle.bz_machine.specs.declared.status.SwapStatus.TheVariants.{Free}
-use Rattle.bz_machine.specs.Machine.{is_succeeded}
-use Rattle.bz_machine.specs.Pending.{Saved}
+use Rattle.bz_swap_cells.specs.FromPm.Words.{IsMemory}
+use Rattle.bz_swap_acts.specs.declared.acted.Act.{Act}
+use Rattle.bz_swap_acts.specs.declared.acted.Act.TheVariants.{Load, Store, Cas, Flush, Ask, Fence}
+use Rattle.bz_swap_cells.specs.Store.{status_of, status_at, status_word, word_pending}
+use Rattle.bz_swap_machine.specs.declared.done.Done.{Done}
+use Rattle.bz_swap_machine.specs.declared.done.Done.TheVariants.{Swapped}
+use Rattle.bz_swap_machine.specs.declared.status.SwapStatus.TheVariants.{Free}
+use Rattle.bz_swap_machine.specs.Machine.{is_succeeded}
+use Rattle.bz_swap_machine.specs.Pending.{Saved}
 use Rattle.bz_swap.specs.declared.phase.Phase.{Phase}
 use Rattle.bz_swap.specs.declared.phase.Phase.TheVariants.{Running, Recovering}
 use Rattle.bz_swap.specs.Evictions.{IsEviction}

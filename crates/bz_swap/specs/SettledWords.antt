@@ -1,9 +1,9 @@
 -- A settled word stays settled: no act but a store at it unsettles it.
 use Rattle.std.specs.Prelude.{◌≡◌, ℕ, ◌/◌, true, List, slice_index}
 use Rattle.std.specs.declared.option.Option.{Option}
-use Rattle.bz_acts.specs.declared.acted.Act.{Act}
-use Rattle.bz_acts.specs.declared.acted.Act.TheVariants.{Flush}
-use Rattle.bz_machine.specs.declared.done.Done.{Done}
+use Rattle.bz_swap_acts.specs.declared.acted.Act.{Act}
+use Rattle.bz_swap_acts.specs.declared.acted.Act.TheVariants.{Flush}
+use Rattle.bz_swap_machine.specs.declared.done.Done.{Done}
 use Rattle.bz_swap.specs.declared.phase.Phase.{Phase}
 use Rattle.bz_swap.specs.Evictions.{IsEviction}
 use Rattle.bz_swap.specs.Power.{opened, renewed}

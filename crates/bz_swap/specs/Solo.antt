@@ -2,7 +2,7 @@
 -- most the sum of what each start allows, and of what each worker allows once that does something when the counting begins,
 -- itself among them.
 use Rattle.std.specs.Prelude.{if◌then◌else◌, ◌==◌, ℕ, min, length}
-use Rattle.bz_machine.specs.Allowed.{for_act, for_word, for_flush, for_swap, for_worker, sum_below}
+use Rattle.bz_swap_machine.specs.Allowed.{for_act, for_word, for_flush, for_swap, for_worker, sum_below}
 use Rattle.bz_swap.specs.SwapMemory.{SwapMemory, Doing, Idle, Swapping, Flushing, doing_of}
 
 -- what the start of this allows

@@ -1,14 +1,14 @@
 -- What one step of a worker does.
 use Rattle.std.specs.Prelude.{◌≡◌, ◌≢◌, ◌⊎◌, ℕ, ◌+◌, ◌-◌, ◌^◌, ◌<◌, Bool, true, false, length, slice_index, Option, None, Some}
 use Rattle.bz_layout.specs.Addresses.{swap_address}
-use Rattle.bz_acts.specs.Rule.{IsActOf, IsWithin, is_flush_act}
-use Rattle.bz_acts.specs.declared.acted.Act.{Act}
-use Rattle.bz_acts.specs.declared.acted.Act.TheVariants.{Load, Store, Flush, Fence}
-use Rattle.bz_cells.specs.FromPm.State.{IsState}
-use Rattle.bz_cells.specs.FromPm.Words.{HoldsWords}
-use Rattle.bz_cells.specs.Store.{IsOutside}
-use Rattle.bz_machine.specs.declared.done.Done.{Done}
-use Rattle.bz_machine.specs.declared.done.Done.TheVariants.{Busy, Read, Swapped, Stored, Flushed}
+use Rattle.bz_swap_acts.specs.Rule.{IsActOf, IsWithin, is_flush_act}
+use Rattle.bz_swap_acts.specs.declared.acted.Act.{Act}
+use Rattle.bz_swap_acts.specs.declared.acted.Act.TheVariants.{Load, Store, Flush, Fence}
+use Rattle.bz_swap_cells.specs.FromPm.State.{IsState}
+use Rattle.bz_swap_cells.specs.FromPm.Words.{HoldsWords}
+use Rattle.bz_swap_cells.specs.Store.{IsOutside}
+use Rattle.bz_swap_machine.specs.declared.done.Done.{Done}
+use Rattle.bz_swap_machine.specs.declared.done.Done.TheVariants.{Busy, Read, Swapped, Stored, Flushed}
 use Rattle.bz_swap.specs.declared.phase.Phase.{Phase}
 use Rattle.bz_swap.specs.declared.phase.Phase.TheVariants.{Opened, Running, Recovering}
 use Rattle.bz_swap.specs.Solo.{left_to}

@@ -2,10 +2,10 @@
 -- doing.
 use Rattle.std.specs.Prelude.{◌||◌, ◌==◌, ℕ, Bool, false, List, [], ◌∷◌, get_or}
 use Rattle.bz_word.specs.declared.entry.Entry.{Entry}
-use Rattle.bz_cells.specs.FromPm.Words.{Words}
-use Rattle.bz_cells.specs.FromPm.State.{State}
-use Rattle.bz_machine.specs.Machine.{is_succeeded}
-use Rattle.bz_cells.specs.Store.{Past, is_settled, status_at}
+use Rattle.bz_swap_cells.specs.FromPm.Words.{Words}
+use Rattle.bz_swap_cells.specs.FromPm.State.{State}
+use Rattle.bz_swap_machine.specs.Machine.{is_succeeded}
+use Rattle.bz_swap_cells.specs.Store.{Past, is_settled, status_at}
 use Rattle.bz_swap.specs.Resolve.{resolve}
 use Rattle.bz_swap.specs.declared.phase.Phase.{Phase}
 

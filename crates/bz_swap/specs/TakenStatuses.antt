@@ -3,11 +3,11 @@ use Rattle.std.specs.Prelude.{◌≡◌, ◌≢◌, ◌⊎◌, ℕ, ◌<◌, Lis
 use Rattle.std.specs.declared.option.Option.{Option}
 use Rattle.bz_word.specs.declared.entry.Entry.{Entry}
 use Rattle.bz_layout.specs.Addresses.{swap_address}
-use Rattle.bz_acts.specs.declared.acted.Act.{Act}
-use Rattle.bz_acts.specs.declared.acted.Act.TheVariants.{Store}
-use Rattle.bz_cells.specs.Store.{status_word}
-use Rattle.bz_machine.specs.declared.done.Done.{Done}
-use Rattle.bz_machine.specs.declared.status.SwapStatus.TheVariants.{Free, Undecided}
+use Rattle.bz_swap_acts.specs.declared.acted.Act.{Act}
+use Rattle.bz_swap_acts.specs.declared.acted.Act.TheVariants.{Store}
+use Rattle.bz_swap_cells.specs.Store.{status_word}
+use Rattle.bz_swap_machine.specs.declared.done.Done.{Done}
+use Rattle.bz_swap_machine.specs.declared.status.SwapStatus.TheVariants.{Free, Undecided}
 use Rattle.bz_swap.specs.declared.phase.Phase.{Phase}
 use Rattle.bz_swap.specs.Evictions.{IsEviction}
 use Rattle.bz_swap.specs.Held.{IsHeld}

@@ -1,13 +1,13 @@
 -- What a step writes into the descriptors, and what a swap that is answered leaves in its status.
 use Rattle.std.specs.Prelude.{◌≡◌, ◌≢◌, ◌⊎◌, ℕ, ◌^◌, ◌<◌, ◌≤◌, Bool, true, false, slice_index}
 use Rattle.bz_layout.specs.Addresses.{swap_address}
-use Rattle.bz_acts.specs.declared.acted.Act.{Act}
-use Rattle.bz_acts.specs.declared.acted.Act.TheVariants.{Store, Cas}
-use Rattle.bz_cells.specs.Store.{IsOutside, field_address, status_word, status_at}
-use Rattle.bz_machine.specs.Sound.{IsUnset}
-use Rattle.bz_machine.specs.declared.status.SwapStatus.TheVariants.{Free, Undecided, Deciding, Decided}
-use Rattle.bz_machine.specs.declared.status.Verdict.{Verdict}
-use Rattle.bz_machine.specs.declared.status.Verdict.TheVariants.{Succeeded, Failed}
+use Rattle.bz_swap_acts.specs.declared.acted.Act.{Act}
+use Rattle.bz_swap_acts.specs.declared.acted.Act.TheVariants.{Store, Cas}
+use Rattle.bz_swap_cells.specs.Store.{IsOutside, field_address, status_word, status_at}
+use Rattle.bz_swap_machine.specs.Sound.{IsUnset}
+use Rattle.bz_swap_machine.specs.declared.status.SwapStatus.TheVariants.{Free, Undecided, Deciding, Decided}
+use Rattle.bz_swap_machine.specs.declared.status.Verdict.{Verdict}
+use Rattle.bz_swap_machine.specs.declared.status.Verdict.TheVariants.{Succeeded, Failed}
 use Rattle.bz_swap.specs.SwapMemory.{SwapMemory, Swapping, Storing, is_named, doing_of}
 
 -- a store of a plain value at a private word outside the descriptors, which the worker was asked for

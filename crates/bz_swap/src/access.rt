@@ -7,8 +7,8 @@ ghost use Rattle.bz_swap.specs.SwapMemory.{Idle, worker_of, doing_of};
 
 use crate::allowance::Allowance;
 use crate::phase::Phase;
-use bz_cells::Cells;
-use bz_machine::{DescriptorWords, Operation, Place, Worker};
+use bz_swap_cells::Cells;
+use bz_swap_machine::{DescriptorWords, Operation, Place, Worker};
 use std::marker::Model;
 
 /// A memory that workers read, and change by compare-and-swaps of one to four words. Each `step` of a worker makes one

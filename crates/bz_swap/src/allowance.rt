@@ -4,7 +4,7 @@ ghost use Rattle.std.specs.Prelude.{◌≡◌, ◌+◌, ◌-◌, ◌≤◌, ◌^
 ghost use Rattle.bz_swap.specs.Solo.{steps_left};
 ghost use Rattle.bz_swap.specs.Inside.Allowances.{after_start, after_step};
 
-use bz_machine::Place;
+use bz_swap_machine::Place;
 
 /// What a read, a load or a store allows its worker.
 pub(crate) const WORD_STEPS: u32 = 1;

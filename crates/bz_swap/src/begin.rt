@@ -5,7 +5,7 @@ use crate::allowance::SWAP_STEPS;
 use crate::entry_list::EntryList;
 use crate::phase::Phase;
 use crate::progress::NoSwap;
-use bz_machine::{Operation, Place, PrepareStep};
+use bz_swap_machine::{Operation, Place, PrepareStep};
 
 impl Access {
     ghost use Rattle.std.specs.Prelude.{◌≡◌, ◌<◌, MatchResult};

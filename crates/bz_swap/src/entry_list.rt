@@ -1,6 +1,6 @@
 //! Lists of entries that a swap may have.
 
-use bz_machine::DescriptorWords;
+use bz_swap_machine::DescriptorWords;
 use bz_word::Entry;
 use std::marker::Model;
 
@@ -25,7 +25,7 @@ impl Model for EntryList {
 
 impl EntryList {
     ghost use Rattle.std.specs.Prelude.{◌≡◌, ◌<◌, ◌*◌, ℕ, ◌∷◌, false, [], length, slice_index};
-    ghost use Rattle.bz_machine.specs.Machine.{entries_in};
+    ghost use Rattle.bz_swap_machine.specs.Machine.{entries_in};
     ghost use Rattle.bz_swap.specs.EntryLists.{IsEntryList, inserted};
     ghost use Rattle.bz_swap.specs.Inside.Parts.{entry_list};
     ghost use Rattle.bz_swap.specs.SwapMemory.{is_target};

@@ -2,14 +2,14 @@
 
 ghost use Rattle.std.specs.Prelude.{◌≡◌, ◌<◌, length};
 ghost use Rattle.bz_layout.specs.Addresses.{swap_address};
-ghost use Rattle.bz_cells.specs.Store.{IsStore};
+ghost use Rattle.bz_swap_cells.specs.Store.{IsStore};
 ghost use Rattle.bz_swap.specs.Inside.Evicted.{IsEvicted};
 
 use crate::access::Access;
 use crate::phase::Phase;
 use crate::role::{WordRole, role_of};
 use crate::step::told_effect;
-use bz_cells::Cells;
+use bz_swap_cells::Cells;
 
 // Makes a descriptor's status durable, and tells its swap where that took effect.
 fn evict_status(cells: &mut Cells, swap: u16) -> Option<u16>

@@ -18,8 +18,8 @@ mod starts;
 mod step;
 
 pub use access::Access;
-pub use bz_acts::Act;
-pub use bz_machine::Done;
+pub use bz_swap_acts::Act;
+pub use bz_swap_machine::Done;
 pub use entry_list::EntryList;
 pub use phase::Phase;
 pub use progress::{NoSwap, Progress};

@@ -2,16 +2,16 @@
 
 ghost use Rattle.std.specs.Prelude.{◌≡◌, ◌<◌, ◌≤◌, ◌^◌, ◌≢◌, ◌↔◌, ℕ, IsTrue, length};
 ghost use Rattle.bz_layout.specs.Addresses.{swap_address};
-ghost use Rattle.bz_cells.specs.Store.{IsOutside};
+ghost use Rattle.bz_swap_cells.specs.Store.{IsOutside};
 ghost use Rattle.bz_swap.specs.Power.{AreRecovered};
 ghost use Rattle.bz_swap.specs.declared.phase.Phase.TheVariants.{Opened, Running};
 
 use crate::access::{Access, idle_worker};
 use crate::allowance::Allowance;
 use crate::phase::Phase;
-use bz_cells::Cells;
 use bz_layout::{SUPERBLOCK_WORDS, SWAP_WORDS};
-use bz_memory::Memory;
+use bz_oom::Memory;
+use bz_swap_cells::Cells;
 use std::alloc::Global;
 
 // Whether a word at this address needs no recovery: a plain word has no bit from 61 on, and of a descriptor only the

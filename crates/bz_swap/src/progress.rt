@@ -1,7 +1,7 @@
 //! What a step tells.
 
-use bz_acts::Act;
-use bz_machine::Done;
+use bz_swap_acts::Act;
+use bz_swap_machine::Done;
 
 /// A step: the one memory act that it made, what it answers, and the swap whose success it made durable.
 #[derive(Clone, Copy)]

@@ -1,14 +1,14 @@
 //! Acts on words as they are, in a recovery time.
 
 ghost use Rattle.std.specs.Prelude.{◌≢◌};
-ghost use Rattle.bz_machine.specs.declared.place.Place.TheVariants.{Idle as IdlePlace};
+ghost use Rattle.bz_swap_machine.specs.declared.place.Place.TheVariants.{Idle as IdlePlace};
 ghost use Rattle.bz_swap.specs.Inside.Kept.{RecoversAt};
 ghost use Rattle.bz_swap.specs.Inside.Raw.{IsRawAct};
-ghost use Rattle.bz_cells.specs.Store.{HasRoom};
+ghost use Rattle.bz_swap_cells.specs.Store.{HasRoom};
 
-use bz_acts::{Act, Acted};
-use bz_cells::Cells;
-use bz_machine::{Done, Place};
+use bz_swap_acts::{Act, Acted};
+use bz_swap_cells::Cells;
+use bz_swap_machine::{Done, Place};
 
 // Makes the act at the recovering worker's place.
 pub(crate) fn raw_act(cells: &mut Cells, place: Place) -> Acted

@@ -6,7 +6,7 @@ ghost use Rattle.bz_swap.specs.Starts.{phase_of};
 use crate::access::Access;
 use crate::allowance::{FLUSH_STEPS, WORD_STEPS};
 use crate::phase::Phase;
-use bz_machine::{Operation, Place};
+use bz_swap_machine::{Operation, Place};
 
 // The phase that a start of this worker leads to.
 fn phase_after(w: u8) -> Phase

@@ -6,8 +6,8 @@ use crate::access::Access;
 use crate::phase::Phase;
 use crate::progress::Progress;
 use crate::raw::raw_act;
-use bz_acts::act;
-use bz_machine::Place;
+use bz_swap_acts::act;
+use bz_swap_machine::Place;
 
 // The swap that took effect between two looks at its status, if it did.
 pub(crate) fn told_effect(swap: u16, had_effect: bool, has_effect: bool) -> Option<u16>

@@ -3,7 +3,7 @@ use Rattle.std.proofs.Common.{◌≡◌, ℕ, ◌^◌, ◌<◌, List, length, ar
 use Rattle.std.specs.Prelude.{slice_index}
 use Rattle.std.proofs.lemmas.Bool.{cases_lt}
 use Rattle.std.proofs.lemmas.List.{get_or_past}
-use Rattle.bz_cells.specs.Store.{IsOutside}
+use Rattle.bz_swap_cells.specs.Store.{IsOutside}
 use Rattle.bz_layout.specs.Addresses.{swap_address}
 use Rattle.bz_sweep.specs.Areas.{size_of}
 use Rattle.bz_sweep.specs.declared.area.Area.{Area}

@@ -7,9 +7,9 @@ use Rattle.bz_leaves.proofs.Exchanges.{one-of}
 use Rattle.bz_leaves.proofs.Splits.{two-cases}
 use Rattle.bz_renew.proofs.FreshSlots.{outside-tree, unreached}
 use Rattle.bz_renew.specs.LinkSwaps.{IsFresh}
-use Rattle.bz_shape.proofs.Trees.{three-cases}
-use Rattle.bz_shape.specs.Outcomes.{Regrows}
-use Rattle.bz_shape.specs.Walk.{is_among}
+use Rattle.bz_tree.proofs.Trees.{three-cases}
+use Rattle.bz_tree.specs.Outcomes.{Regrows}
+use Rattle.bz_tree.specs.Walk.{is_among}
 use Rattle.bz_content.specs.Content.{view_in}
 use Rattle.bz_task.specs.Instant.{Instant, form_at, is_inside}
 use Rattle.bz_task.specs.Scene.{Scene, IsScene, here}

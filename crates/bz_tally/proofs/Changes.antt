@@ -8,7 +8,7 @@ use Rattle.bz_freeze.specs.declared.phase.FreezePhase.TheVariants.{Swap as Freez
 use Rattle.bz_insert.specs.Facts.{insert_asks, insert_facts}
 use Rattle.bz_insert.specs.declared.phase.InsertPhase.{InsertPhase}
 use Rattle.bz_insert.specs.declared.phase.InsertPhase.TheVariants.{Reserve, Publish}
-use Rattle.bz_running.specs.FromMerge.Merges.{WasLeafOnce}
+use Rattle.bz_any_task.specs.FromMerge.Merges.{WasLeafOnce}
 use Rattle.bz_mutate.specs.DeleteFacts.{delete_asks, delete_facts}
 use Rattle.bz_mutate.specs.UpdateFacts.{update_asks, update_facts}
 use Rattle.bz_mutate.specs.declared.delete_phase.DeletePhase.{DeletePhase}

@@ -1,7 +1,7 @@
 -- The swap of a consolidation puts the copy in the place of the leaf.
 use Rattle.std.proofs.Common.{arith, ◌≡◌, ℕ, List, [], ◌∷◌, Some, sym, ap, subst, ◌∙◌, inl, inr}
-use Rattle.bz_running.specs.FromConsol.Duties.{renewal_of}
-use Rattle.bz_running.specs.FromConsol.Facts.{Renewal, consol_plan, consol_asks, consol_facts}
+use Rattle.bz_any_task.specs.FromConsol.Duties.{renewal_of}
+use Rattle.bz_any_task.specs.FromConsol.Facts.{Renewal, consol_plan, consol_asks, consol_facts}
 use Rattle.bz_writer.specs.Laws.{IsWritten}
 use Rattle.bz_writer.specs.declared.phase.WritePhase.{WritePhase}
 use Rattle.bz_writer.specs.declared.phase.WritePhase.TheVariants.{Swap}

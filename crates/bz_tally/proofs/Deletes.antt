@@ -11,9 +11,9 @@ use Rattle.bz_node.specs.Reading.{extent_words}
 use Rattle.bz_record.specs.Records.{words_for}
 use Rattle.bz_record.specs.Replacing.{removal}
 use Rattle.bz_record.specs.Swaps.{entries_of}
-use Rattle.bz_running.specs.Duties.{leaves_few_of, view_of}
-use Rattle.bz_running.specs.Kinds.{kind_of}
-use Rattle.bz_running.specs.declared.running.AnyTask.TheVariants.{Deleting}
+use Rattle.bz_any_task.specs.Duties.{leaves_few_of, view_of}
+use Rattle.bz_any_task.specs.Kinds.{kind_of}
+use Rattle.bz_any_task.specs.declared.running.AnyTask.TheVariants.{Deleting}
 use Rattle.bz_word.specs.Statuses.{status}
 use Rattle.bz_word.specs.declared.entry.Entry.{Entry}
 use Rattle.bz_task.specs.Instant.{Instant}

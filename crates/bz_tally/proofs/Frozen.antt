@@ -1,6 +1,6 @@
 -- A leaf that was frozen says what it said, where it is a leaf of the tree still.
 use Rattle.std.proofs.Common.{◌≡◌, ℕ, ◌<◌, true, List, arith, sym, ◌∙◌}
-use Rattle.bz_running.specs.FromMerge.Merges.{StoodFrozen}
+use Rattle.bz_any_task.specs.FromMerge.Merges.{StoodFrozen}
 use Rattle.bz_renew.proofs.FrozenLeaves.{read-alike, same-records}
 use Rattle.bz_slotted.specs.Readers.{found_of}
 use Rattle.bz_slotted.specs.ReadingLaws.{node_of}

@@ -25,9 +25,9 @@ use Rattle.bz_renew.proofs.Inserting.{all-inserted-first}
 use Rattle.bz_renew.proofs.TwoEntries.{both-stand}
 use Rattle.bz_renew.proofs.Words.{or-right}
 use Rattle.bz_renew.proofs.Proved.{child_links_turn_with, frozen_leaves_stand_still, guarded_links_stand, root_links_turn_with}
-use Rattle.bz_shape.proofs.Trees.{among-first}
-use Rattle.bz_shape.specs.Slots.{Wider}
-use Rattle.bz_shape.specs.Walk.{is_among}
+use Rattle.bz_tree.proofs.Trees.{among-first}
+use Rattle.bz_tree.specs.Slots.{Wider}
+use Rattle.bz_tree.specs.Walk.{is_among}
 use Rattle.bz_slotted.specs.ReadingLaws.{node_of}
 use Rattle.bz_slotted.specs.Rules.{node_fault}
 use Rattle.bz_split.specs.BelowSplits.{parent_freezing, below_swap}

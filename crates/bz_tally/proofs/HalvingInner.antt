@@ -5,10 +5,10 @@ use Rattle.bz_branch.specs.FromSplit.BelowSplits.{AreLinksDown, parent_freezing}
 use Rattle.bz_branch.specs.InnerSplits.{both_freezings, inner_swap}
 use Rattle.bz_branch.specs.Nodes.{IsOpenLink}
 use Rattle.bz_branch.proofs.Standing.{node-below}
-use Rattle.bz_running.specs.FromFork.Duties.{fork_of}
-use Rattle.bz_running.specs.FromFork.Facts.{Fork, fork_plan, fork_asks, fork_facts, parent_words}
-use Rattle.bz_running.specs.FromFork.ForkPhase.{ForkPhase}
-use Rattle.bz_running.specs.FromFork.ForkPhase.TheVariants.{Writing}
+use Rattle.bz_any_task.specs.FromFork.Duties.{fork_of}
+use Rattle.bz_any_task.specs.FromFork.Facts.{Fork, fork_plan, fork_asks, fork_facts, parent_words}
+use Rattle.bz_any_task.specs.FromFork.ForkPhase.{ForkPhase}
+use Rattle.bz_any_task.specs.FromFork.ForkPhase.TheVariants.{Writing}
 use Rattle.bz_writer.specs.Laws.{IsWritten}
 use Rattle.bz_writer.specs.declared.phase.WritePhase.TheVariants.{Swap}
 use Rattle.bz_halves.specs.Parents.{HasRoomToPart, IsPartedParent}
@@ -26,7 +26,7 @@ use Rattle.bz_renew.proofs.Freezings.{renewal-holds}
 use Rattle.bz_renew.proofs.Inserting.{all-inserted-first, all-inserted-others}
 use Rattle.bz_renew.proofs.TwoEntries.{both-stand}
 use Rattle.bz_renew.proofs.Proved.{child_links_turn_with, guarded_links_stand, root_links_turn_with}
-use Rattle.bz_shape.specs.Slots.{Wider, Halves}
+use Rattle.bz_tree.specs.Slots.{Wider, Halves}
 use Rattle.bz_slotted.specs.ReadingLaws.{node_of}
 use Rattle.bz_slotted.specs.Rules.{node_fault}
 use Rattle.bz_word.specs.declared.entry.Entry.{Entry}

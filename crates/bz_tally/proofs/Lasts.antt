@@ -1,18 +1,18 @@
 -- A merge asks for the swap of the link where it can ask for no other any more, and for its freezes before.
 use Rattle.std.proofs.Common.{◌≡◌, ◌<◌, ◌≤◌, ◌+◌, List, Some, arith}
 use Rattle.bz_layout.specs.declared.config.Config.{Config}
-use Rattle.bz_running.specs.FromMerge.Counts.{merge_swaps}
-use Rattle.bz_running.specs.FromMerge.Duties.{merging_of}
-use Rattle.bz_running.specs.FromMerge.Facts.{merge_asks}
-use Rattle.bz_running.specs.FromMerge.Plans.{Merging as MergePlan}
-use Rattle.bz_running.specs.FromMerge.Merge.{Merge}
-use Rattle.bz_running.specs.FromMerge.MergePhase.{MergePhase}
-use Rattle.bz_running.specs.FromMerge.MergePhase.TheVariants.{Freeze, FreezeBeside, Swap}
-use Rattle.bz_running.specs.Duties.{config_of, asks_of, facts_of, view_of}
-use Rattle.bz_running.specs.Kinds.{kind_of}
-use Rattle.bz_running.specs.Kinds as kinds
-use Rattle.bz_running.specs.declared.running.AnyTask.{AnyTask}
-use Rattle.bz_running.specs.declared.running.AnyTask.TheVariants.{Merging}
+use Rattle.bz_any_task.specs.FromMerge.Counts.{merge_swaps}
+use Rattle.bz_any_task.specs.FromMerge.Duties.{merging_of}
+use Rattle.bz_any_task.specs.FromMerge.Facts.{merge_asks}
+use Rattle.bz_any_task.specs.FromMerge.Plans.{Merging as MergePlan}
+use Rattle.bz_any_task.specs.FromMerge.Merge.{Merge}
+use Rattle.bz_any_task.specs.FromMerge.MergePhase.{MergePhase}
+use Rattle.bz_any_task.specs.FromMerge.MergePhase.TheVariants.{Freeze, FreezeBeside, Swap}
+use Rattle.bz_any_task.specs.Duties.{config_of, asks_of, facts_of, view_of}
+use Rattle.bz_any_task.specs.Kinds.{kind_of}
+use Rattle.bz_any_task.specs.Kinds as kinds
+use Rattle.bz_any_task.specs.declared.running.AnyTask.{AnyTask}
+use Rattle.bz_any_task.specs.declared.running.AnyTask.TheVariants.{Merging}
 use Rattle.bz_word.specs.declared.entry.Entry.{Entry}
 use Rattle.bz_task.specs.Instant.{Instant}
 use Rattle.bz_task.specs.Scene.{Scene}

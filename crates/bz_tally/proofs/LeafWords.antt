@@ -7,7 +7,7 @@ use Rattle.bz_layout.specs.declared.sizes.TheConstants.{NODE_WORDS, SUPERBLOCK_W
 use Rattle.bz_layout.proofs.Laws.{slots_apart}
 use Rattle.bz_leaves.specs.Laws.{KeepsSlots, OnLeaves}
 use Rattle.bz_leaves.proofs.Proved.{words_of_leaves_do_not_count}
-use Rattle.bz_running.specs.FromMerge.Merges.{WasLeafOnce}
+use Rattle.bz_any_task.specs.FromMerge.Merges.{WasLeafOnce}
 use Rattle.bz_record.specs.Swaps.{entries_of}
 use Rattle.bz_record.specs.declared.record_swap.RecordSwap.{RecordSwap}
 use Rattle.bz_slotted.specs.Readers.{level_of}

@@ -9,7 +9,7 @@ use Rattle.bz_layout.specs.declared.sizes.TheConstants.{STATUS_AT}
 use Rattle.bz_renew.specs.Freezings.{IsFreezable}
 use Rattle.bz_renew.specs.Standing.{StillLeads}
 use Rattle.bz_renew.proofs.Proved.{guarded_links_stand, links_may_be_turned}
-use Rattle.bz_shape.specs.Walk.{is_among, IsTree}
+use Rattle.bz_tree.specs.Walk.{is_among, IsTree}
 use Rattle.bz_split.specs.BelowSplits.{AreLinksDown}
 use Rattle.bz_content.specs.Content.{view_in, IsWellFormed}
 use Rattle.bz_content.proofs.Proved.{well_formed_images_have_no_fault}

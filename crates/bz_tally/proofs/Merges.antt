@@ -5,12 +5,12 @@ use Rattle.bz_layout.specs.declared.config.Config.{Config}
 use Rattle.bz_layout.specs.declared.sizes.TheConstants.{STATUS_AT}
 use Rattle.bz_layout.specs.declared.thresholds.TheConstants.{MERGE_SLOTS}
 use Rattle.bz_leaves.proofs.Proved.{merges_take_one}
-use Rattle.bz_running.specs.FromMerge.Duties.{merging_of}
-use Rattle.bz_running.specs.FromMerge.Facts.{MERGE_WORDS, MERGE_LINES, IsMerging, merge_asks, merge_facts}
-use Rattle.bz_running.specs.FromMerge.Plans.{beside_leaf, sep_of, viewed_leaf, first_of, second_of, Merging}
-use Rattle.bz_running.specs.FromMerge.Merge.{Merge}
-use Rattle.bz_running.specs.FromMerge.MergePhase.{MergePhase}
-use Rattle.bz_running.specs.FromMerge.MergePhase.TheVariants.{Freeze, FreezeBeside, Swap}
+use Rattle.bz_any_task.specs.FromMerge.Duties.{merging_of}
+use Rattle.bz_any_task.specs.FromMerge.Facts.{MERGE_WORDS, MERGE_LINES, IsMerging, merge_asks, merge_facts}
+use Rattle.bz_any_task.specs.FromMerge.Plans.{beside_leaf, sep_of, viewed_leaf, first_of, second_of, Merging}
+use Rattle.bz_any_task.specs.FromMerge.Merge.{Merge}
+use Rattle.bz_any_task.specs.FromMerge.MergePhase.{MergePhase}
+use Rattle.bz_any_task.specs.FromMerge.MergePhase.TheVariants.{Freeze, FreezeBeside, Swap}
 use Rattle.bz_split.specs.BelowSplits.{below_swap}
 use Rattle.bz_word.specs.declared.entry.Entry.{Entry}
 use Rattle.std.specs.Prelude.{slice_index}
@@ -20,8 +20,8 @@ use Rattle.bz_task.specs.Instant.{Instant, form_at, is_inside}
 use Rattle.bz_task.specs.Scene.{Scene, Waiting, IsScene, here}
 use Rattle.bz_task.specs.Swaps.{Stand, SwapsTo}
 use Rattle.bz_task.specs.declared.todo.Todo.TheVariants.{Swap as Swaps_for}
-use Rattle.bz_shape.proofs.Trees.{among-first, among-later}
-use Rattle.bz_shape.specs.Outcomes.{Regrows}
+use Rattle.bz_tree.proofs.Trees.{among-first, among-later}
+use Rattle.bz_tree.specs.Outcomes.{Regrows}
 use Rattle.bz_tally.proofs.Backs.{AreFresh, is-gone, leaf-inside, none-back, two-fresh}
 use Rattle.bz_tally.proofs.Changes.{by-status, same-entries}
 use Rattle.bz_tally.proofs.Links.{tree-now}
@@ -30,7 +30,7 @@ use Rattle.bz_tally.proofs.Pairs.{apart-of, other-once, own-once, room-of, to-ot
 use Rattle.bz_tally.proofs.Stored.{each-fresh}
 use Rattle.bz_tally.specs.Counts.{IsLeafNow, KeepsTheLeaves, MergesLeaves}
 use Rattle.bz_tally.specs.Laws.{MergeCounts, MergesCount}
-use Rattle.bz_running.specs.FromMerge.Siblings.{SeenLeaf}
+use Rattle.bz_any_task.specs.FromMerge.Siblings.{SeenLeaf}
 
 -- what the swap of a phase leads to
 abbrev Counts : Merging → MergePhase → Scene → Instant → Type 0

@@ -10,10 +10,10 @@ use Rattle.bz_layout.specs.Addresses.{node_address}
 use Rattle.bz_layout.specs.declared.config.Config.{Config}
 use Rattle.bz_layout.specs.declared.sizes.TheConstants.{STATUS_AT}
 use Rattle.bz_layout.specs.declared.thresholds.TheConstants.{MERGE_SLOTS}
-use Rattle.bz_running.specs.FromMerge.Facts.{MERGE_WORDS, MERGE_LINES, IsMerging}
-use Rattle.bz_running.specs.FromMerge.Merges.{StoodFrozen}
-use Rattle.bz_running.specs.FromMerge.Plans.{beside_leaf, first_of, second_of, sep_of, viewed_leaf, IsPlanned, Merging}
-use Rattle.bz_running.specs.FromMerge.Siblings.{SeenLeaf}
+use Rattle.bz_any_task.specs.FromMerge.Facts.{MERGE_WORDS, MERGE_LINES, IsMerging}
+use Rattle.bz_any_task.specs.FromMerge.Merges.{StoodFrozen}
+use Rattle.bz_any_task.specs.FromMerge.Plans.{beside_leaf, first_of, second_of, sep_of, viewed_leaf, IsPlanned, Merging}
+use Rattle.bz_any_task.specs.FromMerge.Siblings.{SeenLeaf}
 use Rattle.bz_node.specs.Reading.{children_in}
 use Rattle.bz_renew.specs.Freezings.{freezing_entry}
 use Rattle.bz_renew.specs.LinkSwaps.{IsFresh}
@@ -26,12 +26,12 @@ use Rattle.bz_renew.proofs.Inserting.{all-inserted-first}
 use Rattle.bz_renew.proofs.TwoEntries.{both-stand}
 use Rattle.bz_renew.proofs.Words.{or-right}
 use Rattle.bz_renew.proofs.Proved.{child_links_turn_with, guarded_links_stand, root_links_turn_with}
-use Rattle.bz_shape.proofs.TreeForms.{fits}
-use Rattle.bz_shape.specs.Form.{Fits, Form, Holds as HoldsKey, Stands}
-use Rattle.bz_shape.specs.Order.{is_at_least, is_before, is_below}
-use Rattle.bz_shape.specs.Slots.{Wider}
-use Rattle.bz_shape.specs.View.{View}
-use Rattle.bz_shape.specs.Walk.{is_among}
+use Rattle.bz_tree.proofs.TreeForms.{fits}
+use Rattle.bz_tree.specs.Form.{Fits, Form, Holds as HoldsKey, Stands}
+use Rattle.bz_tree.specs.Order.{is_at_least, is_before, is_below}
+use Rattle.bz_tree.specs.Slots.{Wider}
+use Rattle.bz_tree.specs.View.{View}
+use Rattle.bz_tree.specs.Walk.{is_among}
 use Rattle.bz_slotted.specs.ReadingLaws.{node_of}
 use Rattle.bz_slotted.specs.Readers.{count_of, child_of, key_of, found_of}
 use Rattle.bz_slotted.specs.Rules.{node_fault}

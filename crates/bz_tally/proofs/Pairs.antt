@@ -1,9 +1,9 @@
 -- The viewed leaf and its neighbour, in the one order and in the other.
 use Rattle.std.proofs.Common.{◌≡◌, ◌≢◌, ℕ, ◌+◌, ◌≤◌, Bool, true, false, List, Option, arith, sym}
 use Rattle.bz_layout.specs.declared.thresholds.TheConstants.{SPLIT_ABOVE}
-use Rattle.bz_running.specs.FromMerge.Merges.{WasLeafOnce}
-use Rattle.bz_running.specs.FromMerge.Plans.{beside_leaf, first_of, second_of, viewed_leaf, IsPair, IsPlanned, Merging}
-use Rattle.bz_running.specs.FromMerge.Siblings.{SeenLeaf, WasSeen}
+use Rattle.bz_any_task.specs.FromMerge.Merges.{WasLeafOnce}
+use Rattle.bz_any_task.specs.FromMerge.Plans.{beside_leaf, first_of, second_of, viewed_leaf, IsPair, IsPlanned, Merging}
+use Rattle.bz_any_task.specs.FromMerge.Siblings.{SeenLeaf, WasSeen}
 use Rattle.bz_slotted.specs.Readers.{child_of, live_of}
 use Rattle.bz_slotted.specs.ReadingLaws.{node_of}
 use Rattle.bz_task.specs.Scene.{Past}

@@ -3,10 +3,10 @@ use Rattle.std.proofs.Common.{◌≡◌, ℕ, ◌+◌, ◌-◌, ◌<◌, List, [
 use Rattle.std.specs.Prelude.{None}
 use Rattle.bz_branch.specs.Nodes.{IsOpenLink}
 use Rattle.bz_branch.proofs.Standing.{node-below}
-use Rattle.bz_running.specs.FromCrown.Duties.{crown_of}
-use Rattle.bz_running.specs.FromCrown.Facts.{Crown, crown_plan, crown_asks, crown_facts}
-use Rattle.bz_running.specs.FromCrown.CrownPhase.{CrownPhase}
-use Rattle.bz_running.specs.FromCrown.CrownPhase.TheVariants.{Writing}
+use Rattle.bz_any_task.specs.FromCrown.Duties.{crown_of}
+use Rattle.bz_any_task.specs.FromCrown.Facts.{Crown, crown_plan, crown_asks, crown_facts}
+use Rattle.bz_any_task.specs.FromCrown.CrownPhase.{CrownPhase}
+use Rattle.bz_any_task.specs.FromCrown.CrownPhase.TheVariants.{Writing}
 use Rattle.bz_writer.specs.Laws.{IsWritten}
 use Rattle.bz_writer.specs.declared.phase.WritePhase.TheVariants.{Swap}
 use Rattle.bz_layout.specs.Addresses.{node_address}
@@ -24,8 +24,8 @@ use Rattle.bz_renew.proofs.FreshSlots.{outside-tree}
 use Rattle.bz_renew.proofs.Inserting.{all-inserted-first}
 use Rattle.bz_renew.proofs.TwoEntries.{both-stand}
 use Rattle.bz_renew.proofs.Proved.{root_links_turn_with}
-use Rattle.bz_shape.proofs.TreeForms.{fits}
-use Rattle.bz_shape.specs.Slots.{Halves, AreTwo}
+use Rattle.bz_tree.proofs.TreeForms.{fits}
+use Rattle.bz_tree.specs.Slots.{Halves, AreTwo}
 use Rattle.bz_slotted.specs.ReadingLaws.{node_of}
 use Rattle.bz_slotted.specs.Readers.{level_of}
 use Rattle.bz_slotted.specs.Rules.{node_fault}

@@ -7,7 +7,7 @@ use Rattle.bz_layout.specs.declared.config.Config.{Config}
 use Rattle.bz_layout.specs.declared.sizes.TheConstants.{NODE_WORDS, STATUS_AT, META_AT}
 use Rattle.bz_layout.specs.declared.thresholds.TheConstants.{LEAF_RECORD_WORDS}
 use Rattle.bz_leaves.specs.Laws.{KeepsSlots}
-use Rattle.bz_running.specs.FromMerge.Merges.{WasLeafOnce}
+use Rattle.bz_any_task.specs.FromMerge.Merges.{WasLeafOnce}
 use Rattle.bz_node.specs.Reading.{extent_words}
 use Rattle.bz_record.specs.Laws.{SameLeaf}
 use Rattle.bz_record.specs.Replacing.{WasRecord, removal}
@@ -15,10 +15,10 @@ use Rattle.bz_record.specs.Swaps.{entries_of, meta_entry, status_entry}
 use Rattle.bz_record.specs.declared.record_swap.RecordSwap.{RecordSwap}
 use Rattle.bz_record.proofs.Proved.{leaves_stay, removals_are_good}
 use Rattle.bz_renew.proofs.Words.{and-left, and-right}
-use Rattle.bz_shape.specs.Form.{Form, Holds}
-use Rattle.bz_shape.specs.Order.{is_at_least, is_below}
-use Rattle.bz_shape.specs.Walk.{IsTree}
-use Rattle.bz_shape.proofs.Proved.{leaves_tile_the_keys}
+use Rattle.bz_tree.specs.Form.{Form, Holds}
+use Rattle.bz_tree.specs.Order.{is_at_least, is_below}
+use Rattle.bz_tree.specs.Walk.{IsTree}
+use Rattle.bz_tree.proofs.Proved.{leaves_tile_the_keys}
 use Rattle.bz_slotted.specs.Page.{page, meta_of}
 use Rattle.bz_slotted.specs.Records.{live_block, live_to, live_words}
 use Rattle.bz_slotted.specs.Whole.{Whole}

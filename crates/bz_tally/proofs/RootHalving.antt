@@ -14,9 +14,9 @@ use Rattle.bz_renew.specs.Turning.{TurnsAt}
 use Rattle.bz_renew.proofs.FreshSlots.{outside-tree, raw-is, durable-is}
 use Rattle.bz_renew.proofs.TwoEntries.{both-stand}
 use Rattle.bz_renew.proofs.Proved.{frozen_leaves_stand_still, root_links_turn}
-use Rattle.bz_shape.proofs.TreeForms.{fits}
-use Rattle.bz_shape.proofs.Trees.{among-first}
-use Rattle.bz_shape.specs.Slots.{AreTwo}
+use Rattle.bz_tree.proofs.TreeForms.{fits}
+use Rattle.bz_tree.proofs.Trees.{among-first}
+use Rattle.bz_tree.specs.Slots.{AreTwo}
 use Rattle.bz_slotted.specs.ReadingLaws.{node_of}
 use Rattle.bz_slotted.specs.Readers.{level_of, found_of}
 use Rattle.bz_slotted.specs.Rules.{node_fault}

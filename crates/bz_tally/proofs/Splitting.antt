@@ -4,10 +4,10 @@ use Rattle.std.specs.Prelude.{None}
 use Rattle.bz_layout.specs.Addresses.{node_address}
 use Rattle.bz_layout.specs.declared.config.Config.{Config}
 use Rattle.bz_layout.specs.declared.sizes.TheConstants.{NODE_WORDS}
-use Rattle.bz_shape.specs.Form.{Stands}
-use Rattle.bz_shape.specs.Order.{is_before}
-use Rattle.bz_shape.specs.Slots.{Wider, Halves}
-use Rattle.bz_shape.specs.Split.{AreThree}
+use Rattle.bz_tree.specs.Form.{Stands}
+use Rattle.bz_tree.specs.Order.{is_before}
+use Rattle.bz_tree.specs.Slots.{Wider, Halves}
+use Rattle.bz_tree.specs.Split.{AreThree}
 use Rattle.bz_slotted.specs.Readers.{found_of}
 use Rattle.bz_slotted.specs.Rules.{node_fault}
 use Rattle.bz_content.specs.Content.{image_of, view_in}

@@ -1,23 +1,23 @@
 -- Whichever task it is: what its swap makes of the leaves.
 use Rattle.std.proofs.Common.{◌≡◌, ◌⊎◌, List, Some, refl, inl, inr}
-use Rattle.bz_running.specs.FromDescend.SeekFacts.{seek_asks}
-use Rattle.bz_running.specs.FromDescend.Way.{Way}
-use Rattle.bz_running.specs.FromDescend.Way.TheVariants as way
-use Rattle.bz_running.specs.FromFind.Phases.{find_asks}
-use Rattle.bz_running.specs.FromFind.Find.{Find}
-use Rattle.bz_running.specs.FromFind.FindPhase.{FindPhase}
-use Rattle.bz_running.specs.FromFind.FindPhase.TheVariants as find
+use Rattle.bz_any_task.specs.FromDescend.SeekFacts.{seek_asks}
+use Rattle.bz_any_task.specs.FromDescend.Way.{Way}
+use Rattle.bz_any_task.specs.FromDescend.Way.TheVariants as way
+use Rattle.bz_any_task.specs.FromFind.Phases.{find_asks}
+use Rattle.bz_any_task.specs.FromFind.Find.{Find}
+use Rattle.bz_any_task.specs.FromFind.FindPhase.{FindPhase}
+use Rattle.bz_any_task.specs.FromFind.FindPhase.TheVariants as find
 use Rattle.bz_layout.specs.declared.config.Config.{Config}
 use Rattle.bz_leaf.specs.Facts.{leaf_asks}
 use Rattle.bz_leaf.specs.declared.phase.LeafPhase.{LeafPhase}
 use Rattle.bz_leaf.specs.declared.phase.LeafPhase.TheVariants as leaf
-use Rattle.bz_running.specs.FromMerge.Merge.{Merge}
-use Rattle.bz_running.specs.FromMerge.MergePhase.{MergePhase}
-use Rattle.bz_running.specs.FromMerge.MergePhase.TheVariants.{Swap}
+use Rattle.bz_any_task.specs.FromMerge.Merge.{Merge}
+use Rattle.bz_any_task.specs.FromMerge.MergePhase.{MergePhase}
+use Rattle.bz_any_task.specs.FromMerge.MergePhase.TheVariants.{Swap}
 use Rattle.bz_node.specs.declared.image.NodeImage.{NodeImage}
-use Rattle.bz_running.specs.Duties.{view_of}
-use Rattle.bz_running.specs.declared.running.AnyTask.{AnyTask}
-use Rattle.bz_running.specs.declared.running.AnyTask.TheVariants.{Seeking, Finding, Reading, Inserting, Updating, Deleting, Freezing, Consolidating, Splitting, SplittingBelow, SplittingInner, SplittingInnerRoot, Merging}
+use Rattle.bz_any_task.specs.Duties.{view_of}
+use Rattle.bz_any_task.specs.declared.running.AnyTask.{AnyTask}
+use Rattle.bz_any_task.specs.declared.running.AnyTask.TheVariants.{Seeking, Finding, Reading, Inserting, Updating, Deleting, Freezing, Consolidating, Splitting, SplittingBelow, SplittingInner, SplittingInnerRoot, Merging}
 use Rattle.bz_word.specs.declared.entry.Entry.{Entry}
 use Rattle.bz_task.specs.Instant.{Instant}
 use Rattle.bz_task.specs.Scene.{Scene}

@@ -2,7 +2,7 @@
 use Rattle.std.specs.Prelude.{◌≡◌, ◌≢◌, ◌⊎◌, ℕ, ◌+◌, ◌<◌, ◌≤◌, true, false, List}
 use Rattle.bz_layout.specs.declared.thresholds.TheConstants.{SPLIT_ABOVE, MERGE_BELOW}
 use Rattle.bz_leaves.specs.Leaves.{is_leaf, leaves_in}
-use Rattle.bz_running.specs.FromMerge.Merges.{StoodFrozen}
+use Rattle.bz_any_task.specs.FromMerge.Merges.{StoodFrozen}
 use Rattle.bz_renew.specs.FrozenLeaves.{WasFrozenLeaf}
 use Rattle.bz_slotted.specs.Readers.{live_of}
 use Rattle.bz_slotted.specs.ReadingLaws.{node_of}

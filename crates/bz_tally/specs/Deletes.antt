@@ -2,10 +2,10 @@
 use Rattle.std.specs.Prelude.{◌≡◌, ℕ, ◌+◌, ◌<◌, ◌≤◌, true, List}
 use Rattle.bz_layout.specs.declared.config.Config.{Config}
 use Rattle.bz_layout.specs.declared.thresholds.TheConstants.{LEAF_RECORD_WORDS, MERGE_BELOW}
-use Rattle.bz_running.specs.Duties.{config_of, asks_of, facts_of, change_of, leaves_few_of}
-use Rattle.bz_running.specs.Kinds.{kind_of}
-use Rattle.bz_running.specs.Kinds as kinds
-use Rattle.bz_running.specs.declared.running.AnyTask.{AnyTask}
+use Rattle.bz_any_task.specs.Duties.{config_of, asks_of, facts_of, change_of, leaves_few_of}
+use Rattle.bz_any_task.specs.Kinds.{kind_of}
+use Rattle.bz_any_task.specs.Kinds as kinds
+use Rattle.bz_any_task.specs.declared.running.AnyTask.{AnyTask}
 use Rattle.bz_slotted.specs.Page.{page}
 use Rattle.bz_slotted.specs.Records.{live_words}
 use Rattle.bz_word.specs.declared.entry.Entry.{Entry}

@@ -2,29 +2,29 @@
 use Rattle.std.specs.Prelude.{◌≡◌, ◌⊎◌, ℕ, ◌+◌, ◌<◌, ◌≤◌, List}
 use Rattle.bz_branch.specs.FromBelow.Duties.{asks_below, facts_below}
 use Rattle.bz_branch.specs.FromBelow.SplitBelow.{SplitBelow}
-use Rattle.bz_running.specs.FromConsol.Duties as consol
-use Rattle.bz_running.specs.FromConsol.Consolidate.{Consolidate}
-use Rattle.bz_running.specs.FromCrown.Duties.{asks_crown, facts_crown}
-use Rattle.bz_running.specs.FromCrown.SplitInnerRoot.{SplitInnerRoot}
-use Rattle.bz_running.specs.FromFork.Duties.{asks_fork, facts_fork}
-use Rattle.bz_running.specs.FromFork.SplitInner.{SplitInner}
+use Rattle.bz_any_task.specs.FromConsol.Duties as consol
+use Rattle.bz_any_task.specs.FromConsol.Consolidate.{Consolidate}
+use Rattle.bz_any_task.specs.FromCrown.Duties.{asks_crown, facts_crown}
+use Rattle.bz_any_task.specs.FromCrown.SplitInnerRoot.{SplitInnerRoot}
+use Rattle.bz_any_task.specs.FromFork.Duties.{asks_fork, facts_fork}
+use Rattle.bz_any_task.specs.FromFork.SplitInner.{SplitInner}
 use Rattle.bz_freeze.specs.Facts.{freeze_asks, freeze_facts}
 use Rattle.bz_freeze.specs.declared.freeze.Freeze.{Freeze}
 use Rattle.bz_insert.specs.Duties as insert
 use Rattle.bz_insert.specs.declared.insert.Insert.{Insert}
-use Rattle.bz_running.specs.FromMerge.Duties as merge
-use Rattle.bz_running.specs.FromMerge.Merge.{Merge}
-use Rattle.bz_running.specs.FromMerge.MergePhase.{MergePhase}
-use Rattle.bz_running.specs.FromMerge.MergePhase.TheVariants.{Swap}
+use Rattle.bz_any_task.specs.FromMerge.Duties as merge
+use Rattle.bz_any_task.specs.FromMerge.Merge.{Merge}
+use Rattle.bz_any_task.specs.FromMerge.MergePhase.{MergePhase}
+use Rattle.bz_any_task.specs.FromMerge.MergePhase.TheVariants.{Swap}
 use Rattle.bz_mutate.specs.DeleteDuties as delete
 use Rattle.bz_mutate.specs.UpdateDuties as update
 use Rattle.bz_mutate.specs.declared.delete.Delete.{Delete}
 use Rattle.bz_mutate.specs.declared.update.Update.{Update}
-use Rattle.bz_running.specs.Duties.{config_of, asks_of, facts_of, swaps_of}
-use Rattle.bz_running.specs.Kinds.{kind_of}
-use Rattle.bz_running.specs.Kinds as kinds
-use Rattle.bz_running.specs.declared.running.AnyTask.{AnyTask}
-use Rattle.bz_running.specs.declared.running.AnyTask.TheVariants.{Consolidating, Splitting, SplittingBelow, Merging}
+use Rattle.bz_any_task.specs.Duties.{config_of, asks_of, facts_of, swaps_of}
+use Rattle.bz_any_task.specs.Kinds.{kind_of}
+use Rattle.bz_any_task.specs.Kinds as kinds
+use Rattle.bz_any_task.specs.declared.running.AnyTask.{AnyTask}
+use Rattle.bz_any_task.specs.declared.running.AnyTask.TheVariants.{Consolidating, Splitting, SplittingBelow, Merging}
 use Rattle.bz_split.specs.Duties as split
 use Rattle.bz_split.specs.declared.split_root.SplitRoot.{SplitRoot}
 use Rattle.bz_word.specs.declared.entry.Entry.{Entry}

@@ -8,11 +8,11 @@ use Rattle.bz_layout.specs.Addresses.{node_address, IsOutsideSwaps}
 use Rattle.bz_layout.specs.declared.config.Config.{Config}
 use Rattle.bz_layout.specs.declared.sizes.TheConstants.{NODE_WORDS, SUPERBLOCK_WORDS, ROOT_AT, ROOT_STATUS_AT}
 use Rattle.bz_layout.proofs.Laws.{slots_apart}
-use Rattle.bz_shape.specs.Descent.{leaf_of, content}
-use Rattle.bz_shape.specs.Order.{is_at_least, is_below, is_within}
-use Rattle.bz_shape.specs.Outcomes.{SameTree}
-use Rattle.bz_shape.specs.Walk.{form_of}
-use Rattle.bz_shape.proofs.Proved.{leaves_tile_the_keys}
+use Rattle.bz_tree.specs.Descent.{leaf_of, content}
+use Rattle.bz_tree.specs.Order.{is_at_least, is_below, is_within}
+use Rattle.bz_tree.specs.Outcomes.{SameTree}
+use Rattle.bz_tree.specs.Walk.{form_of}
+use Rattle.bz_tree.proofs.Proved.{leaves_tile_the_keys}
 use Rattle.bz_content.specs.FromSlotted.Page.{page}
 use Rattle.bz_content.specs.FromSlotted.Readers.{found_of}
 use Rattle.bz_content.specs.FromSlotted.Tests.{every}

@@ -5,12 +5,12 @@ use Rattle.std.proofs.lemmas.Bool.{cases_eq}
 use Rattle.std.proofs.lemmas.Bool.Decides.{nat_tests}
 use Rattle.bz_layout.specs.declared.config.Config.{Config}
 use Rattle.bz_layout.specs.declared.sizes.TheConstants.{META_AT, STATUS_AT, HEADER_AT, ROOT_AT}
-use Rattle.bz_shape.specs.Form.{Fits}
-use Rattle.bz_shape.specs.Outcomes.{SameTree, SameContent}
-use Rattle.bz_shape.specs.QuietSlots.{QuietSlots, SameLeaf}
-use Rattle.bz_shape.specs.Slots.{SameSlot, SameTop}
-use Rattle.bz_shape.specs.Walk.{form, form_of}
-use Rattle.bz_shape.proofs.Proved.{quiet_slots_keep_the_tree, trees_have_forms}
+use Rattle.bz_tree.specs.Form.{Fits}
+use Rattle.bz_tree.specs.Outcomes.{SameTree, SameContent}
+use Rattle.bz_tree.specs.QuietSlots.{QuietSlots, SameLeaf}
+use Rattle.bz_tree.specs.Slots.{SameSlot, SameTop}
+use Rattle.bz_tree.specs.Walk.{form, form_of}
+use Rattle.bz_tree.proofs.Proved.{quiet_slots_keep_the_tree, trees_have_forms}
 use Rattle.bz_content.specs.FromSlotted.Changes.{StoresBeside}
 use Rattle.bz_content.specs.FromSlotted.InnerChanges.{StandsAlike}
 use Rattle.bz_content.specs.FromSlotted.LeafLaws.{AnswersAlike}

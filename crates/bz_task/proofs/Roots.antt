@@ -4,10 +4,10 @@ use Rattle.std.specs.Prelude.{nat_lt, nat_le, Some, None}
 use Rattle.std.proofs.lemmas.Bool.Decides.{nat_tests}
 use Rattle.bz_layout.specs.declared.config.Config.{Config}
 use Rattle.bz_layout.specs.declared.sizes.TheConstants.{ROOT_AT, ROOT_STATUS_AT}
-use Rattle.bz_shape.specs.Form.{Fits, Stands}
-use Rattle.bz_shape.specs.View.{high_at}
-use Rattle.bz_shape.specs.declared.rule.ShapeRule.TheVariants.{Root}
-use Rattle.bz_shape.proofs.Proved.{trees_have_forms}
+use Rattle.bz_tree.specs.Form.{Fits, Stands}
+use Rattle.bz_tree.specs.View.{high_at}
+use Rattle.bz_tree.specs.declared.rule.ShapeRule.TheVariants.{Root}
+use Rattle.bz_tree.proofs.Proved.{trees_have_forms}
 use Rattle.bz_content.specs.Content.{IsWellFormed, view_in}
 use Rattle.bz_content.specs.Resolving.{resolve}
 use Rattle.bz_content.specs.View.{root_fault}

@@ -5,9 +5,9 @@ use Rattle.std.proofs.lemmas.Bool.{cases_eq}
 use Rattle.std.proofs.lemmas.Bool.Decides.{nat_tests}
 use Rattle.bz_layout.specs.declared.config.Config.{Config}
 use Rattle.bz_layout.specs.declared.sizes.TheConstants.{ROOT_AT, ROOT_STATUS_AT}
-use Rattle.bz_shape.specs.Form.{Fits, Hangs}
-use Rattle.bz_shape.specs.Walk.{form}
-use Rattle.bz_shape.proofs.Proved.{trees_have_forms}
+use Rattle.bz_tree.specs.Form.{Fits, Hangs}
+use Rattle.bz_tree.specs.Walk.{form}
+use Rattle.bz_tree.proofs.Proved.{trees_have_forms}
 use Rattle.bz_content.specs.FromSlotted.Laws.{RisesBetween}
 use Rattle.bz_content.specs.FromSlotted.Readers.{count_of, child_of}
 use Rattle.bz_content.specs.FromSlotted.Rules.{node_fault}

@@ -1,8 +1,8 @@
 -- The memory at a moment, as tasks see it.
 use Rattle.std.specs.Prelude.{◌≡◌, ℕ, Bool, true}
 use Rattle.bz_layout.specs.declared.config.Config.{Config}
-use Rattle.bz_shape.specs.Form.{Form}
-use Rattle.bz_shape.specs.Walk.{form}
+use Rattle.bz_tree.specs.Form.{Form}
+use Rattle.bz_tree.specs.Walk.{form}
 use Rattle.bz_content.specs.FromSlotted.Page.{Page, page}
 use Rattle.bz_content.specs.Content.{view_in}
 use Rattle.bz_content.specs.Image.{node}

@@ -3,7 +3,7 @@
 use Rattle.std.specs.Prelude.{◌≡◌, ℕ, ◌+◌, ◌<◌, ◌⊎◌, bytes_eq, if◌then◌else◌, Bool, true, false, List, Option, None}
 use Rattle.bz_layout.specs.Addresses.{node_address}
 use Rattle.bz_layout.specs.declared.sizes.TheConstants.{NODE_WORDS}
-use Rattle.bz_shape.specs.Order.{is_within}
+use Rattle.bz_tree.specs.Order.{is_within}
 use Rattle.bz_content.specs.FromSlotted.Readers.{found_of}
 use Rattle.bz_content.specs.FromSlotted.Rules.{node_fault}
 use Rattle.bz_swap.specs.SwapMemory.{is_target}

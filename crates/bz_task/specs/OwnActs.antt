@@ -2,7 +2,7 @@
 use Rattle.std.specs.Prelude.{◌≡◌, ◌≢◌, ℕ, ◌==◌, ◌&&◌, ◌||◌, ◌<◌, ◌≤◌, ◌⊎◌, not, Bool, true, false, length, drop}
 use Rattle.bz_layout.specs.Addresses.{slot_of, line_of}
 use Rattle.bz_layout.specs.Slots.{FreeSlots}
-use Rattle.bz_shape.specs.Walk.{is_among}
+use Rattle.bz_tree.specs.Walk.{is_among}
 use Rattle.bz_task.specs.Scene.{Scene, IsMine, IsFlushed, Continues, here}
 
 -- the own private store of a value is made

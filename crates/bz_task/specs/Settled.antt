@@ -2,7 +2,7 @@
 -- are reached. So it is when a world opens, and when a recovery has ended.
 use Rattle.std.specs.Prelude.{◌≡◌, ℕ, ◌&&◌, true, nat_lt, None}
 use Rattle.bz_layout.specs.declared.config.Config.{Config}
-use Rattle.bz_shape.specs.Walk.{form}
+use Rattle.bz_tree.specs.Walk.{form}
 use Rattle.bz_content.specs.Content.{image_fault, view_in}
 use Rattle.bz_content.specs.Resolving.{resolve}
 use Rattle.bz_task.specs.Good.{IsGood}

@@ -5,7 +5,7 @@ ghost use Rattle.bz_text.specs.Reading.{IsReadTo, ended_since};
 
 use bz_call::{Call, Reply};
 use bz_mark::{Journal, Mark};
-use bz_memory::Memory;
+use bz_oom::Memory;
 
 /// A call that has ended, with what its line shows.
 #[derive(Clone, Copy)]

@@ -9,7 +9,7 @@ ghost use Rattle.bz_text.specs.Summing.{AreKeysOf};
 use bz_call::Call;
 use bz_judge::pairs;
 use bz_key::Key;
-use bz_memory::Memory;
+use bz_oom::Memory;
 use std::alloc::Global;
 use std::collections::BTreeSet;
 

@@ -10,7 +10,7 @@ use crate::ended::EndedCall;
 use bz_call::{Call, Reply, Spent};
 use bz_key::{Key, Payload, SPELLED_BYTES, spell};
 use bz_mark::Journal;
-use bz_memory::Memory;
+use bz_oom::Memory;
 use std::alloc::Global;
 
 pub(crate) fn put(out: &mut Vec<u8>, bytes: &[u8]) -> Result<(), Memory>

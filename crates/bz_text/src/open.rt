@@ -8,7 +8,7 @@ ghost use Rattle.bz_text.specs.Report.{ended_calls, open_lines};
 
 use crate::lines::{put, put_fate_line};
 use bz_mark::{Journal, Mark};
-use bz_memory::Memory;
+use bz_oom::Memory;
 use std::alloc::Global;
 
 /// Looks at one mark: keeps whether each open call has taken effect.

@@ -3,7 +3,7 @@ ghost use Rattle.std.specs.Prelude.{◌≡◌, OnOk};
 ghost use Rattle.bz_text.specs.Report.{rank as rank_of, in_order};
 
 use crate::ended::EndedCall;
-use bz_memory::Memory;
+use bz_oom::Memory;
 
 fn rank(ended: &EndedCall) -> u64
     ensures { result ≡ rank_of ended.now }

@@ -24,7 +24,7 @@ use crate::summing::follow_effect;
 use bz_io::{Failed, Sink, write_all};
 use bz_key::Key;
 use bz_mark::{Journal, Mark};
-use bz_memory::Memory;
+use bz_oom::Memory;
 use std::alloc::Global;
 use std::collections::BTreeSet;
 

@@ -14,7 +14,7 @@ use crate::report::TextError;
 use crate::summing::sum_up;
 use bz_io::{Failed, Sink, write_all};
 use bz_mark::Journal;
-use bz_memory::Memory;
+use bz_oom::Memory;
 use std::alloc::Global;
 
 /// Puts a name and the number behind it.

@@ -15,7 +15,7 @@ use crate::counts::{Counts, count, count_none};
 use crate::keys::{keys_at_start, take_step};
 use bz_key::Key;
 use bz_mark::{Journal, Mark};
-use bz_memory::Memory;
+use bz_oom::Memory;
 use std::alloc::Global;
 use std::collections::BTreeSet;
 

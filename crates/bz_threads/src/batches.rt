@@ -14,7 +14,7 @@ use bz_call::Call;
 use bz_index::{Answer, Gate, Index, IndexPass, LimitKind};
 use bz_key::PageBuf;
 use bz_layout::MAX_WORKERS;
-use bz_memory::Memory;
+use bz_oom::Memory;
 use bz_sched::Queue;
 use std::alloc::Global;
 use std::sync::Wait;

@@ -12,7 +12,7 @@ ghost use Rattle.bz_index.specs.FromWorld.WorldView.{power_in};
 use crate::batches::{give_back, join_batches, open_batches, work_all};
 use bz_index::{Gate, Index, IndexPass, LimitKind, World};
 use bz_layout::MAX_WORKERS;
-use bz_memory::Memory;
+use bz_oom::Memory;
 use bz_sched::{Queue, end_open_calls};
 use std::alloc::Global;
 use std::sync::Wait;

@@ -8,10 +8,10 @@ use Rattle.bz_layout.specs.declared.limits.TheConstants.{MIN_MARKS, MAX_MARKS}
 use Rattle.bz_script.specs.ItemLaws.{IsJob, scripts_are_jobs}
 use Rattle.bz_script.specs.Script.{Job, job_of, script_of}
 use Rattle.bz_script.specs.declared.read.TheConstants.{SCRIPT_BYTES}
-use Rattle.bz_words.specs.CommandLine.{IsCommandLine}
-use Rattle.bz_words.specs.declared.command.Command.{Command}
-use Rattle.bz_words.specs.declared.command.Command.TheVariants.{Run, Dump, Load, Trace, Work}
-use Rattle.bz_words.specs.declared.command.CommandLine.{CommandLine}
+use Rattle.bz_cli.specs.CommandLine.{IsCommandLine}
+use Rattle.bz_cli.specs.declared.command.Command.{Command}
+use Rattle.bz_cli.specs.declared.command.Command.TheVariants.{Run, Dump, Load, Trace, Work}
+use Rattle.bz_cli.specs.declared.command.CommandLine.{CommandLine}
 use Rattle.bz_sched.specs.FromWorld.WorldView.{WorldView}
 use Rattle.bz_top.specs.Answers.{NeedsRun, IsAnswered, AnswersScript, AnswersBytes, AnswersSource}
 use Rattle.bz_top.specs.Bases.{Base, front_over, numbers_over, IsBase, IsBaseOf, Reads, ReadsOver}

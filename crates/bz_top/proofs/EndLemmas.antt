@@ -5,10 +5,10 @@ use Rattle.std.specs.Io.KnownBytes.{Consumes}
 use Rattle.bz_io.specs.Faults.{Rose}
 use Rattle.bz_io.proofs.Consumed.{consumes_twice}
 use Rattle.bz_script.specs.Script.{Job}
-use Rattle.bz_words.specs.CommandLine.{IsCommandLine}
-use Rattle.bz_words.specs.declared.command.Command.{Command}
-use Rattle.bz_words.specs.declared.command.Command.TheVariants.{Run, Dump, Load, Trace, Work}
-use Rattle.bz_words.specs.declared.command.CommandLine.{CommandLine}
+use Rattle.bz_cli.specs.CommandLine.{IsCommandLine}
+use Rattle.bz_cli.specs.declared.command.Command.{Command}
+use Rattle.bz_cli.specs.declared.command.Command.TheVariants.{Run, Dump, Load, Trace, Work}
+use Rattle.bz_cli.specs.declared.command.CommandLine.{CommandLine}
 use Rattle.bz_sched.specs.FromWorld.WorldView.{WorldView}
 use Rattle.bz_gen.specs.Workload.{workload_of}
 use Rattle.bz_top.specs.Bases.{Base, front_over, IsBase, Reads, ReadsOver}

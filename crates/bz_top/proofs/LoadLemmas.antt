@@ -11,11 +11,11 @@ use Rattle.bz_image.specs.declared.fault.ImageFault.TheVariants.{Short, Magic, V
 use Rattle.bz_image.specs.declared.image.Image.{Image}
 use Rattle.bz_judge.specs.Judgement.{IsFirstFault}
 use Rattle.bz_layout.specs.declared.config.Config.{Config}
-use Rattle.bz_shape.specs.declared.rule.ShapeFault.{ShapeFault}
-use Rattle.bz_words.specs.CommandLine.{IsCommandLine}
-use Rattle.bz_words.specs.declared.command.Command.{Command}
-use Rattle.bz_words.specs.declared.command.Command.TheVariants.{Load}
-use Rattle.bz_words.specs.declared.command.CommandLine.{CommandLine}
+use Rattle.bz_tree.specs.declared.rule.ShapeFault.{ShapeFault}
+use Rattle.bz_cli.specs.CommandLine.{IsCommandLine}
+use Rattle.bz_cli.specs.declared.command.Command.{Command}
+use Rattle.bz_cli.specs.declared.command.Command.TheVariants.{Load}
+use Rattle.bz_cli.specs.declared.command.CommandLine.{CommandLine}
 use Rattle.bz_sched.specs.FromWorld.WorldView.{WorldView}
 use Rattle.bz_top.specs.Bases.{ReadsOver}
 use Rattle.bz_top.specs.Commands.{config_of}

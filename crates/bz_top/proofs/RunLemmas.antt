@@ -10,8 +10,8 @@ use Rattle.bz_sched.specs.Enough.{count_wanting}
 use Rattle.bz_sched.specs.Sums.{calls_in, sum_of, SufficesFor, HasStockFor}
 use Rattle.bz_sound.specs.Power.Sound.{IsSound}
 use Rattle.bz_mark.specs.declared.power.Power.{Power as State}
-use Rattle.bz_words.specs.declared.command.Command.{Command}
-use Rattle.bz_words.specs.declared.command.Command.TheVariants.{Run, Dump, Load, Trace, Work}
+use Rattle.bz_cli.specs.declared.command.Command.{Command}
+use Rattle.bz_cli.specs.declared.command.Command.TheVariants.{Run, Dump, Load, Trace, Work}
 use Rattle.bz_sched.specs.FromWorld.Numbers.{AreNumbersKept}
 use Rattle.bz_sched.specs.FromWorld.WorldView.{WorldView}
 use Rattle.bz_sched.specs.FromWorld.LimitKind.{LimitKind}

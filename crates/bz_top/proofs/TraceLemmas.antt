@@ -8,7 +8,7 @@ use Rattle.bz_lines.specs.Lines.{lines_of, text_of}
 use Rattle.bz_mark.specs.Log.{Log}
 use Rattle.bz_sched.specs.FromWorld.WorldView.{WorldView}
 use Rattle.bz_traces.specs.Writes.{GrewByLines}
-use Rattle.bz_words.specs.declared.command.Command.TheVariants.{Trace}
+use Rattle.bz_cli.specs.declared.command.Command.TheVariants.{Trace}
 use Rattle.bz_top.specs.Endings.{IsLeft}
 use Rattle.bz_top.specs.Faults.{fault_line}
 use Rattle.bz_top.specs.Parts.{sunk, Says}

@@ -4,7 +4,7 @@ use Rattle.bz_io.specs.Transfers.{IsReadWhole}
 use Rattle.bz_layout.specs.declared.limits.TheConstants.{MIN_MARKS, MAX_MARKS}
 use Rattle.bz_script.specs.Script.{Job, job_of, script_of}
 use Rattle.bz_script.specs.declared.read.TheConstants.{SCRIPT_BYTES}
-use Rattle.bz_words.specs.declared.command.CommandLine.{CommandLine}
+use Rattle.bz_cli.specs.declared.command.CommandLine.{CommandLine}
 use Rattle.bz_top.specs.Bases.{Base, numbers_over}
 use Rattle.bz_top.specs.Endings.{Outside, Asks, IsEnded}
 use Rattle.bz_top.specs.Parts.{Given, Sunk, RanScript, RanBytes, RanSource}

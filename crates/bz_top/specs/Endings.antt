@@ -14,7 +14,7 @@ use Rattle.bz_lines.specs.Lines.{lines_of, text_of}
 use Rattle.bz_sound.specs.Power.Sound.{IsSound}
 use Rattle.bz_mark.specs.declared.power.Power.{Power as State}
 use Rattle.bz_mark.specs.declared.power.Power.TheVariants as power
-use Rattle.bz_shape.specs.declared.rule.ShapeFault.{ShapeFault}
+use Rattle.bz_tree.specs.declared.rule.ShapeFault.{ShapeFault}
 use Rattle.bz_script.specs.Script.{Job, script_of}
 use Rattle.bz_script.specs.declared.fault.ScriptRule.{ScriptRule}
 use Rattle.bz_script.specs.declared.item.Item.{Item}
@@ -30,10 +30,10 @@ use Rattle.bz_sched.specs.Sums.{calls_in, sum_of, SufficesFor, HasStockFor}
 use Rattle.bz_gen.specs.Workload.{workload_of}
 use Rattle.bz_text.specs.Report.{report_of}
 use Rattle.bz_text.specs.Summary.{summary_of}
-use Rattle.bz_words.specs.CommandLine.{IsCommandLine}
-use Rattle.bz_words.specs.declared.command.Command.{Command}
-use Rattle.bz_words.specs.declared.command.Command.TheVariants.{Run, Dump, Load, Trace, Work}
-use Rattle.bz_words.specs.declared.command.CommandLine.{CommandLine}
+use Rattle.bz_cli.specs.CommandLine.{IsCommandLine}
+use Rattle.bz_cli.specs.declared.command.Command.{Command}
+use Rattle.bz_cli.specs.declared.command.Command.TheVariants.{Run, Dump, Load, Trace, Work}
+use Rattle.bz_cli.specs.declared.command.CommandLine.{CommandLine}
 use Rattle.bz_top.specs.Commands.{config_of}
 use Rattle.bz_top.specs.Bases.{Base, power_over, words_over, front_over, numbers_over, IsBase, Reads, ReadsOver}
 use Rattle.bz_top.specs.Faults.{fault_line, broken_text, limit_text, image_text, shape_text}

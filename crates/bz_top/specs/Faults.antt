@@ -6,9 +6,9 @@ use Rattle.bz_image.specs.declared.fault.ImageFault.{ImageFault}
 use Rattle.bz_script.specs.declared.fault.ScriptRule.{ScriptRule}
 use Rattle.bz_script.specs.declared.fault.ScriptFault.TheVariants.{Rule}
 use Rattle.bz_script.specs.Texts.{fault_text}
-use Rattle.bz_shape.specs.declared.rule.ShapeFault.{ShapeFault}
-use Rattle.bz_shape.specs.declared.rule.ShapeRule.{ShapeRule}
-use Rattle.bz_shape.specs.declared.rule.ShapeRule.TheVariants.{Super, Word, Root, Twice, Level, Fence, Status, Record, Order, Key, Child}
+use Rattle.bz_tree.specs.declared.rule.ShapeFault.{ShapeFault}
+use Rattle.bz_tree.specs.declared.rule.ShapeRule.{ShapeRule}
+use Rattle.bz_tree.specs.declared.rule.ShapeRule.TheVariants.{Super, Word, Root, Twice, Level, Fence, Status, Record, Order, Key, Child}
 use Rattle.bz_sched.specs.FromWorld.LimitKind.{LimitKind}
 use Rattle.bz_sched.specs.FromWorld.LimitKind.TheVariants.{Marks, Calls, Pages}
 

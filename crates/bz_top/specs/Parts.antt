@@ -5,7 +5,7 @@ use Rattle.bz_script.specs.declared.fault.ScriptRule.{ScriptRule}
 use Rattle.bz_script.specs.declared.read.TheConstants.{SCRIPT_BYTES}
 use Rattle.bz_sched.specs.FromWorld.WorldView.{WorldView}
 use Rattle.bz_sched.specs.FromWorld.LimitKind.{LimitKind}
-use Rattle.bz_words.specs.declared.command.Command.{Command}
+use Rattle.bz_cli.specs.declared.command.Command.{Command}
 use Rattle.bz_top.specs.Bases.{Base, numbers_over}
 use Rattle.bz_top.specs.Faults.{fault_line, broken_text, limit_text}
 use Rattle.bz_top.specs.Endings.{IsFinished, IsCutShort, IsLedTo, IsLeft, printed, printed_before}

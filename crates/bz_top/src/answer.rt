@@ -15,13 +15,13 @@ use crate::load::load;
 use crate::open::numbers_of;
 use crate::program::{Outcome, no_memory, refuse, report_broken, run_script};
 use crate::turns::is_on_threads;
+use bz_cli::{Command, CommandLine, WordsError, read_words};
 use bz_gen::generate;
 use bz_gen::laws::workloads_are_jobs;
 use bz_image::Image;
 use bz_io::{ReadFault, Sink, Source, read_all};
-use bz_memory::Memory;
+use bz_oom::Memory;
 use bz_script::{Item, SCRIPT_BYTES, Script, ScriptFault, read_script};
-use bz_words::{Command, CommandLine, WordsError, read_words};
 use std::alloc::Global;
 
 /// What came of the words of a command line without threads.

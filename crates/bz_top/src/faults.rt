@@ -4,10 +4,10 @@ ghost use Rattle.bz_image.specs.declared.fault.ImageFault.TheVariants.{Memory as
 ghost use Rattle.bz_top.specs.Faults.{fault_line, broken_text, limit_text, image_text, shape_name as name_of, shape_text};
 
 use bz_image::ImageFault;
-use bz_memory::Memory;
+use bz_oom::Memory;
 use bz_sched::LimitKind;
 use bz_script::{ScriptFault, ScriptRule};
-use bz_shape::{ShapeFault, ShapeRule};
+use bz_tree::{ShapeFault, ShapeRule};
 use std::alloc::Global;
 
 /// The fault line of a rule that a line of the script breaks. Lines are counted from 1.

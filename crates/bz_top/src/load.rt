@@ -2,8 +2,8 @@
 ghost use Rattle.std.specs.Prelude.{◌≡◌, ◌≢◌, ◌≤◌, ℕ, List, None, codes};
 ghost use Rattle.bz_image.specs.declared.fault.ImageFault.TheVariants.{Memory as WantOfMemory};
 ghost use Rattle.bz_layout.specs.declared.limits.TheConstants.{MIN_MARKS, MAX_MARKS};
-ghost use Rattle.bz_words.specs.CommandLine.{IsCommandLine};
-ghost use Rattle.bz_words.specs.declared.command.Command.TheVariants.{Load};
+ghost use Rattle.bz_cli.specs.CommandLine.{IsCommandLine};
+ghost use Rattle.bz_cli.specs.declared.command.Command.TheVariants.{Load};
 ghost use Rattle.bz_top.specs.Answers.{IsAnswered};
 ghost use Rattle.bz_top.specs.Faults.{fault_line, image_text, shape_text};
 ghost use Rattle.bz_top.specs.Parts.{sunk, Says, SaysOrWants};
@@ -11,13 +11,13 @@ ghost use Rattle.bz_top.specs.Parts.{sunk, Says, SaysOrWants};
 use crate::answer::{Answer, run_source};
 use crate::faults::{image_line, shape_line};
 use crate::program::{Outcome, config_for, no_memory, refuse, written};
+use bz_cli::CommandLine;
 use bz_content::CheckError;
 use bz_image::{FetchFault, ImageFault, fetch_image};
 use bz_io::{Sink, Source};
 use bz_judge::check;
-use bz_memory::Memory;
-use bz_shape::ShapeFault;
-use bz_words::CommandLine;
+use bz_oom::Memory;
+use bz_tree::ShapeFault;
 use std::alloc::Global;
 
 // Answers bytes that are no image, or want of memory for them.

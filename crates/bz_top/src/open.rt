@@ -10,7 +10,7 @@ ghost use Rattle.bz_top.specs.Bases.{IsBaseOf, numbers_over, power_over, words_o
 use bz_content::laws::fresh_memory_is_empty;
 use bz_image::Image;
 use bz_layout::Config;
-use bz_memory::Memory;
+use bz_oom::Memory;
 use bz_sched::{BootError, OpenError, World};
 use std::alloc::Global;
 

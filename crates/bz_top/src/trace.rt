@@ -3,7 +3,7 @@ ghost use Rattle.std.specs.Prelude.{◌≡◌, Some};
 ghost use Rattle.bz_lines.specs.Lines.{lines_of, text_of};
 ghost use Rattle.bz_sound.specs.Power.Sound.{IsSound};
 ghost use Rattle.bz_top.specs.Parts.{sunk, Prints};
-ghost use Rattle.bz_words.specs.declared.command.Command.TheVariants as command;
+ghost use Rattle.bz_cli.specs.declared.command.Command.TheVariants as command;
 
 use crate::program::{Outcome, give_up};
 use bz_io::Sink;

@@ -13,7 +13,7 @@ use crate::read_marks::{Counts, read_mark};
 use bz_key::PageBuf;
 use bz_layout::{Config, MAX_CALLS, MAX_MARKS, MAX_PAGES};
 use bz_mark::Journal;
-use bz_memory::Memory;
+use bz_oom::Memory;
 use bz_reading::{LineFault, read_head};
 use std::alloc::Global;
 

@@ -15,7 +15,7 @@ use bz_key::PageBuf;
 use bz_layout::{MAX_CALLS, MAX_MARKS, MAX_PAGES};
 use bz_lines::mark_text;
 use bz_mark::{Journal, Mark};
-use bz_memory::Memory;
+use bz_oom::Memory;
 use bz_reading::{LineFault, mark_in, page_in, value_of};
 use serde_json::Value;
 use std::alloc::Global;

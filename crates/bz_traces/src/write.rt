@@ -11,7 +11,7 @@ use bz_io::{Failed, Sink, write_all};
 use bz_layout::Config;
 use bz_lines::{head_text, mark_text};
 use bz_mark::{Journal, Mark};
-use bz_memory::Memory;
+use bz_oom::Memory;
 use std::alloc::Global;
 
 /// The first line, with its line feed.

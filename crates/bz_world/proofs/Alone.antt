@@ -4,16 +4,16 @@ use Rattle.std.proofs.Common.{◌≡◌, ◌≢◌, ℕ, suc, ◌+◌, ◌≤◌
 use Rattle.std.specs.Prelude.{get_or}
 use Rattle.std.proofs.lemmas.Bool.{true≢false}
 use Rattle.std.proofs.lemmas.List.Elements.{All-from_get_or, All-get_or, All-same}
-use Rattle.bz_acts.specs.declared.acted.Act.{Act}
-use Rattle.bz_lone.specs.FromAlone.Counts.{HasOthers, OwnSwapsAreCounted}
+use Rattle.bz_swap_acts.specs.declared.acted.Act.{Act}
+use Rattle.bz_solo.specs.FromAlone.Counts.{HasOthers, OwnSwapsAreCounted}
 use Rattle.bz_layout.specs.declared.config.Config.{Config}
-use Rattle.bz_machine.specs.declared.done.Done.{Done}
+use Rattle.bz_swap_machine.specs.declared.done.Done.{Done}
 use Rattle.bz_mark.specs.declared.marks.Mark.{Mark}
 use Rattle.bz_rivals.specs.Wins.{Stand, GoesWell, OwnSwapsWin}
-use Rattle.bz_running.specs.Duties.{config_of, made_of, facts_of}
-use Rattle.bz_running.specs.declared.running.AnyTask.{AnyTask}
+use Rattle.bz_any_task.specs.Duties.{config_of, made_of, facts_of}
+use Rattle.bz_any_task.specs.declared.running.AnyTask.{AnyTask}
 use Rattle.bz_sound.specs.Calls.{Open}
-use Rattle.bz_story.specs.Story.{Story, scene, and_then}
+use Rattle.bz_refinement.specs.Story.{Story, scene, and_then}
 use Rattle.bz_swap.specs.Effects.{NoneTakesEffect}
 use Rattle.bz_swap.specs.Steps.{IsStep}
 use Rattle.bz_swap.specs.SwapMemory.{SwapMemory, Doing, Idle, Reading, Swapping, Loading, Storing, Flushing, doing_of, value_at, has_effect, is_missed, entries_of}

@@ -2,8 +2,8 @@
 use Rattle.std.proofs.Common.{◌≡◌, ◌≢◌, ℕ, if◌then◌else◌, Bool, true, List, slice_index, arith, refl, sym, ap, ◌∙◌}
 use Rattle.std.specs.Prelude.{get_or}
 use Rattle.std.proofs.lemmas.List.Elements.{All-from_get_or, All-get_or, All-same}
-use Rattle.bz_cells.specs.Store.{is_outside}
-use Rattle.bz_cells.proofs.Places.{outside-told}
+use Rattle.bz_swap_cells.specs.Store.{is_outside}
+use Rattle.bz_swap_cells.proofs.Places.{outside-told}
 use Rattle.bz_layout.specs.declared.config.Config.{Config}
 use Rattle.bz_rivals.specs.Notes.{AreNoted}
 use Rattle.bz_rivals.specs.Wins.{Stand, GoesWell, AreExpected, ExpectedStand}

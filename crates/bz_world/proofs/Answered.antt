@@ -4,30 +4,30 @@ use Rattle.std.specs.Prelude.{get_or}
 use Rattle.std.proofs.lemmas.Bool.{cases_eq, true≢false}
 use Rattle.std.proofs.lemmas.Bool.Decides.{nat_tests}
 use Rattle.std.proofs.lemmas.Grind.{common_steps}
-use Rattle.bz_acts.specs.declared.acted.Act.{Act}
-use Rattle.bz_acts.specs.declared.acted.Act.TheVariants.{Load}
-use Rattle.bz_machine.specs.declared.done.Done.{Done}
-use Rattle.bz_machine.specs.declared.done.Done.TheVariants as done
+use Rattle.bz_swap_acts.specs.declared.acted.Act.{Act}
+use Rattle.bz_swap_acts.specs.declared.acted.Act.TheVariants.{Load}
+use Rattle.bz_swap_machine.specs.declared.done.Done.{Done}
+use Rattle.bz_swap_machine.specs.declared.done.Done.TheVariants as done
 use Rattle.bz_mark.specs.Log.{with_mark}
 use Rattle.bz_mark.proofs.MomentLaws.{mark_at-newest}
-use Rattle.bz_running.specs.Duties.{asks_of, facts_of, publishing_of}
+use Rattle.bz_any_task.specs.Duties.{asks_of, facts_of, publishing_of}
 use Rattle.bz_sight.specs.Passing.{AllStay}
 use Rattle.bz_sight.specs.Acts.{IsFlushing}
 use Rattle.bz_word.specs.declared.entry.Entry.{Entry}
 use Rattle.bz_sight.specs.Sight.{answer_at}
 use Rattle.bz_sight.specs.Starts.{Sees}
 use Rattle.bz_sound.specs.Calls.{Open}
-use Rattle.bz_story.specs.Laws.{HasBegun, goes_on}
-use Rattle.bz_story.specs.Living.{IsLiving}
-use Rattle.bz_story.specs.Story.{Story, scene, loaded, is_load_of}
+use Rattle.bz_refinement.specs.Laws.{HasBegun, goes_on}
+use Rattle.bz_refinement.specs.Living.{IsLiving}
+use Rattle.bz_refinement.specs.Story.{Story, scene, loaded, is_load_of}
 use Rattle.bz_swap.specs.SwapMemory.{SwapMemory, Reading, Swapping, Storing, Flushing, doing_of, has_effect, memory_state, value_at, is_named}
 use Rattle.bz_swap.specs.Steps.{AnswersRead, IsStep}
-use Rattle.bz_acts.specs.Rule.{IsActOf}
-use Rattle.bz_cells.specs.Store.{is_outside}
+use Rattle.bz_swap_acts.specs.Rule.{IsActOf}
+use Rattle.bz_swap_cells.specs.Store.{is_outside}
 use Rattle.bz_layout.specs.Addresses.{IsOutsideSwaps}
 use Rattle.bz_layout.specs.declared.config.Config.{Config}
 use Rattle.bz_sight.specs.Sight.{next_instant}
-use Rattle.bz_story.specs.Story.{and_then}
+use Rattle.bz_refinement.specs.Story.{and_then}
 use Rattle.bz_task.specs.Instant.{Instant}
 use Rattle.bz_task.specs.Requests.{Answers, IsReadable}
 use Rattle.bz_task.specs.OwnActs.{Flushes}
@@ -46,7 +46,7 @@ use Rattle.bz_world.specs.Inside.Serving.{IsServing, IsSlot, stage_in, MayGoOn, 
 use Rattle.bz_world.specs.declared.parts.Parts.{Parts}
 use Rattle.bz_world.specs.declared.serving.OpenCall.{OpenCall}
 use Rattle.bz_world.specs.Inside.Laws.{StepLaws}
-use Rattle.bz_story.proofs.Powered.{stored-since}
+use Rattle.bz_refinement.proofs.Powered.{stored-since}
 use Rattle.bz_world.specs.Inside.Paid.{errand_of, no_extra, stock_of, IsPaidIn}
 use Rattle.bz_world.proofs.Alone.{hears-on, untold-by}
 use Rattle.bz_world.proofs.Solitary.{solitary-act}

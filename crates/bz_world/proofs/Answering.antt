@@ -2,28 +2,28 @@
 use Rattle.std.proofs.Common.{◌≡◌, ℕ, zero, suc, ◌*◌, ◌<◌, ◌≤◌, ◌&&◌, if◌then◌else◌, ◌==◌, true, false, List, ◌∷◌, length, arith, refl, sym, ap, subst, ◌∙◌, Option, Some, None}
 use Rattle.std.proofs.lemmas.Bool.{true≢false}
 use Rattle.std.proofs.lemmas.Bool.Decides.{nat_tests}
-use Rattle.bz_lone.specs.FromAlone.Reads.{get_reads}
+use Rattle.bz_solo.specs.FromAlone.Reads.{get_reads}
 use Rattle.bz_call.specs.Map.{key_of}
 use Rattle.bz_call.specs.Pages.{is_from, is_page}
 use Rattle.bz_call.specs.declared.calls.Call.{Call}
 use Rattle.bz_call.specs.declared.calls.Call.TheVariants as call
 use Rattle.bz_call.specs.declared.replies.Reply.TheVariants.{Exists, Missing, Value}
 use Rattle.bz_content.specs.Content.{content_in, leaf_end_in, view_in}
-use Rattle.bz_lone.specs.Prices.{coming}
+use Rattle.bz_solo.specs.Prices.{coming}
 use Rattle.bz_mark.specs.Moments.{at_moment, mark_at}
 use Rattle.bz_mark.proofs.MomentLaws.{at_moment-next}
 use Rattle.bz_mark.specs.declared.marks.Mark.{Mark}
 use Rattle.bz_mark.specs.declared.marks.Mark.TheVariants.{Begin, End, Load, Store, Cas, Flush, Ask, Fence, Evict, Cut, On, Ready, Effect}
 use Rattle.bz_page.specs.Pages.{IsPageOf}
-use Rattle.bz_running.specs.Kinds as kinds
-use Rattle.bz_shape.specs.Order as order
+use Rattle.bz_any_task.specs.Kinds as kinds
+use Rattle.bz_tree.specs.Order as order
 use Rattle.bz_slotted.specs.Readers.{found_of}
 use Rattle.bz_sound.specs.Solitary.{acts_since}
 use Rattle.bz_sound.specs.Memory.ImageLaws.{ReadsAt, ImageAnswersBy}
 use Rattle.bz_sound.specs.Memory.Moments.{image_at, IsAfterLoad}
 use Rattle.bz_sound.specs.Memory.Replies.{ends_after}
 use Rattle.bz_sound.specs.Power.Spent.{IsSpent}
-use Rattle.bz_story.specs.Story.{is_load_of, loaded}
+use Rattle.bz_refinement.specs.Story.{is_load_of, loaded}
 use Rattle.bz_task.specs.Good.{IsGood}
 use Rattle.bz_task.specs.Instant.{durable}
 use Rattle.bz_task.specs.Outcomes.{payload_of, IsView, IsKeyView}

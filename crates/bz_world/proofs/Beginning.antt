@@ -6,31 +6,31 @@ use Rattle.std.specs.Vec.{with_item, vec_len}
 use Rattle.std.proofs.lemmas.Bool.{cases_eq, cases_lt, true≢false}
 use Rattle.std.proofs.lemmas.Bool.Decides.{nat_tests}
 use Rattle.std.proofs.lemmas.List.{get_or_read_under, get_or-set_same, get_or-set_other, length-set, map-set}
-use Rattle.bz_lone.specs.FromAlone.Brief.{IsBrief}
-use Rattle.bz_lone.specs.FromCosts.Resources.{Marks, Descriptors, Slots}
+use Rattle.bz_solo.specs.FromAlone.Brief.{IsBrief}
+use Rattle.bz_solo.specs.FromCosts.Resources.{Marks, Descriptors, Slots}
 use Rattle.bz_call.specs.Map.{key_of}
 use Rattle.bz_call.specs.Pages.{is_page}
 use Rattle.bz_call.specs.declared.calls.Call.{Call}
 use Rattle.bz_layout.specs.declared.thresholds.TheConstants.{LEAF_RECORD_WORDS}
-use Rattle.bz_lone.specs.Errands.{is_read, words_asked, IsLookOf}
-use Rattle.bz_lone.specs.Rounds.{IsBegunAt}
-use Rattle.bz_lone.specs.Sum.{PaysForRound}
+use Rattle.bz_solo.specs.Errands.{is_read, words_asked, IsLookOf}
+use Rattle.bz_solo.specs.Rounds.{IsBegunAt}
+use Rattle.bz_solo.specs.Sum.{PaysForRound}
 use Rattle.bz_mark.specs.Log.{HasRoom, Limits, with_mark, count_begins, count_page_calls}
 use Rattle.bz_mark.specs.declared.marks.Mark.{Mark}
 use Rattle.bz_mark.specs.declared.marks.Mark.TheVariants.{Begin, End, Load, Store, Cas, Flush, Ask, Fence, Evict, Cut, On, Ready, Effect}
-use Rattle.bz_running.specs.Duties.{config_of, asks_of, swaps_of, needs_of, wants_of, facts_of, makes_no_change}
-use Rattle.bz_running.specs.Hearing.{IsLookup}
-use Rattle.bz_running.specs.Kinds as kinds
-use Rattle.bz_running.specs.Kinds.{is_renewal, kind_of}
-use Rattle.bz_running.specs.Laws.{AreLaws}
-use Rattle.bz_running.specs.LookingUp.{ForWay, look_of, reads_asked, LooksUpBriefly}
-use Rattle.bz_running.specs.declared.running.AnyTask.{AnyTask}
+use Rattle.bz_any_task.specs.Duties.{config_of, asks_of, swaps_of, needs_of, wants_of, facts_of, makes_no_change}
+use Rattle.bz_any_task.specs.Hearing.{IsLookup}
+use Rattle.bz_any_task.specs.Kinds as kinds
+use Rattle.bz_any_task.specs.Kinds.{is_renewal, kind_of}
+use Rattle.bz_any_task.specs.Laws.{AreLaws}
+use Rattle.bz_any_task.specs.LookingUp.{ForWay, look_of, reads_asked, LooksUpBriefly}
+use Rattle.bz_any_task.specs.declared.running.AnyTask.{AnyTask}
 use Rattle.bz_sight.specs.Sight.{next_instant}
 use Rattle.bz_sound.specs.Calls.{Open, open_call, begun_calls}
 use Rattle.bz_sound.specs.Power.Sound.{IsSound}
-use Rattle.bz_story.specs.Laws.{GoesOn, goes_on}
-use Rattle.bz_story.specs.Living.{IsLiving}
-use Rattle.bz_story.specs.Story.{Story, scene}
+use Rattle.bz_refinement.specs.Laws.{GoesOn, goes_on}
+use Rattle.bz_refinement.specs.Living.{IsLiving}
+use Rattle.bz_refinement.specs.Story.{Story, scene}
 use Rattle.bz_swap.specs.Held.{Holds}
 use Rattle.bz_swap.specs.Starts.{started}
 use Rattle.bz_swap.specs.SwapMemory.{SwapMemory, Working, Reading}
@@ -49,7 +49,7 @@ use Rattle.bz_world.specs.Inside.Serving.{IsSlot, IsAtRest}
 use Rattle.bz_world.specs.Inside.Telling.{MustStart}
 use Rattle.bz_world.specs.declared.parts.Parts.{Parts}
 use Rattle.bz_world.specs.declared.serving.OpenCall.{OpenCall}
-use Rattle.bz_story.proofs.Powered.{stored-since}
+use Rattle.bz_refinement.proofs.Powered.{stored-since}
 use Rattle.bz_world.proofs.Alone.{waits-on}
 use Rattle.bz_world.proofs.Counting.{pairs-stay}
 use Rattle.bz_world.proofs.LeavesKept.{same-leaves}

@@ -11,7 +11,7 @@ use Rattle.bz_sound.specs.Power.Growth.{FreshJournalsAreSound}
 use Rattle.bz_sound.specs.Power.Sound.{IsSound}
 use Rattle.bz_mark.specs.declared.power.Power.{Power}
 use Rattle.bz_mark.specs.declared.power.Power.TheVariants as power
-use Rattle.bz_story.specs.Reviving.{IsOffIn, ImagesOpenJournals}
+use Rattle.bz_refinement.specs.Reviving.{IsOffIn, ImagesOpenJournals}
 use Rattle.bz_world.specs.Inside.Kept.{IsKept}
 use Rattle.bz_world.specs.Inside.Opening.{IsMadeOver}
 use Rattle.bz_world.specs.Leaves.{AreLeavesKept}

@@ -4,15 +4,15 @@ use Rattle.std.specs.Prelude.{get_or, is_some, IsSome}
 use Rattle.bz_call.specs.declared.replies.Spent.{Spent}
 use Rattle.bz_call.specs.declared.replies.Spent.TheVariants.{Nodes, Swaps, Height}
 use Rattle.bz_layout.specs.Slots.{FreeSlots}
-use Rattle.bz_lone.specs.Errands.{is_read}
-use Rattle.bz_lone.specs.Prices.{coming}
-use Rattle.bz_running.specs.Duties.{end_of, means_of}
-use Rattle.bz_running.specs.Ends.{IsEndOf}
-use Rattle.bz_running.specs.Hearing.{HasHeard}
-use Rattle.bz_running.specs.Kinds as kinds
-use Rattle.bz_running.specs.Kinds.{Kind, kind_of}
-use Rattle.bz_running.specs.declared.running.AnyTask.{AnyTask}
-use Rattle.bz_story.specs.Story.{scene}
+use Rattle.bz_solo.specs.Errands.{is_read}
+use Rattle.bz_solo.specs.Prices.{coming}
+use Rattle.bz_any_task.specs.Duties.{end_of, means_of}
+use Rattle.bz_any_task.specs.Ends.{IsEndOf}
+use Rattle.bz_any_task.specs.Hearing.{HasHeard}
+use Rattle.bz_any_task.specs.Kinds as kinds
+use Rattle.bz_any_task.specs.Kinds.{Kind, kind_of}
+use Rattle.bz_any_task.specs.declared.running.AnyTask.{AnyTask}
+use Rattle.bz_refinement.specs.Story.{scene}
 use Rattle.bz_task.specs.Requests.{IsCause}
 use Rattle.bz_task.specs.Scene.{Scene, IsScene}
 use Rattle.bz_task.specs.declared.todo.Outcome.{Outcome}

@@ -9,22 +9,22 @@ use Rattle.bz_call.specs.declared.replies.Reply.{Reply}
 use Rattle.bz_call.specs.declared.replies.Reply.TheVariants as reply
 use Rattle.bz_content.specs.Content.{image_of, content_in, leaf_in, view_in}
 use Rattle.bz_stage.specs.FromLeaves.Neighbours.{leaf_page}
-use Rattle.bz_lone.specs.Errands.{is_read}
-use Rattle.bz_lone.specs.FromAlone.Counts.{HasOthers}
+use Rattle.bz_solo.specs.Errands.{is_read}
+use Rattle.bz_solo.specs.FromAlone.Counts.{HasOthers}
 use Rattle.bz_layout.specs.declared.sizes.TheConstants.{STATUS_AT}
 use Rattle.bz_layout.specs.declared.thresholds.TheConstants.{CONSOLIDATION_SLOTS, SPLIT_ABOVE, SPLIT_SLOTS}
 use Rattle.bz_mark.specs.Moments.{at_moment}
 use Rattle.bz_page.specs.Laws.{IsSaidBy}
 use Rattle.bz_record.specs.Laws.{IsViewed}
 use Rattle.bz_record.specs.Records.{words_for, LacksRoom}
-use Rattle.bz_running.specs.Duties.{config_of, asks_of, end_of, made_of, swaps_of, change_swaps, wants_of, change_of, facts_of, means_of, makes_no_change}
-use Rattle.bz_running.specs.Hearing.{IsLookup}
-use Rattle.bz_running.specs.Kinds as kinds
-use Rattle.bz_running.specs.Kinds.{kind_of, Kind}
-use Rattle.bz_running.specs.Laws.{AreLaws}
-use Rattle.bz_running.specs.MadeFor.{IsMadeFor}
-use Rattle.bz_running.specs.declared.running.AnyTask.{AnyTask}
-use Rattle.bz_running.specs.declared.running.AnyTask.TheVariants.{Inserting, Updating, Deleting}
+use Rattle.bz_any_task.specs.Duties.{config_of, asks_of, end_of, made_of, swaps_of, change_swaps, wants_of, change_of, facts_of, means_of, makes_no_change}
+use Rattle.bz_any_task.specs.Hearing.{IsLookup}
+use Rattle.bz_any_task.specs.Kinds as kinds
+use Rattle.bz_any_task.specs.Kinds.{kind_of, Kind}
+use Rattle.bz_any_task.specs.Laws.{AreLaws}
+use Rattle.bz_any_task.specs.MadeFor.{IsMadeFor}
+use Rattle.bz_any_task.specs.declared.running.AnyTask.{AnyTask}
+use Rattle.bz_any_task.specs.declared.running.AnyTask.TheVariants.{Inserting, Updating, Deleting}
 use Rattle.bz_slotted.specs.Page.{Page, page}
 use Rattle.bz_slotted.specs.Readers.{live_of}
 use Rattle.bz_slotted.specs.ReadingLaws.{node_of}
@@ -35,7 +35,7 @@ use Rattle.bz_sound.specs.Memory.ImageLaws.{IsChangeOf}
 use Rattle.bz_sound.specs.Memory.Moments.{image_at, Decodes, map_at_start}
 use Rattle.bz_sound.specs.Memory.Spent.{TakesSlots}
 use Rattle.bz_sound.specs.Power.Growth.{LoadsAreSettled}
-use Rattle.bz_story.specs.Laws.{ScenesAreSeen}
+use Rattle.bz_refinement.specs.Laws.{ScenesAreSeen}
 use Rattle.bz_task.specs.Good.{IsGood}
 use Rattle.bz_task.specs.Instant.{durable}
 use Rattle.bz_task.specs.Outcomes.{payload_of, IsView, IsKeyView, IsPath}

@@ -12,8 +12,8 @@ use Rattle.bz_mark.specs.declared.power.Power.TheVariants as power
 use Rattle.bz_sound.specs.Memory.Moments.{map_at_start}
 use Rattle.bz_sound.specs.Power.Laws.{CutsFollow, PowerTellsWhatFollows, IsAfterCut}
 use Rattle.bz_sound.specs.Power.Sound.{IsSound}
-use Rattle.bz_story.specs.Recovering.{Started}
-use Rattle.bz_story.specs.Reviving.{CutsAreMarked}
+use Rattle.bz_refinement.specs.Recovering.{Started}
+use Rattle.bz_refinement.specs.Reviving.{CutsAreMarked}
 use Rattle.bz_swap.specs.Power.{after_cut}
 use Rattle.bz_swap.specs.SwapMemory.{Working, idle}
 use Rattle.bz_world.specs.Inside.Beginning.{world_view, is_swap}

@@ -15,9 +15,9 @@ use Rattle.bz_sight.specs.Sight.{next_instant}
 use Rattle.bz_sound.specs.Replies.{Pages}
 use Rattle.bz_sound.specs.Memory.OpenCallLaws.{LeavesRoom}
 use Rattle.bz_sound.specs.Power.Sound.{IsSound}
-use Rattle.bz_story.specs.Laws.{GoesOn, goes_on}
-use Rattle.bz_story.specs.Living.{IsLiving}
-use Rattle.bz_story.specs.Story.{scene, Story}
+use Rattle.bz_refinement.specs.Laws.{GoesOn, goes_on}
+use Rattle.bz_refinement.specs.Living.{IsLiving}
+use Rattle.bz_refinement.specs.Story.{scene, Story}
 use Rattle.bz_swap.specs.SwapMemory.{SwapMemory}
 use Rattle.bz_world.specs.Inside.Acted.{IsBetween}
 use Rattle.bz_world.specs.Inside.Beginning.{supply_of}
@@ -29,8 +29,8 @@ use Rattle.bz_world.specs.Inside.Serving.{IsSlot}
 use Rattle.bz_world.specs.declared.answers.Applied.TheVariants as applied
 use Rattle.bz_world.specs.declared.parts.Parts.{Parts}
 use Rattle.bz_world.specs.declared.serving.OpenCall.{OpenCall}
-use Rattle.bz_story.proofs.Powered.{stored-since}
-use Rattle.bz_lone.specs.FromCosts.Resources.{Marks}
+use Rattle.bz_refinement.proofs.Powered.{stored-since}
+use Rattle.bz_solo.specs.FromCosts.Resources.{Marks}
 use Rattle.bz_swap.specs.Solo.{left_to}
 use Rattle.bz_world.specs.Inside.Paid.{Stock, begun_with, stock_of}
 use Rattle.bz_world.specs.Roomy.{HadRoom}

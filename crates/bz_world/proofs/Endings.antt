@@ -1,9 +1,9 @@
 -- How a task has ended tells of which kind it is, and of which kind it is, how it has ended.
 use Rattle.std.proofs.Common.{◌≡◌, ◌≢◌, Bool, true, false, refl, ap, inl, inr}
 use Rattle.bz_call.specs.declared.replies.Spent.{Spent}
-use Rattle.bz_running.specs.Ends.{IsEndOf, EndsOrNeedsRoom}
-use Rattle.bz_running.specs.Kinds as kinds
-use Rattle.bz_running.specs.Kinds.{Kind, is_look, is_renewal}
+use Rattle.bz_any_task.specs.Ends.{IsEndOf, EndsOrNeedsRoom}
+use Rattle.bz_any_task.specs.Kinds as kinds
+use Rattle.bz_any_task.specs.Kinds.{Kind, is_look, is_renewal}
 use Rattle.bz_task.specs.declared.path.Path.{Path}
 use Rattle.bz_task.specs.declared.todo.Outcome.{Outcome}
 use Rattle.bz_task.specs.declared.todo.Outcome.TheVariants as outcome

@@ -6,20 +6,20 @@ use Rattle.bz_call.specs.Map.{key_of}
 use Rattle.bz_call.specs.declared.calls.Call.{Call}
 use Rattle.bz_call.specs.declared.calls.Call.TheVariants as call
 use Rattle.bz_content.specs.Content.{leaf_in, view_in}
-use Rattle.bz_running.specs.FromDescend.SeekFacts.{reads_through}
+use Rattle.bz_any_task.specs.FromDescend.SeekFacts.{reads_through}
 use Rattle.bz_layout.specs.declared.config.Config.{Config}
 use Rattle.bz_layout.specs.declared.thresholds.TheConstants.{MERGE_BELOW}
-use Rattle.bz_lone.specs.FromAlone.Undisturbed.{IsUndisturbed}
-use Rattle.bz_lone.specs.FromAlone.Reads.{PathsReadFew, reads_above, way_reads}
-use Rattle.bz_lone.specs.FromRounds.Stands.{SameStage, StagesStand}
-use Rattle.bz_running.specs.Kinds.{is_look}
-use Rattle.bz_shape.specs.Form.{Form}
-use Rattle.bz_shape.specs.View.{View}
-use Rattle.bz_shape.specs.Walk.{form}
+use Rattle.bz_solo.specs.FromAlone.Undisturbed.{IsUndisturbed}
+use Rattle.bz_solo.specs.FromAlone.Reads.{PathsReadFew, reads_above, way_reads}
+use Rattle.bz_solo.specs.FromRounds.Stands.{SameStage, StagesStand}
+use Rattle.bz_any_task.specs.Kinds.{is_look}
+use Rattle.bz_tree.specs.Form.{Form}
+use Rattle.bz_tree.specs.View.{View}
+use Rattle.bz_tree.specs.Walk.{form}
 use Rattle.bz_slotted.specs.Readers.{live_of}
 use Rattle.bz_slotted.specs.ReadingLaws.{node_of}
-use Rattle.bz_story.specs.Laws.{ScenesAreSeen}
-use Rattle.bz_story.specs.Story.{scene}
+use Rattle.bz_refinement.specs.Laws.{ScenesAreSeen}
+use Rattle.bz_refinement.specs.Story.{scene}
 use Rattle.bz_task.specs.Instant.{Instant}
 use Rattle.bz_task.specs.Outcomes.{IsPath}
 use Rattle.bz_task.specs.Scene.{Scene, IsScene, here}

@@ -14,10 +14,10 @@ use Rattle.bz_sight.specs.Passing.{Passes, Passed}
 use Rattle.bz_sight.specs.Sight.{next_instant}
 use Rattle.bz_sound.specs.Memory.Moments.{image_after}
 use Rattle.bz_sound.specs.Power.Sound.{IsSound}
-use Rattle.bz_marked.proofs.Pasts.{evict-past}
-use Rattle.bz_story.specs.Laws.{GoesOn, goes_on}
-use Rattle.bz_story.specs.Living.{IsLiving}
-use Rattle.bz_story.specs.Story.{scene, Story}
+use Rattle.bz_swap_marks.proofs.Pasts.{evict-past}
+use Rattle.bz_refinement.specs.Laws.{GoesOn, goes_on}
+use Rattle.bz_refinement.specs.Living.{IsLiving}
+use Rattle.bz_refinement.specs.Story.{scene, Story}
 use Rattle.bz_swap.specs.Effects.{NoneTakesEffect, EffectIs}
 use Rattle.bz_swap.specs.EffectPlaces.{EffectsStayInside}
 use Rattle.bz_swap.specs.Evictions.{EvictsIn}
@@ -33,7 +33,7 @@ use Rattle.bz_world.specs.WorldView.{Evicts, IsStruck}
 use Rattle.bz_world.specs.declared.answers.Applied.TheVariants as applied
 use Rattle.bz_world.specs.declared.parts.Parts.{Parts}
 use Rattle.bz_world.specs.Inside.Laws.{BegunLaws, StepLaws}
-use Rattle.bz_story.proofs.Powered.{stored-since}
+use Rattle.bz_refinement.proofs.Powered.{stored-since}
 use Rattle.bz_world.specs.Inside.Paid.{stock_of}
 use Rattle.bz_world.proofs.Alone.{waits-on}
 use Rattle.bz_world.proofs.Due.{rightly-on}

@@ -10,22 +10,22 @@ use Rattle.bz_content.specs.Content.{image_of}
 use Rattle.bz_stage.specs.FromLeaves.Neighbours.{leaf_page}
 use Rattle.bz_layout.specs.declared.config.Config.{Config}
 use Rattle.bz_layout.specs.declared.thresholds.TheConstants.{LEAF_RECORD_WORDS}
-use Rattle.bz_lone.specs.Errands.{is_read, words_asked}
-use Rattle.bz_lone.specs.FromAlone.Counts.{HasOthers}
+use Rattle.bz_solo.specs.Errands.{is_read, words_asked}
+use Rattle.bz_solo.specs.FromAlone.Counts.{HasOthers}
 use Rattle.bz_mark.specs.Log.{Log, with_mark}
 use Rattle.bz_mark.specs.declared.marks.Mark.{Mark}
 use Rattle.bz_mark.proofs.MomentLaws.{at_moment-earlier}
-use Rattle.bz_running.specs.Duties.{asks_of, end_of, made_of, swaps_of, wants_of, change_swaps, makes_no_change}
-use Rattle.bz_running.specs.Kinds as kinds
-use Rattle.bz_running.specs.Kinds.{Kind, is_look, kind_of}
-use Rattle.bz_running.specs.Laws.{AreLaws}
-use Rattle.bz_running.specs.declared.running.AnyTask.{AnyTask}
-use Rattle.bz_running.specs.declared.running.AnyTask.TheVariants.{Deleting, Inserting, Updating}
+use Rattle.bz_any_task.specs.Duties.{asks_of, end_of, made_of, swaps_of, wants_of, change_swaps, makes_no_change}
+use Rattle.bz_any_task.specs.Kinds as kinds
+use Rattle.bz_any_task.specs.Kinds.{Kind, is_look, kind_of}
+use Rattle.bz_any_task.specs.Laws.{AreLaws}
+use Rattle.bz_any_task.specs.declared.running.AnyTask.{AnyTask}
+use Rattle.bz_any_task.specs.declared.running.AnyTask.TheVariants.{Deleting, Inserting, Updating}
 use Rattle.bz_sound.specs.Calls.{Open}
 use Rattle.bz_sound.specs.Solitary.{IsSolitary}
 use Rattle.bz_sound.specs.Memory.Moments.{image_after}
 use Rattle.bz_stage.specs.Rooms.{has_room}
-use Rattle.bz_story.specs.Story.{Story, scene, and_then}
+use Rattle.bz_refinement.specs.Story.{Story, scene, and_then}
 use Rattle.bz_swap.specs.SwapMemory.{Doing, Idle, Reading, Swapping, Loading, Storing, Flushing}
 use Rattle.bz_task.specs.Instant.{Instant}
 use Rattle.bz_task.specs.Scene.{Past}

@@ -2,14 +2,14 @@
 use Rattle.std.proofs.Common.{◌≡◌, ◌≢◌, ◌⊎◌, ℕ, ◌+◌, ◌≤◌, true, false, length, arith, refl, sym, ap, subst, ◌∙◌, inl, inr, Option, Some, None}
 use Rattle.std.proofs.lemmas.Bool.{true≢false}
 use Rattle.bz_layout.specs.Slots.{FreeSlots}
-use Rattle.bz_lone.specs.FromAlone.Counts.{HasOthers}
-use Rattle.bz_running.specs.Duties.{asks_of, end_of, made_of, swaps_of, needs_of, means_of}
-use Rattle.bz_running.specs.Ends.{IsEndOf, EndsOrNeedsRoom}
-use Rattle.bz_running.specs.Hearing.{HasHeard}
-use Rattle.bz_running.specs.Kinds as kinds
-use Rattle.bz_running.specs.Kinds.{Kind, is_look, kind_of}
-use Rattle.bz_running.specs.Laws.{AreLaws}
-use Rattle.bz_running.specs.declared.running.AnyTask.{AnyTask}
+use Rattle.bz_solo.specs.FromAlone.Counts.{HasOthers}
+use Rattle.bz_any_task.specs.Duties.{asks_of, end_of, made_of, swaps_of, needs_of, means_of}
+use Rattle.bz_any_task.specs.Ends.{IsEndOf, EndsOrNeedsRoom}
+use Rattle.bz_any_task.specs.Hearing.{HasHeard}
+use Rattle.bz_any_task.specs.Kinds as kinds
+use Rattle.bz_any_task.specs.Kinds.{Kind, is_look, kind_of}
+use Rattle.bz_any_task.specs.Laws.{AreLaws}
+use Rattle.bz_any_task.specs.declared.running.AnyTask.{AnyTask}
 use Rattle.bz_sound.specs.Calls.{Open}
 use Rattle.bz_task.specs.Requests.{Hears, swaps_in, effects_in}
 use Rattle.bz_task.specs.Scene.{Past, Scene}

@@ -2,14 +2,14 @@
 -- its change.
 use Rattle.std.proofs.Common.{◌≡◌, ◌≢◌, ◌⊎◌, ◌<◌, ℕ, true, false, length, arith, sym, ap, ◌∙◌, inl, inr, Some, None}
 use Rattle.std.proofs.lemmas.Bool.{true≢false}
-use Rattle.bz_lone.specs.Errands.{is_read}
-use Rattle.bz_lone.specs.FromAlone.Counts.{HasOthers}
+use Rattle.bz_solo.specs.Errands.{is_read}
+use Rattle.bz_solo.specs.FromAlone.Counts.{HasOthers}
 use Rattle.bz_layout.specs.declared.thresholds.TheConstants.{SPLIT_SLOTS}
-use Rattle.bz_running.specs.Duties.{end_of, wants_of}
-use Rattle.bz_running.specs.Ends.{IsEndOf}
-use Rattle.bz_running.specs.Kinds as kinds
-use Rattle.bz_running.specs.Kinds.{Kind, is_look, kind_of}
-use Rattle.bz_running.specs.Laws.{AreLaws}
+use Rattle.bz_any_task.specs.Duties.{end_of, wants_of}
+use Rattle.bz_any_task.specs.Ends.{IsEndOf}
+use Rattle.bz_any_task.specs.Kinds as kinds
+use Rattle.bz_any_task.specs.Kinds.{Kind, is_look, kind_of}
+use Rattle.bz_any_task.specs.Laws.{AreLaws}
 use Rattle.bz_sound.specs.Calls.{Open}
 use Rattle.bz_sound.specs.Solitary.{IsSolitary}
 use Rattle.bz_task.specs.Scene.{Past}

@@ -6,7 +6,7 @@ use Rattle.bz_mark.specs.Log.{Log}
 use Rattle.bz_sound.specs.Calls.{Open, open_call}
 use Rattle.bz_mark.specs.declared.power.Power.{Power}
 use Rattle.bz_mark.specs.declared.power.Power.TheVariants as power
-use Rattle.bz_story.specs.Story.{Story}
+use Rattle.bz_refinement.specs.Story.{Story}
 use Rattle.bz_swap.specs.SwapMemory.{SwapMemory, doing_of}
 use Rattle.bz_world.specs.Inside.Beginning.{world_view, is_swap}
 use Rattle.bz_world.specs.Inside.Kept.{IsKept}

@@ -1,27 +1,27 @@
 -- A call that gets a split on the way up from its leaf.
 use Rattle.std.proofs.Common.{◌≡◌, ◌≢◌, ◌⊎◌, ℕ, ◌+◌, ◌-◌, ◌<◌, ◌≤◌, slice_get, true, false, List, arith, refl, sym, ap, subst, ◌∙◌, inl, inr, Some, None, is_some}
 use Rattle.std.proofs.lemmas.Bool.{true≢false}
-use Rattle.bz_lone.specs.FromAlone.Undisturbed.{IsUndisturbed}
-use Rattle.bz_running.specs.FromAscent.Ascents.{IsAscent, IsOneUp}
-use Rattle.bz_running.specs.FromAscent.Ascent.{Ascent}
+use Rattle.bz_solo.specs.FromAlone.Undisturbed.{IsUndisturbed}
+use Rattle.bz_any_task.specs.FromAscent.Ascents.{IsAscent, IsOneUp}
+use Rattle.bz_any_task.specs.FromAscent.Ascent.{Ascent}
 use Rattle.bz_call.specs.Map.{key_of}
 use Rattle.bz_call.specs.declared.calls.Call.{Call}
-use Rattle.bz_lone.specs.FromCosts.Most.{IsWithinItsActs}
-use Rattle.bz_lone.specs.Errands.{words_asked, is_read, may_swap_twice}
-use Rattle.bz_lone.specs.Meant.{IsMeantFor}
-use Rattle.bz_lone.specs.Prices.{coming}
-use Rattle.bz_lone.specs.Renewals.{IsAbove}
-use Rattle.bz_lone.specs.Rounds.{stage_now}
-use Rattle.bz_lone.specs.Sum.{Spares, IsClean}
-use Rattle.bz_running.specs.Duties.{ascent_of, wants_of, facts_of, makes_no_change, view_of}
-use Rattle.bz_running.specs.Ends.{IsEndOf}
-use Rattle.bz_running.specs.GoingUp.{HasOneUp}
-use Rattle.bz_running.specs.Kinds as kinds
-use Rattle.bz_running.specs.Kinds.{is_look, ascent_in, level_of, kind_of, kinds-tell-the-ascent}
-use Rattle.bz_running.specs.Laws.{AreLaws}
-use Rattle.bz_running.specs.MadeFor.{HasFoot, WasCrowded, IsMadeFor}
-use Rattle.bz_running.specs.declared.running.AnyTask.{AnyTask}
-use Rattle.bz_running.specs.declared.running.AnyTask.TheVariants.{Seeking, Finding, Reading, Inserting, Updating, Deleting, Freezing, Consolidating, Splitting, SplittingBelow, SplittingInner, SplittingInnerRoot, Merging}
+use Rattle.bz_solo.specs.FromCosts.Most.{IsWithinItsActs}
+use Rattle.bz_solo.specs.Errands.{words_asked, is_read, may_swap_twice}
+use Rattle.bz_solo.specs.Meant.{IsMeantFor}
+use Rattle.bz_solo.specs.Prices.{coming}
+use Rattle.bz_solo.specs.Renewals.{IsAbove}
+use Rattle.bz_solo.specs.Rounds.{stage_now}
+use Rattle.bz_solo.specs.Sum.{Spares, IsClean}
+use Rattle.bz_any_task.specs.Duties.{ascent_of, wants_of, facts_of, makes_no_change, view_of}
+use Rattle.bz_any_task.specs.Ends.{IsEndOf}
+use Rattle.bz_any_task.specs.GoingUp.{HasOneUp}
+use Rattle.bz_any_task.specs.Kinds as kinds
+use Rattle.bz_any_task.specs.Kinds.{is_look, ascent_in, level_of, kind_of, kinds-tell-the-ascent}
+use Rattle.bz_any_task.specs.Laws.{AreLaws}
+use Rattle.bz_any_task.specs.MadeFor.{HasFoot, WasCrowded, IsMadeFor}
+use Rattle.bz_any_task.specs.declared.running.AnyTask.{AnyTask}
+use Rattle.bz_any_task.specs.declared.running.AnyTask.TheVariants.{Seeking, Finding, Reading, Inserting, Updating, Deleting, Freezing, Consolidating, Splitting, SplittingBelow, SplittingInner, SplittingInnerRoot, Merging}
 use Rattle.bz_stage.specs.Stages.{stage_in}
 use Rattle.bz_task.specs.Scene.{Past, Scene, IsScene, Waiting}
 use Rattle.bz_task.specs.declared.path.Path.{Path}

@@ -2,8 +2,8 @@
 use Rattle.std.proofs.Common.{◌≡◌, ℕ, ◌<◌, ◌≤◌, nat_lt, true, List, arith, inl, inr, refl, sym, ap, subst, ◌∙◌, Option, Some, None}
 use Rattle.std.specs.Prelude.{slice_index}
 use Rattle.std.proofs.lemmas.Bool.Decides.{nat_tests}
-use Rattle.bz_running.specs.FromAscent.Full.{WasFull, WasLevelFull, AreAllFull}
-use Rattle.bz_running.specs.FromAscent.Ascent.{Ascent}
+use Rattle.bz_any_task.specs.FromAscent.Full.{WasFull, WasLevelFull, AreAllFull}
+use Rattle.bz_any_task.specs.FromAscent.Ascent.{Ascent}
 use Rattle.bz_call.specs.Map.{key_of}
 use Rattle.bz_call.specs.declared.replies.Spent.TheVariants.{Height}
 use Rattle.bz_content.specs.Content.{view_in}
@@ -11,14 +11,14 @@ use Rattle.bz_content.specs.Image.{node}
 use Rattle.bz_content.specs.Resolving.{resolve}
 use Rattle.bz_layout.specs.declared.config.Config.{Config}
 use Rattle.bz_layout.specs.declared.thresholds.TheConstants.{MAX_LEVELS, SPLIT_SLOTS}
-use Rattle.bz_running.specs.Duties.{wants_of, ascent_of}
-use Rattle.bz_running.specs.Kinds.{ascent_in, kinds-tell-the-ascent}
-use Rattle.bz_running.specs.Laws.{HaveFilledUp}
-use Rattle.bz_shape.specs.Order.{is_within}
-use Rattle.bz_shape.specs.Walk.{form}
+use Rattle.bz_any_task.specs.Duties.{wants_of, ascent_of}
+use Rattle.bz_any_task.specs.Kinds.{ascent_in, kinds-tell-the-ascent}
+use Rattle.bz_any_task.specs.Laws.{HaveFilledUp}
+use Rattle.bz_tree.specs.Order.{is_within}
+use Rattle.bz_tree.specs.Walk.{form}
 use Rattle.bz_sound.specs.Memory.Moments.{image_at}
 use Rattle.bz_sound.specs.Memory.Spent.{IsFullAt, IsTooHigh, NeedsSlots, TakesSlots, is_reached_in}
-use Rattle.bz_story.specs.Laws.{ScenesAreSeen}
+use Rattle.bz_refinement.specs.Laws.{ScenesAreSeen}
 use Rattle.bz_task.specs.Scene.{Past}
 use Rattle.bz_task.specs.declared.todo.Outcome.TheVariants.{Full}
 use Rattle.bz_world.specs.Inside.Going.{MustGoOn, HasEnded, known}

@@ -6,7 +6,7 @@ use Rattle.bz_mark.specs.declared.power.Power.{Power}
 use Rattle.bz_mark.specs.declared.power.Power.TheVariants as power
 use Rattle.bz_sound.specs.Memory.Calls.{HasOpenCall}
 use Rattle.bz_sound.specs.Power.Calls.{MayAct}
-use Rattle.bz_story.specs.Story.{Story}
+use Rattle.bz_refinement.specs.Story.{Story}
 use Rattle.bz_swap.specs.SwapMemory.{SwapMemory, Idle, doing_of}
 use Rattle.bz_world.specs.Inside.Kept.{IsTabled, IsAwake, IsOff, IsStarted, IsKept}
 use Rattle.bz_world.specs.Inside.Paid.{Stock, stock_of}

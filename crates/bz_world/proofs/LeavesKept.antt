@@ -6,25 +6,25 @@ use Rattle.std.proofs.lemmas.Bool.{true≢false}
 use Rattle.std.proofs.lemmas.List.Sums.{length-filter}
 use Rattle.bz_content.specs.Content.{view_in}
 use Rattle.bz_layout.specs.declared.config.Config.{Config}
-use Rattle.bz_lone.specs.FromTally.Leaves.{is_leaf, leaf_count, leaves_in}
+use Rattle.bz_solo.specs.FromTally.Leaves.{is_leaf, leaf_count, leaves_in}
 use Rattle.bz_mark.specs.Log.{Log, with_mark}
 use Rattle.bz_mark.specs.declared.marks.Mark.{Mark}
 use Rattle.bz_mark.proofs.MomentLaws.{at_moment-now, at_moment-before}
-use Rattle.bz_shape.specs.Walk.{form}
+use Rattle.bz_tree.specs.Walk.{form}
 use Rattle.bz_sight.specs.Passing.{Passed}
 use Rattle.bz_sight.specs.Sight.{next_instant}
 use Rattle.bz_sound.specs.Memory.Moments.{image_after, image_at}
 use Rattle.bz_sound.specs.Memory.Spent.{is_reached_in}
 use Rattle.bz_mark.specs.declared.power.Power.{Power}
-use Rattle.bz_story.specs.Living.{IsLiving}
-use Rattle.bz_story.specs.Story.{Story}
+use Rattle.bz_refinement.specs.Living.{IsLiving}
+use Rattle.bz_refinement.specs.Story.{Story}
 use Rattle.bz_swap.specs.SwapMemory.{SwapMemory}
 use Rattle.bz_task.specs.Instant.{Instant, is_inside}
 use Rattle.bz_task.specs.Laws.{RangesStay}
 use Rattle.bz_task.specs.Steps.{IsHistory}
 use Rattle.bz_world.specs.Leaves.{in_tree, is_leaf_after, leaves_after, LeavesFollow, FollowsTree, KeepsLeaves}
-use Rattle.bz_lone.specs.FromAlone.Trees.{SameTree, TreesStand}
-use Rattle.bz_lone.specs.FromAlone.Quiet.{IsQuietSince}
+use Rattle.bz_solo.specs.FromAlone.Trees.{SameTree, TreesStand}
+use Rattle.bz_solo.specs.FromAlone.Quiet.{IsQuietSince}
 use Rattle.bz_task.specs.Scene.{Scene, IsScene, here}
 
 -- a test that says the same on a range passes as many of it

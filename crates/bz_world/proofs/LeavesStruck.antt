@@ -9,19 +9,19 @@ use Rattle.bz_content.specs.Content.{image_of, leaf_in, view_in}
 use Rattle.bz_stage.specs.FromLeaves.Neighbours.{leaf_page}
 use Rattle.bz_layout.specs.declared.config.Config.{Config}
 use Rattle.bz_layout.specs.declared.thresholds.TheConstants.{MERGE_BELOW, SPLIT_ABOVE, SPLIT_SLOTS}
-use Rattle.bz_lone.specs.FromTally.Counts.{leaves_now, leaves_then, BringsNoneBack, IsLeafNow, KeepsTheLeaves}
-use Rattle.bz_lone.specs.FromTally.Laws.{IsCopyOf, IsSplitOf, IsMergeOf, Grows, Renews, Shrinks}
-use Rattle.bz_lone.specs.FromTally.Leaves.{is_leaf, leaves_in}
-use Rattle.bz_lone.specs.FromTally.Swaps.{IsOwnSwap}
+use Rattle.bz_solo.specs.FromTally.Counts.{leaves_now, leaves_then, BringsNoneBack, IsLeafNow, KeepsTheLeaves}
+use Rattle.bz_solo.specs.FromTally.Laws.{IsCopyOf, IsSplitOf, IsMergeOf, Grows, Renews, Shrinks}
+use Rattle.bz_solo.specs.FromTally.Leaves.{is_leaf, leaves_in}
+use Rattle.bz_solo.specs.FromTally.Swaps.{IsOwnSwap}
 use Rattle.bz_mark.specs.Log.{Log}
 use Rattle.bz_page.specs.Laws.{IsSaidBy}
-use Rattle.bz_running.specs.Duties.{asks_of, config_of, facts_of, wants_of}
-use Rattle.bz_running.specs.Kinds as kinds
-use Rattle.bz_running.specs.Kinds.{is_renewal, kind_of}
-use Rattle.bz_running.specs.MadeFor.{IsMadeFor, IsSmallMerge}
-use Rattle.bz_running.specs.declared.running.AnyTask.{AnyTask}
-use Rattle.bz_running.specs.declared.running.AnyTask.TheVariants.{Consolidating, Splitting, SplittingBelow, Merging}
-use Rattle.bz_shape.specs.Walk.{form}
+use Rattle.bz_any_task.specs.Duties.{asks_of, config_of, facts_of, wants_of}
+use Rattle.bz_any_task.specs.Kinds as kinds
+use Rattle.bz_any_task.specs.Kinds.{is_renewal, kind_of}
+use Rattle.bz_any_task.specs.MadeFor.{IsMadeFor, IsSmallMerge}
+use Rattle.bz_any_task.specs.declared.running.AnyTask.{AnyTask}
+use Rattle.bz_any_task.specs.declared.running.AnyTask.TheVariants.{Consolidating, Splitting, SplittingBelow, Merging}
+use Rattle.bz_tree.specs.Walk.{form}
 use Rattle.bz_sight.specs.Effects.{effect_instant}
 use Rattle.bz_slotted.specs.Page.{page}
 use Rattle.bz_slotted.specs.Readers.{live_of}

@@ -8,7 +8,7 @@ use Rattle.std.proofs.lemmas.Bool.Decides.{nat_tests}
 use Rattle.std.proofs.lemmas.List.Kept.{AllPairs-from_increasing}
 use Rattle.std.proofs.lemmas.List.Sums.{length-filter}
 use native.Mathlib.Numerals.{unary_clauses}
-use Rattle.bz_shape.specs.Walk.{is_among}
+use Rattle.bz_tree.specs.Walk.{is_among}
 use Rattle.bz_world.proofs.Contained.{among-contains}
 
 -- what is behind the first number of a rising list is above it

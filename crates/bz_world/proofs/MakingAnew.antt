@@ -1,23 +1,23 @@
 -- A leaf that is made anew: the task that does it.
 use Rattle.std.proofs.Common.{◌≡◌, ◌≢◌, ℕ, suc, ◌+◌, if◌then◌else◌, Bool, true, false, List, arith, refl, sym, ap, subst, ◌∙◌, inl, inr, Option, None, is_some, length}
 use Rattle.std.proofs.lemmas.Bool.{true≢false}
-use Rattle.bz_running.specs.FromAscent.Ascent.{Ascent}
+use Rattle.bz_any_task.specs.FromAscent.Ascent.{Ascent}
 use Rattle.bz_call.specs.Map.{key_of}
-use Rattle.bz_lone.specs.FromCosts.Most.{most_of_freeze, most_of_copy, most_of_merge, most_of_root, most_of_below, IsWithinItsActs}
+use Rattle.bz_solo.specs.FromCosts.Most.{most_of_freeze, most_of_copy, most_of_merge, most_of_root, most_of_below, IsWithinItsActs}
 use Rattle.bz_layout.specs.declared.config.Config.{Config}
 use Rattle.bz_layout.specs.declared.thresholds.TheConstants.{MERGE_SLOTS}
-use Rattle.bz_lone.specs.Errands.{words_asked, is_read}
-use Rattle.bz_lone.specs.Meant.{IsMeantFor}
-use Rattle.bz_lone.specs.FromCosts.Resources.{Resource}
-use Rattle.bz_lone.specs.Prices.{Prices, coming, coming_after, coming_to_read, coming_to_write}
-use Rattle.bz_lone.specs.FromRounds.Due.{MayBeMadeAnew}
-use Rattle.bz_running.specs.Duties.{config_of, asks_of, made_of, wants_of, facts_of, makes_no_change, swaps_of}
-use Rattle.bz_running.specs.Hearing.{IsLookup}
-use Rattle.bz_running.specs.Kinds as kinds
-use Rattle.bz_running.specs.Kinds.{Kind, is_renewal, kind_of}
-use Rattle.bz_running.specs.Laws.{AreLaws}
-use Rattle.bz_running.specs.MadeFor.{IsMadeFor, IsMergeFor, IsSmallMerge}
-use Rattle.bz_running.specs.declared.running.AnyTask.{AnyTask}
+use Rattle.bz_solo.specs.Errands.{words_asked, is_read}
+use Rattle.bz_solo.specs.Meant.{IsMeantFor}
+use Rattle.bz_solo.specs.FromCosts.Resources.{Resource}
+use Rattle.bz_solo.specs.Prices.{Prices, coming, coming_after, coming_to_read, coming_to_write}
+use Rattle.bz_solo.specs.FromRounds.Due.{MayBeMadeAnew}
+use Rattle.bz_any_task.specs.Duties.{config_of, asks_of, made_of, wants_of, facts_of, makes_no_change, swaps_of}
+use Rattle.bz_any_task.specs.Hearing.{IsLookup}
+use Rattle.bz_any_task.specs.Kinds as kinds
+use Rattle.bz_any_task.specs.Kinds.{Kind, is_renewal, kind_of}
+use Rattle.bz_any_task.specs.Laws.{AreLaws}
+use Rattle.bz_any_task.specs.MadeFor.{IsMadeFor, IsMergeFor, IsSmallMerge}
+use Rattle.bz_any_task.specs.declared.running.AnyTask.{AnyTask}
 use Rattle.bz_task.specs.Outcomes.{IsPath, IsView}
 use Rattle.bz_task.specs.Scene.{Past, Scene, IsScene, Waiting}
 use Rattle.bz_task.specs.declared.path.Path.{Path}
@@ -37,7 +37,7 @@ use Rattle.bz_world.proofs.Exactly.{again-kind}
 use Rattle.bz_world.proofs.Paid.{within-of}
 use Rattle.bz_world.proofs.Spared.{most_in, task-paid, writes-look, lacks-write, is-small, is-large, is-lacking}
 use Rattle.bz_world.proofs.TakingOn.{known-scene, lookup-taken, none-wanted, duly-other}
-use Rattle.bz_lone.specs.FromAlone.Counts.{HasOthers}
+use Rattle.bz_solo.specs.FromAlone.Counts.{HasOthers}
 use Rattle.bz_layout.specs.declared.swaps.TheConstants.{MERGE_SWAPS}
 use Rattle.bz_world.specs.Inside.Exact.{reach_idle, seeks}
 use Rattle.bz_world.specs.Inside.Merging.{MergesDuly}

@@ -1,9 +1,9 @@
 -- The mark of an act.
 use Rattle.std.proofs.Common.{◌≡◌, ◌≢◌, ℕ, List, ◌∷◌, length, refl, sym, ap, subst, ◌∙◌}
 use Rattle.std.specs.Prelude.{slice_set, ◌==◌, if◌then◌else◌}
-use Rattle.bz_acts.specs.Rule.{IsWithin, FoundRightly}
-use Rattle.bz_acts.specs.declared.acted.Act.{Act}
-use Rattle.bz_acts.specs.declared.acted.Act.TheVariants.{Load, Store, Cas, Flush, Ask, Fence}
+use Rattle.bz_swap_acts.specs.Rule.{IsWithin, FoundRightly}
+use Rattle.bz_swap_acts.specs.declared.acted.Act.{Act}
+use Rattle.bz_swap_acts.specs.declared.acted.Act.TheVariants.{Load, Store, Cas, Flush, Ask, Fence}
 use Rattle.bz_mark.specs.Log.{Log}
 use Rattle.bz_mark.proofs.WordLaws.{found-read}
 use Rattle.bz_mark.specs.WordsAfter.{state_after, state_after_marks, words_after_marks, Found}
@@ -13,9 +13,9 @@ use Rattle.bz_sound.specs.Calls.{open_call}
 use Rattle.bz_mark.specs.declared.power.Power.{Power}
 use Rattle.bz_sound.specs.Power.Calls.{MayAct, MayFollow}
 use Rattle.bz_call.specs.Map.{Map}
-use Rattle.bz_machine.specs.declared.done.Done.{Done}
-use Rattle.bz_marked.proofs.Pasts.{act-words, act-past}
-use Rattle.bz_marked.specs.Past.{SamePast}
+use Rattle.bz_swap_machine.specs.declared.done.Done.{Done}
+use Rattle.bz_swap_marks.proofs.Pasts.{act-words, act-past}
+use Rattle.bz_swap_marks.specs.Past.{SamePast}
 use Rattle.bz_swap.specs.Steps.{IsOneAct}
 use Rattle.bz_swap.specs.SwapMemory.{SwapMemory, memory_words}
 use Rattle.bz_world.specs.WorldView.{mark_of}

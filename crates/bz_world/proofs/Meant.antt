@@ -7,23 +7,23 @@ use Rattle.bz_call.specs.declared.calls.Call.TheVariants as call
 use Rattle.bz_layout.specs.Slots.{FreeSlots}
 use Rattle.bz_layout.specs.declared.thresholds.TheConstants.{MERGE_SLOTS, SPLIT_SLOTS}
 use Rattle.bz_record.specs.Records.{words_for, LacksRoom}
-use Rattle.bz_running.specs.Duties.{swaps_of, change_swaps, wants_of, publishing_of, view_of}
-use Rattle.bz_running.specs.Hearing.{HasHeard}
-use Rattle.bz_running.specs.Laws.{AreLaws}
-use Rattle.bz_lone.specs.Errands.{IsLookOf, may_swap_twice}
-use Rattle.bz_running.specs.Kinds as kinds
-use Rattle.bz_running.specs.Kinds.{Kind, is_look, is_renewal, kind_of}
-use Rattle.bz_running.specs.MadeFor.{IsMadeFor, IsMergeFor}
-use Rattle.bz_running.specs.declared.running.AnyTask.{AnyTask}
-use Rattle.bz_running.specs.declared.running.AnyTask.TheVariants.{Seeking, Finding, Reading, Inserting, Updating, Deleting, Freezing, Consolidating, Splitting, SplittingBelow, SplittingInner, SplittingInnerRoot, Merging}
+use Rattle.bz_any_task.specs.Duties.{swaps_of, change_swaps, wants_of, publishing_of, view_of}
+use Rattle.bz_any_task.specs.Hearing.{HasHeard}
+use Rattle.bz_any_task.specs.Laws.{AreLaws}
+use Rattle.bz_solo.specs.Errands.{IsLookOf, may_swap_twice}
+use Rattle.bz_any_task.specs.Kinds as kinds
+use Rattle.bz_any_task.specs.Kinds.{Kind, is_look, is_renewal, kind_of}
+use Rattle.bz_any_task.specs.MadeFor.{IsMadeFor, IsMergeFor}
+use Rattle.bz_any_task.specs.declared.running.AnyTask.{AnyTask}
+use Rattle.bz_any_task.specs.declared.running.AnyTask.TheVariants.{Seeking, Finding, Reading, Inserting, Updating, Deleting, Freezing, Consolidating, Splitting, SplittingBelow, SplittingInner, SplittingInnerRoot, Merging}
 use Rattle.bz_task.specs.Outcomes.{IsView}
 use Rattle.bz_task.specs.Scene.{Past, Continues}
 use Rattle.bz_task.specs.declared.todo.Seen.{Seen}
 use Rattle.bz_task.specs.declared.todo.Todo.{Todo}
 use Rattle.bz_task.specs.declared.view.LeafView.{LeafView}
 use Rattle.bz_word.specs.Statuses.{status}
-use Rattle.bz_lone.specs.Errands.{words_asked}
-use Rattle.bz_lone.specs.Meant.{IsMeantFor}
+use Rattle.bz_solo.specs.Errands.{words_asked}
+use Rattle.bz_solo.specs.Meant.{IsMeantFor}
 use Rattle.bz_content.specs.Content.{image_of, leaf_in}
 use Rattle.bz_stage.specs.FromLeaves.Neighbours.{leaf_page}
 use Rattle.bz_slotted.specs.Records.{live_words}

@@ -1,7 +1,7 @@
 -- A delete that has had its effect, beside which no other call is open, ends once its leaf was merged, where that might be, or slots or descriptors were not left.
 use Rattle.std.proofs.Common.{◌≡◌, ◌≢◌, ℕ, suc, true, false, List, length, arith, refl, sym, ap, subst, ◌∙◌, inl, inr, Option, Some, None, ◌≤◌, ◌-◌}
 use Rattle.std.proofs.lemmas.Bool.{true≢false}
-use Rattle.bz_lone.specs.FromAlone.Trees.{TreesStand}
+use Rattle.bz_solo.specs.FromAlone.Trees.{TreesStand}
 use Rattle.bz_call.specs.Map.{key_of}
 use Rattle.bz_call.specs.declared.calls.Call.{Call}
 use Rattle.bz_call.specs.declared.calls.Call.TheVariants as call
@@ -12,16 +12,16 @@ use Rattle.bz_layout.specs.declared.config.Config.{Config}
 use Rattle.bz_mark.specs.declared.marks.Mark.{Mark}
 use Rattle.bz_sound.specs.Calls.{Open}
 use Rattle.bz_world.specs.Inside.Serving.{effect_reply}
-use Rattle.bz_lone.specs.FromTally.Leaves.{leaves_in}
+use Rattle.bz_solo.specs.FromTally.Leaves.{leaves_in}
 use Rattle.bz_mark.specs.Moments.{at_moment}
 use Rattle.bz_mark.proofs.MomentLaws.{at_moment-now}
-use Rattle.bz_running.specs.Duties.{end_of}
-use Rattle.bz_running.specs.Ends.{IsEndOf}
-use Rattle.bz_running.specs.Kinds as kinds
-use Rattle.bz_running.specs.Kinds.{Kind, kind_of}
+use Rattle.bz_any_task.specs.Duties.{end_of}
+use Rattle.bz_any_task.specs.Ends.{IsEndOf}
+use Rattle.bz_any_task.specs.Kinds as kinds
+use Rattle.bz_any_task.specs.Kinds.{Kind, kind_of}
 use Rattle.bz_sound.specs.Memory.Moments.{image_after, image_at}
-use Rattle.bz_story.specs.Laws.{ScenesAreSeen}
-use Rattle.bz_story.specs.Story.{scene}
+use Rattle.bz_refinement.specs.Laws.{ScenesAreSeen}
+use Rattle.bz_refinement.specs.Story.{scene}
 use Rattle.bz_task.specs.declared.todo.Outcome.{Outcome}
 use Rattle.bz_task.specs.declared.path.Link.{Link}
 use Rattle.bz_task.specs.declared.path.Path as declared
@@ -38,7 +38,7 @@ use Rattle.bz_world.specs.declared.parts.Parts.{Parts}
 use Rattle.bz_world.proofs.LeavesKept.{leaves-stand}
 use Rattle.bz_world.proofs.MergeStarts.{since-then, may-now}
 use Rattle.std.specs.Prelude.{slice_get}
-use Rattle.bz_lone.specs.FromJoined.DueMerges.{IsDueToMerge}
+use Rattle.bz_solo.specs.FromJoined.DueMerges.{IsDueToMerge}
 use Rattle.bz_world.specs.Inside.Laws.{RoundLaws}
 use Rattle.bz_stage.specs.FromLeaves.Neighbours.{MayBeMerged}
 

@@ -2,12 +2,12 @@
 use Rattle.std.proofs.Common.{◌≡◌, ◌≢◌, ℕ, suc, true, length, arith, sym, ap, ◌∙◌, inl, inr, ◌≤◌}
 use Rattle.std.proofs.lemmas.Bool.{true≢false}
 use Rattle.bz_call.specs.Map.{key_of}
-use Rattle.bz_lone.specs.FromAlone.Counts.{HasOthers}
-use Rattle.bz_lone.specs.FromJoined.Neighbours.{NeighboursStand}
-use Rattle.bz_running.specs.Kinds as kinds
-use Rattle.bz_running.specs.Kinds.{kind_of}
-use Rattle.bz_story.specs.Laws.{ScenesAreSeen}
-use Rattle.bz_story.specs.Story.{scene}
+use Rattle.bz_solo.specs.FromAlone.Counts.{HasOthers}
+use Rattle.bz_solo.specs.FromJoined.Neighbours.{NeighboursStand}
+use Rattle.bz_any_task.specs.Kinds as kinds
+use Rattle.bz_any_task.specs.Kinds.{kind_of}
+use Rattle.bz_refinement.specs.Laws.{ScenesAreSeen}
+use Rattle.bz_refinement.specs.Story.{scene}
 use Rattle.bz_task.specs.Scene.{IsScene}
 use Rattle.bz_world.specs.Inside.Exact.{reach_idle}
 use Rattle.bz_world.specs.Inside.Going.{MustGoOn, StandsForLooking, StandsForReading, StoodFor, known}

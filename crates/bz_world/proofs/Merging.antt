@@ -6,21 +6,21 @@ use Rattle.bz_call.specs.declared.replies.Spent.TheVariants.{Nodes, Swaps}
 use Rattle.bz_content.specs.Content.{view_in}
 use Rattle.bz_stage.specs.FromLeaves.Neighbours.{MayBeMerged}
 use Rattle.bz_layout.specs.declared.config.Config.{Config}
-use Rattle.bz_lone.specs.FromAlone.Counts.{HasOthers}
-use Rattle.bz_lone.specs.FromJoined.Neighbours.{KnownLeavesStay}
-use Rattle.bz_lone.specs.FromTally.Leaves.{leaves_in}
+use Rattle.bz_solo.specs.FromAlone.Counts.{HasOthers}
+use Rattle.bz_solo.specs.FromJoined.Neighbours.{KnownLeavesStay}
+use Rattle.bz_solo.specs.FromTally.Leaves.{leaves_in}
 use Rattle.bz_mark.specs.Log.{Log, with_mark}
 use Rattle.bz_mark.specs.declared.marks.Mark.{Mark}
 use Rattle.bz_mark.proofs.MomentLaws.{at_moment-earlier}
-use Rattle.bz_running.specs.Duties.{end_of, made_of, swaps_of}
-use Rattle.bz_running.specs.Kinds as kinds
-use Rattle.bz_running.specs.Kinds.{Kind, is_look, kind_of}
+use Rattle.bz_any_task.specs.Duties.{end_of, made_of, swaps_of}
+use Rattle.bz_any_task.specs.Kinds as kinds
+use Rattle.bz_any_task.specs.Kinds.{Kind, is_look, kind_of}
 use Rattle.bz_sound.specs.Calls.{Open}
 use Rattle.bz_mark.specs.Counts.{count_taken}
 use Rattle.bz_sound.specs.Power.Spent.{count_used}
 use Rattle.bz_mark.specs.Times.{since_on}
 use Rattle.bz_sound.specs.Replies.{Pages}
-use Rattle.bz_story.specs.Story.{Story, and_then}
+use Rattle.bz_refinement.specs.Story.{Story, and_then}
 use Rattle.bz_task.specs.Instant.{Instant}
 use Rattle.bz_task.specs.Scene.{Continues, Past}
 use Rattle.bz_task.specs.declared.todo.Outcome.{Outcome}

@@ -5,16 +5,16 @@ use Rattle.bz_call.specs.declared.replies.Spent.TheVariants.{Height, Nodes, Swap
 use Rattle.bz_layout.specs.Slots.{FreeSlots}
 use Rattle.bz_layout.specs.declared.config.Config.{Config}
 use Rattle.bz_layout.specs.declared.thresholds.TheConstants.{SPLIT_SLOTS}
-use Rattle.bz_lone.specs.FromAlone.Counts.{HasOthers}
-use Rattle.bz_lone.specs.FromJoined.Neighbours.{KnowsItsLeaf, KnownLeavesStay}
+use Rattle.bz_solo.specs.FromAlone.Counts.{HasOthers}
+use Rattle.bz_solo.specs.FromJoined.Neighbours.{KnowsItsLeaf, KnownLeavesStay}
 use Rattle.bz_mark.specs.Log.{Log}
-use Rattle.bz_running.specs.Duties.{asks_of, end_of, made_of, swaps_of, needs_of, wants_of, means_of}
-use Rattle.bz_running.specs.Ends.{IsEndOf, EndsOrNeedsRoom}
-use Rattle.bz_running.specs.Hearing.{HasHeard}
-use Rattle.bz_running.specs.Kinds as kinds
-use Rattle.bz_running.specs.Kinds.{Kind, kind_of}
-use Rattle.bz_running.specs.Laws.{AreLaws}
-use Rattle.bz_running.specs.declared.running.AnyTask.{AnyTask}
+use Rattle.bz_any_task.specs.Duties.{asks_of, end_of, made_of, swaps_of, needs_of, wants_of, means_of}
+use Rattle.bz_any_task.specs.Ends.{IsEndOf, EndsOrNeedsRoom}
+use Rattle.bz_any_task.specs.Hearing.{HasHeard}
+use Rattle.bz_any_task.specs.Kinds as kinds
+use Rattle.bz_any_task.specs.Kinds.{Kind, kind_of}
+use Rattle.bz_any_task.specs.Laws.{AreLaws}
+use Rattle.bz_any_task.specs.declared.running.AnyTask.{AnyTask}
 use Rattle.bz_sound.specs.Calls.{Open}
 use Rattle.bz_task.specs.OwnActs.{AreTakenFrom}
 use Rattle.bz_task.specs.Requests.{Hears, effects_in}

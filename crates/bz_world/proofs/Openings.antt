@@ -8,14 +8,14 @@ use Rattle.std.specs.Cmp.Lexicographic.{slice_cmp}
 use Rattle.std.specs.FinMap.{empty, len, get-empty, len-empty, same_map, slice_cmp-IsAntisymmetric, nat_cmp-IsAntisymmetric}
 use Rattle.std.specs.Ordering.{nat_cmp}
 use Rattle.bz_call.specs.Map.{Map}
-use Rattle.bz_cells.specs.Store.{status_word, status_of}
+use Rattle.bz_swap_cells.specs.Store.{status_word, status_of}
 use Rattle.bz_content.specs.Laws.{FreshMemoryIsEmpty, FreshMemoryReachesSlotZero}
 use Rattle.bz_layout.specs.Addresses.{swap_address}
 use Rattle.bz_layout.specs.Config.{IsConfig}
 use Rattle.bz_layout.specs.Fresh.{FreshWordsSay, fresh_words}
 use Rattle.bz_layout.specs.declared.config.Config.{Config}
-use Rattle.bz_machine.specs.declared.status.SwapStatus.TheVariants.{Free}
-use Rattle.bz_machine.specs.Machine.{is_succeeded}
+use Rattle.bz_swap_machine.specs.declared.status.SwapStatus.TheVariants.{Free}
+use Rattle.bz_swap_machine.specs.Machine.{is_succeeded}
 use Rattle.bz_mark.specs.Log.{Log, count_begins, count_page_calls}
 use Rattle.bz_sound.specs.Calls.{open_call, begun_calls, map_after}
 use Rattle.bz_sound.specs.Memory.Moments.{map_at_start, HoldsMap}
@@ -27,8 +27,8 @@ use Rattle.bz_sound.specs.Power.Times.{image_at_on}
 use Rattle.bz_mark.specs.declared.power.Power.{Power}
 use Rattle.bz_mark.specs.declared.power.Power.TheVariants as power
 use Rattle.bz_sound.specs.Power.Sound.{IsSound}
-use Rattle.bz_story.specs.Living.{IsLiving}
-use Rattle.bz_story.specs.Opening.{FreshStoriesLive, fresh_story}
+use Rattle.bz_refinement.specs.Living.{IsLiving}
+use Rattle.bz_refinement.specs.Opening.{FreshStoriesLive, fresh_story}
 use Rattle.bz_swap.specs.Power.{opened}
 use Rattle.bz_swap.specs.SwapMemory.{SwapMemory, Working, Idle, idle, doing_of, has_effect}
 use Rattle.bz_swap.specs.TakenStatuses.{BegunAreTaken}

@@ -1,7 +1,7 @@
 -- The worker of a swap that takes effect.
 use Rattle.std.proofs.Common.{◌≡◌, ℕ, ◌<◌, slice_index, refl, sym, ap, subst, ◌∙◌, Option, Some, None}
 use Rattle.std.specs.Prelude.{get_or}
-use Rattle.bz_running.specs.Duties.{asks_of}
+use Rattle.bz_any_task.specs.Duties.{asks_of}
 use Rattle.bz_swap.specs.EntryLists.{IsEntryList}
 use Rattle.bz_swap.specs.SwapMemory.{Swapping, doing_of, entries_of}
 use Rattle.bz_task.specs.declared.todo.Todo.{Todo}

@@ -2,32 +2,32 @@
 use Rattle.std.proofs.Common.{◌≡◌, ◌≢◌, ◌⊎◌, ℕ, zero, suc, ◌+◌, ◌*◌, ◌≤◌, ◌<◌, ◌==◌, ◌&&◌, if◌then◌else◌, Bool, true, false, List, [], ◌∷◌, length, arith, refl, sym, ap, subst, ◌∙◌, inl, inr, Option, Some, None, is_some, is_none}
 use Rattle.std.proofs.lemmas.Bool.{cases_eq, true≢false}
 use Rattle.std.proofs.lemmas.Bool.Decides.{nat_tests}
-use Rattle.bz_acts.specs.declared.acted.Act.{Act}
-use Rattle.bz_acts.specs.declared.acted.Act.TheVariants.{Load, Store, Cas, Flush, Ask, Fence}
+use Rattle.bz_swap_acts.specs.declared.acted.Act.{Act}
+use Rattle.bz_swap_acts.specs.declared.acted.Act.TheVariants.{Load, Store, Cas, Flush, Ask, Fence}
 use Rattle.bz_below.specs.Facts.{below_acts}
-use Rattle.bz_lone.specs.FromCosts.Laws.{AskedSwapsAreCounted}
-use Rattle.bz_lone.specs.FromCosts.Solo.{one_mark}
-use Rattle.bz_lone.specs.FromCosts.Most.{IsWithinItsActs}
-use Rattle.bz_lone.specs.FromCosts.Resources.{Resource, Marks, Descriptors, Slots}
+use Rattle.bz_solo.specs.FromCosts.Laws.{AskedSwapsAreCounted}
+use Rattle.bz_solo.specs.FromCosts.Solo.{one_mark}
+use Rattle.bz_solo.specs.FromCosts.Most.{IsWithinItsActs}
+use Rattle.bz_solo.specs.FromCosts.Resources.{Resource, Marks, Descriptors, Slots}
 use Rattle.bz_layout.specs.Slots.{FreeSlots}
 use Rattle.bz_layout.specs.declared.config.Config.{Config}
 use Rattle.bz_layout.specs.declared.thresholds.TheConstants.{MARKS_PER_CALL}
 use Rattle.bz_call.specs.declared.calls.Call.{Call}
 use Rattle.bz_call.specs.declared.calls.Call.TheVariants as call
-use Rattle.bz_lone.specs.Errands.{Errand, is_read, IsLookOf}
-use Rattle.bz_lone.specs.Steps.{IsNext}
-use Rattle.bz_lone.specs.Sum.{Affords, own_by, own_left}
+use Rattle.bz_solo.specs.Errands.{Errand, is_read, IsLookOf}
+use Rattle.bz_solo.specs.Steps.{IsNext}
+use Rattle.bz_solo.specs.Sum.{Affords, own_by, own_left}
 use Rattle.bz_mark.specs.declared.marks.Mark.{Mark}
 use Rattle.bz_mark.specs.declared.marks.Mark.TheVariants as mark
-use Rattle.bz_running.specs.Duties.{asks_of, left_of, swaps_of, view_of}
-use Rattle.bz_running.specs.Hearing.{HasHeard}
-use Rattle.bz_running.specs.Kinds as kinds
-use Rattle.bz_running.specs.Kinds.{Kind, is_look, kind_of}
-use Rattle.bz_running.specs.declared.running.AnyTask.{AnyTask}
-use Rattle.bz_running.specs.declared.running.AnyTask.TheVariants.{Seeking, Finding, Reading, Inserting, Updating, Deleting, Freezing, Consolidating, Splitting, SplittingBelow, SplittingInner, SplittingInnerRoot, Merging}
+use Rattle.bz_any_task.specs.Duties.{asks_of, left_of, swaps_of, view_of}
+use Rattle.bz_any_task.specs.Hearing.{HasHeard}
+use Rattle.bz_any_task.specs.Kinds as kinds
+use Rattle.bz_any_task.specs.Kinds.{Kind, is_look, kind_of}
+use Rattle.bz_any_task.specs.declared.running.AnyTask.{AnyTask}
+use Rattle.bz_any_task.specs.declared.running.AnyTask.TheVariants.{Seeking, Finding, Reading, Inserting, Updating, Deleting, Freezing, Consolidating, Splitting, SplittingBelow, SplittingInner, SplittingInnerRoot, Merging}
 use Rattle.bz_sound.specs.Calls.{Open, open_call}
 use Rattle.bz_sound.specs.Memory.Moments.{IsAfterFlush}
-use Rattle.bz_story.specs.Story.{Story, scene, and_then}
+use Rattle.bz_refinement.specs.Story.{Story, scene, and_then}
 use Rattle.bz_swap.specs.SwapMemory.{SwapMemory, doing_of}
 use Rattle.bz_task.specs.Instant.{Instant}
 use Rattle.bz_task.specs.Scene.{Continues}

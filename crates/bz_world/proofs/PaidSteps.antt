@@ -4,19 +4,19 @@ use Rattle.std.specs.Prelude.{get_or}
 use Rattle.bz_layout.specs.Slots.{FreeSlots}
 use Rattle.bz_layout.specs.declared.config.Config.{Config}
 use Rattle.bz_layout.specs.declared.thresholds.TheConstants.{LEAF_RECORD_WORDS, SLOTS_PER_CALL, SWAPS_PER_CALL}
-use Rattle.bz_lone.specs.Errands.{Errand, words_asked}
-use Rattle.bz_lone.specs.FromAlone.Undisturbed.{IsUndisturbed}
-use Rattle.bz_lone.specs.FromCosts.Solo.{one_mark}
-use Rattle.bz_lone.specs.FromCosts.Resources.{Resource, Marks, Descriptors, Slots}
-use Rattle.bz_lone.specs.FromCosts.Weights.{slots_gone, start_allows, start_takes, weigh}
-use Rattle.bz_lone.specs.Steps.{IsNext, IsOwnEffect, IsServing, effected_by, mark_of_effect}
-use Rattle.bz_lone.specs.Sum.{IsPaid}
+use Rattle.bz_solo.specs.Errands.{Errand, words_asked}
+use Rattle.bz_solo.specs.FromAlone.Undisturbed.{IsUndisturbed}
+use Rattle.bz_solo.specs.FromCosts.Solo.{one_mark}
+use Rattle.bz_solo.specs.FromCosts.Resources.{Resource, Marks, Descriptors, Slots}
+use Rattle.bz_solo.specs.FromCosts.Weights.{slots_gone, start_allows, start_takes, weigh}
+use Rattle.bz_solo.specs.Steps.{IsNext, IsOwnEffect, IsServing, effected_by, mark_of_effect}
+use Rattle.bz_solo.specs.Sum.{IsPaid}
 use Rattle.bz_mark.specs.declared.marks.Mark.{Mark}
 use Rattle.bz_rivals.specs.Rivals.{rivals}
-use Rattle.bz_running.specs.Duties.{asks_of, end_of, made_of, publishing_of}
-use Rattle.bz_running.specs.Hearing.{HasHeard}
-use Rattle.bz_running.specs.Laws.{AreLaws}
-use Rattle.bz_running.specs.declared.running.AnyTask.{AnyTask}
+use Rattle.bz_any_task.specs.Duties.{asks_of, end_of, made_of, publishing_of}
+use Rattle.bz_any_task.specs.Hearing.{HasHeard}
+use Rattle.bz_any_task.specs.Laws.{AreLaws}
+use Rattle.bz_any_task.specs.declared.running.AnyTask.{AnyTask}
 use Rattle.bz_swap.specs.Solo.{left_to}
 use Rattle.bz_swap.specs.SwapMemory.{SwapMemory}
 use Rattle.bz_task.specs.Instant.{Instant}

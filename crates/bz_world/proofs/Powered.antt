@@ -1,7 +1,7 @@
 -- The marks of a world whose power is on, and the calls that began since.
 use Rattle.std.proofs.Common.{◌≡◌, ◌≢◌, ℕ, zero, suc, ◌*◌, ◌<◌, Bool, List, ◌∷◌, arith, refl, sym, subst, ◌∙◌}
-use Rattle.bz_acts.specs.declared.acted.Act.{Act}
-use Rattle.bz_acts.specs.declared.acted.Act.TheVariants as act
+use Rattle.bz_swap_acts.specs.declared.acted.Act.{Act}
+use Rattle.bz_swap_acts.specs.declared.acted.Act.TheVariants as act
 use Rattle.bz_layout.specs.Addresses.{words_of}
 use Rattle.bz_layout.specs.Slots.{FreeSlots}
 use Rattle.bz_layout.specs.declared.config.Config.{Config}
@@ -19,10 +19,10 @@ use Rattle.bz_mark.specs.Times.{power_of, since_on}
 use Rattle.bz_sound.specs.Power.Times.{image_at_on}
 use Rattle.bz_recover.specs.Places.{MOST_ACTS}
 use Rattle.bz_mark.specs.Counts.{acts_by}
-use Rattle.bz_story.proofs.Powered.{image-as-it-was}
-use Rattle.bz_story.specs.Laws.{HasBegun}
-use Rattle.bz_story.specs.Living.{IsLiving}
-use Rattle.bz_story.specs.Story.{Story}
+use Rattle.bz_refinement.proofs.Powered.{image-as-it-was}
+use Rattle.bz_refinement.specs.Laws.{HasBegun}
+use Rattle.bz_refinement.specs.Living.{IsLiving}
+use Rattle.bz_refinement.specs.Story.{Story}
 use Rattle.bz_swap.specs.SwapMemory.{SwapMemory}
 use Rattle.bz_world.specs.Inside.Kept.{IsTabled, AreFree, IsAwake, IsOff, IsStarted, IsKeptIn, IsKept}
 use Rattle.bz_world.specs.declared.parts.Parts.{Parts}

@@ -13,7 +13,7 @@ use Rattle.bz_mark.specs.Log.{Log, with_mark}
 use Rattle.bz_mark.proofs.MomentLaws.{at_moment-before, at_moment-now}
 use Rattle.bz_mark.specs.declared.marks.Mark.{Mark}
 use Rattle.bz_mark.specs.declared.marks.Mark.TheVariants.{Effect}
-use Rattle.bz_running.specs.Duties.{facts_of, publishing_of, change_of, no-change-is-published}
+use Rattle.bz_any_task.specs.Duties.{facts_of, publishing_of, change_of, no-change-is-published}
 use Rattle.bz_sight.specs.Effects.{effect_instant}
 use Rattle.bz_sight.specs.Sight.{IsSeen, next_instant}
 use Rattle.bz_sight.specs.Starts.{Sees}
@@ -23,9 +23,9 @@ use Rattle.bz_sound.specs.Memory.ImageLaws.{IsChangeOf, ChangesKey, EffectFollow
 use Rattle.bz_sound.specs.Memory.Moments.{image_after, map_at_start}
 use Rattle.bz_mark.specs.declared.power.Power.{Power}
 use Rattle.bz_sound.specs.Power.Sound.{IsSound}
-use Rattle.bz_story.specs.Laws.{HasBegun, GoesOn, goes_on, opened_after}
-use Rattle.bz_story.specs.Living.{IsLiving}
-use Rattle.bz_story.specs.Story.{Story, scene}
+use Rattle.bz_refinement.specs.Laws.{HasBegun, GoesOn, goes_on, opened_after}
+use Rattle.bz_refinement.specs.Living.{IsLiving}
+use Rattle.bz_refinement.specs.Story.{Story, scene}
 use Rattle.bz_swap.specs.SwapMemory.{doing_of, entries_of}
 use Rattle.bz_task.specs.Scene.{Took, here}
 use Rattle.bz_task.specs.Swaps.{Changes, ContentFollows}
@@ -36,7 +36,7 @@ use Rattle.bz_world.specs.Inside.Solitary.{IsSolitaryIn}
 use Rattle.bz_world.specs.Inside.Serving.{IsServing, IsSlot, IsToldBy, effect_reply, size_after, pairs_after, tells_of}
 use Rattle.bz_world.specs.declared.parts.Parts.{Parts}
 use Rattle.bz_world.specs.declared.serving.OpenCall.{OpenCall}
-use Rattle.bz_story.proofs.Powered.{stored-since}
+use Rattle.bz_refinement.proofs.Powered.{stored-since}
 use Rattle.bz_world.proofs.Alone.{waits-on}
 use Rattle.bz_world.proofs.Due.{flush-solitary}
 use Rattle.bz_world.proofs.Exact.{exact-published, had-room-on}
@@ -46,10 +46,10 @@ use Rattle.bz_world.proofs.Counting.{pairs-change}
 use Rattle.bz_world.proofs.LeavesKept.{same-leaves}
 use Rattle.bz_world.proofs.LeavesStruck.{struck-leaves}
 use Rattle.bz_world.proofs.Powered.{begun-in, flush-leaves, free-on}
-use Rattle.bz_lone.specs.Errands.{Errand}
-use Rattle.bz_lone.specs.Steps.{effected_by, mark_of_effect}
-use Rattle.bz_lone.specs.FromCosts.Solo.{one_mark}
-use Rattle.bz_running.specs.declared.running.AnyTask.{AnyTask}
+use Rattle.bz_solo.specs.Errands.{Errand}
+use Rattle.bz_solo.specs.Steps.{effected_by, mark_of_effect}
+use Rattle.bz_solo.specs.FromCosts.Solo.{one_mark}
+use Rattle.bz_any_task.specs.declared.running.AnyTask.{AnyTask}
 use Rattle.bz_world.specs.Inside.Alone.{untold}
 use Rattle.bz_task.specs.Instant.{Instant}
 use Rattle.bz_world.specs.Inside.Exact.{HasStood, IsChanging, reach_of, underway}
@@ -65,8 +65,8 @@ use Rattle.bz_world.proofs.Striking.{flush-calls, old, kept, w, x, its, owner, b
 use Rattle.bz_world.proofs.SolitaryActs.{none-struck}
 use Rattle.bz_world.proofs.StruckQuietly.{image-was, image-is, fault-is, stage-is, its-swap, its-asks, still-does}
 use Rattle.bz_world.proofs.Tabled.{tabled-marked}
-use Rattle.bz_running.specs.Kinds as kinds
-use Rattle.bz_running.specs.Kinds.{kind_of}
+use Rattle.bz_any_task.specs.Kinds as kinds
+use Rattle.bz_any_task.specs.Kinds.{kind_of}
 use Rattle.bz_mark.specs.Counts.{count_taken}
 use Rattle.bz_sound.specs.Power.Spent.{count_used}
 use Rattle.bz_mark.specs.Times.{since_on}

@@ -2,20 +2,20 @@
 use Rattle.std.proofs.Common.{◌≡◌, ◌≢◌, ℕ, ◌+◌, ◌<◌, ◌≤◌, ◌∷◌, true, length, arith, refl, sym, ap, subst, ◌∙◌, inl, inr, Some, None}
 use Rattle.std.specs.Prelude.{get_or}
 use Rattle.std.proofs.lemmas.Bool.{cases_eq, cases_lt}
-use Rattle.bz_acts.specs.declared.acted.Act.{Act}
-use Rattle.bz_machine.specs.declared.done.Done.{Done}
-use Rattle.bz_machine.specs.declared.done.Done.TheVariants.{Busy, Read, Swapped, Stored, Flushed}
+use Rattle.bz_swap_acts.specs.declared.acted.Act.{Act}
+use Rattle.bz_swap_machine.specs.declared.done.Done.{Done}
+use Rattle.bz_swap_machine.specs.declared.done.Done.TheVariants.{Busy, Read, Swapped, Stored, Flushed}
 use Rattle.bz_mark.specs.Log.{with_mark}
-use Rattle.bz_running.specs.Duties.{facts_of}
+use Rattle.bz_any_task.specs.Duties.{facts_of}
 use Rattle.bz_sight.specs.Passing.{Passes, Passed}
 use Rattle.bz_sight.specs.Sight.{next_instant}
 use Rattle.bz_sight.specs.Starts.{Sees}
 use Rattle.bz_sound.specs.Calls.{Open, open_call}
 use Rattle.bz_sound.specs.Memory.Calls.{HasOpenCall}
 use Rattle.bz_sound.specs.Power.Sound.{IsSound}
-use Rattle.bz_story.specs.Laws.{HasBegun, GoesOn, goes_on}
-use Rattle.bz_story.specs.Living.{IsLiving}
-use Rattle.bz_story.specs.Story.{Story, scene, and_then}
+use Rattle.bz_refinement.specs.Laws.{HasBegun, GoesOn, goes_on}
+use Rattle.bz_refinement.specs.Living.{IsLiving}
+use Rattle.bz_refinement.specs.Story.{Story, scene, and_then}
 use Rattle.bz_swap.specs.SwapMemory.{Doing, Idle, Storing, doing_of}
 use Rattle.bz_swap.specs.Steps.{doing_after}
 use Rattle.bz_task.specs.Requests.{IsAskable, IsOwnStore}
@@ -31,7 +31,7 @@ use Rattle.bz_world.specs.declared.parts.Parts.{Parts}
 use Rattle.bz_world.specs.declared.serving.OpenCall.{OpenCall}
 use Rattle.bz_sound.specs.Power.Times.{image_at_on}
 use Rattle.bz_rivals.specs.Rivals.{rivals}
-use Rattle.bz_story.proofs.Powered.{stored-since}
+use Rattle.bz_refinement.proofs.Powered.{stored-since}
 use Rattle.bz_world.specs.Inside.Alone.{untold}
 use Rattle.bz_world.specs.Inside.Due.{TakesRightly}
 use Rattle.bz_world.specs.Inside.Exact.{CountsExactly, reach, reach_of, underway}

@@ -9,7 +9,7 @@ use Rattle.bz_layout.specs.Fresh.{fresh_words}
 use Rattle.bz_layout.specs.Slots.{IsInOrder}
 use Rattle.bz_layout.specs.declared.config.Config.{Config}
 use Rattle.bz_mark.proofs.MomentLaws.{at_moment-now}
-use Rattle.bz_shape.specs.Walk.{form, is_among}
+use Rattle.bz_tree.specs.Walk.{form, is_among}
 use Rattle.bz_sound.specs.Memory.Moments.{image_after}
 use Rattle.bz_sound.specs.Memory.Spent.{is_reached_in}
 use Rattle.bz_mark.specs.declared.power.Power.TheVariants as power

@@ -7,11 +7,11 @@ use Rattle.bz_layout.specs.Slots.{FreeSlots}
 use Rattle.bz_recover.specs.Duties.{Knows, Tells, WalksIn}
 use Rattle.bz_recover.specs.FromSweep.Memory.{Memory}
 use Rattle.bz_recover.specs.declared.recover.Recover.{Recover}
-use Rattle.bz_story.specs.Recovering as recovery
-use Rattle.bz_story.specs.RecoveryLaws.{RecoveriesGoOn}
+use Rattle.bz_refinement.specs.Recovering as recovery
+use Rattle.bz_refinement.specs.RecoveryLaws.{RecoveriesGoOn}
 use Rattle.bz_mark.specs.Times.{since_on}
 use Rattle.bz_mark.specs.Counts.{acts_by}
-use Rattle.bz_story.specs.Reviving.{TurnsMakeNoMark}
+use Rattle.bz_refinement.specs.Reviving.{TurnsMakeNoMark}
 use Rattle.bz_swap.specs.Power.{renewed}
 use Rattle.bz_swap.specs.SwapMemory.{worker_of}
 use Rattle.bz_task.specs.Scene.{Took}

@@ -1,10 +1,10 @@
 -- Acts of a recovery, and evictions between them: what a world keeps.
 use Rattle.std.proofs.Common.{◌≡◌, ◌≢◌, ℕ, ◌+◌, ◌<◌, ◌≤◌, List, ◌∷◌, length, slice_index, arith, refl, sym, ap, subst, ◌∙◌, Option, None}
 use Rattle.std.proofs.lemmas.List.{length-set}
-use Rattle.bz_acts.specs.declared.acted.Act.{Act}
-use Rattle.bz_acts.specs.declared.acted.Act.TheVariants as act
+use Rattle.bz_swap_acts.specs.declared.acted.Act.{Act}
+use Rattle.bz_swap_acts.specs.declared.acted.Act.TheVariants as act
 use Rattle.bz_content.specs.Content.{image_fault, content_in}
-use Rattle.bz_machine.specs.declared.done.Done.{Done}
+use Rattle.bz_swap_machine.specs.declared.done.Done.{Done}
 use Rattle.bz_mark.specs.Log.{with_mark}
 use Rattle.bz_mark.specs.WordsAfter.{words_after_marks}
 use Rattle.bz_mark.specs.declared.marks.Mark.{Mark}
@@ -17,12 +17,12 @@ use Rattle.bz_sound.specs.Power.Growth.{QuietActsFollow, FlushesFollow}
 use Rattle.bz_sound.specs.Power.ImageLaws.{SameContentDecodes}
 use Rattle.bz_sound.specs.Power.Sound.{IsSound}
 use Rattle.bz_mark.specs.Times.{power_of}
-use Rattle.bz_story.specs.Recovering as recovery
+use Rattle.bz_refinement.specs.Recovering as recovery
 use Rattle.bz_recover.specs.Duties.{acts_left, Hears, Tells}
-use Rattle.bz_story.specs.RecoveryLaws.{Recovers, StaysRecovering, seen_of}
+use Rattle.bz_refinement.specs.RecoveryLaws.{Recovers, StaysRecovering, seen_of}
 use Rattle.bz_task.specs.declared.todo.Seen.{Seen}
-use Rattle.bz_story.specs.Reviving as reviving
-use Rattle.bz_story.specs.Reviving.{ActsAreMarked, EvictionsAreMarked, TurnsMakeNoMark, RecoversIn, EvictsIn}
+use Rattle.bz_refinement.specs.Reviving as reviving
+use Rattle.bz_refinement.specs.Reviving.{ActsAreMarked, EvictionsAreMarked, TurnsMakeNoMark, RecoversIn, EvictsIn}
 use Rattle.bz_swap.specs.Steps.{StepsIn}
 use Rattle.bz_swap.specs.SwapMemory.{Doing, memory_words}
 use Rattle.bz_swap.specs.Starts.{started, begins_by_flush}

@@ -2,8 +2,8 @@
 use Rattle.std.proofs.Common.{◌≡◌, ◌≢◌, ℕ, Bool, true, false, refl, sym, ap, subst, ◌∙◌, Option, Some, None}
 use Rattle.std.specs.Prelude.{get_or}
 use Rattle.bz_layout.specs.Slots.{FreeSlots}
-use Rattle.bz_running.specs.Duties.{asks_of, end_of, means_of, makes_no_change}
-use Rattle.bz_story.specs.Story.{scene}
+use Rattle.bz_any_task.specs.Duties.{asks_of, end_of, means_of, makes_no_change}
+use Rattle.bz_refinement.specs.Story.{scene}
 use Rattle.bz_task.specs.Requests.{Hears}
 use Rattle.bz_task.specs.Scene.{Scene}
 use Rattle.bz_task.specs.declared.todo.Outcome.TheVariants.{NeedsRoom}

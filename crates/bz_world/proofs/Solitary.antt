@@ -3,20 +3,20 @@ use Rattle.std.proofs.Common.{◌≡◌, ◌≢◌, ℕ, suc, ◌+◌, ◌<◌, 
 use Rattle.std.specs.Prelude.{get_or}
 use Rattle.std.proofs.lemmas.Bool.{cases_eq}
 use Rattle.std.proofs.lemmas.Bool.Decides.{nat_tests}
-use Rattle.bz_acts.specs.declared.acted.Act.{Act}
-use Rattle.bz_acts.specs.declared.acted.Act.TheVariants as act
-use Rattle.bz_lone.specs.FromAlone.Brief.{AllIdle, LooksFor}
-use Rattle.bz_lone.specs.FromAlone.Quiet.{EffectsNeverFall}
+use Rattle.bz_swap_acts.specs.declared.acted.Act.{Act}
+use Rattle.bz_swap_acts.specs.declared.acted.Act.TheVariants as act
+use Rattle.bz_solo.specs.FromAlone.Brief.{AllIdle, LooksFor}
+use Rattle.bz_solo.specs.FromAlone.Quiet.{EffectsNeverFall}
 use Rattle.bz_layout.specs.declared.config.Config.{Config}
 use Rattle.bz_mark.specs.Log.{Log}
 use Rattle.bz_mark.specs.declared.marks.Mark.{Mark}
 use Rattle.bz_mark.specs.declared.marks.Mark.TheVariants as mark
-use Rattle.bz_running.specs.LookingUp.{ForWay, ForKey, NoLook, look_of, IsReadOrEnd}
-use Rattle.bz_running.specs.declared.running.AnyTask.{AnyTask}
+use Rattle.bz_any_task.specs.LookingUp.{ForWay, ForKey, NoLook, look_of, IsReadOrEnd}
+use Rattle.bz_any_task.specs.declared.running.AnyTask.{AnyTask}
 use Rattle.bz_sound.specs.Calls.{Open, open_call}
 use Rattle.bz_sound.specs.Solitary.{IsSolitary, acts_since, NoneIsOpenBesideASolitaryCall}
 use Rattle.bz_sound.specs.Memory.Moments.{IsAfterFlush}
-use Rattle.bz_story.specs.Story.{Story, and_then}
+use Rattle.bz_refinement.specs.Story.{Story, and_then}
 use Rattle.bz_swap.specs.Starts.{started}
 use Rattle.bz_swap.specs.SwapMemory.{SwapMemory, Doing, Idle, Reading, doing_of}
 use Rattle.bz_task.specs.Instant.{Instant}

@@ -2,14 +2,14 @@
 use Rattle.std.proofs.Common.{◌≡◌, ℕ, ◌<◌, Bool, ◌∷◌, length, arith, refl, sym, subst, ◌∙◌, inl, inr, Some, None}
 use Rattle.std.specs.Prelude.{get_or}
 use Rattle.std.proofs.lemmas.Bool.{cases_eq}
-use Rattle.bz_acts.specs.declared.acted.Act.{Act}
-use Rattle.bz_lone.specs.FromAlone.Brief.{IsBrief}
-use Rattle.bz_machine.specs.declared.done.Done.{Done}
+use Rattle.bz_swap_acts.specs.declared.acted.Act.{Act}
+use Rattle.bz_solo.specs.FromAlone.Brief.{IsBrief}
+use Rattle.bz_swap_machine.specs.declared.done.Done.{Done}
 use Rattle.bz_mark.specs.declared.marks.Mark.TheVariants.{Evict}
 use Rattle.bz_sight.specs.Sight.{next_instant}
 use Rattle.bz_sound.specs.Calls.{Open, open_call}
 use Rattle.bz_sound.specs.Solitary.{IsSolitary, acts_since}
-use Rattle.bz_story.specs.Laws.{goes_on}
+use Rattle.bz_refinement.specs.Laws.{goes_on}
 use Rattle.bz_swap.specs.SwapMemory.{Swapping, doing_of}
 use Rattle.bz_world.specs.Inside.Acted.{IsActed, IsEvicted, IsStriking}
 use Rattle.bz_world.specs.Inside.Kept.{IsAwake}

@@ -1,17 +1,17 @@
 -- A solitary get whose look-up has ended.
 use Rattle.std.proofs.Common.{◌≡◌, ◌≢◌, ℕ, ◌*◌, ◌≤◌, length, arith, refl, sym, ap, subst, ◌∙◌, List, ◌∷◌, Option, Some, None}
 use Rattle.std.specs.Prelude.{get_or}
-use Rattle.bz_lone.specs.FromAlone.Undisturbed.{IsUndisturbed}
-use Rattle.bz_lone.specs.FromAlone.Brief.{IsBrief, LooksFor}
-use Rattle.bz_lone.specs.FromAlone.Reads.{get_reads}
+use Rattle.bz_solo.specs.FromAlone.Undisturbed.{IsUndisturbed}
+use Rattle.bz_solo.specs.FromAlone.Brief.{IsBrief, LooksFor}
+use Rattle.bz_solo.specs.FromAlone.Reads.{get_reads}
 use Rattle.bz_call.specs.Map.{key_of}
 use Rattle.bz_call.specs.declared.calls.Call.TheVariants as call
 use Rattle.bz_call.specs.declared.replies.Reply.{Reply}
 use Rattle.bz_mark.specs.Log.{Log}
 use Rattle.bz_mark.specs.declared.marks.Mark.TheVariants.{End}
-use Rattle.bz_running.specs.Duties.{end_of}
-use Rattle.bz_running.specs.LookingUp.{Look, ForWay, ForKey, NoLook, look_of, EndsAs}
-use Rattle.bz_running.specs.declared.running.AnyTask.{AnyTask}
+use Rattle.bz_any_task.specs.Duties.{end_of}
+use Rattle.bz_any_task.specs.LookingUp.{Look, ForWay, ForKey, NoLook, look_of, EndsAs}
+use Rattle.bz_any_task.specs.declared.running.AnyTask.{AnyTask}
 use Rattle.bz_sound.specs.Calls.{Open}
 use Rattle.bz_sound.specs.Solitary.{acts_since}
 use Rattle.bz_sound.specs.Memory.Moments.{image_at}

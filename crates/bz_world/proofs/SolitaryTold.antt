@@ -1,15 +1,15 @@
 -- A solitary get whose task is told what it read.
 use Rattle.std.proofs.Common.{◌≡◌, ◌≢◌, ℕ, length, arith, refl, sym, ap, subst, ◌∙◌, List, Option, Some}
-use Rattle.bz_lone.specs.FromAlone.Undisturbed.{IsUndisturbed}
-use Rattle.bz_lone.specs.FromAlone.Brief.{IsBrief}
+use Rattle.bz_solo.specs.FromAlone.Undisturbed.{IsUndisturbed}
+use Rattle.bz_solo.specs.FromAlone.Brief.{IsBrief}
 use Rattle.bz_layout.specs.Slots.{FreeSlots}
 use Rattle.bz_mark.specs.declared.marks.Mark.{Mark}
-use Rattle.bz_running.specs.Duties.{asks_of, end_of, facts_of}
-use Rattle.bz_running.specs.LookingUp.{NoLook, look_of, HasCounted}
+use Rattle.bz_any_task.specs.Duties.{asks_of, end_of, facts_of}
+use Rattle.bz_any_task.specs.LookingUp.{NoLook, look_of, HasCounted}
 use Rattle.bz_sound.specs.Calls.{Open}
 use Rattle.bz_sound.specs.Solitary.{acts_since}
-use Rattle.bz_story.specs.Laws.{takes_slots}
-use Rattle.bz_story.specs.Story.{Story, scene}
+use Rattle.bz_refinement.specs.Laws.{takes_slots}
+use Rattle.bz_refinement.specs.Story.{Story, scene}
 use Rattle.bz_swap.specs.Starts.{started}
 use Rattle.bz_swap.specs.SwapMemory.{SwapMemory, Reading}
 use Rattle.bz_task.specs.Requests.{Tells}

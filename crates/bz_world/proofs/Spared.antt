@@ -5,9 +5,9 @@ use Rattle.std.proofs.lemmas.Bool.Decides.{nat_tests}
 use Rattle.bz_call.specs.Map.{key_of}
 use Rattle.bz_call.specs.Pages.{is_page}
 use Rattle.bz_layout.specs.declared.thresholds.TheConstants.{SPLIT_ABOVE}
-use Rattle.bz_lone.specs.Renewals.{IsLacking, IsLarge}
+use Rattle.bz_solo.specs.Renewals.{IsLacking, IsLarge}
 use Rattle.bz_record.specs.Records.{words_for}
-use Rattle.bz_lone.specs.FromRounds.Viewed.{TellsTheStage}
+use Rattle.bz_solo.specs.FromRounds.Viewed.{TellsTheStage}
 use Rattle.bz_slotted.specs.Readers.{live_of}
 use Rattle.bz_slotted.specs.ReadingLaws.{node_of}
 use Rattle.bz_stage.specs.Stages.{stage_in}
@@ -15,24 +15,24 @@ use Rattle.bz_task.specs.Outcomes.{IsView}
 use Rattle.bz_task.specs.declared.view.LeafView.{LeafView}
 use Rattle.bz_word.specs.Statuses.{status}
 use Rattle.bz_world.specs.Inside.Room.{LacksRoomFor, HasRoomFor}
-use Rattle.bz_lone.specs.FromAlone.Undisturbed.{IsUndisturbed}
+use Rattle.bz_solo.specs.FromAlone.Undisturbed.{IsUndisturbed}
 use Rattle.bz_call.specs.declared.replies.Spent.{Spent}
 use Rattle.bz_call.specs.declared.calls.Call.{Call}
 use Rattle.bz_call.specs.declared.calls.Call.TheVariants as call
-use Rattle.bz_lone.specs.FromCosts.Most.{most_of, most_of_seek, most_of_find, most_of_leaf, most_of_insert, most_of_update, most_of_delete, most_of_freeze, most_of_copy, most_of_merge, most_of_root, most_of_below, most_of_inner, most_of_inner_root}
-use Rattle.bz_lone.specs.Errands.{Errand, words_asked, is_read, IsLookOf, may_swap_twice, after}
-use Rattle.bz_lone.specs.Prices.{Prices, coming}
-use Rattle.bz_lone.specs.FromCosts.Resources.{Resource}
-use Rattle.bz_lone.specs.Sum.{IsSmall}
-use Rattle.bz_running.specs.Duties.{asks_of, end_of, made_of}
-use Rattle.bz_running.specs.Kinds as kinds
-use Rattle.bz_running.specs.Kinds.{Kind, is_look, kind_of}
-use Rattle.bz_running.specs.Ends.{IsEndOf}
-use Rattle.bz_running.specs.Laws.{AreLaws}
+use Rattle.bz_solo.specs.FromCosts.Most.{most_of, most_of_seek, most_of_find, most_of_leaf, most_of_insert, most_of_update, most_of_delete, most_of_freeze, most_of_copy, most_of_merge, most_of_root, most_of_below, most_of_inner, most_of_inner_root}
+use Rattle.bz_solo.specs.Errands.{Errand, words_asked, is_read, IsLookOf, may_swap_twice, after}
+use Rattle.bz_solo.specs.Prices.{Prices, coming}
+use Rattle.bz_solo.specs.FromCosts.Resources.{Resource}
+use Rattle.bz_solo.specs.Sum.{IsSmall}
+use Rattle.bz_any_task.specs.Duties.{asks_of, end_of, made_of}
+use Rattle.bz_any_task.specs.Kinds as kinds
+use Rattle.bz_any_task.specs.Kinds.{Kind, is_look, kind_of}
+use Rattle.bz_any_task.specs.Ends.{IsEndOf}
+use Rattle.bz_any_task.specs.Laws.{AreLaws}
 use Rattle.bz_task.specs.declared.todo.Outcome.TheVariants as outcome
 use Rattle.bz_task.specs.declared.view.KeyView.{KeyView}
-use Rattle.bz_running.specs.declared.running.AnyTask.{AnyTask}
-use Rattle.bz_running.specs.declared.running.AnyTask.TheVariants.{Seeking, Finding, Reading, Inserting, Updating, Deleting, Freezing, Consolidating, Splitting, SplittingBelow, SplittingInner, SplittingInnerRoot, Merging}
+use Rattle.bz_any_task.specs.declared.running.AnyTask.{AnyTask}
+use Rattle.bz_any_task.specs.declared.running.AnyTask.TheVariants.{Seeking, Finding, Reading, Inserting, Updating, Deleting, Freezing, Consolidating, Splitting, SplittingBelow, SplittingInner, SplittingInnerRoot, Merging}
 use Rattle.bz_sound.specs.Memory.Replies.{IsWrite}
 use Rattle.bz_task.specs.Scene.{Past, Scene, here}
 use Rattle.bz_task.specs.declared.path.Path.{Path}

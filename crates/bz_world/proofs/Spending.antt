@@ -8,7 +8,7 @@ use Rattle.bz_sound.specs.Calls.{Open, open_call}
 use Rattle.bz_sound.specs.Memory.ImageLaws.{IsOther, AreHeldBy}
 use Rattle.bz_mark.specs.Counts.{is_taken}
 use Rattle.bz_mark.specs.Times.{since_on}
-use Rattle.bz_story.specs.Story.{Story}
+use Rattle.bz_refinement.specs.Story.{Story}
 use Rattle.bz_swap.specs.SwapMemory.{SwapMemory, Swapping, doing_of}
 use Rattle.bz_task.specs.declared.todo.Todo.{Todo}
 use Rattle.bz_task.specs.declared.todo.Todo.TheVariants as todo

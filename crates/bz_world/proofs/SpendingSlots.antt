@@ -6,7 +6,7 @@ use Rattle.std.proofs.lemmas.Bool.Decides.{nat_tests}
 use Rattle.bz_layout.specs.declared.config.Config.{Config}
 use Rattle.bz_layout.specs.declared.thresholds.TheConstants.{SPLIT_SLOTS}
 use Rattle.bz_mark.specs.Log.{Log}
-use Rattle.bz_shape.specs.Walk.{is_among}
+use Rattle.bz_tree.specs.Walk.{is_among}
 use Rattle.bz_sound.specs.Calls.{Open, open_call}
 use Rattle.bz_sound.specs.Memory.ImageLaws.{AreOthersHeld}
 use Rattle.bz_sound.specs.Memory.Spent.{NodesAreSpent, is_reached_in, is_stored_into}
@@ -14,7 +14,7 @@ use Rattle.bz_sound.specs.Power.ImageLaws.{HeldSlotsAreSpent}
 use Rattle.bz_sound.specs.Power.Spent.{is_used, count_used}
 use Rattle.bz_mark.specs.Times.{since_on}
 use Rattle.bz_sound.specs.Power.Times.{image_at_on}
-use Rattle.bz_story.specs.Story.{Story}
+use Rattle.bz_refinement.specs.Story.{Story}
 use Rattle.bz_swap.specs.SwapMemory.{SwapMemory}
 use Rattle.bz_world.specs.Inside.Acted.{IsBetween}
 use Rattle.bz_world.specs.Inside.Going.{IsOutOfSlots}

@@ -2,9 +2,9 @@
 use Rattle.std.proofs.Common.{◌≡◌, ◌≢◌, ℕ, ◌+◌, ◌<◌, ◌≤◌, ◌||◌, ◌&&◌, ◌==◌, Bool, true, false, not, List, ◌∷◌, length, slice_index, arith, refl, sym, ap, subst, ◌∙◌, inl, inr, Option, Some, None}
 use Rattle.std.proofs.lemmas.Bool.{cases_eq}
 use Rattle.std.proofs.lemmas.Bool.Decides.{nat_tests}
-use Rattle.bz_acts.specs.declared.acted.Act.{Act}
-use Rattle.bz_acts.specs.declared.acted.Act.TheVariants.{Load, Store, Cas, Flush, Ask, Fence}
-use Rattle.bz_machine.specs.declared.done.Done.{Done}
+use Rattle.bz_swap_acts.specs.declared.acted.Act.{Act}
+use Rattle.bz_swap_acts.specs.declared.acted.Act.TheVariants.{Load, Store, Cas, Flush, Ask, Fence}
+use Rattle.bz_swap_machine.specs.declared.done.Done.{Done}
 use Rattle.bz_layout.specs.Addresses.{swap_address}
 use Rattle.bz_mark.specs.Log.{with_mark}
 use Rattle.bz_mark.proofs.MomentLaws.{at_moment-now}
@@ -18,8 +18,8 @@ use Rattle.bz_sound.specs.Power.Sound.{IsSound}
 use Rattle.bz_mark.specs.Times.{since_on}
 use Rattle.bz_mark.specs.Counts.{is_taken}
 use Rattle.bz_sound.specs.Memory.Spent.{is_stored_into}
-use Rattle.bz_story.specs.Living.{IsLiving}
-use Rattle.bz_story.specs.Story.{Story}
+use Rattle.bz_refinement.specs.Living.{IsLiving}
+use Rattle.bz_refinement.specs.Story.{Story}
 use Rattle.bz_swap.specs.Held.{IsHeld, Holds, HoldsIn}
 use Rattle.bz_swap.specs.declared.phase.Phase.{Phase}
 use Rattle.bz_swap.specs.declared.phase.Phase.TheVariants.{Opened, Running, Recovering}

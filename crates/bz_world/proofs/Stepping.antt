@@ -3,7 +3,7 @@ use Rattle.std.proofs.Common.{◌≡◌, ◌≢◌, ◌⊎◌, ◌<◌, ◌≤�
 use Rattle.std.specs.Prelude.{get_or, option_map}
 use Rattle.std.proofs.Math.ListN.{get_or-map}
 use Rattle.arrayvec.specs.ArrayVec.{ArrayVec}
-use Rattle.bz_acts.specs.declared.acted.Act.{Act}
+use Rattle.bz_swap_acts.specs.declared.acted.Act.{Act}
 use Rattle.bz_call.specs.declared.replies.Reply.TheVariants.{Full}
 use Rattle.bz_layout.specs.declared.thresholds.TheConstants.{SPLIT_SLOTS}
 use Rattle.bz_mark.specs.Log.{Log}
@@ -11,7 +11,7 @@ use Rattle.bz_mark.specs.declared.marks.Mark.{Mark}
 use Rattle.bz_mark.specs.declared.marks.Mark.TheVariants.{End}
 use Rattle.bz_sound.specs.Calls.{Open, open_call, with_effect}
 use Rattle.bz_swap.specs.SwapMemory.{Working, idle, worker_of, doing_of}
-use Rattle.bz_lone.specs.FromCosts.Resources.{Marks}
+use Rattle.bz_solo.specs.FromCosts.Resources.{Marks}
 use Rattle.bz_swap.specs.Solo.{left_to}
 use Rattle.bz_world.specs.Inside.Acted.{HasActed}
 use Rattle.bz_world.specs.Inside.Beginning.{world_view, is_swap, supply_of}

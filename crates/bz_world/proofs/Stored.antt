@@ -1,16 +1,16 @@
 -- What a worker is told of its private store.
 use Rattle.std.proofs.Common.{◌≡◌, ◌≢◌, ℕ, suc, ◌<◌, true, ◌∷◌, length, arith, refl, sym, ap, subst, ◌∙◌, Some, None}
 use Rattle.std.specs.Prelude.{get_or}
-use Rattle.bz_acts.specs.declared.acted.Act.{Act}
-use Rattle.bz_machine.specs.declared.done.Done.{Done}
+use Rattle.bz_swap_acts.specs.declared.acted.Act.{Act}
+use Rattle.bz_swap_machine.specs.declared.done.Done.{Done}
 use Rattle.bz_mark.specs.Log.{with_mark}
-use Rattle.bz_running.specs.Duties.{needs_of, facts_of}
+use Rattle.bz_any_task.specs.Duties.{needs_of, facts_of}
 use Rattle.bz_sight.specs.Acts.{IsStoring}
 use Rattle.bz_sight.specs.Sight.{next_instant}
 use Rattle.bz_sight.specs.Starts.{Sees}
-use Rattle.bz_story.specs.Laws.{HasBegun, IsStore, goes_on, fills}
-use Rattle.bz_story.specs.Living.{IsLiving}
-use Rattle.bz_story.specs.Story.{Story, scene}
+use Rattle.bz_refinement.specs.Laws.{HasBegun, IsStore, goes_on, fills}
+use Rattle.bz_refinement.specs.Living.{IsLiving}
+use Rattle.bz_refinement.specs.Story.{Story, scene}
 use Rattle.bz_swap.specs.SwapMemory.{Storing, doing_of}
 use Rattle.bz_task.specs.OwnActs.{Stores}
 use Rattle.bz_task.specs.Requests.{Hears, Tells}
@@ -28,7 +28,7 @@ use Rattle.bz_world.specs.declared.serving.OpenCall.{OpenCall}
 use Rattle.bz_world.specs.Inside.Laws.{StepLaws}
 use Rattle.bz_sound.specs.Memory.Spent.{is_stored_into}
 use Rattle.bz_mark.specs.Times.{since_on}
-use Rattle.bz_story.proofs.Storing.{fills-stored}
+use Rattle.bz_refinement.proofs.Storing.{fills-stored}
 use Rattle.bz_world.proofs.Alone.{hears-on}
 use Rattle.bz_world.specs.Inside.Paid.{errand_of, no_extra, stock_of, IsPaidIn}
 use Rattle.bz_world.proofs.Meant.{call-meant-on}

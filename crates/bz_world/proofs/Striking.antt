@@ -7,16 +7,16 @@ use Rattle.bz_mark.specs.Log.{with_mark}
 use Rattle.bz_mark.specs.declared.marks.Mark.{Mark}
 use Rattle.bz_mark.specs.declared.marks.Mark.TheVariants as mark
 use Rattle.bz_mark.proofs.MomentLaws.{at_moment-now}
-use Rattle.bz_running.specs.Duties.{end_of, facts_of, publishing_of, change_of}
-use Rattle.bz_running.specs.Kinds.{is_look, kind_of}
+use Rattle.bz_any_task.specs.Duties.{end_of, facts_of, publishing_of, change_of}
+use Rattle.bz_any_task.specs.Kinds.{is_look, kind_of}
 use Rattle.bz_sight.specs.Effects.{TookPlace, effect_instant}
 use Rattle.bz_sight.specs.Starts.{Sees}
 use Rattle.bz_sound.specs.Calls.{Open, open_call}
 use Rattle.bz_sound.specs.Solitary.{IsSolitary}
 use Rattle.bz_sound.specs.Memory.Moments.{IsAfterFlush, image_after}
-use Rattle.bz_story.specs.Laws.{HasBegun, Strikes, strikes, opened_after}
-use Rattle.bz_story.specs.Living.{IsLiving}
-use Rattle.bz_story.specs.Story.{Story, scene}
+use Rattle.bz_refinement.specs.Laws.{HasBegun, Strikes, strikes, opened_after}
+use Rattle.bz_refinement.specs.Living.{IsLiving}
+use Rattle.bz_refinement.specs.Story.{Story, scene}
 use Rattle.bz_swap.specs.SwapMemory.{Doing, Idle, Reading, Swapping, Loading, Storing, Flushing, doing_of, entries_of}
 use Rattle.bz_task.specs.Scene.{Scene, IsLawful, Waiting, Took, here}
 use Rattle.bz_task.specs.Swaps.{IsGoodSwap, SwapsTo, Takes}
@@ -28,9 +28,9 @@ use Rattle.bz_world.specs.Inside.Meant.{IsMeant}
 use Rattle.bz_world.specs.Inside.Serving.{IsServing, IsSlot, stage_in}
 use Rattle.bz_world.specs.declared.parts.Parts.{Parts}
 use Rattle.bz_world.specs.declared.serving.OpenCall.{OpenCall}
-use Rattle.bz_lone.specs.Steps.{IsServing as Serves, effected_by, mark_of_effect}
-use Rattle.bz_lone.specs.FromCosts.Solo.{one_mark}
-use Rattle.bz_machine.specs.Allowed.{counted}
+use Rattle.bz_solo.specs.Steps.{IsServing as Serves, effected_by, mark_of_effect}
+use Rattle.bz_solo.specs.FromCosts.Solo.{one_mark}
+use Rattle.bz_swap_machine.specs.Allowed.{counted}
 use Rattle.bz_rivals.specs.Rivals.{is_own, rivals, foreign}
 use Rattle.bz_world.specs.Inside.Alone.{untold}
 use Rattle.bz_world.specs.Inside.Paid.{errand_of, no_extra, stock_of, IsPaidIn}

@@ -9,16 +9,16 @@ use Rattle.bz_stage.specs.FromLeaves.Neighbours.{own_live}
 use Rattle.bz_layout.specs.declared.config.Config.{Config}
 use Rattle.bz_layout.specs.declared.swaps.TheConstants.{DELETE_SWAPS}
 use Rattle.bz_layout.specs.declared.thresholds.TheConstants.{LEAF_RECORD_WORDS}
-use Rattle.bz_lone.specs.FromAlone.Counts.{HasOthers}
-use Rattle.bz_running.specs.Duties.{change_of, change_swaps, made_of, publishing_of, view_of}
-use Rattle.bz_running.specs.Kinds as kinds
-use Rattle.bz_running.specs.Kinds.{kind_of}
-use Rattle.bz_running.specs.declared.running.AnyTask.{AnyTask}
-use Rattle.bz_running.specs.declared.running.AnyTask.TheVariants.{Inserting, Updating, Deleting}
+use Rattle.bz_solo.specs.FromAlone.Counts.{HasOthers}
+use Rattle.bz_any_task.specs.Duties.{change_of, change_swaps, made_of, publishing_of, view_of}
+use Rattle.bz_any_task.specs.Kinds as kinds
+use Rattle.bz_any_task.specs.Kinds.{kind_of}
+use Rattle.bz_any_task.specs.declared.running.AnyTask.{AnyTask}
+use Rattle.bz_any_task.specs.declared.running.AnyTask.TheVariants.{Inserting, Updating, Deleting}
 use Rattle.bz_sight.specs.Effects.{effect_instant}
 use Rattle.bz_sound.specs.Memory.ImageLaws.{IsChangeOf}
 use Rattle.bz_swap.specs.SwapMemory.{entries_of}
-use Rattle.bz_lone.specs.FromTally.Deletes.{live_of_key, LosesOneRecord}
+use Rattle.bz_solo.specs.FromTally.Deletes.{live_of_key, LosesOneRecord}
 use Rattle.bz_task.specs.Instant.{Instant}
 use Rattle.bz_task.specs.Scene.{here}
 use Rattle.bz_world.specs.Inside.Acted.{IsStriking}

@@ -6,14 +6,14 @@ use Rattle.bz_call.specs.Map.{key_of}
 use Rattle.bz_content.specs.Content.{view_in}
 use Rattle.bz_stage.specs.FromLeaves.Neighbours.{MayBeMerged}
 use Rattle.bz_layout.specs.declared.config.Config.{Config}
-use Rattle.bz_lone.specs.FromAlone.Counts.{HasOthers}
-use Rattle.bz_lone.specs.FromRounds.Stands.{SameStage}
-use Rattle.bz_lone.specs.FromTally.Deletes.{LosesOneRecord}
-use Rattle.bz_running.specs.Duties.{change_of, leaves_few_of, makes_no_change, no-change-is-published, publishing_of, view_of}
-use Rattle.bz_running.specs.Kinds as kinds
-use Rattle.bz_running.specs.Kinds.{kind_of}
-use Rattle.bz_running.specs.declared.running.AnyTask.{AnyTask}
-use Rattle.bz_running.specs.declared.running.AnyTask.TheVariants.{Inserting, Updating, Deleting}
+use Rattle.bz_solo.specs.FromAlone.Counts.{HasOthers}
+use Rattle.bz_solo.specs.FromRounds.Stands.{SameStage}
+use Rattle.bz_solo.specs.FromTally.Deletes.{LosesOneRecord}
+use Rattle.bz_any_task.specs.Duties.{change_of, leaves_few_of, makes_no_change, no-change-is-published, publishing_of, view_of}
+use Rattle.bz_any_task.specs.Kinds as kinds
+use Rattle.bz_any_task.specs.Kinds.{kind_of}
+use Rattle.bz_any_task.specs.declared.running.AnyTask.{AnyTask}
+use Rattle.bz_any_task.specs.declared.running.AnyTask.TheVariants.{Inserting, Updating, Deleting}
 use Rattle.bz_sight.specs.Effects.{effect_instant}
 use Rattle.bz_swap.specs.SwapMemory.{entries_of}
 use Rattle.bz_task.specs.Instant.{Instant}

@@ -4,14 +4,14 @@ use Rattle.std.specs.Prelude.{get_or}
 use Rattle.std.proofs.lemmas.Bool.{cases_eq, true≢false}
 use Rattle.bz_content.specs.Content.{image_fault, content_in}
 use Rattle.bz_mark.specs.Log.{with_mark}
-use Rattle.bz_lone.specs.FromAlone.Counts.{HasOthers}
-use Rattle.bz_running.specs.Duties.{asks_of, swaps_of, facts_of, publishing_of, change_of}
-use Rattle.bz_running.specs.Kinds.{kind_of}
+use Rattle.bz_solo.specs.FromAlone.Counts.{HasOthers}
+use Rattle.bz_any_task.specs.Duties.{asks_of, swaps_of, facts_of, publishing_of, change_of}
+use Rattle.bz_any_task.specs.Kinds.{kind_of}
 use Rattle.bz_sight.specs.Effects.{effect_instant}
 use Rattle.bz_sound.specs.Memory.Moments.{image_after}
 use Rattle.bz_sound.specs.Power.Sound.{IsSound}
-use Rattle.bz_story.specs.Laws.{opened_after}
-use Rattle.bz_story.specs.Story.{scene}
+use Rattle.bz_refinement.specs.Laws.{opened_after}
+use Rattle.bz_refinement.specs.Story.{scene}
 use Rattle.bz_swap.specs.SwapMemory.{Swapping, doing_of, entries_of}
 use Rattle.bz_task.specs.Scene.{Waiting, Took, here}
 use Rattle.bz_task.specs.Swaps.{ContentFollows}
@@ -21,7 +21,7 @@ use Rattle.bz_world.specs.Inside.Kept.{IsAwake, IsTabled, AreTaken}
 use Rattle.bz_world.specs.Inside.Serving.{IsServing, IsSlot, IsSwapping, stage_in, tells_of}
 use Rattle.bz_world.specs.declared.parts.Parts.{Parts}
 use Rattle.bz_world.specs.Inside.Laws.{StrikeLaws}
-use Rattle.bz_lone.specs.Steps.{effected_by, mark_of_effect}
+use Rattle.bz_solo.specs.Steps.{effected_by, mark_of_effect}
 use Rattle.bz_world.specs.Inside.Alone.{untold}
 use Rattle.bz_world.specs.Inside.Exact.{puts, reach_of, underway}
 use Rattle.bz_world.proofs.Alone.{others-on}
@@ -37,7 +37,7 @@ use Rattle.bz_world.proofs.Striking.{flush-calls, old, kept, w, x, its, owner, b
 use Rattle.bz_world.proofs.Merging.{duly-struck}
 use Rattle.bz_world.proofs.LeavesKept.{leaves-stand}
 use Rattle.bz_world.proofs.Solitary.{now-is}
-use Rattle.bz_lone.specs.FromTally.Leaves.{leaves_in}
+use Rattle.bz_solo.specs.FromTally.Leaves.{leaves_in}
 use Rattle.bz_task.specs.Instant.{Instant}
 
 module _ (b : StrikeLaws) (p : Parts) (s : ℕ) (h : IsStriking p s) where

@@ -7,10 +7,10 @@ use Rattle.bz_layout.specs.declared.config.Config.{Config}
 use Rattle.bz_mark.specs.Log.{Log}
 use Rattle.bz_mark.specs.declared.marks.Mark.{Mark}
 use Rattle.bz_mark.specs.declared.marks.Mark.TheVariants.{Effect}
-use Rattle.bz_running.specs.Duties.{asks_of, facts_of, view_of}
-use Rattle.bz_running.specs.Kinds as kinds
-use Rattle.bz_running.specs.Kinds.{kind_of}
-use Rattle.bz_running.specs.declared.running.AnyTask.{AnyTask}
+use Rattle.bz_any_task.specs.Duties.{asks_of, facts_of, view_of}
+use Rattle.bz_any_task.specs.Kinds as kinds
+use Rattle.bz_any_task.specs.Kinds.{kind_of}
+use Rattle.bz_any_task.specs.declared.running.AnyTask.{AnyTask}
 use Rattle.bz_sound.specs.Calls.{open_call}
 use Rattle.bz_sound.specs.Solitary.{IsSolitary}
 use Rattle.bz_mark.specs.Counts.{count_taken}

@@ -4,7 +4,7 @@ use Rattle.std.specs.Prelude.{get_or, IsSome}
 use Rattle.std.proofs.lemmas.List.{length-drop}
 use Rattle.bz_layout.specs.Slots.{FreeSlots}
 use Rattle.bz_layout.specs.declared.thresholds.TheConstants.{SPLIT_SLOTS}
-use Rattle.bz_running.specs.Duties.{end_of, needs_of}
+use Rattle.bz_any_task.specs.Duties.{end_of, needs_of}
 use Rattle.bz_mark.specs.declared.power.Power.TheVariants as power
 use Rattle.bz_task.specs.OwnActs.{AreTakenFrom}
 use Rattle.bz_task.specs.declared.todo.Outcome.{Outcome}

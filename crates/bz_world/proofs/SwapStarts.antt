@@ -6,16 +6,16 @@ use Rattle.std.proofs.lemmas.Bool.{cases_eq}
 use Rattle.std.proofs.lemmas.List.{length-set}
 use Rattle.std.proofs.Math.ListN.{get_or-append}
 use Rattle.std.proofs.Math.Seq.{get_or-append_seam}
-use Rattle.bz_lone.specs.FromAlone.Undisturbed.{IsUndisturbed}
-use Rattle.bz_lone.specs.FromAlone.Counts.{HasOthers}
-use Rattle.bz_running.specs.Duties.{made_of, facts_of}
-use Rattle.bz_running.specs.Kinds.{kind_of}
+use Rattle.bz_solo.specs.FromAlone.Undisturbed.{IsUndisturbed}
+use Rattle.bz_solo.specs.FromAlone.Counts.{HasOthers}
+use Rattle.bz_any_task.specs.Duties.{made_of, facts_of}
+use Rattle.bz_any_task.specs.Kinds.{kind_of}
 use Rattle.bz_sight.specs.Sight.{IsHidden, IsSeen}
 use Rattle.bz_sight.specs.Starts.{StartsAreSeen, Sees, StoresAreHidden, OwnWordsAreHidden}
 use Rattle.bz_sound.specs.Solitary.{NoneIsOpenBesideASolitaryCall}
-use Rattle.bz_story.specs.Laws.{ScenesAreSeen}
-use Rattle.bz_story.specs.Living.{IsLiving}
-use Rattle.bz_story.specs.Story.{scene}
+use Rattle.bz_refinement.specs.Laws.{ScenesAreSeen}
+use Rattle.bz_refinement.specs.Living.{IsLiving}
+use Rattle.bz_refinement.specs.Story.{scene}
 use Rattle.bz_swap.specs.EntryLists.{IsEntryList}
 use Rattle.bz_swap.specs.Held.{Holds}
 use Rattle.bz_swap.specs.Starts.{MayWork, MaySwap, swapping, begins_by_flush}

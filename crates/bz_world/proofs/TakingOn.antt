@@ -11,13 +11,13 @@ use Rattle.bz_call.specs.declared.replies.Reply.TheVariants as reply
 use Rattle.bz_layout.specs.declared.thresholds.TheConstants.{SPLIT_SLOTS}
 use Rattle.bz_mark.specs.declared.marks.Mark.{Mark}
 use Rattle.bz_mark.specs.declared.marks.Mark.TheVariants.{End}
-use Rattle.bz_lone.specs.FromAlone.Counts.{HasOthers}
-use Rattle.bz_running.specs.Duties.{config_of, asks_of, end_of, made_of, needs_of, wants_of, facts_of, means_of, makes_no_change}
-use Rattle.bz_running.specs.Hearing.{IsLookup}
-use Rattle.bz_running.specs.Laws.{AreLaws}
-use Rattle.bz_running.specs.declared.running.AnyTask.{AnyTask}
+use Rattle.bz_solo.specs.FromAlone.Counts.{HasOthers}
+use Rattle.bz_any_task.specs.Duties.{config_of, asks_of, end_of, made_of, needs_of, wants_of, facts_of, means_of, makes_no_change}
+use Rattle.bz_any_task.specs.Hearing.{IsLookup}
+use Rattle.bz_any_task.specs.Laws.{AreLaws}
+use Rattle.bz_any_task.specs.declared.running.AnyTask.{AnyTask}
 use Rattle.bz_sound.specs.Solitary.{IsSolitary}
-use Rattle.bz_story.specs.Laws.{ScenesAreSeen}
+use Rattle.bz_refinement.specs.Laws.{ScenesAreSeen}
 use Rattle.bz_swap.specs.SwapMemory.{SwapMemory, worker_of}
 use Rattle.bz_task.specs.Outcomes.{IsPath}
 use Rattle.bz_task.specs.Requests.{Hears, Tells, swaps_in}
@@ -27,7 +27,7 @@ use Rattle.bz_task.specs.declared.view.LeafView.{LeafView}
 use Rattle.bz_call.specs.declared.replies.Spent.{Spent}
 use Rattle.bz_call.specs.declared.replies.Spent.TheVariants.{Swaps}
 use Rattle.bz_layout.specs.Slots.{FreeSlots}
-use Rattle.bz_story.specs.Story.{scene}
+use Rattle.bz_refinement.specs.Story.{scene}
 use Rattle.bz_task.specs.declared.todo.Outcome.{Outcome}
 use Rattle.bz_task.specs.declared.todo.Outcome.TheVariants as outcomes
 use Rattle.bz_task.specs.declared.todo.Outcome.TheVariants.{Full}
@@ -44,20 +44,20 @@ use Rattle.bz_world.specs.Inside.Exact.{CountsExactly, HasStood, IsExact, reach_
 use Rattle.bz_world.specs.Inside.Kept.{IsAwake}
 use Rattle.bz_world.specs.Inside.Laws.{UndisturbedLaws}
 use Rattle.bz_world.specs.Inside.Solitary.{WhereSolitary, IsNotSolitary, IsNotSolitaryIn, IsSolitaryGet, HasLooked, AsksBriefly}
-use Rattle.bz_lone.specs.FromAlone.Undisturbed.{IsUndisturbed}
+use Rattle.bz_solo.specs.FromAlone.Undisturbed.{IsUndisturbed}
 use Rattle.bz_layout.specs.declared.thresholds.TheConstants.{SWAPS_PER_CALL}
-use Rattle.bz_lone.specs.FromCosts.Resources.{Resource, Marks, Descriptors}
-use Rattle.bz_lone.specs.FromCosts.Weights.{start_takes, weigh}
+use Rattle.bz_solo.specs.FromCosts.Resources.{Resource, Marks, Descriptors}
+use Rattle.bz_solo.specs.FromCosts.Weights.{start_takes, weigh}
 use Rattle.bz_swap.specs.Solo.{left_to}
 use Rattle.bz_layout.specs.declared.config.Config.{Config}
-use Rattle.bz_lone.specs.FromCosts.Most.{most_of_leaf}
-use Rattle.bz_lone.specs.Errands.{Errand, is_read, is_freeze, after}
-use Rattle.bz_lone.specs.Prices.{coming}
-use Rattle.bz_lone.specs.Rounds.{stage_now}
-use Rattle.bz_lone.specs.Sum.{Affords, Round, Disturbed, Clean, reserve, prices_of, Spares}
+use Rattle.bz_solo.specs.FromCosts.Most.{most_of_leaf}
+use Rattle.bz_solo.specs.Errands.{Errand, is_read, is_freeze, after}
+use Rattle.bz_solo.specs.Prices.{coming}
+use Rattle.bz_solo.specs.Rounds.{stage_now}
+use Rattle.bz_solo.specs.Sum.{Affords, Round, Disturbed, Clean, reserve, prices_of, Spares}
 use Rattle.bz_mark.specs.Log.{Log}
-use Rattle.bz_running.specs.Kinds as kinds
-use Rattle.bz_running.specs.Kinds.{kind_of, is_look}
+use Rattle.bz_any_task.specs.Kinds as kinds
+use Rattle.bz_any_task.specs.Kinds.{kind_of, is_look}
 use Rattle.std.proofs.lemmas.Bool.{true≢false}
 use Rattle.bz_world.specs.Inside.Laws.{RoundLaws}
 use Rattle.bz_world.specs.Inside.Meant.{IsMeant}

@@ -5,10 +5,10 @@ use Rattle.std.proofs.lemmas.Bool.Decides.{nat_tests}
 use Rattle.std.proofs.lemmas.List.{length-append}
 use Rattle.bz_layout.specs.Slots.{FreeSlots}
 use Rattle.bz_layout.specs.declared.config.Config.{Config}
-use Rattle.bz_shape.specs.Walk.{is_among}
+use Rattle.bz_tree.specs.Walk.{is_among}
 use Rattle.bz_sound.specs.Memory.Spent.{is_reached_in}
-use Rattle.bz_story.specs.Laws.{MayTake, takes_slots}
-use Rattle.bz_story.specs.Story.{Story}
+use Rattle.bz_refinement.specs.Laws.{MayTake, takes_slots}
+use Rattle.bz_refinement.specs.Story.{Story}
 use Rattle.bz_task.specs.OwnActs.{AreTakenFrom, is_gained}
 use Rattle.bz_world.specs.Inside.Kept.{AreFree}
 use Rattle.bz_world.specs.Inside.Serving.{IsCovered}

@@ -9,15 +9,15 @@ use Rattle.bz_call.specs.Map.{key_of}
 use Rattle.bz_call.specs.declared.replies.Spent.TheVariants.{Nodes, Swaps}
 use Rattle.bz_layout.specs.Slots.{FreeSlots}
 use Rattle.bz_layout.specs.declared.config.Config.{Config}
-use Rattle.bz_lone.specs.FromAlone.Undisturbed.{IsUndisturbed}
-use Rattle.bz_running.specs.Duties.{asks_of, end_of, made_of, needs_of, facts_of, differs_of}
-use Rattle.bz_running.specs.Hearing.{IsLookup, HasHeard}
-use Rattle.bz_running.specs.declared.running.AnyTask.{AnyTask}
+use Rattle.bz_solo.specs.FromAlone.Undisturbed.{IsUndisturbed}
+use Rattle.bz_any_task.specs.Duties.{asks_of, end_of, made_of, needs_of, facts_of, differs_of}
+use Rattle.bz_any_task.specs.Hearing.{IsLookup, HasHeard}
+use Rattle.bz_any_task.specs.declared.running.AnyTask.{AnyTask}
 use Rattle.bz_sight.specs.Starts.{Sees}
 use Rattle.bz_sound.specs.Calls.{Open}
-use Rattle.bz_story.specs.Laws.{ScenesAreSeen, SlotsAreTaken, takes_slots}
-use Rattle.bz_story.specs.Living.{IsLiving}
-use Rattle.bz_story.specs.Story.{Story, scene}
+use Rattle.bz_refinement.specs.Laws.{ScenesAreSeen, SlotsAreTaken, takes_slots}
+use Rattle.bz_refinement.specs.Living.{IsLiving}
+use Rattle.bz_refinement.specs.Story.{Story, scene}
 use Rattle.bz_task.specs.OwnActs.{AreTakenFrom, AreUnreached, gained, is_gained}
 use Rattle.bz_task.specs.Outcomes.{IsPath}
 use Rattle.bz_task.specs.Requests.{effects_in}
@@ -35,14 +35,14 @@ use Rattle.bz_world.specs.Inside.Going.{end_in, wants_in}
 use Rattle.bz_world.specs.Inside.Laws.{UndisturbedLaws, SolitaryLaws, RoundLaws}
 use Rattle.bz_world.specs.Inside.Solitary.{WhereSolitary, AsksBriefly}
 use Rattle.bz_layout.specs.declared.thresholds.TheConstants.{SLOTS_PER_CALL}
-use Rattle.bz_lone.specs.FromCosts.Resources.{Slots}
-use Rattle.bz_lone.specs.FromCosts.Weights.{start_takes}
-use Rattle.bz_lone.specs.Errands.{Errand}
-use Rattle.bz_lone.specs.Prices.{coming}
-use Rattle.bz_lone.specs.Rounds.{stage_now}
-use Rattle.bz_lone.specs.Sum.{Spares}
-use Rattle.bz_running.specs.Kinds as kinds
-use Rattle.bz_running.specs.Kinds.{kind_of}
+use Rattle.bz_solo.specs.FromCosts.Resources.{Slots}
+use Rattle.bz_solo.specs.FromCosts.Weights.{start_takes}
+use Rattle.bz_solo.specs.Errands.{Errand}
+use Rattle.bz_solo.specs.Prices.{coming}
+use Rattle.bz_solo.specs.Rounds.{stage_now}
+use Rattle.bz_solo.specs.Sum.{Spares}
+use Rattle.bz_any_task.specs.Kinds as kinds
+use Rattle.bz_any_task.specs.Kinds.{kind_of}
 use Rattle.bz_world.specs.Inside.Meant.{IsMeant}
 use Rattle.bz_world.specs.Inside.Paid.{begun_with, bound_in, errand_of, stock_of, used_in, used_of, IsPaidIn}
 use Rattle.bz_world.specs.WorldView.{HadFew, RunsWhole}

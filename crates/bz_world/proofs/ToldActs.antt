@@ -3,18 +3,18 @@ use Rattle.std.proofs.Common.{◌≡◌, ◌≢◌, ◌⊎◌, ℕ, ◌+◌, ◌
 use Rattle.std.specs.Prelude.{nat_le}
 use Rattle.std.proofs.lemmas.Bool.{true≢false}
 use Rattle.std.proofs.lemmas.Bool.Decides.{nat_tests}
-use Rattle.bz_acts.specs.declared.acted.Act.{Act}
-use Rattle.bz_acts.specs.declared.acted.Act.TheVariants as act
+use Rattle.bz_swap_acts.specs.declared.acted.Act.{Act}
+use Rattle.bz_swap_acts.specs.declared.acted.Act.TheVariants as act
 use Rattle.bz_layout.specs.Addresses.{swap_address, node_address, slot_of}
 use Rattle.bz_layout.specs.declared.config.Config.{Config}
 use Rattle.bz_layout.specs.declared.sizes.TheConstants.{NODE_WORDS}
 use Rattle.bz_mark.specs.declared.marks.Mark.{Mark}
-use Rattle.bz_shape.specs.Walk.{is_among}
+use Rattle.bz_tree.specs.Walk.{is_among}
 use Rattle.bz_sound.specs.Calls.{Open}
 use Rattle.bz_mark.specs.Counts.{is_taken}
 use Rattle.bz_sound.specs.Memory.Spent.{is_stored_into, is_reached_in}
 use Rattle.bz_sound.specs.Power.Times.{image_at_on}
-use Rattle.bz_story.specs.Story.{scene}
+use Rattle.bz_refinement.specs.Story.{scene}
 use Rattle.bz_swap.specs.SwapMemory.{SwapMemory, Storing, doing_of}
 use Rattle.bz_swap.specs.Writes.{StoresPrivate, StoresOwn, WritesLawfully}
 use Rattle.bz_task.specs.Scene.{IsMine}

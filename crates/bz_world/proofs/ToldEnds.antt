@@ -3,8 +3,8 @@ use Rattle.std.proofs.Common.{◌≡◌, ◌≢◌, ◌⊎◌, ℕ, ◌+◌, ◌
 use Rattle.std.specs.Prelude.{option_map, MatchOption}
 use Rattle.std.proofs.lemmas.Bool.{true≢false}
 use Rattle.std.proofs.lemmas.Bool.Decides.{nat_tests}
-use Rattle.bz_acts.specs.declared.acted.Act.{Act}
-use Rattle.bz_acts.specs.declared.acted.Act.TheVariants as act
+use Rattle.bz_swap_acts.specs.declared.acted.Act.{Act}
+use Rattle.bz_swap_acts.specs.declared.acted.Act.TheVariants as act
 use Rattle.bz_call.specs.declared.calls.Call.{Call}
 use Rattle.bz_call.specs.declared.replies.Reply.{Reply}
 use Rattle.bz_layout.specs.declared.config.Config.{Config}

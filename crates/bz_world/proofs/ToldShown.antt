@@ -7,7 +7,7 @@ use Rattle.std.proofs.lemmas.List.Sums.{length-filter}
 use Rattle.bz_layout.specs.Slots.{FreeSlots, IsInOrder}
 use Rattle.bz_layout.specs.declared.config.Config.{Config}
 use Rattle.bz_mark.specs.declared.marks.Mark.{Mark}
-use Rattle.bz_shape.specs.Walk.{is_among}
+use Rattle.bz_tree.specs.Walk.{is_among}
 use Rattle.bz_mark.specs.Counts.{is_taken, count_taken}
 use Rattle.bz_sound.specs.Memory.Spent.{is_stored_into, is_reached_in}
 use Rattle.bz_sound.specs.Power.Spent.{is_used, count_used}

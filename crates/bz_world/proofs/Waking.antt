@@ -13,17 +13,17 @@ use Rattle.bz_recover.specs.Duties.{tells_in, WalksIn}
 use Rattle.bz_recover.specs.Walking.{AreReached}
 use Rattle.bz_recover.specs.declared.recover.Recover.{Recover}
 use Rattle.bz_mark.specs.declared.power.Power.TheVariants as power
-use Rattle.bz_shape.specs.Walk.{form, is_among}
+use Rattle.bz_tree.specs.Walk.{form, is_among}
 use Rattle.bz_sound.specs.Memory.Moments.{map_at_start}
 use Rattle.bz_sound.specs.Memory.Spent.{is_reached_in}
 use Rattle.bz_mark.specs.Times.{since_on}
 use Rattle.bz_sound.specs.Power.Times.{image_at_on}
 use Rattle.bz_sound.specs.Power.Laws.{OnsFollow, ReadysFollow, PowerTellsWhatFollows}
-use Rattle.bz_story.specs.Recovering as recovery
-use Rattle.bz_story.specs.RecoveryLaws.{RecoveriesGoOn}
-use Rattle.bz_story.specs.Reviving as reviving
-use Rattle.bz_story.specs.Reviving.{PowerOnIsMarked, TurnsMakeNoMark, RecoveriesGiveLife, WalksEnd, IsReborn, renewed_story}
-use Rattle.bz_story.specs.Story.{Story}
+use Rattle.bz_refinement.specs.Recovering as recovery
+use Rattle.bz_refinement.specs.RecoveryLaws.{RecoveriesGoOn}
+use Rattle.bz_refinement.specs.Reviving as reviving
+use Rattle.bz_refinement.specs.Reviving.{PowerOnIsMarked, TurnsMakeNoMark, RecoveriesGiveLife, WalksEnd, IsReborn, renewed_story}
+use Rattle.bz_refinement.specs.Story.{Story}
 use Rattle.bz_swap.specs.Held.{Holds}
 use Rattle.bz_swap.specs.Power.{MayRenew, renewed}
 use Rattle.bz_swap.specs.Starts.{started}

@@ -5,16 +5,16 @@ use Rattle.bz_call.specs.declared.replies.Spent.TheVariants.{Nodes}
 use Rattle.bz_content.specs.Content.{image_of}
 use Rattle.bz_layout.specs.declared.thresholds.TheConstants.{MERGE_SLOTS}
 use Rattle.bz_stage.specs.FromLeaves.Neighbours.{leaf_page, MayBeMerged}
-use Rattle.bz_lone.specs.Errands.{words_asked}
-use Rattle.bz_lone.specs.FromJoined.Neighbours.{WasMergeable, MergesLackSlotsRightly}
-use Rattle.bz_running.specs.Duties.{wants_of}
-use Rattle.bz_running.specs.Kinds as kinds
-use Rattle.bz_running.specs.Kinds.{kind_of}
-use Rattle.bz_running.specs.MadeFor.{IsMadeFor}
-use Rattle.bz_running.specs.declared.running.AnyTask.{AnyTask}
-use Rattle.bz_running.specs.declared.running.AnyTask.TheVariants.{Seeking, Finding, Reading, Inserting, Updating, Deleting, Freezing, Consolidating, Splitting, SplittingBelow, SplittingInner, SplittingInnerRoot, Merging}
+use Rattle.bz_solo.specs.Errands.{words_asked}
+use Rattle.bz_solo.specs.FromJoined.Neighbours.{WasMergeable, MergesLackSlotsRightly}
+use Rattle.bz_any_task.specs.Duties.{wants_of}
+use Rattle.bz_any_task.specs.Kinds as kinds
+use Rattle.bz_any_task.specs.Kinds.{kind_of}
+use Rattle.bz_any_task.specs.MadeFor.{IsMadeFor}
+use Rattle.bz_any_task.specs.declared.running.AnyTask.{AnyTask}
+use Rattle.bz_any_task.specs.declared.running.AnyTask.TheVariants.{Seeking, Finding, Reading, Inserting, Updating, Deleting, Freezing, Consolidating, Splitting, SplittingBelow, SplittingInner, SplittingInnerRoot, Merging}
 use Rattle.bz_sound.specs.Memory.Moments.{image_at}
-use Rattle.bz_story.specs.Laws.{ScenesAreSeen}
+use Rattle.bz_refinement.specs.Laws.{ScenesAreSeen}
 use Rattle.bz_task.specs.Scene.{Past}
 use Rattle.bz_task.specs.declared.todo.Outcome.TheVariants.{Full}
 use Rattle.bz_world.specs.Inside.Going.{MustGoOn, HasEnded, known}

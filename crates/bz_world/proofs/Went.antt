@@ -1,9 +1,9 @@
 -- What an act of a worker at which no swap took effect leads to, whatever its task asked for.
 use Rattle.std.proofs.Common.{◌≡◌, ℕ, ◌*◌, ◌<◌, true, false, length, refl, subst, Some, None}
 use Rattle.std.specs.Prelude.{get_or}
-use Rattle.bz_acts.specs.declared.acted.Act.{Act}
-use Rattle.bz_machine.specs.declared.done.Done.{Done}
-use Rattle.bz_machine.specs.declared.done.Done.TheVariants as done
+use Rattle.bz_swap_acts.specs.declared.acted.Act.{Act}
+use Rattle.bz_swap_machine.specs.declared.done.Done.{Done}
+use Rattle.bz_swap_machine.specs.declared.done.Done.TheVariants as done
 use Rattle.bz_swap.specs.Steps.{IsAnswer}
 use Rattle.bz_swap.specs.SwapMemory.{Doing, Reading, Swapping, Storing, Flushing, doing_of}
 use Rattle.bz_task.specs.declared.todo.Seen.TheVariants as seen

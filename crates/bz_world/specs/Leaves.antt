@@ -7,7 +7,7 @@ use Rattle.bz_content.specs.Content.{image_of, leaf_in, view_in}
 use Rattle.bz_stage.specs.FromLeaves.Neighbours.{leaf_page}
 use Rattle.bz_layout.specs.declared.config.Config.{Config}
 use Rattle.bz_layout.specs.declared.thresholds.TheConstants.{MERGE_BELOW, SPLIT_ABOVE}
-use Rattle.bz_lone.specs.FromTally.Leaves.{is_leaf, leaves_in}
+use Rattle.bz_solo.specs.FromTally.Leaves.{is_leaf, leaves_in}
 use Rattle.bz_mark.specs.Log.{Log}
 use Rattle.bz_mark.specs.declared.marks.Mark.{Mark}
 use Rattle.bz_slotted.specs.Records.{live_words}

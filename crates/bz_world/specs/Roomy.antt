@@ -10,7 +10,7 @@ use Rattle.bz_stage.specs.FromLeaves.Neighbours.{leaf_page, own_live}
 use Rattle.bz_layout.specs.declared.config.Config.{Config}
 use Rattle.bz_layout.specs.declared.swaps.TheConstants.{DELETE_SWAPS, INSERT_SWAPS, UPDATE_SWAPS}
 use Rattle.bz_layout.specs.declared.thresholds.TheConstants.{LEAF_RECORD_WORDS, MERGE_BELOW}
-use Rattle.bz_lone.specs.Errands.{is_read, words_asked}
+use Rattle.bz_solo.specs.Errands.{is_read, words_asked}
 use Rattle.bz_mark.specs.declared.marks.Mark.{Mark}
 use Rattle.bz_sound.specs.Calls.{Open}
 use Rattle.bz_sound.specs.Memory.Moments.{image_at}

@@ -2,7 +2,7 @@
 use Rattle.std.specs.Prelude.{◌≡◌, ◌≢◌, ◌⊎◌, ◌≤◌, ℕ, zero, suc, ◌+◌, ◌*◌, true, List, ◌∷◌, length, None}
 use Rattle.bz_call.specs.declared.replies.Reply.TheVariants.{Full}
 use Rattle.bz_call.specs.declared.replies.Spent.{Spent}
-use Rattle.bz_lone.specs.FromCosts.Solo.{begin_marks}
+use Rattle.bz_solo.specs.FromCosts.Solo.{begin_marks}
 use Rattle.bz_layout.specs.declared.config.Config.{Config}
 use Rattle.bz_layout.specs.declared.thresholds.TheConstants.{MARKS_PER_CALL}
 use Rattle.bz_mark.specs.Log.{Log}

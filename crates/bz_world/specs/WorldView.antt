@@ -2,9 +2,9 @@
 use Rattle.std.specs.Prelude.{◌≡◌, ◌≢◌, ◌<◌, ◌≤◌, ◌⊎◌, ℕ, zero, suc, ◌+◌, ◌-◌, ◌*◌, Bool, true, false, ◌==◌, ◌||◌, ◌&&◌, nat_lt, nat_le, if◌then◌else◌, is_some, is_none, get_or, slice_set, slice_index, replicate, count_by, List, [], ◌∷◌, ◌++◌, length, Option, Some, None, option_map, MatchOption}
 use Rattle.std.specs.FinMap.{len}
 use Rattle.std.specs.List.{range_with_len}
-use Rattle.bz_acts.specs.Rule.{is_flush_act}
-use Rattle.bz_acts.specs.declared.acted.Act.{Act}
-use Rattle.bz_lone.specs.FromAlone.Reads.{get_reads}
+use Rattle.bz_swap_acts.specs.Rule.{is_flush_act}
+use Rattle.bz_swap_acts.specs.declared.acted.Act.{Act}
+use Rattle.bz_solo.specs.FromAlone.Reads.{get_reads}
 use Rattle.bz_call.specs.Pages.{is_page}
 use Rattle.bz_call.specs.declared.calls.Call.{Call}
 use Rattle.bz_call.specs.declared.calls.Call.TheVariants as call
@@ -13,7 +13,7 @@ use Rattle.bz_call.specs.declared.replies.Reply.TheVariants.{Deleted, Exists, In
 use Rattle.bz_call.specs.declared.replies.Spent.{Spent}
 use Rattle.bz_call.specs.declared.replies.Spent.TheVariants.{Nodes, Swaps, Height}
 use Rattle.bz_content.specs.Content.{image_fault}
-use Rattle.bz_lone.specs.FromCosts.Solo.{begin_marks}
+use Rattle.bz_solo.specs.FromCosts.Solo.{begin_marks}
 use Rattle.bz_layout.specs.Addresses.{words_of}
 use Rattle.bz_layout.specs.Config.{IsConfig, IsFirstOutOfRange}
 use Rattle.bz_layout.specs.Fresh.{fresh_words}
@@ -30,7 +30,7 @@ use Rattle.bz_sound.specs.Solitary.{IsSolitary, acts_since}
 use Rattle.bz_sound.specs.Memory.Moments.{map_at_start, image_after, image_at}
 use Rattle.bz_sound.specs.Memory.Spent.{NeedsSlots, is_reached_in}
 use Rattle.bz_mark.specs.Times.{power_of, since_on}
-pub use Rattle.bz_marked.specs.Marks.{mark_of}
+pub use Rattle.bz_swap_marks.specs.Marks.{mark_of}
 use Rattle.bz_sound.specs.Power.Times.{image_at_on}
 use Rattle.bz_sound.specs.Replies.{Pages}
 use Rattle.bz_mark.specs.Counts.{acts_by}

@@ -12,8 +12,8 @@ ghost use Rattle.bz_world.specs.Inside.Kept.{IsAwake};
 use crate::laws::step_laws;
 use crate::mark_effect::mark_effect;
 use crate::parts::Parts;
-use bz_marked::mark_of;
 use bz_swap::{Done, Progress};
+use bz_swap_marks::mark_of;
 use bz_task::Seen;
 
 // Makes the next act of a worker.

@@ -1,6 +1,6 @@
 //! What is asked of a world, and what it answers.
 use bz_layout::ConfigError;
-use bz_shape::ShapeFault;
+use bz_tree::ShapeFault;
 
 /// A limit of the journal.
 #[derive(Clone, Copy, Debug, PartialEq, Eq)]

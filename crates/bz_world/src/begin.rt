@@ -10,10 +10,10 @@ use crate::laws::{end_laws, start_laws};
 use crate::parts::Parts;
 use crate::room::asks_little;
 use crate::serving::OpenCall;
+use bz_any_task::AnyTask;
 use bz_call::Call;
 use bz_layout::ROOT_STATUS_AT;
 use bz_mark::{Mark, Power};
-use bz_running::AnyTask;
 
 // How many pages a call asks for.
 fn pages_asked(call: &Call) -> u32

@@ -16,7 +16,7 @@ use bz_content::CheckError;
 use bz_judge::check;
 use bz_layout::{Config, Slots};
 use bz_mark::Power;
-use bz_memory::Memory;
+use bz_oom::Memory;
 use std::alloc::Global;
 
 // How many pairs an image holds that breaks no rule.

@@ -7,10 +7,10 @@ ghost use Rattle.bz_world.specs.Inside.Merging.{is_below as leads_below};
 ghost use Rattle.bz_world.specs.Inside.Going.{call_in, end_in, asks_in, path_in as way_in, had_in as payload_in, effect_in as moment_in, page_in, froze_in, unmerged_in, freezes_in, merges_in, few_in, DeletesIn, CanGoUpIn, MayGoUpIn, StandsBelowIn, GoesUpIn, with_task, with_change, with_unmerged, with_froze};
 
 use crate::serving::OpenCall;
+use bz_any_task::AnyTask;
 use bz_call::Call;
 use bz_key::{Key, Payload};
 use bz_layout::Config;
-use bz_running::AnyTask;
 use bz_task::{Outcome, Path, Task};
 
 /// The key of a call.
@@ -144,7 +144,7 @@ pub(crate) fn has_frozen(slot: &Option<OpenCall>) -> bool
 }
 
 /// Whether its task freezes its leaf.
-#[tactic(auto, unfolding(bz_running::specs::Kinds::kind_of))]
+#[tactic(auto, unfolding(bz_any_task::specs::Kinds::kind_of))]
 pub(crate) fn is_freezing(slot: &Option<OpenCall>) -> bool
     ensures { result ≡ freezes_in slot.now }
 {
@@ -155,7 +155,7 @@ pub(crate) fn is_freezing(slot: &Option<OpenCall>) -> bool
 }
 
 /// Whether its task merges its leaf.
-#[tactic(auto, unfolding(bz_running::specs::Kinds::kind_of))]
+#[tactic(auto, unfolding(bz_any_task::specs::Kinds::kind_of))]
 pub(crate) fn is_merging(slot: &Option<OpenCall>) -> bool
     ensures { result ≡ merges_in slot.now }
 {

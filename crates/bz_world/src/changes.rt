@@ -17,9 +17,9 @@ use crate::lookups::read_leaf;
 use crate::parts::Parts;
 use crate::serving::OpenCall;
 use crate::tell::tell;
+use bz_any_task::AnyTask;
 use bz_call::Reply;
 use bz_key::{Key, Payload};
-use bz_running::AnyTask;
 use bz_task::{KeyView, Outcome, Seen, Todo};
 
 // Whether a task ended because its leaf is frozen or lacks the words.

@@ -14,10 +14,10 @@ use crate::laws::{start_laws, undisturbed_laws};
 use crate::parts::Parts;
 use crate::start::start;
 use crate::tell::tell;
+use bz_any_task::AnyTask;
 use bz_call::{Call, Reply, Spent};
 use bz_key::Payload;
 use bz_layout::ROOT_STATUS_AT;
-use bz_running::AnyTask;
 use bz_task::{Outcome, Seen, Todo};
 
 /// Begins the lookup of the call's key, again.

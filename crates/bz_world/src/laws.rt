@@ -3,12 +3,12 @@ ghost use Rattle.std.specs.Prelude.{◌≤◌};
 ghost use Rattle.bz_layout.specs.declared.thresholds.TheConstants.{MAX_LEVELS};
 ghost use Rattle.bz_world.specs.Inside.Laws.{HasEnd, UndisturbedLaws, BegunLaws, SolitaryLaws, PaidLaws, RoundLaws, StepLaws, StrikeLaws, StartLaws, EndLaws, AnswerLaws};
 
-use bz_lone::laws as solo;
+use bz_refinement::laws as story;
 use bz_rivals::laws as rivals;
 use bz_sight::laws as sight;
+use bz_solo::laws as solo;
 use bz_sound::{memory_laws as calls, power_laws as sound};
 use bz_stage::laws as stage;
-use bz_story::laws as story;
 use bz_swap::laws as swap;
 use bz_task::Path;
 

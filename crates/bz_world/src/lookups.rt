@@ -7,7 +7,7 @@ use crate::calls::{called, key_of, set_froze, set_task};
 use crate::going::begin_task;
 use crate::laws::start_laws;
 use crate::parts::Parts;
-use bz_running::AnyTask;
+use bz_any_task::AnyTask;
 use bz_task::Path;
 
 /// Reads the leaf whole.

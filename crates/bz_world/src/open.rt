@@ -17,7 +17,7 @@ use arrayvec::ArrayVec;
 use bz_key::PageBuf;
 use bz_layout::{Config, Slots};
 use bz_mark::{Journal, Power};
-use bz_memory::Memory;
+use bz_oom::Memory;
 use bz_recover::Recover;
 use bz_swap::Access;
 use std::alloc::Global;

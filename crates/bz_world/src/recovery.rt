@@ -3,8 +3,8 @@ ghost use Rattle.std.specs.Prelude.{◌≡◌, ◌≢◌, ◌≤◌, ◌<◌, �
 ghost use Rattle.bz_layout.specs.Addresses.{words_of};
 ghost use Rattle.bz_recover.specs.Duties.{asks_of};
 ghost use Rattle.bz_mark.specs.declared.power.Power.TheVariants as power;
-ghost use Rattle.bz_story.specs.Recovering.{Asked};
-ghost use Rattle.bz_story.specs.RecoveryLaws.{seen_of as seen_in};
+ghost use Rattle.bz_refinement.specs.Recovering.{Asked};
+ghost use Rattle.bz_refinement.specs.RecoveryLaws.{seen_of as seen_in};
 ghost use Rattle.bz_swap.specs.Starts.{started};
 ghost use Rattle.bz_swap.specs.SwapMemory.{Loading, worker_of};
 ghost use Rattle.bz_task.specs.declared.todo.Todo.TheVariants.{Load, Finish};
@@ -18,8 +18,8 @@ use crate::laws::begun_laws;
 use crate::parts::Parts;
 use crate::step::make_eviction;
 use bz_mark::{Mark, Power};
-use bz_marked::mark_of;
 use bz_swap::{Done, Progress};
+use bz_swap_marks::mark_of;
 use bz_task::{Seen, Todo};
 
 /// Starts what the recovery asks for, which is not the end.

@@ -9,9 +9,9 @@ use crate::calls::{called, found_path, is_unmerged, key_of, set_task};
 use crate::going::{begin_task, look_up};
 use crate::laws::{answer_laws, start_laws};
 use crate::parts::Parts;
+use bz_any_task::{AnyTask, is_due_alone as is_due, is_due_below, is_due_beside};
 use bz_layout::SPLIT_ABOVE;
 use bz_page::live_words;
-use bz_running::{AnyTask, is_due_alone as is_due, is_due_below, is_due_beside};
 use bz_task::{LeafView, Path};
 
 // Freezes the leaf that was read.

@@ -1,7 +1,7 @@
 //! Whether a leaf has room for the change of a call.
 ghost use Rattle.std.specs.Prelude.{◌≡◌, ◌+◌, ◌<◌, ◌≤◌, ◌^◌, true, false};
 ghost use Rattle.bz_layout.specs.declared.thresholds.TheConstants.{LEAF_RECORD_WORDS, RECORD_WORDS};
-ghost use Rattle.bz_lone.specs.Errands.{words_asked};
+ghost use Rattle.bz_solo.specs.Errands.{words_asked};
 ghost use Rattle.bz_record.specs.Records.{words_for, HasRoom, LacksRoom};
 ghost use Rattle.bz_world.specs.Inside.Room.{LacksRoomFor, HasRoomFor};
 

@@ -1,7 +1,7 @@
 //! Open calls.
+use bz_any_task::AnyTask;
 use bz_call::Call;
 use bz_key::Payload;
-use bz_running::AnyTask;
 use bz_task::Path;
 
 /// A worker's open call: how far it has come.

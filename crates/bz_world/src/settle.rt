@@ -5,7 +5,7 @@ ghost use Rattle.bz_task.specs.declared.todo.Outcome.TheVariants.{Full, NeedsRoo
 ghost use Rattle.bz_task.specs.declared.todo.Todo.TheVariants.{Finish};
 ghost use Rattle.bz_world.specs.Inside.Going.{MustAnswer, MustAnswerKey, MustFind, HasEnded, HasEndedAfter, HasReadAfter, IsFullRightly, HasNotLackedSwaps, HasNotLackedRoom, MustLookUpAs, LooksUpIn, WentOn, call_in, froze_in};
 ghost use Rattle.bz_world.specs.Inside.Paid.{crowded};
-ghost use Rattle.bz_lone.specs.Errands.{after};
+ghost use Rattle.bz_solo.specs.Errands.{after};
 ghost use Rattle.bz_world.specs.Inside.Telling.{MustStart, MustStartFound};
 
 use crate::answers::Applied;
@@ -22,10 +22,10 @@ use crate::parts::Parts;
 use crate::restructuring::{merge, restructure, split_above};
 use crate::room::lacks_room;
 use crate::tell::tell;
+use bz_any_task::{AnyTask, is_due_beside as is_due};
 use bz_call::{Call, Reply, Spent};
 use bz_key::Key;
 use bz_page::collect;
-use bz_running::{AnyTask, is_due_beside as is_due};
 use bz_task::{KeyView, LeafView, Outcome, Path, Seen, Todo};
 
 // Answers a get by what its leaf has.
@@ -161,7 +161,7 @@ fn settle_full(parts: &mut Parts, w: u8, spent: Spent) -> Applied
     requires room { length parts.old.journal.past < parts.old.config.marks }
     ensures { WentOn parts.old w result parts.new }
 {
-    bz_lone::laws::merges_lack_slots_rightly();
+    bz_solo::laws::merges_lack_slots_rightly();
     start_laws();
     match spent {
         Spent::Nodes => end_full(parts, w, spent),

@@ -6,10 +6,10 @@ use Rattle.std.specs.Ordering.{nat_cmp}
 use Rattle.bz_content.specs.Content.{image_of, view_in}
 use Rattle.bz_content.specs.Map.{records_in}
 use Rattle.bz_layout.specs.declared.config.Config.{Config}
-use Rattle.bz_shape.specs.Content.{Pairs, pairs_of}
-use Rattle.bz_shape.specs.Stack.{pending}
-use Rattle.bz_shape.specs.View.{View}
-use Rattle.bz_shape.specs.Walk.{Visit, walk}
+use Rattle.bz_tree.specs.Content.{Pairs, pairs_of}
+use Rattle.bz_tree.specs.Stack.{pending}
+use Rattle.bz_tree.specs.View.{View}
+use Rattle.bz_tree.specs.Walk.{Visit, walk}
 use Rattle.bz_judge.specs.Inside.Stacks.{AreBelow}
 
 -- records in the order of their keys

@@ -1,8 +1,8 @@
 -- The stack of a walk as the program keeps it, the topmost visit last.
 use Rattle.std.specs.Prelude.{◌≡◌, ℕ, ◌<◌, List, [], ◌∷◌, map, reverse}
 use Rattle.bz_judge.specs.declared.visit.Visit.{Visit as Coming}
-use Rattle.bz_shape.specs.View.{View}
-use Rattle.bz_shape.specs.Walk.{Visit}
+use Rattle.bz_tree.specs.View.{View}
+use Rattle.bz_tree.specs.Walk.{Visit}
 use Rattle.bz_slotted.specs.ReadingLaws.{node_of}
 use Rattle.bz_slotted.specs.Readers.{count_of, child_of, key_of}
 

@@ -6,11 +6,11 @@ use Rattle.bz_content.specs.declared.outcomes.CheckError.{CheckError}
 use Rattle.bz_content.specs.declared.outcomes.CheckError.TheVariants.{Shape, Memory}
 use Rattle.bz_layout.specs.declared.config.Config.{Config}
 use Rattle.bz_layout.specs.declared.sizes.TheConstants.{SHARED_WORDS}
-use Rattle.bz_shape.specs.Content.{Pairs, pairs_of}
-use Rattle.bz_shape.specs.Stack.{pending}
-use Rattle.bz_shape.specs.View.{View}
+use Rattle.bz_tree.specs.Content.{Pairs, pairs_of}
+use Rattle.bz_tree.specs.Stack.{pending}
+use Rattle.bz_tree.specs.View.{View}
 use Rattle.bz_content.specs.declared.outcomes.Shape.{Shape as Found}
-use Rattle.bz_shape.specs.Walk.{Visit, start, walk, first_fault, fault_of, is_among}
+use Rattle.bz_tree.specs.Walk.{Visit, start, walk, first_fault, fault_of, is_among}
 use Rattle.bz_judge.specs.Inside.Stacks.{AreBelow, stack_of}
 use Rattle.bz_judge.specs.declared.walk.Walk.{Walk}
 

@@ -1,12 +1,12 @@
 -- What stands between an act and its effect.
 use Rattle.std.specs.Prelude.{◌≡◌, ◌≢◌, ◌≤◌, ◌+◌, ℕ, ◌∷◌, length, Option, Some, None, get_or, slice_set}
-use Rattle.bz_acts.specs.Rule.{is_flush_act}
-use Rattle.bz_acts.specs.declared.acted.Act.{Act}
-use Rattle.bz_machine.specs.declared.done.Done.{Done}
+use Rattle.bz_swap_acts.specs.Rule.{is_flush_act}
+use Rattle.bz_swap_acts.specs.declared.acted.Act.{Act}
+use Rattle.bz_swap_machine.specs.declared.done.Done.{Done}
 use Rattle.bz_mark.specs.declared.marks.Mark.{Mark}
 use Rattle.bz_mark.specs.declared.marks.Mark.TheVariants.{Evict}
 use Rattle.bz_mark.specs.WordsAfter.{state_after_marks, words_after_marks}
-use Rattle.bz_marked.specs.Past.{SamePast}
+use Rattle.bz_swap_marks.specs.Past.{SamePast}
 use Rattle.bz_rivals.specs.Notes.{AreNoted}
 use Rattle.bz_swap.specs.Effects.{TakesEffect}
 use Rattle.bz_swap.specs.Evictions.{IsEviction}
@@ -22,7 +22,7 @@ use Rattle.bz_ring.specs.Growth.{Happens}
 use Rattle.bz_ring.specs.Journal.{QLog, with_mark, memory_of}
 use Rattle.bz_change.specs.Laws.{IsCalm}
 use Rattle.bz_change.specs.Values.{IsSwapOf, IsChanged}
-use Rattle.bz_marked.specs.Marks.{mark_of}
+use Rattle.bz_swap_marks.specs.Marks.{mark_of}
 use Rattle.bz_queue.specs.Acts.{IsPlain}
 use Rattle.bz_queue.specs.Inside.Going.{MustGoOn}
 use Rattle.bz_queue.specs.Inside.Kept.{AreShown, IsKept}

@@ -1,8 +1,8 @@
 -- What stands between an act and the next: a call whose read or swap has been answered, which does nothing.
 use Rattle.std.specs.Prelude.{◌≡◌, ◌≢◌, ◌<◌, ◌≤◌, ◌+◌, ◌^◌, ℕ, Bool, true, false, List, length, get_or, Option, Some, None}
-use Rattle.bz_machine.specs.Allowed.{for_word}
-use Rattle.bz_machine.specs.declared.done.Done.{Done}
-use Rattle.bz_machine.specs.declared.done.Done.TheVariants as done
+use Rattle.bz_swap_machine.specs.Allowed.{for_word}
+use Rattle.bz_swap_machine.specs.declared.done.Done.{Done}
+use Rattle.bz_swap_machine.specs.declared.done.Done.TheVariants as done
 use Rattle.bz_swap.specs.SwapMemory.{SwapMemory, Idle, worker_of, value_at, doing_of}
 use Rattle.bz_ring.specs.declared.calls.QCall.{QCall}
 use Rattle.bz_ring.specs.declared.calls.QReply.{QReply}

@@ -3,7 +3,7 @@ use Rattle.std.specs.Prelude.{◌≡◌, ◌<◌, ◌≤◌, ◌+◌, ℕ, true,
 use Rattle.bz_mark.specs.Counts.{is_taken}
 use Rattle.bz_mark.specs.Times.{since_on}
 use Rattle.bz_mark.specs.WordsAfter.{state_after_marks, words_after_marks}
-use Rattle.bz_marked.specs.Past.{SamePast}
+use Rattle.bz_swap_marks.specs.Past.{SamePast}
 use Rattle.bz_rivals.specs.Notes.{AreNoted}
 use Rattle.bz_swap.specs.Settled.{AreOwned}
 use Rattle.bz_swap.specs.TakenStatuses.{IsTaken, BegunAreTaken}

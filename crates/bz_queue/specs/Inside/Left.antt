@@ -1,7 +1,7 @@
 -- How many marks an open call has left at most, while its worker alone steps.
 use Rattle.std.specs.Prelude.{◌≤◌, ◌==◌, ◌&&◌, ◌||◌, ℕ, zero, suc, ◌+◌, ◌*◌, Bool, true, false, not, List, [], ◌∷◌, length, get_or, Option, Some, None}
 use Rattle.bz_word.specs.declared.entry.Entry.{Entry}
-use Rattle.bz_machine.specs.Allowed.{for_word, for_swap, counted}
+use Rattle.bz_swap_machine.specs.Allowed.{for_word, for_swap, counted}
 use Rattle.bz_swap.specs.Solo.{left_to}
 use Rattle.bz_swap.specs.SwapMemory.{SwapMemory, Doing, Swapping, value_at, is_missed, entries_of, doing_of}
 use Rattle.bz_rivals.specs.Rivals.{is_rival, rivals}

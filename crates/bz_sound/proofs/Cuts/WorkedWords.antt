@@ -11,7 +11,7 @@ use Rattle.bz_content.specs.Content.{content_in}
 use Rattle.bz_content.specs.Image.{node}
 use Rattle.bz_content.specs.Resolving.{resolve, entry_for}
 use Rattle.bz_content.specs.WorkedInsert.{small, word_at, super, leaf, pair, publishing, undecided, succeeded}
-use Rattle.bz_shape.specs.Descent.{descend, pick}
+use Rattle.bz_tree.specs.Descent.{descend, pick}
 use Rattle.bz_slotted.specs.Readers.{level_of, count_of, child_of, key_of, found_of}
 use Rattle.bz_slotted.specs.Page.{words_at, meta_of, visible, held, used, extent_of}
 use Rattle.bz_slotted.specs.Records.{search_to}

@@ -8,8 +8,8 @@ use Rattle.bz_layout.specs.declared.thresholds.TheConstants.{CONSOLIDATION_SLOTS
 use Rattle.bz_node.specs.Layout.{needed}
 use Rattle.bz_node.specs.Reading.{children_in}
 use Rattle.bz_node.specs.Records.{child_entry}
-use Rattle.bz_shape.specs.Order.{is_within}
-use Rattle.bz_shape.specs.Walk.{form}
+use Rattle.bz_tree.specs.Order.{is_within}
+use Rattle.bz_tree.specs.Walk.{form}
 use Rattle.bz_content.specs.Content.{image_of, view_in}
 use Rattle.bz_content.specs.Image.{node}
 use Rattle.bz_content.specs.Resolving.{resolve}

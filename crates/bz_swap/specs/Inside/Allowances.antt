@@ -1,8 +1,8 @@
 -- What becomes of an allowance.
 use Rattle.std.specs.Prelude.{ℕ, ◌+◌, ◌-◌}
-use Rattle.bz_machine.specs.declared.place.Place.{Place}
-use Rattle.bz_machine.specs.declared.place.Place.TheVariants as place
-use Rattle.bz_machine.specs.Allowed.{for_worker}
+use Rattle.bz_swap_machine.specs.declared.place.Place.{Place}
+use Rattle.bz_swap_machine.specs.declared.place.Place.TheVariants as place
+use Rattle.bz_swap_machine.specs.Allowed.{for_worker}
 use Rattle.bz_swap.specs.declared.allowance.Allowance.{Allowance}
 use Rattle.bz_swap.specs.Solo.{steps_left}
 

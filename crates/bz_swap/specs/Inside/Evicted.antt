@@ -1,11 +1,11 @@
 -- The eviction of a word as an event of the machine.
 use Rattle.std.specs.Prelude.{◌≡◌, if◌then◌else◌, ◌==◌, ◌&&◌, not, ℕ, Some, None}
 use Rattle.std.specs.declared.option.Option.{Option}
-use Rattle.bz_cells.specs.FromPm.After.{after_eviction}
-use Rattle.bz_machine.specs.Machine.{Memory, is_succeeded}
-use Rattle.bz_machine.specs.Changes.{with_copies, with_durable_status, with_durable_fields}
-use Rattle.bz_machine.specs.State.{Event, Evict, EvictStatus, EvictField}
-use Rattle.bz_cells.specs.Store.{Store, Beside, IsStore, SameShape, typed, store_state, with_state, status_at}
+use Rattle.bz_swap_cells.specs.FromPm.After.{after_eviction}
+use Rattle.bz_swap_machine.specs.Machine.{Memory, is_succeeded}
+use Rattle.bz_swap_machine.specs.Changes.{with_copies, with_durable_status, with_durable_fields}
+use Rattle.bz_swap_machine.specs.State.{Event, Evict, EvictStatus, EvictField}
+use Rattle.bz_swap_cells.specs.Store.{Store, Beside, IsStore, SameShape, typed, store_state, with_state, status_at}
 use Rattle.bz_swap.specs.declared.role.WordRole.{WordRole}
 use Rattle.bz_swap.specs.declared.role.WordRole.TheVariants.{Outside, Status, Field}
 

@@ -1,26 +1,26 @@
 -- What a swap memory keeps true of its parts: outside a recovery time they are the machine's state.
 use Rattle.std.specs.Prelude.{◌≡◌, ◌≢◌, ℕ, ◌*◌, ◌/◌, ◌<◌, ◌≤◌, false, List, [], length, get_or, slice_index, None}
 use Rattle.bz_layout.specs.Addresses.{swap_address}
-use Rattle.bz_machine.specs.declared.place.Place.{Place}
-use Rattle.bz_machine.specs.declared.place.Place.TheVariants as place
-use Rattle.bz_machine.specs.declared.place.PrepareStep.{PrepareStep}
-use Rattle.bz_machine.specs.declared.place.PrepareStep.TheVariants.{AskTail, FenceDescriptor}
-use Rattle.bz_machine.specs.declared.place.HelpStep.{HelpStep}
-use Rattle.bz_machine.specs.declared.place.HelpStep.TheVariants.{AskTarget, FenceTargets, FenceDirty, FenceStatus, FenceFinal}
-use Rattle.bz_machine.specs.declared.worker.Operation.{Operation}
-use Rattle.bz_machine.specs.declared.worker.Operation.TheVariants as operation
-use Rattle.bz_machine.specs.declared.worker.Worker.{Worker}
-use Rattle.bz_machine.specs.Machine.{Entries}
-use Rattle.bz_machine.specs.Allowed.{for_worker, sum_below, counted, is_busy}
-use Rattle.bz_machine.specs.Budget.{budget}
-use Rattle.bz_machine.specs.Budgets.{IsBounded}
-use Rattle.bz_machine.specs.Sizes.{most_workers}
-use Rattle.bz_machine.specs.State.{State, IsState}
-use Rattle.bz_machine.specs.Lawful.{AreInRange}
-use Rattle.bz_machine.specs.Workers.{local_of}
-use Rattle.bz_cells.specs.FromPm.State.{ask_for}
-use Rattle.bz_cells.specs.Store.{Store, Past, Beside, HasRoom, IsStore, typed}
-use Rattle.bz_acts.specs.Ready.{LiesOutside}
+use Rattle.bz_swap_machine.specs.declared.place.Place.{Place}
+use Rattle.bz_swap_machine.specs.declared.place.Place.TheVariants as place
+use Rattle.bz_swap_machine.specs.declared.place.PrepareStep.{PrepareStep}
+use Rattle.bz_swap_machine.specs.declared.place.PrepareStep.TheVariants.{AskTail, FenceDescriptor}
+use Rattle.bz_swap_machine.specs.declared.place.HelpStep.{HelpStep}
+use Rattle.bz_swap_machine.specs.declared.place.HelpStep.TheVariants.{AskTarget, FenceTargets, FenceDirty, FenceStatus, FenceFinal}
+use Rattle.bz_swap_machine.specs.declared.worker.Operation.{Operation}
+use Rattle.bz_swap_machine.specs.declared.worker.Operation.TheVariants as operation
+use Rattle.bz_swap_machine.specs.declared.worker.Worker.{Worker}
+use Rattle.bz_swap_machine.specs.Machine.{Entries}
+use Rattle.bz_swap_machine.specs.Allowed.{for_worker, sum_below, counted, is_busy}
+use Rattle.bz_swap_machine.specs.Budget.{budget}
+use Rattle.bz_swap_machine.specs.Budgets.{IsBounded}
+use Rattle.bz_swap_machine.specs.Sizes.{most_workers}
+use Rattle.bz_swap_machine.specs.State.{State, IsState}
+use Rattle.bz_swap_machine.specs.Lawful.{AreInRange}
+use Rattle.bz_swap_machine.specs.Workers.{local_of}
+use Rattle.bz_swap_cells.specs.FromPm.State.{ask_for}
+use Rattle.bz_swap_cells.specs.Store.{Store, Past, Beside, HasRoom, IsStore, typed}
+use Rattle.bz_swap_acts.specs.Ready.{LiesOutside}
 use Rattle.bz_swap.specs.declared.allowance.Allowance.{Allowance}
 use Rattle.bz_swap.specs.declared.phase.Phase.{Phase}
 use Rattle.bz_swap.specs.declared.phase.Phase.TheVariants.{Opened, Running, Recovering}

@@ -1,12 +1,12 @@
 -- An act on a word as it is, in a recovery time.
 use Rattle.std.specs.Prelude.{◌≡◌, ℕ}
-use Rattle.bz_machine.specs.declared.place.Place.{Place}
-use Rattle.bz_machine.specs.declared.place.Place.TheVariants as place
-use Rattle.bz_machine.specs.declared.done.Done.TheVariants.{Read, Stored, Flushed}
-use Rattle.bz_cells.specs.Store.{Store, HasRoom, store_words, store_state, with_state}
-use Rattle.bz_acts.specs.Rule.{FoundRightly, after_act}
-use Rattle.bz_acts.specs.declared.acted.Act.TheVariants.{Load, Store as StoreAct, Flush}
-use Rattle.bz_acts.specs.declared.acted.Acted.{Acted}
+use Rattle.bz_swap_machine.specs.declared.place.Place.{Place}
+use Rattle.bz_swap_machine.specs.declared.place.Place.TheVariants as place
+use Rattle.bz_swap_machine.specs.declared.done.Done.TheVariants.{Read, Stored, Flushed}
+use Rattle.bz_swap_cells.specs.Store.{Store, HasRoom, store_words, store_state, with_state}
+use Rattle.bz_swap_acts.specs.Rule.{FoundRightly, after_act}
+use Rattle.bz_swap_acts.specs.declared.acted.Act.TheVariants.{Load, Store as StoreAct, Flush}
+use Rattle.bz_swap_acts.specs.declared.acted.Acted.{Acted}
 
 -- the act that was asked for, and its answer
 abbrev pub IsAsked : Place → Acted → Type 0

@@ -1,7 +1,7 @@
 -- What the word at an address is to the machine.
 use Rattle.std.specs.Prelude.{◌≡◌, ℕ, ◌<◌}
 use Rattle.bz_layout.specs.Addresses.{swap_address}
-use Rattle.bz_cells.specs.Store.{IsOutside, field_address, field_count}
+use Rattle.bz_swap_cells.specs.Store.{IsOutside, field_address, field_count}
 use Rattle.bz_swap.specs.declared.role.WordRole.{WordRole}
 use Rattle.bz_swap.specs.declared.role.WordRole.TheVariants.{Outside, Status, Field}
 

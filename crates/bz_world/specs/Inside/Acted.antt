@@ -1,18 +1,18 @@
 -- What stands between an act and the next: an act that was made, an effect that is not told, an answer that is not told, and a
 -- call whose task is to go on.
 use Rattle.std.specs.Prelude.{◌≡◌, ◌≢◌, ◌⊎◌, ℕ, ◌+◌, ◌<◌, ◌≤◌, ◌∷◌, true, false, length, get_or, Option, Some, None}
-use Rattle.bz_acts.specs.Rule.{is_flush_act}
-use Rattle.bz_acts.specs.declared.acted.Act.{Act}
-use Rattle.bz_machine.specs.declared.done.Done.{Done}
-use Rattle.bz_machine.specs.declared.done.Done.TheVariants as done
+use Rattle.bz_swap_acts.specs.Rule.{is_flush_act}
+use Rattle.bz_swap_acts.specs.declared.acted.Act.{Act}
+use Rattle.bz_swap_machine.specs.declared.done.Done.{Done}
+use Rattle.bz_swap_machine.specs.declared.done.Done.TheVariants as done
 use Rattle.bz_mark.specs.Log.{with_mark}
 use Rattle.bz_mark.specs.WordsAfter.{state_after_marks}
 use Rattle.bz_mark.specs.declared.marks.Mark.{Mark}
 use Rattle.bz_mark.specs.declared.marks.Mark.TheVariants.{Evict}
-use Rattle.bz_lone.specs.FromCosts.Weights.{start_takes}
+use Rattle.bz_solo.specs.FromCosts.Weights.{start_takes}
 use Rattle.bz_rivals.specs.Rivals.{rivals, foreign}
 use Rattle.bz_rivals.specs.Wins.{GoesWell}
-use Rattle.bz_running.specs.Duties.{asks_of, needs_of, publishing_of, facts_of}
+use Rattle.bz_any_task.specs.Duties.{asks_of, needs_of, publishing_of, facts_of}
 use Rattle.bz_sight.specs.Effects.{TakesPlace}
 use Rattle.bz_sound.specs.Calls.{Open}
 use Rattle.bz_sound.specs.Memory.Moments.{IsAfterFlush, map_at_start}
@@ -20,10 +20,10 @@ use Rattle.bz_mark.specs.declared.power.Power.TheVariants as power
 use Rattle.bz_sound.specs.Power.Calls.{MayFollow}
 use Rattle.bz_sound.specs.Power.Sound.{IsSound}
 use Rattle.bz_sound.specs.Power.Times.{image_at_on}
-use Rattle.bz_story.specs.Laws.{IsMarked}
-use Rattle.bz_story.specs.Living.{IsLiving}
-use Rattle.bz_marked.specs.Past.{SamePast}
-use Rattle.bz_story.specs.Story.{Story, scene}
+use Rattle.bz_refinement.specs.Laws.{IsMarked}
+use Rattle.bz_refinement.specs.Living.{IsLiving}
+use Rattle.bz_swap_marks.specs.Past.{SamePast}
+use Rattle.bz_refinement.specs.Story.{Story, scene}
 use Rattle.bz_swap.specs.Solo.{left_to}
 use Rattle.bz_swap.specs.Evictions.{IsEviction}
 use Rattle.bz_swap.specs.Held.{Holds}

@@ -1,10 +1,10 @@
 -- How many swaps of other workers took effect since the present look-up of a call began. Where there are none, the swap that its worker
 -- waits for goes well, and its task does not end to begin again.
 use Rattle.std.specs.Prelude.{◌≡◌, ◌≢◌, ℕ, ◌+◌, if◌then◌else◌, false, Some}
-use Rattle.bz_lone.specs.FromAlone.Counts.{HasOthers}
+use Rattle.bz_solo.specs.FromAlone.Counts.{HasOthers}
 use Rattle.bz_rivals.specs.Wins.{GoesWell}
-use Rattle.bz_running.specs.Duties.{config_of, end_of, made_of, facts_of}
-use Rattle.bz_running.specs.declared.running.AnyTask.{AnyTask}
+use Rattle.bz_any_task.specs.Duties.{config_of, end_of, made_of, facts_of}
+use Rattle.bz_any_task.specs.declared.running.AnyTask.{AnyTask}
 use Rattle.bz_swap.specs.SwapMemory.{SwapMemory, Doing, Swapping, has_effect}
 use Rattle.bz_task.specs.Requests.{effects_in}
 use Rattle.bz_task.specs.Scene.{Past, Scene, Waiting}

@@ -3,11 +3,11 @@
 use Rattle.std.specs.Prelude.{◌≡◌, ◌≢◌, ◌⊎◌, ◌≤◌, ◌+◌, ℕ, suc, Bool, true, false, Some, None}
 use Rattle.bz_call.specs.declared.replies.Spent.TheVariants.{Swaps}
 use Rattle.bz_layout.specs.declared.config.Config.{Config}
-use Rattle.bz_lone.specs.FromAlone.Counts.{HasOthers}
+use Rattle.bz_solo.specs.FromAlone.Counts.{HasOthers}
 use Rattle.bz_mark.specs.Log.{Log}
-use Rattle.bz_running.specs.Duties.{end_of, made_of, swaps_of, wants_of, change_swaps, means_of}
-use Rattle.bz_running.specs.Kinds as kinds
-use Rattle.bz_running.specs.Kinds.{Kind, is_look, kind_of}
+use Rattle.bz_any_task.specs.Duties.{end_of, made_of, swaps_of, wants_of, change_swaps, means_of}
+use Rattle.bz_any_task.specs.Kinds as kinds
+use Rattle.bz_any_task.specs.Kinds.{Kind, is_look, kind_of}
 use Rattle.bz_sound.specs.Calls.{Open}
 use Rattle.bz_sound.specs.Solitary.{IsSolitary}
 use Rattle.bz_swap.specs.SwapMemory.{SwapMemory, Doing, Swapping, doing_of}

@@ -8,28 +8,28 @@ use Rattle.bz_call.specs.declared.replies.Reply.{Reply}
 use Rattle.bz_call.specs.declared.replies.Reply.TheVariants.{Full, Page}
 use Rattle.bz_call.specs.declared.replies.Spent.{Spent}
 use Rattle.bz_call.specs.declared.replies.Spent.TheVariants.{Nodes, Swaps}
-use Rattle.bz_running.specs.FromBelow.Facts.{IsThawedAbove}
-use Rattle.bz_running.specs.FromConsol.Facts.{LeadsTo}
-use Rattle.bz_lone.specs.FromCosts.Most.{most_of_leaf, most_of_merge}
-use Rattle.bz_lone.specs.FromCosts.Solo.{one_mark}
-use Rattle.bz_lone.specs.FromCosts.Resources.{Resource}
-use Rattle.bz_lone.specs.FromCosts.Weights.{start_takes}
+use Rattle.bz_any_task.specs.FromBelow.Facts.{IsThawedAbove}
+use Rattle.bz_any_task.specs.FromConsol.Facts.{LeadsTo}
+use Rattle.bz_solo.specs.FromCosts.Most.{most_of_leaf, most_of_merge}
+use Rattle.bz_solo.specs.FromCosts.Solo.{one_mark}
+use Rattle.bz_solo.specs.FromCosts.Resources.{Resource}
+use Rattle.bz_solo.specs.FromCosts.Weights.{start_takes}
 use Rattle.bz_layout.specs.declared.config.Config.{Config}
-use Rattle.bz_lone.specs.Errands.{Errand, is_read, is_freeze, IsLookOf}
-use Rattle.bz_lone.specs.Prices.{coming}
-use Rattle.bz_lone.specs.Rounds.{stage_now}
-use Rattle.bz_lone.specs.Sum.{IsThawed}
+use Rattle.bz_solo.specs.Errands.{Errand, is_read, is_freeze, IsLookOf}
+use Rattle.bz_solo.specs.Prices.{coming}
+use Rattle.bz_solo.specs.Rounds.{stage_now}
+use Rattle.bz_solo.specs.Sum.{IsThawed}
 use Rattle.bz_layout.specs.declared.thresholds.TheConstants.{SPLIT_ABOVE, SPLIT_SLOTS, MERGE_BELOW}
-use Rattle.bz_lone.specs.FromAlone.Undisturbed.{IsUndisturbed}
-use Rattle.bz_lone.specs.FromAlone.Counts.{HasOthers}
-use Rattle.bz_lone.specs.FromAlone.Reads.{get_reads}
-use Rattle.bz_running.specs.Duties.{config_of, asks_of, end_of, made_of, ascent_of, change_swaps, needs_of, wants_of, facts_of, means_of, makes_no_change}
-use Rattle.bz_running.specs.FromAscent.Ascents.{IsOneUp}
-use Rattle.bz_running.specs.FromAscent.Ascent.{Ascent}
-use Rattle.bz_running.specs.GoingUp.{GoesUp, HasOneUp, IsInScene, MayBeSplit}
-use Rattle.bz_running.specs.Kinds as kinds
-use Rattle.bz_running.specs.Kinds.{Kind, kind_of}
-use Rattle.bz_running.specs.declared.running.AnyTask.{AnyTask}
+use Rattle.bz_solo.specs.FromAlone.Undisturbed.{IsUndisturbed}
+use Rattle.bz_solo.specs.FromAlone.Counts.{HasOthers}
+use Rattle.bz_solo.specs.FromAlone.Reads.{get_reads}
+use Rattle.bz_any_task.specs.Duties.{config_of, asks_of, end_of, made_of, ascent_of, change_swaps, needs_of, wants_of, facts_of, means_of, makes_no_change}
+use Rattle.bz_any_task.specs.FromAscent.Ascents.{IsOneUp}
+use Rattle.bz_any_task.specs.FromAscent.Ascent.{Ascent}
+use Rattle.bz_any_task.specs.GoingUp.{GoesUp, HasOneUp, IsInScene, MayBeSplit}
+use Rattle.bz_any_task.specs.Kinds as kinds
+use Rattle.bz_any_task.specs.Kinds.{Kind, kind_of}
+use Rattle.bz_any_task.specs.declared.running.AnyTask.{AnyTask}
 use Rattle.bz_slotted.specs.Readers.{live_of}
 use Rattle.bz_slotted.specs.ReadingLaws.{node_of}
 use Rattle.bz_stage.specs.FromLeaves.Neighbours.{MayBeMerged}
@@ -37,7 +37,7 @@ use Rattle.bz_sound.specs.Solitary.{IsSolitary, acts_since}
 use Rattle.bz_sound.specs.Memory.Moments.{image_at}
 use Rattle.bz_sound.specs.Power.Replies.{IsRightReply}
 use Rattle.bz_sound.specs.Power.Spent.{IsSpent}
-use Rattle.bz_story.specs.Story.{scene}
+use Rattle.bz_refinement.specs.Story.{scene}
 use Rattle.bz_swap.specs.SwapMemory.{worker_of}
 use Rattle.bz_task.specs.Outcomes.{IsPath, IsView, IsKeyView}
 use Rattle.bz_task.specs.Scene.{Scene, Waiting}

@@ -14,15 +14,15 @@ use Rattle.bz_sound.specs.Memory.Moments.{map_at_start}
 use Rattle.bz_mark.specs.declared.power.Power.{Power}
 use Rattle.bz_mark.specs.declared.power.Power.TheVariants as power
 use Rattle.bz_sound.specs.Power.Sound.{IsSound}
-use Rattle.bz_shape.specs.Walk.{is_among}
+use Rattle.bz_tree.specs.Walk.{is_among}
 use Rattle.bz_mark.specs.Counts.{is_taken}
 use Rattle.bz_sound.specs.Memory.Spent.{is_reached_in, is_stored_into}
 use Rattle.bz_mark.specs.Times.{power_of, since_on}
 use Rattle.bz_sound.specs.Power.Times.{image_at_on}
-use Rattle.bz_story.specs.Living.{IsLiving}
-use Rattle.bz_story.specs.Recovering as recovery
-use Rattle.bz_story.specs.Reviving as reviving
-use Rattle.bz_story.specs.Story.{Story}
+use Rattle.bz_refinement.specs.Living.{IsLiving}
+use Rattle.bz_refinement.specs.Recovering as recovery
+use Rattle.bz_refinement.specs.Reviving as reviving
+use Rattle.bz_refinement.specs.Story.{Story}
 use Rattle.bz_swap.specs.SwapMemory.{SwapMemory, has_effect, memory_words}
 use Rattle.bz_swap.specs.TakenStatuses.{IsTaken, BegunAreTaken}
 use Rattle.bz_world.specs.Inside.Solitary.{IsSolitaryIn}

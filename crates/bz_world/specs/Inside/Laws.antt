@@ -1,32 +1,32 @@
 -- The laws of the crates below on which the world's acts stand.
 use Rattle.std.specs.Prelude.{◌≡◌, ◌-◌, Some, slice_get}
-use Rattle.bz_lone.specs.FromAlone.Brief.{LookUpsAreBrief, WaysAreBrief, BriefLookUpsGoOn, GetsAreBrief}
-use Rattle.bz_lone.specs.FromAlone.Counts.{OwnSwapsAreCounted}
-use Rattle.bz_lone.specs.FromAlone.Quiet.{EffectsNeverFall}
-use Rattle.bz_lone.specs.FromAlone.Reads.{PathsReadFew}
-use Rattle.bz_lone.specs.FromAlone.Restarts.{UndisturbedRestartsAreRefusals}
-use Rattle.bz_lone.specs.FromAlone.Tasks.{UndisturbedTasksGoOn}
-use Rattle.bz_lone.specs.FromCosts.Costs.{SoloCallsAreAffordable}
-use Rattle.bz_lone.specs.FromCosts.Laws.{AskedSwapsAreCounted}
-use Rattle.bz_lone.specs.FromCosts.Resources.{Resource}
-use Rattle.bz_lone.specs.Renewals.{RenewalsArePaid, AscentsArePaid}
-use Rattle.bz_lone.specs.Rounds.{LessIsSpared, EndsAreAfforded, EndsArePaid, WaysArePaid, ChangesArePaid, LeavesAreRead, ReadLeavesArePaid, TasksMayBegin, RoundsBegin, DisturbedRoundsArePaid, EndsLeaveARound}
-use Rattle.bz_lone.specs.Steps.{AnyCallIsPaid, AnyRoundIsPaid, FirstRoundsArePaid, IdleMemoriesAllowNothing, QuietStepsArePaid, ForeignEffectsArePaid, EffectMarksArePaid, LessIsPaid, OwnEffectsArePaid, HearingsArePaid, StartsArePaid}
+use Rattle.bz_solo.specs.FromAlone.Brief.{LookUpsAreBrief, WaysAreBrief, BriefLookUpsGoOn, GetsAreBrief}
+use Rattle.bz_solo.specs.FromAlone.Counts.{OwnSwapsAreCounted}
+use Rattle.bz_solo.specs.FromAlone.Quiet.{EffectsNeverFall}
+use Rattle.bz_solo.specs.FromAlone.Reads.{PathsReadFew}
+use Rattle.bz_solo.specs.FromAlone.Restarts.{UndisturbedRestartsAreRefusals}
+use Rattle.bz_solo.specs.FromAlone.Tasks.{UndisturbedTasksGoOn}
+use Rattle.bz_solo.specs.FromCosts.Costs.{SoloCallsAreAffordable}
+use Rattle.bz_solo.specs.FromCosts.Laws.{AskedSwapsAreCounted}
+use Rattle.bz_solo.specs.FromCosts.Resources.{Resource}
+use Rattle.bz_solo.specs.Renewals.{RenewalsArePaid, AscentsArePaid}
+use Rattle.bz_solo.specs.Rounds.{LessIsSpared, EndsAreAfforded, EndsArePaid, WaysArePaid, ChangesArePaid, LeavesAreRead, ReadLeavesArePaid, TasksMayBegin, RoundsBegin, DisturbedRoundsArePaid, EndsLeaveARound}
+use Rattle.bz_solo.specs.Steps.{AnyCallIsPaid, AnyRoundIsPaid, FirstRoundsArePaid, IdleMemoriesAllowNothing, QuietStepsArePaid, ForeignEffectsArePaid, EffectMarksArePaid, LessIsPaid, OwnEffectsArePaid, HearingsArePaid, StartsArePaid}
 use Rattle.bz_page.specs.Laws.{ViewsSayWhatImagesSay}
 use Rattle.bz_record.specs.Laws.{ViewsShowLeaves}
 use Rattle.bz_rivals.specs.Laws.{RivalsFall}
 use Rattle.bz_rivals.specs.Notes.{NotesAreOfBegun, ZeroSwapsNothing}
 use Rattle.bz_rivals.specs.Wins.{OwnSwapsWin, ExpectedStand}
-use Rattle.bz_lone.specs.FromAlone.Trees.{TreesStand}
+use Rattle.bz_solo.specs.FromAlone.Trees.{TreesStand}
 use Rattle.bz_content.specs.Laws.{WellFormedImagesHaveNoFault}
-use Rattle.bz_lone.specs.FromJoined.DueMerges.{UndisturbedMergesAreDue, UndisturbedViewsTellTheLiveWords}
-use Rattle.bz_lone.specs.FromJoined.Neighbours.{KnownLeavesStay, UndisturbedMergesDoNotLackRoom, MergesKnowTheirLeaf, NeighboursStand}
-use Rattle.bz_lone.specs.FromJoined.SmallLeaves.{DeletesTellOfMerges, UndisturbedRootLeavesAreTheTree, MergeableLeavesStandBelow}
-use Rattle.bz_lone.specs.FromRounds.Due.{UndisturbedLeavesAreDue, UndisturbedAscentsAreDue}
-use Rattle.bz_lone.specs.FromRounds.Levels.{UndisturbedAscentsAreBelowTheStage}
-use Rattle.bz_lone.specs.FromRounds.Stands.{UndisturbedViewsTellTheLeaf, StagesStand}
-use Rattle.bz_lone.specs.FromTally.Laws.{LeavesComeAndGo, MergesCountAtLast}
-use Rattle.bz_lone.specs.FromRounds.Viewed.{UndisturbedViewsTellTheStage, UndisturbedKeyViewsTellTheStage}
+use Rattle.bz_solo.specs.FromJoined.DueMerges.{UndisturbedMergesAreDue, UndisturbedViewsTellTheLiveWords}
+use Rattle.bz_solo.specs.FromJoined.Neighbours.{KnownLeavesStay, UndisturbedMergesDoNotLackRoom, MergesKnowTheirLeaf, NeighboursStand}
+use Rattle.bz_solo.specs.FromJoined.SmallLeaves.{DeletesTellOfMerges, UndisturbedRootLeavesAreTheTree, MergeableLeavesStandBelow}
+use Rattle.bz_solo.specs.FromRounds.Due.{UndisturbedLeavesAreDue, UndisturbedAscentsAreDue}
+use Rattle.bz_solo.specs.FromRounds.Levels.{UndisturbedAscentsAreBelowTheStage}
+use Rattle.bz_solo.specs.FromRounds.Stands.{UndisturbedViewsTellTheLeaf, StagesStand}
+use Rattle.bz_solo.specs.FromTally.Laws.{LeavesComeAndGo, MergesCountAtLast}
+use Rattle.bz_solo.specs.FromRounds.Viewed.{UndisturbedViewsTellTheStage, UndisturbedKeyViewsTellTheStage}
 use Rattle.bz_sight.specs.Acts.{FlushingStepsFlush, QuietStepsPass, StepsLeaveCaches, StoringStepsStore}
 use Rattle.bz_sight.specs.Effects.{EffectsTakePlace}
 use Rattle.bz_sight.specs.Passing.{ActsPass}
@@ -38,12 +38,12 @@ use Rattle.bz_sound.specs.Power.CallLaws.{OpenCallsAreLast, OpenCallsLeaveRoom}
 use Rattle.bz_sound.specs.Power.Growth.{BeginsFollow, EffectsFollowActs, EndsFollow, FlushesFollow, LoadsAreSettled, PageEndsFollow, QuietActsFollow}
 use Rattle.bz_sound.specs.Power.ImageLaws.{AnswersComeFromTheImage, ChangesFollow, PagesComeFromTheImage, SameContentDecodes, SpentAnswersFull}
 use Rattle.bz_stage.specs.Laws.{LackingLeavesSay}
-use Rattle.bz_story.specs.Laws.{EffectsAreTold, FlushesAreTold, LivesGoOn, QuietMarksAreLawful, ScenesAreSeen, StoresAreTold}
+use Rattle.bz_refinement.specs.Laws.{EffectsAreTold, FlushesAreTold, LivesGoOn, QuietMarksAreLawful, ScenesAreSeen, StoresAreTold}
 use Rattle.bz_swap.specs.SoloRuns.{SoloStepsAreAllowed, SoloStepsAreAllowedByKind}
 use Rattle.bz_swap.specs.TakenStatuses.{BegunStayTaken, TakenStatusesStay}
 use Rattle.bz_task.specs.declared.path.Link.{Link}
 use Rattle.bz_task.specs.declared.path.Path.{Path}
-use Rattle.bz_lone.specs.FromTally.Deletes.{DeletesTakeOneRecord}
+use Rattle.bz_solo.specs.FromTally.Deletes.{DeletesTakeOneRecord}
 use Rattle.bz_task.specs.Laws.{FrontsStay, RangesStay}
 
 -- a path has a last link

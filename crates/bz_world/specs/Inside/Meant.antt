@@ -4,13 +4,13 @@ use Rattle.bz_call.specs.Map.{key_of}
 use Rattle.bz_content.specs.Content.{image_of, leaf_in}
 use Rattle.bz_stage.specs.FromLeaves.Neighbours.{leaf_page}
 use Rattle.bz_layout.specs.declared.thresholds.TheConstants.{SPLIT_ABOVE}
-use Rattle.bz_lone.specs.FromCosts.Most.{IsWithinItsActs}
-use Rattle.bz_lone.specs.Errands.{IsLookOf}
-use Rattle.bz_lone.specs.Meant.{IsMeantFor}
-use Rattle.bz_running.specs.Kinds as kinds
-use Rattle.bz_running.specs.Kinds.{is_renewal, kind_of}
-use Rattle.bz_running.specs.MadeFor.{IsMadeFor, IsSmallMerge}
-use Rattle.bz_running.specs.declared.running.AnyTask.{AnyTask}
+use Rattle.bz_solo.specs.FromCosts.Most.{IsWithinItsActs}
+use Rattle.bz_solo.specs.Errands.{IsLookOf}
+use Rattle.bz_solo.specs.Meant.{IsMeantFor}
+use Rattle.bz_any_task.specs.Kinds as kinds
+use Rattle.bz_any_task.specs.Kinds.{is_renewal, kind_of}
+use Rattle.bz_any_task.specs.MadeFor.{IsMadeFor, IsSmallMerge}
+use Rattle.bz_any_task.specs.declared.running.AnyTask.{AnyTask}
 use Rattle.bz_slotted.specs.Records.{live_words}
 use Rattle.bz_task.specs.Outcomes.{IsView}
 use Rattle.bz_task.specs.Scene.{Past}

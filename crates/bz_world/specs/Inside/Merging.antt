@@ -7,14 +7,14 @@ use Rattle.bz_stage.specs.FromLeaves.Neighbours.{MayBeMerged}
 use Rattle.bz_layout.specs.declared.config.Config.{Config}
 use Rattle.bz_layout.specs.declared.swaps.TheConstants.{DELETE_SWAPS, MERGE_SWAPS}
 use Rattle.bz_layout.specs.declared.thresholds.TheConstants.{MERGE_SLOTS}
-use Rattle.bz_lone.specs.FromAlone.Counts.{HasOthers}
-use Rattle.bz_lone.specs.FromJoined.Neighbours.{KnowsItsLeaf}
-use Rattle.bz_lone.specs.FromTally.Leaves.{leaves_in}
+use Rattle.bz_solo.specs.FromAlone.Counts.{HasOthers}
+use Rattle.bz_solo.specs.FromJoined.Neighbours.{KnowsItsLeaf}
+use Rattle.bz_solo.specs.FromTally.Leaves.{leaves_in}
 use Rattle.bz_mark.specs.Log.{Log}
 use Rattle.bz_mark.specs.Moments.{at_moment}
-use Rattle.bz_running.specs.Duties.{end_of, leaves_few_of, made_of, needs_of, swaps_of, wants_of}
-use Rattle.bz_running.specs.Kinds as kinds
-use Rattle.bz_running.specs.Kinds.{Kind, kind_of}
+use Rattle.bz_any_task.specs.Duties.{end_of, leaves_few_of, made_of, needs_of, swaps_of, wants_of}
+use Rattle.bz_any_task.specs.Kinds as kinds
+use Rattle.bz_any_task.specs.Kinds.{Kind, kind_of}
 use Rattle.bz_sound.specs.Calls.{Open}
 use Rattle.bz_sound.specs.Solitary.{IsSolitary}
 use Rattle.bz_mark.specs.Counts.{count_taken}

@@ -2,15 +2,15 @@
 use Rattle.std.specs.Prelude.{ℕ, ◌+◌, ◌-◌, ◌≤◌, if◌then◌else◌, is_some, Bool, true, false, List, [], ◌∷◌, length, Option, Some, None}
 use Rattle.bz_layout.specs.declared.config.Config.{Config}
 use Rattle.bz_layout.specs.declared.thresholds.TheConstants.{LEAF_RECORD_WORDS, SLOTS_PER_CALL, SWAPS_PER_CALL}
-use Rattle.bz_lone.specs.Errands.{Errand, words_asked}
-use Rattle.bz_lone.specs.FromCosts.Resources.{Resource, Marks, Descriptors, Slots}
-use Rattle.bz_lone.specs.Prices.{Prices}
-use Rattle.bz_lone.specs.Sum.{IsThawed, Spares, PaysForRound, IsPaid}
+use Rattle.bz_solo.specs.Errands.{Errand, words_asked}
+use Rattle.bz_solo.specs.FromCosts.Resources.{Resource, Marks, Descriptors, Slots}
+use Rattle.bz_solo.specs.Prices.{Prices}
+use Rattle.bz_solo.specs.Sum.{IsThawed, Spares, PaysForRound, IsPaid}
 use Rattle.bz_mark.specs.declared.marks.Mark.{Mark}
 use Rattle.bz_mark.specs.declared.marks.Mark.TheVariants.{Begin}
-use Rattle.bz_running.specs.Kinds as kinds
-use Rattle.bz_running.specs.Kinds.{Kind}
-use Rattle.bz_running.specs.declared.running.AnyTask.{AnyTask}
+use Rattle.bz_any_task.specs.Kinds as kinds
+use Rattle.bz_any_task.specs.Kinds.{Kind}
+use Rattle.bz_any_task.specs.declared.running.AnyTask.{AnyTask}
 use Rattle.bz_swap.specs.Solo.{left_to}
 use Rattle.bz_swap.specs.SwapMemory.{SwapMemory}
 use Rattle.bz_task.specs.Scene.{Past}

@@ -1,13 +1,13 @@
 -- What stands between the acts of a recovery, and what a power cut leaves.
 use Rattle.std.specs.Prelude.{◌≡◌, ℕ, ◌+◌, length, map, get_or, Option, Some, None}
-use Rattle.bz_acts.specs.declared.acted.Act.{Act}
-use Rattle.bz_machine.specs.declared.done.Done.{Done}
+use Rattle.bz_swap_acts.specs.declared.acted.Act.{Act}
+use Rattle.bz_swap_machine.specs.declared.done.Done.{Done}
 use Rattle.bz_mark.specs.Log.{with_mark}
 use Rattle.bz_mark.specs.declared.marks.Mark.TheVariants.{Cut, Ready}
 use Rattle.bz_recover.specs.Duties.{asks_of}
 use Rattle.bz_mark.specs.declared.power.Power.TheVariants as power
 use Rattle.bz_sound.specs.Power.Calls.{IsAfterRecovering}
-use Rattle.bz_story.specs.Recovering.{Asked}
+use Rattle.bz_refinement.specs.Recovering.{Asked}
 use Rattle.bz_swap.specs.Power.{after_cut, renewed}
 use Rattle.bz_swap.specs.Steps.{IsRawStep}
 use Rattle.bz_swap.specs.SwapMemory.{Working}

@@ -7,20 +7,20 @@ use Rattle.bz_call.specs.declared.replies.Reply.{Reply}
 use Rattle.bz_call.specs.declared.replies.Reply.TheVariants.{Inserted, Exists, Deleted, Updated, Missing, Value, Page, Full}
 use Rattle.bz_layout.specs.declared.config.Config.{Config}
 use Rattle.bz_layout.specs.declared.thresholds.TheConstants.{SPLIT_SLOTS}
-use Rattle.bz_shape.specs.Walk.{is_among}
+use Rattle.bz_tree.specs.Walk.{is_among}
 use Rattle.bz_mark.specs.Log.{Log}
 use Rattle.bz_mark.specs.declared.marks.Mark.{Mark}
-use Rattle.bz_running.specs.Duties.{config_of, asks_of, needs_of, wants_of, change_of, publishing_of, facts_of, makes_no_change}
-use Rattle.bz_running.specs.Hearing.{IsLookup}
-use Rattle.bz_running.specs.Kinds as kinds
-use Rattle.bz_running.specs.Kinds.{kind_of}
-use Rattle.bz_running.specs.Laws.{AreLaws}
-use Rattle.bz_running.specs.declared.running.AnyTask.{AnyTask}
+use Rattle.bz_any_task.specs.Duties.{config_of, asks_of, needs_of, wants_of, change_of, publishing_of, facts_of, makes_no_change}
+use Rattle.bz_any_task.specs.Hearing.{IsLookup}
+use Rattle.bz_any_task.specs.Kinds as kinds
+use Rattle.bz_any_task.specs.Kinds.{kind_of}
+use Rattle.bz_any_task.specs.Laws.{AreLaws}
+use Rattle.bz_any_task.specs.declared.running.AnyTask.{AnyTask}
 use Rattle.bz_sound.specs.Calls.{Open, open_call, map_at}
 use Rattle.bz_sound.specs.Memory.ImageLaws.{IsChangeOf}
 use Rattle.bz_sound.specs.Memory.Moments.{map_at_start}
 use Rattle.bz_sound.specs.Memory.Spent.{NeedsSlots}
-use Rattle.bz_story.specs.Story.{Story, scene}
+use Rattle.bz_refinement.specs.Story.{Story, scene}
 use Rattle.bz_swap.specs.EntryLists.{IsEntryList}
 use Rattle.bz_swap.specs.SwapMemory.{SwapMemory, Doing, Idle, Reading, Swapping, Storing, Flushing, doing_of, entries_of, has_effect}
 use Rattle.bz_task.specs.Scene.{Stage, Waiting, Took}

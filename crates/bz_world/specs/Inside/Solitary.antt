@@ -1,14 +1,14 @@
 -- A solitary get, as it is served: it is made while no other call is open, so no swap takes effect beside it, and its acts are few.
 use Rattle.std.specs.Prelude.{◌≡◌, ◌≢◌, ℕ, suc, false, List, length, get_or, Option, Some, None}
-use Rattle.bz_lone.specs.FromAlone.Brief.{IsBrief}
+use Rattle.bz_solo.specs.FromAlone.Brief.{IsBrief}
 use Rattle.bz_call.specs.declared.calls.Call.{Call}
 use Rattle.bz_call.specs.declared.calls.Call.TheVariants as call
 use Rattle.bz_mark.specs.declared.marks.Mark.{Mark}
-use Rattle.bz_running.specs.Duties.{end_of}
-use Rattle.bz_running.specs.LookingUp.{LooksUpBriefly}
+use Rattle.bz_any_task.specs.Duties.{end_of}
+use Rattle.bz_any_task.specs.LookingUp.{LooksUpBriefly}
 use Rattle.bz_sound.specs.Calls.{Open, open_call}
 use Rattle.bz_sound.specs.Solitary.{IsSolitary, acts_since}
-use Rattle.bz_story.specs.Story.{Story}
+use Rattle.bz_refinement.specs.Story.{Story}
 use Rattle.bz_swap.specs.Starts.{started}
 use Rattle.bz_swap.specs.SwapMemory.{SwapMemory, Reading}
 use Rattle.bz_task.specs.declared.todo.Outcome.TheVariants.{Restart}

@@ -2,16 +2,16 @@
 use Rattle.std.specs.Prelude.{◌≡◌, ◌≢◌, ◌<◌, ℕ, true, List, Option, Some, None, get_or}
 use Rattle.bz_call.specs.Map.{key_of}
 use Rattle.bz_layout.specs.Slots.{FreeSlots}
-use Rattle.bz_running.specs.Duties.{config_of, asks_of, needs_of, facts_of, means_of, makes_no_change}
-use Rattle.bz_running.specs.Hearing.{HasHeard}
-use Rattle.bz_lone.specs.FromAlone.Undisturbed.{IsUndisturbed}
-use Rattle.bz_lone.specs.Prices.{coming}
-use Rattle.bz_lone.specs.Rounds.{stage_now}
-use Rattle.bz_running.specs.Kinds as kinds
-use Rattle.bz_running.specs.Kinds.{kind_of}
-use Rattle.bz_running.specs.Laws.{AreLaws}
-use Rattle.bz_running.specs.LookingUp.{HasCounted, LooksUpBriefly}
-use Rattle.bz_story.specs.Story.{scene}
+use Rattle.bz_any_task.specs.Duties.{config_of, asks_of, needs_of, facts_of, means_of, makes_no_change}
+use Rattle.bz_any_task.specs.Hearing.{HasHeard}
+use Rattle.bz_solo.specs.FromAlone.Undisturbed.{IsUndisturbed}
+use Rattle.bz_solo.specs.Prices.{coming}
+use Rattle.bz_solo.specs.Rounds.{stage_now}
+use Rattle.bz_any_task.specs.Kinds as kinds
+use Rattle.bz_any_task.specs.Kinds.{kind_of}
+use Rattle.bz_any_task.specs.Laws.{AreLaws}
+use Rattle.bz_any_task.specs.LookingUp.{HasCounted, LooksUpBriefly}
+use Rattle.bz_refinement.specs.Story.{scene}
 use Rattle.bz_task.specs.Outcomes.{IsPath}
 use Rattle.bz_task.specs.Requests.{Hears, IsKnown}
 use Rattle.bz_task.specs.declared.path.Path.{Path}

@@ -1,7 +1,7 @@
 use Rattle.std.proofs.Common.{◌≡◌, ◌-◌, ◌≤◌, ◌<◌, ◌++◌}
 use Rattle.bz_node.specs.Reading.{count_in}
-use Rattle.bz_shape.specs.View.{View, high_at}
-use Rattle.bz_shape.specs.Walk.{kids}
+use Rattle.bz_tree.specs.View.{View, high_at}
+use Rattle.bz_tree.specs.Walk.{kids}
 use Rattle.bz_judge.specs.Inside.Stacks.{visit_of, stack_of, Shows}
 use Rattle.bz_judge.proofs.visit.push_children.Given as goal
 

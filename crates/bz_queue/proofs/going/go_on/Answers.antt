@@ -1,6 +1,6 @@
 use Rattle.std.proofs.Common.{length, refl, ap, ◌∙◌, true, None}
 use Rattle.std.proofs.lemmas.List.{get_or_read_under}
-use Rattle.bz_machine.specs.declared.done.Done.TheVariants.{Read, Swapped}
+use Rattle.bz_swap_machine.specs.declared.done.Done.TheVariants.{Read, Swapped}
 use Rattle.bz_queue.proofs.Ends.{place-of}
 use Rattle.bz_queue.proofs.Judging.{must-of}
 use Rattle.bz_queue.proofs.going.go_on.Goals as goal

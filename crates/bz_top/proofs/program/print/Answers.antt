@@ -1,4 +1,4 @@
-use Rattle.bz_words.specs.declared.command.Command.TheVariants.{Run, Dump, Load, Work}
+use Rattle.bz_cli.specs.declared.command.Command.TheVariants.{Run, Dump, Load, Work}
 use Rattle.bz_top.specs.Endings.{printed}
 use Rattle.bz_top.specs.Parts.{sunk}
 use Rattle.bz_top.proofs.RunLemmas.{prints}

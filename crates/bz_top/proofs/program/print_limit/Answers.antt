@@ -1,5 +1,5 @@
 use Rattle.std.proofs.Common.{◌++◌}
-use Rattle.bz_words.specs.declared.command.Command.TheVariants.{Run, Dump, Load, Trace, Work}
+use Rattle.bz_cli.specs.declared.command.Command.TheVariants.{Run, Dump, Load, Trace, Work}
 use Rattle.bz_top.specs.Endings.{printed_before}
 use Rattle.bz_top.specs.Faults.{fault_line, limit_text}
 use Rattle.bz_top.specs.Parts.{sunk}

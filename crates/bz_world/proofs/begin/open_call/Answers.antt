@@ -1,6 +1,6 @@
 use Rattle.std.proofs.Common.{false, arith, refl, sym, ap, ◌+◌, ◌<◌, ◌^◌, subst, rules, Some, None}
 use Rattle.std.specs.Vec.{with_item}
-use Rattle.bz_running.specs.Hearing.{IsLookup}
+use Rattle.bz_any_task.specs.Hearing.{IsLookup}
 use Rattle.bz_task.specs.declared.todo.Todo.TheVariants.{Read}
 use Rattle.bz_world.specs.Inside.Beginning.{HasBegun}
 use Rattle.bz_world.proofs.Beginning.{in-numbers, begin-room, few-numbers, number-is, has-begun}

@@ -1,7 +1,7 @@
 use Rattle.std.proofs.Common.{◌∙◌}
 use Rattle.bz_mark.specs.declared.power.Power.TheVariants as power
 use Rattle.bz_sound.proofs.Proved.{fresh_journals_are_sound}
-use Rattle.bz_story.proofs.Proved.{images_open_journals}
+use Rattle.bz_refinement.proofs.Proved.{images_open_journals}
 use Rattle.bz_world.proofs.Booting.{kept-image}
 use Rattle.bz_world.proofs.Openings.{lab-made}
 use Rattle.bz_world.proofs.boot.image_parts.Goals as goal

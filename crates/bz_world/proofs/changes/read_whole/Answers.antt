@@ -1,5 +1,5 @@
 use Rattle.std.proofs.Common.{sym, ap, ◌∙◌, inl, inr}
-use Rattle.bz_running.specs.Kinds as kinds
+use Rattle.bz_any_task.specs.Kinds as kinds
 use Rattle.bz_world.specs.Inside.Going.{path_in}
 use Rattle.bz_world.proofs.Exactly.{no-reading}
 use Rattle.bz_world.proofs.Spared.{writes-look}

@@ -6,9 +6,9 @@ use Rattle.bz_world.specs.Inside.Acted.{MustTell}
 use Rattle.bz_world.specs.Inside.Solitary.{IsNotSolitaryIn}
 use Rattle.bz_world.specs.Inside.Telling.{HasToldIn}
 use Rattle.bz_world.specs.declared.parts.Parts.{Parts}
-use Rattle.bz_lone.specs.FromCosts.Resources.{Resource}
-use Rattle.bz_lone.specs.FromCosts.Weights.{start_takes}
-use Rattle.bz_story.specs.Story.{scene}
+use Rattle.bz_solo.specs.FromCosts.Resources.{Resource}
+use Rattle.bz_solo.specs.FromCosts.Weights.{start_takes}
+use Rattle.bz_refinement.specs.Story.{scene}
 use Rattle.bz_world.proofs.Paid.{affords-room}
 use Rattle.bz_world.specs.Inside.Going.{HasRoomForEnd}
 use Rattle.bz_world.specs.Inside.Paid.{bound_in, errand_of, used_in, IsPaidFor}

@@ -9,9 +9,9 @@ use Rattle.bz_world.specs.declared.serving.OpenCall.{OpenCall}
 use Rattle.bz_world.proofs.Spared.{not-ended, round-room, seeks}
 use Rattle.bz_world.proofs.Paid.{within-of}
 use Rattle.bz_world.specs.Inside.Paid.{bound_in, errand_of, used_in}
-use Rattle.bz_running.specs.Kinds as kinds
-use Rattle.bz_running.specs.Kinds.{is_look, is_renewal}
-use Rattle.bz_lone.specs.Errands.{IsLookOf}
+use Rattle.bz_any_task.specs.Kinds as kinds
+use Rattle.bz_any_task.specs.Kinds.{is_look, is_renewal}
+use Rattle.bz_solo.specs.Errands.{IsLookOf}
 use Rattle.bz_world.proofs.TakingOn.{duly-looks, look-after, looks-anew, looks-right, taken-asks, lookup-taken, none-wanted, slot-is, call-is, has-filled, went-started, starts-always}
 use Rattle.bz_world.proofs.going.look_up.Goals as goal
 

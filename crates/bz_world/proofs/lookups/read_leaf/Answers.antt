@@ -11,9 +11,9 @@ use Rattle.std.proofs.lemmas.Bool.{true≢false}
 use Rattle.bz_world.specs.Inside.Exact.{seeks}
 use Rattle.bz_world.specs.Inside.Meant.{IsMeant}
 use Rattle.bz_world.specs.Inside.Merging.{looks_on}
-use Rattle.bz_running.specs.Kinds as kinds
-use Rattle.bz_running.specs.Kinds.{is_look, is_renewal}
-use Rattle.bz_lone.specs.Errands.{IsLookOf}
+use Rattle.bz_any_task.specs.Kinds as kinds
+use Rattle.bz_any_task.specs.Kinds.{is_look, is_renewal}
+use Rattle.bz_solo.specs.Errands.{IsLookOf}
 use Rattle.bz_world.proofs.TakingOn.{task-begins, lookup-taken, looks-right, none-wanted, slot-is, call-is, known-scene, went-anew}
 use Rattle.bz_world.proofs.lookups.read_leaf.Goals as goal
 

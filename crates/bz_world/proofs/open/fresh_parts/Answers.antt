@@ -7,7 +7,7 @@ use Rattle.bz_mark.specs.declared.power.Power.TheVariants as power
 use Rattle.bz_layout.proofs.Laws.{fresh_words_say}
 use Rattle.bz_content.proofs.Proved.{fresh_memory_is_empty, fresh_memory_reaches_slot_zero}
 use Rattle.bz_sound.proofs.Proved.{fresh_journals_are_sound}
-use Rattle.bz_story.proofs.Proved.{fresh_stories_live}
+use Rattle.bz_refinement.proofs.Proved.{fresh_stories_live}
 use Rattle.bz_world.specs.WorldView.{view_over}
 use Rattle.bz_world.proofs.FreshSlots.{count-fresh}
 use Rattle.bz_world.proofs.Openings.{kept-fresh, lab-made, no-pairs}

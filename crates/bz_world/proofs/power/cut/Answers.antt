@@ -3,7 +3,7 @@ use Rattle.std.proofs.lemmas.Bool.{true≢false}
 use Rattle.bz_mark.specs.Log.{Limits}
 use Rattle.bz_mark.specs.declared.power.Power.TheVariants as power
 use Rattle.bz_sound.proofs.Proved.{cuts_follow, power_tells_what_follows}
-use Rattle.bz_story.proofs.Proved.{cuts_are_marked}
+use Rattle.bz_refinement.proofs.Proved.{cuts_are_marked}
 use Rattle.bz_world.specs.Inside.Beginning.{world_view}
 use Rattle.bz_world.specs.declared.answers.Applied.TheVariants as applied
 use Rattle.bz_world.proofs.Cutting.{cut-kept, cut-seen}

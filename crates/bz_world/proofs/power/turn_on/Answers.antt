@@ -1,7 +1,7 @@
 use Rattle.std.proofs.Common.{◌∙◌, sym, ap}
 use Rattle.bz_layout.specs.declared.config.Config.{Config}
 use Rattle.bz_sound.proofs.Proved.{ons_follow, power_tells_what_follows}
-use Rattle.bz_story.proofs.Proved.{power_on_is_marked, recoveries_go_on, turns_make_no_mark}
+use Rattle.bz_refinement.proofs.Proved.{power_on_is_marked, recoveries_go_on, turns_make_no_mark}
 use Rattle.bz_world.proofs.Waking.{begun-on, seen-on}
 use Rattle.bz_world.proofs.power.turn_on.Goals as goal
 

@@ -1,7 +1,7 @@
 use Rattle.std.proofs.Common.{refl, sym, ap, ◌∙◌}
 use Rattle.bz_layout.specs.declared.config.Config.{Config}
 use Rattle.bz_sound.proofs.Proved.{flushes_follow, quiet_acts_follow, same_content_decodes}
-use Rattle.bz_story.proofs.Proved.{acts_are_marked, recoveries_go_on, turns_make_no_mark}
+use Rattle.bz_refinement.proofs.Proved.{acts_are_marked, recoveries_go_on, turns_make_no_mark}
 use Rattle.bz_world.proofs.Recovered.{asked-on}
 use Rattle.bz_world.proofs.Recovering.{Laws, hears-on, made-on, told-on, after-on}
 use Rattle.bz_world.proofs.recovery.ask_next.Goals as goal

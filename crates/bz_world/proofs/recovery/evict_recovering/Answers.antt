@@ -1,6 +1,6 @@
 use Rattle.std.proofs.Common.{◌<◌, length, arith}
 use Rattle.bz_sound.proofs.Proved.{flushes_follow, quiet_acts_follow, same_content_decodes}
-use Rattle.bz_story.proofs.Proved.{evictions_are_marked}
+use Rattle.bz_refinement.proofs.Proved.{evictions_are_marked}
 use Rattle.bz_world.proofs.Recovering.{evict-started}
 use Rattle.bz_world.proofs.recovery.evict_recovering.Goals as goal
 

@@ -2,7 +2,7 @@ use Rattle.std.proofs.Common.{◌≡◌, ◌≢◌, ℕ, sym, ap, subst, ◌∙�
 use Rattle.bz_swap.specs.Starts.{started}
 use Rattle.bz_task.specs.declared.todo.Todo.TheVariants.{Load, Store, Flush}
 use Rattle.bz_swap.specs.SwapMemory.{SwapMemory, Loading, Storing, Flushing}
-use Rattle.bz_story.proofs.Proved.{acts_may_start, turns_make_no_mark}
+use Rattle.bz_refinement.proofs.Proved.{acts_may_start, turns_make_no_mark}
 use Rattle.bz_world.specs.Inside.Kept.{IsStarted}
 use Rattle.bz_world.proofs.Recovering.{started-recovering}
 use Rattle.bz_world.proofs.recovery.start_act.Goals as goal

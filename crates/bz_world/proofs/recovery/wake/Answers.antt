@@ -1,5 +1,5 @@
 use Rattle.bz_sound.proofs.Proved.{power_tells_what_follows, readys_follow}
-use Rattle.bz_story.proofs.Proved.{recoveries_give_life, walks_end}
+use Rattle.bz_refinement.proofs.Proved.{recoveries_give_life, walks_end}
 use Rattle.bz_world.proofs.Waking.{may-renew, wakes}
 use Rattle.bz_world.proofs.recovery.wake.Goals as goal
 

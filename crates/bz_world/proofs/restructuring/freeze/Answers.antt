@@ -1,6 +1,6 @@
 use Rattle.std.proofs.Common.{refl, ap, ◌∙◌, Option, None}
 use Rattle.std.specs.Vec.{with_item}
-use Rattle.bz_running.specs.Kinds as kinds
+use Rattle.bz_any_task.specs.Kinds as kinds
 use Rattle.bz_world.specs.Inside.Going.{known, with_task}
 use Rattle.bz_world.specs.declared.serving.OpenCall.{OpenCall}
 use Rattle.bz_world.proofs.MakingAnew.{no-leaf-split, freeze-taken}

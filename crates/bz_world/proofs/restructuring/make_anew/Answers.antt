@@ -1,6 +1,6 @@
 use Rattle.std.proofs.Common.{◌≤◌, arith, refl, sym, ◌∙◌, inl}
 use Rattle.std.proofs.lemmas.Bool.{true≢false}
-use Rattle.bz_running.specs.Kinds as kinds
+use Rattle.bz_any_task.specs.Kinds as kinds
 use Rattle.bz_world.proofs.Exactly.{again-kind, no-look-up}
 use Rattle.bz_world.proofs.MakingAnew.{not-due}
 use Rattle.bz_world.proofs.restructuring.make_anew.Goals as goal

@@ -1,6 +1,6 @@
 use Rattle.std.proofs.Common.{refl, sym, ap, ◌∙◌, inl}
 use Rattle.bz_world.specs.Inside.Going.{unmerged_in}
-use Rattle.bz_running.specs.Kinds as kinds
+use Rattle.bz_any_task.specs.Kinds as kinds
 use Rattle.bz_world.proofs.Exactly.{again-kind}
 use Rattle.bz_world.proofs.MakingAnew.{merge-spares, read-due}
 use Rattle.bz_world.proofs.Spared.{lacks-write}

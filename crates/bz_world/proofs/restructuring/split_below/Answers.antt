@@ -1,12 +1,12 @@
 use Rattle.std.proofs.Common.{◌≡◌, ℕ, List, arith, refl, sym, ap, subst, ◌∙◌, Option, None}
 use Rattle.bz_call.specs.Map.{key_of}
 use Rattle.bz_layout.specs.declared.thresholds.TheConstants.{SPLIT_SLOTS}
-use Rattle.bz_lone.specs.Errands.{words_asked}
+use Rattle.bz_solo.specs.Errands.{words_asked}
 use Rattle.std.specs.Vec.{with_item}
-use Rattle.bz_running.specs.Duties.{facts_of}
-use Rattle.bz_running.specs.Hearing.{IsLookup}
-use Rattle.bz_running.specs.Kinds as kinds
-use Rattle.bz_running.specs.MadeFor.{IsMadeFor}
+use Rattle.bz_any_task.specs.Duties.{facts_of}
+use Rattle.bz_any_task.specs.Hearing.{IsLookup}
+use Rattle.bz_any_task.specs.Kinds as kinds
+use Rattle.bz_any_task.specs.MadeFor.{IsMadeFor}
 use Rattle.bz_task.specs.Outcomes.{IsPath, IsView}
 use Rattle.bz_task.specs.Scene.{Scene, IsScene, Waiting}
 use Rattle.bz_task.specs.declared.path.Path.{Path}

@@ -1,8 +1,8 @@
 use Rattle.std.proofs.Common.{refl, ap, ◌∙◌, Option, None}
 use Rattle.bz_call.specs.Map.{key_of}
 use Rattle.bz_layout.specs.declared.thresholds.TheConstants.{SPLIT_SLOTS}
-use Rattle.bz_lone.specs.Errands.{words_asked}
-use Rattle.bz_running.specs.Kinds as kinds
+use Rattle.bz_solo.specs.Errands.{words_asked}
+use Rattle.bz_any_task.specs.Kinds as kinds
 use Rattle.std.specs.Vec.{with_item}
 use Rattle.bz_world.specs.Inside.Going.{known, with_task}
 use Rattle.bz_world.specs.declared.serving.OpenCall.{OpenCall}

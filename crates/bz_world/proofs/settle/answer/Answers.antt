@@ -1,6 +1,6 @@
 use Rattle.std.proofs.Common.{subst, inl, inr}
-use Rattle.bz_lone.specs.Errands.{IsLookOf}
-use Rattle.bz_running.specs.Kinds as kinds
+use Rattle.bz_solo.specs.Errands.{IsLookOf}
+use Rattle.bz_any_task.specs.Kinds as kinds
 use Rattle.bz_world.proofs.TakingOn.{call-is}
 use Rattle.bz_world.proofs.settle.answer.Goals as goal
 

@@ -1,6 +1,6 @@
 use Rattle.std.proofs.Common.{inl, inr, refl, sym, subst, ◌∙◌}
-use Rattle.bz_lone.specs.Errands.{IsLookOf}
-use Rattle.bz_running.specs.Kinds as kinds
+use Rattle.bz_solo.specs.Errands.{IsLookOf}
+use Rattle.bz_any_task.specs.Kinds as kinds
 use Rattle.bz_world.specs.Inside.Room.{LacksRoomFor, HasRoomFor}
 use Rattle.bz_world.proofs.Spared.{read-lacks, read-has, lacks-write, no-read}
 use Rattle.bz_world.proofs.Exactly.{again-kind, no-look-up}

@@ -9,7 +9,7 @@ use Rattle.bz_world.specs.Inside.Going.{with_task, needs_in, path_in, froze_in, 
 use Rattle.bz_world.specs.Inside.Telling.{MustStartOf}
 use Rattle.bz_world.specs.declared.parts.Parts.{Parts}
 use Rattle.bz_world.specs.declared.serving.OpenCall.{OpenCall}
-use Rattle.bz_running.specs.Ends.{IsEndOf}
+use Rattle.bz_any_task.specs.Ends.{IsEndOf}
 use Rattle.bz_task.specs.declared.todo.Outcome.TheVariants.{NeedsRoom}
 use Rattle.bz_world.proofs.ChangesTold.{has-heard}
 use Rattle.bz_world.proofs.Finding.{find-taken, find-left}

@@ -5,7 +5,7 @@ use Rattle.bz_world.specs.Inside.Going.{froze_in, page_in, LooksUpIn}
 use Rattle.bz_task.specs.declared.todo.Outcome.TheVariants as outcomes
 use Rattle.bz_world.proofs.Exactly.{again-call, again-froze, no-reading}
 use Rattle.bz_world.proofs.Spared.{writes-look, way-read, finds, pages-read}
-use Rattle.bz_running.specs.Kinds as kinds
+use Rattle.bz_any_task.specs.Kinds as kinds
 use Rattle.bz_world.proofs.TakingOn.{slot-is}
 use Rattle.bz_world.proofs.settle.look_into.Goals as goal
 

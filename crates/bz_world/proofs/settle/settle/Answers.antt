@@ -1,6 +1,6 @@
 use Rattle.std.proofs.Common.{◌≡◌, ◌<◌, length, refl, sym, ap, subst, ◌∙◌, Some}
 use Rattle.bz_call.specs.Map.{key_of}
-use Rattle.bz_running.specs.Duties.{end_of}
+use Rattle.bz_any_task.specs.Duties.{end_of}
 use Rattle.bz_task.specs.Scene.{Scene}
 use Rattle.bz_task.specs.declared.todo.Outcome.TheVariants.{Path, View, Key}
 use Rattle.bz_task.specs.declared.todo.Todo.TheVariants.{Finish}

@@ -1,7 +1,7 @@
 use Rattle.std.proofs.Common.{◌≡◌, refl, ap, subst, ◌∙◌, inr, Some, Option, is_some, sym}
-use Rattle.bz_running.specs.Duties.{end_of}
-use Rattle.bz_running.specs.Kinds as kinds
-use Rattle.bz_running.specs.Kinds.{is_look, kind_of}
+use Rattle.bz_any_task.specs.Duties.{end_of}
+use Rattle.bz_any_task.specs.Kinds as kinds
+use Rattle.bz_any_task.specs.Kinds.{is_look, kind_of}
 use Rattle.bz_task.specs.declared.todo.Outcome.TheVariants.{Path, View}
 use Rattle.bz_world.specs.Inside.Going.{DeletesIn, HasToEnd, known, few_in}
 use Rattle.bz_world.specs.Inside.Paid.{bound_in, errand_of, used_in}

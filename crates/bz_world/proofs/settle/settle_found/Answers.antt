@@ -1,6 +1,6 @@
 use Rattle.std.proofs.Common.{◌≡◌, inl, Some, refl, ap, subst, ◌∙◌, is_some}
-use Rattle.bz_running.specs.Duties.{end_of, means_of}
-use Rattle.bz_running.specs.Ends.{IsEndOf}
+use Rattle.bz_any_task.specs.Duties.{end_of, means_of}
+use Rattle.bz_any_task.specs.Ends.{IsEndOf}
 use Rattle.bz_task.specs.declared.todo.Outcome.TheVariants.{Key, Restart}
 use Rattle.bz_task.specs.declared.todo.Todo.TheVariants.{Finish}
 use Rattle.bz_world.specs.Inside.Going.{MustGoOn, known}
@@ -9,8 +9,8 @@ use Rattle.bz_world.proofs.PaidSteps.{finished-for}
 use Rattle.bz_world.proofs.Endings.{find-restarts}
 use Rattle.bz_world.proofs.Exactly.{again-restart, no-look-up}
 use Rattle.bz_world.proofs.Spared.{ended-spares}
-use Rattle.bz_running.specs.Kinds as kinds
-use Rattle.bz_lone.specs.Errands.{IsLookOf}
+use Rattle.bz_any_task.specs.Kinds as kinds
+use Rattle.bz_solo.specs.Errands.{IsLookOf}
 use Rattle.bz_world.proofs.SolitaryEnds.{other-found}
 use Rattle.bz_world.proofs.TakingOn.{must-go-on, ended-by}
 use Rattle.bz_world.proofs.settle.settle_found.Goals as goal

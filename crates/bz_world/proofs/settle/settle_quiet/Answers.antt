@@ -1,8 +1,8 @@
 use Rattle.std.proofs.Common.{◌≡◌, refl, ap, subst, ◌∙◌, inl, Some, is_some}
-use Rattle.bz_lone.specs.Errands.{IsLookOf}
-use Rattle.bz_running.specs.Duties.{end_of}
-use Rattle.bz_running.specs.Kinds as kinds
-use Rattle.bz_running.specs.Kinds.{kind_of}
+use Rattle.bz_solo.specs.Errands.{IsLookOf}
+use Rattle.bz_any_task.specs.Duties.{end_of}
+use Rattle.bz_any_task.specs.Kinds as kinds
+use Rattle.bz_any_task.specs.Kinds.{kind_of}
 use Rattle.bz_task.specs.declared.todo.Outcome.TheVariants.{Path, View, Key, Done, Restart}
 use Rattle.bz_world.specs.Inside.Going.{HasEnded, known}
 use Rattle.bz_world.specs.Inside.Paid.{bound_in, errand_of, used_in}

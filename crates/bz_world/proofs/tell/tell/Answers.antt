@@ -2,7 +2,7 @@ use Rattle.std.proofs.Common.{◌≡◌, ◌<◌, length, refl, sym, ap, subst, 
 use Rattle.std.proofs.lemmas.List.{get_or_read_under, get_or-set_same}
 use Rattle.std.specs.Vec.{with_item}
 use Rattle.bz_call.specs.declared.replies.Spent.TheVariants.{Nodes}
-use Rattle.bz_story.proofs.Proved.{scenes_are_seen, slots_are_taken}
+use Rattle.bz_refinement.proofs.Proved.{scenes_are_seen, slots_are_taken}
 use Rattle.bz_world.specs.Inside.Going.{end_in, wants_in}
 use Rattle.bz_world.specs.Inside.Paid.{begun_with}
 use Rattle.bz_world.specs.WorldView.{HadFew, RunsWhole}

@@ -1,5 +1,5 @@
 use Rattle.std.proofs.Common.{sym, subst}
-use Rattle.bz_machine.specs.declared.worker.Worker.{Worker}
+use Rattle.bz_swap_machine.specs.declared.worker.Worker.{Worker}
 use Rattle.bz_swap.specs.Steps.{IsStep}
 use Rattle.bz_swap.specs.Inside.Parts.{Parts, seen}
 use Rattle.bz_swap.specs.Inside.Kept.{IsRunning}

@@ -1,7 +1,7 @@
 use Rattle.std.proofs.Common.{◌≡◌, ◌<◌, ℕ, ◌+◌, ◌∙◌, ap, sym, arith, length, get_or, take, List}
 use Rattle.std.proofs.lemmas.List.{get_or-take, length-take-le}
 use Rattle.bz_word.specs.declared.entry.Entry.{Entry}
-use Rattle.bz_machine.specs.Machine.{entries_in}
+use Rattle.bz_swap_machine.specs.Machine.{entries_in}
 use Rattle.bz_swap.specs.Inside.Parts.{entry_of, listed}
 use Rattle.bz_swap.proofs.EntrySteps.{listed-all, same-entry, plain}
 use Rattle.bz_swap.proofs.entry_list.EntryList.words.Goals as goal

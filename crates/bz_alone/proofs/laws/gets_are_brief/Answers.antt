@@ -1,5 +1,0 @@
-use Rattle.bz_alone.proofs.Proved as proved
-use Rattle.bz_alone.proofs.laws.gets_are_brief.Goals as goal
-
-pub returns : goal.returns
-returns c = proved.gets_are_brief

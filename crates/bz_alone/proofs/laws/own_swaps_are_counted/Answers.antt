@@ -1,5 +1,0 @@
-use Rattle.bz_alone.proofs.Proved as proved
-use Rattle.bz_alone.proofs.laws.own_swaps_are_counted.Goals as goal
-
-pub returns : goal.returns
-returns c = proved.own_swaps_are_counted

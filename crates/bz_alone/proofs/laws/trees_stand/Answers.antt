@@ -1,5 +1,0 @@
-use Rattle.bz_alone.proofs.Proved as proved
-use Rattle.bz_alone.proofs.laws.trees_stand.Goals as goal
-
-pub returns : goal.returns
-returns c = proved.trees_stand

@@ -1,5 +1,0 @@
-use Rattle.bz_alone.proofs.Proved as proved
-use Rattle.bz_alone.proofs.laws.undisturbed_tasks_go_on.Goals as goal
-
-pub returns : goal.returns
-returns c = proved.undisturbed_tasks_go_on

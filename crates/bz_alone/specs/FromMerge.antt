@@ -1,2 +1,0 @@
--- What crates above take of bz_merge by this one.
-pub use Rattle.bz_running.specs.FromMerge.Thawed

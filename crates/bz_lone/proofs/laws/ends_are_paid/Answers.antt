@@ -1,5 +1,0 @@
-use Rattle.bz_lone.proofs.Proved as proved
-use Rattle.bz_lone.proofs.laws.ends_are_paid.Goals as goal
-
-pub returns : goal.returns
-returns c = proved.ends_are_paid

@@ -1,5 +1,0 @@
-use Rattle.bz_lone.proofs.Proved as proved
-use Rattle.bz_lone.proofs.laws.ends_leave_a_round.Goals as goal
-
-pub returns : goal.returns
-returns c = proved.ends_leave_a_round

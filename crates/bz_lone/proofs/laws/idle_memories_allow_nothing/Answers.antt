@@ -1,5 +1,0 @@
-use Rattle.bz_lone.proofs.Proved as proved
-use Rattle.bz_lone.proofs.laws.idle_memories_allow_nothing.Goals as goal
-
-pub returns : goal.returns
-returns c = proved.idle_memories_allow_nothing

@@ -1,5 +1,0 @@
-use Rattle.bz_lone.proofs.Proved as proved
-use Rattle.bz_lone.proofs.laws.leaves_are_read.Goals as goal
-
-pub returns : goal.returns
-returns c = proved.leaves_are_read

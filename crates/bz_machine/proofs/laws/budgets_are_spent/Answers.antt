@@ -1,5 +1,0 @@
-use Rattle.bz_machine.proofs.Proved as proved
-use Rattle.bz_machine.proofs.laws.budgets_are_spent.Goals as goal
-
-pub returns : goal.returns
-returns c = proved.budgets_are_spent

@@ -1,5 +1,0 @@
-use Rattle.bz_shape.proofs.Proved as proved
-use Rattle.bz_shape.proofs.laws.map_is_the_content.Goals as goal
-
-pub returns : goal.returns
-returns c = proved.map_is_the_content

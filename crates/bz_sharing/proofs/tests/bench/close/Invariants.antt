@@ -1,6 +1,0 @@
-use Rattle.std.proofs.Common.{ℕ, ◌<◌}
-use Rattle.bz_index.specs.Passes.{IsFree}
-use Rattle.bz_sharing.proofs.tests.bench.close.Given as goal
-
-abbrev pub invariant-loop-worker : goal.invariant-loop-worker
-invariant-loop-worker g l = (w : ℕ) → 0 < w → w < l.worker → IsFree l.first w

@@ -1,0 +1,5 @@
+use Rattle.bz_solo.proofs.Proved as proved
+use Rattle.bz_solo.proofs.laws.changes_are_paid.Goals as goal
+
+pub returns : goal.returns
+returns c = proved.changes_are_paid

@@ -1,5 +1,0 @@
-use Rattle.bz_story.proofs.Proved as proved
-use Rattle.bz_story.proofs.laws.flushes_are_told.Goals as goal
-
-pub returns : goal.returns
-returns c = proved.flushes_are_told

@@ -1,5 +1,0 @@
-use Rattle.bz_story.proofs.Proved as proved
-use Rattle.bz_story.proofs.laws.lives_go_on.Goals as goal
-
-pub returns : goal.returns
-returns c = proved.lives_go_on

@@ -1,5 +1,0 @@
-use Rattle.bz_story.proofs.Proved as proved
-use Rattle.bz_story.proofs.laws.quiet_marks_are_lawful.Goals as goal
-
-pub returns : goal.returns
-returns c = proved.quiet_marks_are_lawful

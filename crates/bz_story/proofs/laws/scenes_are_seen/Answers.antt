@@ -1,5 +1,0 @@
-use Rattle.bz_story.proofs.Proved as proved
-use Rattle.bz_story.proofs.laws.scenes_are_seen.Goals as goal
-
-pub returns : goal.returns
-returns c = proved.scenes_are_seen

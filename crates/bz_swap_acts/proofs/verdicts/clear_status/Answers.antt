@@ -1,0 +1,13 @@
+use Rattle.std.proofs.Common.{refl}
+use Rattle.bz_swap_acts.proofs.Found.{made-by}
+use Rattle.bz_swap_acts.proofs.Exchanges.{cleared-status}
+use Rattle.bz_swap_acts.proofs.verdicts.clear_status.Goals as goal
+
+pub returns : goal.returns
+returns c = λ x w. record {
+  memory = λ b. rw (← c.cas_status-found.ensures.found) (cleared-status _ _ b c.args.swap c.args.verdict c.cas_status-found.result.status c.cas_status-found.ensures.changed c.cas_status-found.ensures.unchanged);
+  next = λ b. refl;
+  flush = c.cas_status-found.ensures.flush;
+  writes = (_, c.cas_status-found.ensures.told);
+  made = made-by _ _ _ w c.cas_status-found.ensures.made;
+}
