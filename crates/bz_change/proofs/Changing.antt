@@ -126,6 +126,6 @@ effects_change = record {
 pub reads_tell : ReadsTell
 reads_tell old new w a v made told calm now outside step doing =
     let atomic = access_is_atomic.step old new w made (Read v) told calm.phase calm.held now.held step in
-    let answer = subst (λ (it : Doing). Answers new it (Read v)) doing atomic.answer in
+    let answer = subst (λ (it : Doing). Answers old w new it (Read v)) doing atomic.answer in
     let load = subst (λ (it : Doing). IsAnswer new it made (Read v)) doing step.one.answer in
     (load.load, sym (shown-value new a now (subst (λ (k : ℕ). IsOutside k a) (sym step.one.others.swaps) outside)) ∙ answer)

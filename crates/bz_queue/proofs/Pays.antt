@@ -40,8 +40,8 @@ place-within p w x b = omega (arith, b.opened.within, b.tabled.places, b.tabled.
 -- a start leaves what the others do
 stays-start : (m : SwapMemory) (w : ℕ) (doing : Doing) → Stays m (started m w doing) w
 stays-start m w doing = record {
-  count = set-length m.workers w (record { doing = doing; flush_next = begins_by_flush doing });
-  doing = λ v other. ap (λ (it : Working). it.doing) (set-other m.workers w v (record { doing = doing; flush_next = begins_by_flush doing }) idle other);
+  count = set-length m.workers w (record { doing = doing; flush_next = begins_by_flush doing w });
+  doing = λ v other. ap (λ (it : Working). it.doing) (set-other m.workers w v (record { doing = doing; flush_next = begins_by_flush doing w }) idle other);
   entries = λ v s is. refl;
   effects = λ s none. none;
 }

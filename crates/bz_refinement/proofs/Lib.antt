@@ -1,6 +1,7 @@
 mod Scenes
 pub mod Storing
 pub mod Powered
+mod Awaiting
 mod Lives
 mod Watching
 mod Striking

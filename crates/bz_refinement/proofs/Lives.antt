@@ -1,5 +1,5 @@
 -- A memory lives on by a mark at which no swap takes effect.
-use Rattle.std.proofs.Common.{◌≡◌, ℕ, suc, ◌+◌, ◌≤◌, ◌⊎◌, true, List, ◌∷◌, length, slice_index, arith, sym, ap, subst, ◌∙◌, inl, inr}
+use Rattle.std.proofs.Common.{◌≡◌, ℕ, suc, ◌+◌, ◌≤◌, ◌⊎◌, true, false, List, ◌∷◌, length, slice_index, arith, sym, ap, subst, ◌∙◌, inl, inr}
 use Rattle.std.proofs.lemmas.Bool.{cases_eq}
 use Rattle.bz_layout.specs.declared.config.Config.{Config}
 use Rattle.bz_layout.specs.declared.sizes.TheConstants.{STATUS_AT}
@@ -14,9 +14,11 @@ use Rattle.bz_task.specs.Good.{IsGood}
 use Rattle.bz_task.specs.Instant.{Instant, words, page_at}
 use Rattle.bz_task.specs.Shown.{SameShownNode}
 use Rattle.bz_task.specs.Steps.{IsStep, IsHistory, NodeMoves}
+use Rattle.bz_swap.specs.SwapMemory.{is_among, is_named}
 use Rattle.bz_word.specs.Statuses.{status}
-use Rattle.bz_refinement.specs.Laws.{LivesGoOn}
-use Rattle.bz_refinement.specs.Living.{IsInBlock}
+use Rattle.bz_word.specs.declared.entry.Entry.{Entry}
+use Rattle.bz_refinement.specs.Laws.{LivesGoOn, goes_on}
+use Rattle.bz_refinement.specs.Living.{IsInBlock, IsHeldBy}
 use Rattle.bz_refinement.specs.Story.{and_then}
 use Rattle.bz_refinement.proofs.Powered.{begins-more, image-as-it-was}
 use Rattle.bz_refinement.proofs.Scenes.{now-is, before-is}
@@ -84,6 +86,7 @@ lives-on c old new log story mark filled g stores = record {
   apart = g.living.apart;
   took = g.living.took;
   took_apart = g.living.took_apart;
+  awaits = λ w a held private fence. g.passes.awaits w a (g.keeps w a (before w a held) fence (was-private a private)) (g.living.awaits w a (before w a held) (was-private a private)) fence;
   came = λ k r. subst (λ (image : ℕ → ℕ). (is_reached_in c image k ≡ true) ⊎ ((w : ℕ) × (story.took w k ≡ true))) (sym (image-as-it-was log.start log.past mark g.powered))
       (g.living.came k (sym (passed.rests.quiet.reached k) ∙ (sym (ap (λ z. z.reached k) (now-is story.at (length log.past) y)) ∙ r)));
   stored = stores;
@@ -94,6 +97,14 @@ lives-on c old new log story mark filled g stores = record {
 
     passed : Passed c (story.at (length log.past)) new
     passed = acts_pass c (story.at (length log.past)) old new g.living.seen g.passes
+
+    -- a worker held before what it holds, and what is private was so
+    before : (w a : ℕ) → IsHeldBy c (and_then story.at (length log.past) (next_instant new (story.at (length log.past))) (suc (length log.past))) (goes_on log story new filled) w a → IsHeldBy c (story.at (length log.past)) story w a
+    before w a (inl o) = inl (record { slot = o.slot; place = o.place; address = o.address; within = o.within; took = o.took; unreached = ap (λ z. z.reached o.slot) (sym (now-is story.at (length log.past) y)) ∙ o.unreached })
+    before w a (inr r) = inr r
+
+    was-private : (a : ℕ) → is_named new a ≡ false → is_named old a ≡ false
+    was-private a private = ap (λ (l : List (List Entry)). is_among l a) (sym g.passes.same.begun) ∙ private
 
     step : IsStep c (story.at (length log.past)) (next_instant new (story.at (length log.past)))
     step = inl passed.rests.quiet

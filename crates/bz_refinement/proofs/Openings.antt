@@ -1,5 +1,5 @@
 -- Fresh memory, as it is opened, lives.
-use Rattle.std.proofs.Common.{◌≡◌, ℕ, zero, suc, ◌≤◌, List, [], refl, ap, sym, arith, inl}
+use Rattle.std.proofs.Common.{◌≡◌, ℕ, zero, suc, ◌≤◌, List, [], refl, ap, sym, arith, inl, inr}
 use Rattle.std.proofs.lemmas.Bool.{true≢false}
 use Rattle.bz_layout.specs.Fresh.{fresh_words}
 use Rattle.bz_layout.specs.declared.config.Config.{Config}
@@ -35,6 +35,7 @@ fresh-lives c m limits fresh = record {
   apart = λ v w a e f. absurd (true≢false (sym e));
   took = λ w k e. absurd (true≢false (sym e));
   took_apart = λ v w k e f. absurd (true≢false (sym e));
+  awaits = λ w a held private. elim held [ inl o ↦ absurd (true≢false (sym o.took)) | inr r ↦ absurd (true≢false (sym r)) ];
   came = λ k r. inl r;
   stored = λ w k e. absurd (true≢false (sym e));
 }

@@ -151,8 +151,8 @@ start-memory c m d h = record {
   swaps = h.swaps;
   cached = h.cached;
   durable = h.durable;
-  workers = length-set m.workers 0 (record { doing = d; flush_next = begins_by_flush d }) ∙ h.workers;
-  others = λ w some. ap (λ (u : Working). u.doing) (get_or-set_other m.workers 0 w (record { doing = d; flush_next = begins_by_flush d }) idle (omega (arith, some))) ∙ h.others w some;
+  workers = length-set m.workers 0 (record { doing = d; flush_next = begins_by_flush d 0 }) ∙ h.workers;
+  others = λ w some. ap (λ (u : Working). u.doing) (get_or-set_other m.workers 0 w (record { doing = d; flush_next = begins_by_flush d 0 }) idle (omega (arith, some))) ∙ h.others w some;
   fields = plain_fields_stay.start m 0 d h.fields;
   form = h.form;
 }
@@ -169,7 +169,7 @@ start c v m t asked busy r e = record {
 }
   where
     does : doing_of (started m 0 (doing_for asked)) 0 ≡ doing_for asked
-    does = let some : 0 < length m.workers = omega (arith, r.memory.workers) in ap (λ (u : Working). u.doing) (get_or-set_same m.workers 0 (record { doing = doing_for asked; flush_next = begins_by_flush (doing_for asked) }) idle some)
+    does = let some : 0 < length m.workers = omega (arith, r.memory.workers) in ap (λ (u : Working). u.doing) (get_or-set_same m.workers 0 (record { doing = doing_for asked; flush_next = begins_by_flush (doing_for asked) 0 }) idle some)
 
 may-recover : (c : Config) (v : ℕ → ℕ) (m : SwapMemory) (t : Recover) → IsRecovering c v m Asked t → MayRecover m
 may-recover c v m t r = record { idle = r.doing; phase = r.phase }

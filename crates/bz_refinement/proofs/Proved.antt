@@ -1,4 +1,5 @@
 -- What this crate proves, as lemmas that other crates cite by these names.
+use Rattle.bz_refinement.proofs.Awaiting.{acts-keep}
 use Rattle.bz_refinement.proofs.Booting.{images-off}
 use Rattle.bz_refinement.proofs.Lives.{lives-on}
 use Rattle.bz_refinement.proofs.Openings.{fresh-lives}
@@ -10,7 +11,7 @@ use Rattle.bz_refinement.proofs.Scenes.{scenes-seen}
 use Rattle.bz_refinement.proofs.Striking.{effects-told}
 use Rattle.bz_refinement.proofs.Takings.{slots-taken}
 use Rattle.bz_refinement.proofs.Watching.{flushes-told, quiet-lawful, stores-told}
-use Rattle.bz_refinement.specs.Laws.{EffectsAreTold, FlushesAreTold, LivesGoOn, QuietMarksAreLawful, ScenesAreSeen, SlotsAreTaken, StoresAreTold}
+use Rattle.bz_refinement.specs.Laws.{ActsKeepAwaited, EffectsAreTold, FlushesAreTold, LivesGoOn, QuietMarksAreLawful, ScenesAreSeen, SlotsAreTaken, StoresAreTold}
 use Rattle.bz_refinement.specs.Opening.{FreshStoriesLive}
 use Rattle.bz_refinement.specs.RecoveryLaws.{ActsMayStart, ActsRecover, CutsLeaveTheImage, EvictionsLeaveRecoveries, ImagesAreOff, RecoveriesBegin, RecoveriesGoOn, RecoveriesKeepTheImage, RecoveriesRevive}
 use Rattle.bz_refinement.specs.Reviving.{ActsAreMarked, CutsAreMarked, EvictionsAreMarked, ImagesOpenJournals, PowerOnIsMarked, RecoveriesGiveLife, TurnsMakeNoMark, WalksEnd}
@@ -31,7 +32,11 @@ quiet_marks_are_lawful = quiet-lawful
 pub stores_are_told : StoresAreTold
 stores_are_told = stores-told
 
--- a private flush is one to its worker
+-- an act that is no private store, and a store into what is the worker's own, keep what others await
+pub acts_keep_awaited : ActsKeepAwaited
+acts_keep_awaited = acts-keep
+
+-- the end of a private flush is one to its worker
 pub flushes_are_told : FlushesAreTold
 flushes_are_told = flushes-told
 

@@ -1,6 +1,6 @@
 -- The marks from a power cut to the end of the recovery: memory and journal agree after each of them, and what the durable words
 -- decode to stays; then a new life begins.
-use Rattle.std.proofs.Common.{◌≡◌, ◌↔◌, ℕ, suc, ◌+◌, ◌≤◌, ◌&&◌, Bool, false, List, [], ◌∷◌, Contains, length, slice_index, Option, Some, None, arith, refl, sym, ap, subst, ◌∙◌, inl}
+use Rattle.std.proofs.Common.{◌≡◌, ◌↔◌, ℕ, suc, ◌+◌, ◌≤◌, ◌&&◌, Bool, false, List, [], ◌∷◌, Contains, length, slice_index, Option, Some, None, arith, refl, sym, ap, subst, ◌∙◌, inl, inr}
 use Rattle.std.specs.Prelude.{nat_lt, get_or}
 use Rattle.std.specs.FinMap.{get}
 use Rattle.std.proofs.lemmas.Bool.{true≢false}
@@ -234,6 +234,7 @@ lives c v m log t r seen = record {
   apart = λ w u a e f. absurd (true≢false (sym e));
   took = λ w k e. absurd (true≢false (sym e));
   took_apart = λ w u k e f. absurd (true≢false (sym e));
+  awaits = λ w a held private. elim held [ inl o ↦ absurd (true≢false (sym o.took)) | inr r ↦ absurd (true≢false (sym r)) ];
   came = λ k e. inl (ap (λ b. nat_lt k c.nodes && b) (sym (r.same.inside k)) ∙ e);
   stored = λ w k e. absurd (true≢false (sym e));
 }

@@ -19,7 +19,7 @@ use Rattle.bz_recover.specs.declared.recover.Recover.{Recover}
 use Rattle.bz_recover.proofs.Proved.{acts_are_these, acts_left_stay, recoveries_know, resolving_keeps_the_content}
 use Rattle.bz_swap.specs.Evictions.{EvictsIn}
 use Rattle.bz_swap.specs.PlainFields.{WritesPlain}
-use Rattle.bz_swap.specs.Steps.{IsAnswer, IsRawStep, StepsIn, doing_after}
+use Rattle.bz_swap.specs.Steps.{IsAnswer, IsRawStep, StepsIn, doing_after, IsFlushPart}
 use Rattle.bz_swap.specs.SwapMemory.{SwapMemory, Idle, Swapping, Working, memory_words, memory_state, doing_of}
 use Rattle.bz_swap.specs.declared.phase.Phase.{Phase}
 use Rattle.bz_swap.specs.declared.phase.Phase.TheVariants.{Opened, Running, Recovering}
@@ -166,6 +166,14 @@ module _ (c : Config) (v : ℕ → ℕ) (old new : SwapMemory) (t : Recover) (ma
       same : SaysTheSame c (slice_index old.durable) (slice_index new.durable)
       same = resolved c v old new Started t (flushed (memory_words old) line) r words (recoveries_know.resolves t v Waiting (words_in old) (memory_of (flushed (memory_words old) line)) (λ k. line_of k == line) r.ready r.knows changes)
 
+  -- in a recovery time a flush is one act
+  flush-by : (line : ℕ) (d : Done) → asks_of t ≡ Some (todo.Flush line) → answer ≡ d → IsFlushPart Recovering line made d → Recovers c v old new t made answer told
+  flush-by line done.Flushed e is h = flushes line e is h
+  flush-by line done.Busy e is h = absurd h
+  flush-by line (done.Read y) e is h = absurd h
+  flush-by line (done.Swapped won) e is h = absurd h
+  flush-by line done.Stored e is h = absurd h
+
   -- by what was asked for
   by-asked : (q : Option Todo) (d : Done) → asks_of t ≡ q → answer ≡ d → IsAnswer new (doing_for q) made d → Recovers c v old new t made answer told
   by-asked (Some (todo.Load a)) (done.Read x) e is h = loads a x e is h
@@ -178,11 +186,7 @@ module _ (c : Config) (v : ℕ → ℕ) (old new : SwapMemory) (t : Recover) (ma
   by-asked (Some (todo.Store a x)) (done.Read y) e is h = absurd h
   by-asked (Some (todo.Store a x)) (done.Swapped won) e is h = absurd h
   by-asked (Some (todo.Store a x)) done.Flushed e is h = absurd h
-  by-asked (Some (todo.Flush line)) done.Flushed e is h = flushes line e is h
-  by-asked (Some (todo.Flush line)) done.Busy e is h = absurd h
-  by-asked (Some (todo.Flush line)) (done.Read y) e is h = absurd h
-  by-asked (Some (todo.Flush line)) (done.Swapped won) e is h = absurd h
-  by-asked (Some (todo.Flush line)) done.Stored e is h = absurd h
+  by-asked (Some (todo.Flush line)) d e is h = flush-by line d e is (subst (λ p. IsFlushPart p line made d) (s.one.others.phase ∙ r.phase) h)
   by-asked (Some (todo.Read a)) d e is h = absurd h
   by-asked (Some (todo.Swap entries)) d e is h = absurd h
   by-asked (Some todo.Finish) d e is h = absurd h

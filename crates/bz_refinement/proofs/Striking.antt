@@ -1,9 +1,9 @@
 -- The effect of a swap: what it is to its worker and to the others, and that the memory lives on.
 use Rattle.std.proofs.Common.{◌≡◌, ◌≢◌, ℕ, suc, ◌+◌, ◌<◌, ◌≤◌, ◌⊎◌, ◌||◌, ◌&&◌, ◌==◌, Bool, true, false, List, [], ◌∷◌, length, slice_index, arith, refl, sym, ap, subst, ◌∙◌, inl, inr}
 use Rattle.std.specs.Prelude.{All, nat_le, nat_lt, is_some}
-use Rattle.std.proofs.lemmas.Bool.{true≢false}
+use Rattle.std.proofs.lemmas.Bool.{cases_eq, true≢false}
 use Rattle.std.proofs.lemmas.Bool.Decides.{nat_tests}
-use Rattle.bz_layout.specs.Addresses.{node_address, slot_of, node_word_of}
+use Rattle.bz_layout.specs.Addresses.{node_address, slot_of, line_of, node_word_of}
 use Rattle.bz_layout.specs.declared.config.Config.{Config}
 use Rattle.bz_layout.specs.declared.sizes.TheConstants.{NODE_WORDS, STATUS_AT}
 use Rattle.bz_layout.proofs.Laws.{slots_apart}
@@ -18,7 +18,7 @@ use Rattle.bz_sound.specs.Calls.{Open}
 use Rattle.bz_sound.specs.Memory.Spent.{is_reached_in}
 use Rattle.bz_sound.specs.Power.Times.{image_at_on}
 use Rattle.bz_swap.specs.EntryLists.{AreRising}
-use Rattle.bz_swap.specs.SwapMemory.{SwapMemory, entries_of, is_target}
+use Rattle.bz_swap.specs.SwapMemory.{SwapMemory, Flushing, entries_of, is_among, is_named, is_target, doing_of}
 use Rattle.bz_task.specs.Instant.{Instant, IsDurableAt, words, page_at}
 use Rattle.bz_task.specs.Others.{AreApart, Watches}
 use Rattle.bz_task.specs.Requests.{IsTarget}
@@ -28,12 +28,18 @@ use Rattle.bz_task.proofs.Proved.{good_swaps_show_settled, effects_are_lawful}
 use Rattle.bz_word.specs.Statuses.{status}
 use Rattle.bz_word.specs.declared.entry.Entry.{Entry}
 use Rattle.bz_refinement.specs.Laws.{HasBegun, Strikes, EffectsAreTold, strikes, opened_after}
-use Rattle.bz_refinement.specs.Living.{IsLiving, IsInBlock}
-use Rattle.bz_refinement.specs.Story.{Story, scene}
+use Rattle.bz_refinement.specs.Living.{IsLiving, IsInBlock, IsHeldBy}
+use Rattle.bz_refinement.specs.Story.{Story, scene, and_then}
+use Rattle.bz_refinement.proofs.Awaiting.{held-outside}
 use Rattle.bz_refinement.proofs.Lives.{history-on, images-on, step-block}
 use Rattle.bz_refinement.proofs.Scenes.{now-is, before-is, scenes-apart, scenes-seen}
 use Rattle.bz_refinement.proofs.Powered.{begins-more, image-as-it-was, stored-since}
 use Rattle.bz_refinement.proofs.Watching.{continues}
+
+-- what is reached in neither way was not reached before
+or-none : (was now : Bool) → was || now ≡ false → was ≡ false
+or-none true now e = absurd cc
+or-none false now e = refl
 
 and-both : (a b : Bool) → (a && b) ≡ true → (a ≡ true) × (b ≡ true)
 and-both true b e = (refl, e)
@@ -258,6 +264,10 @@ module _ (c : Config) (old new : SwapMemory) (log : Log) (story : Story) (mark :
     apart = λ u v a o p. apart-of u v a (reserved-of u a o) (reserved-of v a p);
     took = g.living.took;
     took_apart = g.living.took_apart;
+    awaits = λ v a held private fence. elim (cases_eq v w) [
+      | inl is ↦ absurd (g.at_swap (line_of a) (subst (λ z. doing_of new z ≡ Flushing (line_of a)) is fence.doing))
+      | inr other ↦ g.takes.awaits v a (g.takes.cached a (held-outside c old log story g.living v a (before v a other held)) (was-private a private)) (g.living.awaits v a (before v a other held) (was-private a private)) fence
+    ];
     came = λ j r. subst (λ (image : ℕ → ℕ). (is_reached_in c image j ≡ true) ⊎ ((v : ℕ) × (story.took v j ≡ true))) (sym (image-as-it-was log.start log.past mark g.powered))
         (came-of j (subst (λ z. z.reached j ≡ true) (now-is story.at (length log.past) (effect_instant c new (story.at (length log.past)))) r));
     stored = λ v j f. stored-since c log.past mark j g.powered (g.living.stored v j f);
@@ -273,6 +283,21 @@ module _ (c : Config) (old new : SwapMemory) (log : Log) (story : Story) (mark :
           go : (t : Bool) → story.reserved v a ≡ t → t || (v == w && reserves c (entries_of old k) a) ≡ true → (story.reserved v a ≡ true) ⊎ ((v ≡ w) × (reserves c (entries_of old k) a ≡ true))
           go true e h = inl e
           go false e h = let q = and-both (v == w) (reserves c (entries_of old k) a) h in let q0 = q.0 in inr (grind (arith, nat_tests), q.1)
+
+      -- another worker held before what it holds, and what is private was so
+      before : (v a : ℕ) → v ≢ w → IsHeldBy c (and_then story.at (length log.past) (effect_instant c new (story.at (length log.past))) (suc (length log.past))) (strikes c log story new w (entries_of old k)) v a → IsHeldBy c (story.at (length log.past)) story v a
+      before v a other (inl o) = inl (record {
+        slot = o.slot;
+        place = o.place;
+        address = o.address;
+        within = o.within;
+        took = o.took;
+        unreached = or-none ((story.at (length log.past)).reached o.slot) _ (ap (λ z. z.reached o.slot) (sym (now-is story.at (length log.past) (effect_instant c new (story.at (length log.past))))) ∙ o.unreached);
+      })
+      before v a other (inr r) = elim (reserved-of v a r) [ inl e ↦ inr e | inr q ↦ absurd (other q.0) ]
+
+      was-private : (a : ℕ) → is_named new a ≡ false → is_named old a ≡ false
+      was-private a private = ap (λ (l : List (List Entry)). is_among l a) (sym g.takes.same.begun) ∙ private
 
       block-of : (v a : ℕ) → (story.reserved v a ≡ true) ⊎ ((v ≡ w) × (reserves c (entries_of old k) a ≡ true)) → IsInBlock c (effect_instant c new (story.at (length log.past))) a
       block-of v a (inl o) = step-block c (story.at (length log.past)) (effect_instant c new (story.at (length log.past))) a (inr g.good.step) (g.living.reserved v a o)

@@ -1,17 +1,19 @@
 -- Slots that a worker takes.
-use Rattle.std.proofs.Common.{◌≡◌, ◌≢◌, ℕ, ◌||◌, ◌&&◌, ◌==◌, ◌⊎◌, Bool, true, false, List, arith, refl, sym, ap, ◌∙◌, inl, inr}
-use Rattle.std.proofs.lemmas.Bool.{true≢false}
+use Rattle.std.proofs.Common.{◌≡◌, ◌≢◌, ℕ, ◌||◌, ◌&&◌, ◌==◌, ◌⊎◌, Bool, true, false, List, length, arith, refl, sym, ap, subst, ◌∙◌, inl, inr}
+use Rattle.std.proofs.lemmas.Bool.{cases_eq, true≢false}
 use Rattle.std.proofs.lemmas.Bool.Decides.{nat_tests}
 use Rattle.bz_layout.specs.Slots.{FreeSlots}
 use Rattle.bz_layout.specs.declared.config.Config.{Config}
 use Rattle.bz_mark.specs.Log.{Log}
 use Rattle.bz_mark.specs.declared.marks.Mark.{Mark}
+use Rattle.bz_sight.specs.Awaiting.{IsToFence}
 use Rattle.bz_sound.specs.Calls.{Open}
-use Rattle.bz_swap.specs.SwapMemory.{SwapMemory}
+use Rattle.bz_swap.specs.SwapMemory.{SwapMemory, Idle, doing_of}
 use Rattle.bz_task.specs.OwnActs.{is_gained, gained}
 use Rattle.bz_refinement.specs.Laws.{MayTake, SlotsAreTaken, takes_slots}
-use Rattle.bz_refinement.specs.Living.{IsLiving}
+use Rattle.bz_refinement.specs.Living.{IsLiving, IsHeldBy}
 use Rattle.bz_refinement.specs.Story.{Story, scene}
+use Rattle.bz_refinement.proofs.Awaiting.{idle-fences-nothing}
 
 -- a slot that a worker took, then, it took before, or it is one of those that are free no more
 record TookOrGains (story : Story) (w v k : ℕ) (old new : FreeSlots) : Type 0 where
@@ -25,8 +27,8 @@ took-or-gains story w v k old new h = go (story.took v k) refl (v == w) refl h
     go false e true f h = record { is = inr (grind (arith, nat_tests), h) }
     go false e false f h = absurd (cc)
 
-taken-living : (c : Config) (m : SwapMemory) (log : Log) (story : Story) (w : ℕ) (old new : FreeSlots) → IsLiving c m log story → MayTake c story old new → IsLiving c m log (takes_slots story w old new)
-taken-living c m log story w old new l may = record {
+taken-living : (c : Config) (m : SwapMemory) (log : Log) (story : Story) (w : ℕ) (old new : FreeSlots) → IsLiving c m log story → doing_of m w ≡ Idle → MayTake c story old new → IsLiving c m log (takes_slots story w old new)
+taken-living c m log story w old new l idle may = record {
   from = l.from;
   begins = l.begins;
   seen = l.seen;
@@ -40,9 +42,25 @@ taken-living c m log story w old new l may = record {
   took = λ v k h. elim (took-or-gains story w v k old new h).is [ inl e ↦ l.took v k e | inr g ↦ may.slots k g.1 ];
   came = λ k r. elim (l.came k r) [ inl e ↦ inl e | inr g ↦ inr (g.0, rw g.1 refl) ];
   stored = l.stored;
+  awaits = λ v a held private fence. elim (cases_eq v w) [
+    | inl is ↦ absurd (idle-fences-nothing m w a idle (subst (λ z. IsToFence m z a) is fence))
+    | inr other ↦ l.awaits v a (held-before v a other held) private fence
+  ];
   took_apart = λ u v k h i. one u v k (took-or-gains story w u k old new h).is (took-or-gains story w v k old new i).is;
 }
   where
+    -- another worker held before what it holds
+    held-before : (v a : ℕ) → v ≢ w → IsHeldBy c (story.at (length log.past)) (takes_slots story w old new) v a → IsHeldBy c (story.at (length log.past)) story v a
+    held-before v a other (inr r) = inr r
+    held-before v a other (inl o) = inl (record {
+      slot = o.slot;
+      place = o.place;
+      address = o.address;
+      within = o.within;
+      took = elim (took-or-gains story w v o.slot old new o.took).is [ inl e ↦ e | inr g ↦ absurd (other g.0) ];
+      unreached = o.unreached;
+    })
+
     one : (u v k : ℕ) → (story.took u k ≡ true) ⊎ ((u ≡ w) × (is_gained old new k ≡ true)) → (story.took v k ≡ true) ⊎ ((v ≡ w) × (is_gained old new k ≡ true)) → u ≡ v
     one u v k (inl e) (inl f) = l.took_apart u v k e f
     one u v k (inl e) (inr g) = absurd (true≢false (sym e ∙ may.nobody u k g.1))

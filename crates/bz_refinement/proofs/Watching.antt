@@ -6,6 +6,7 @@ use Rattle.bz_layout.specs.declared.config.Config.{Config}
 use Rattle.bz_mark.specs.Log.{Log}
 use Rattle.bz_mark.proofs.MomentLaws.{mark_at-earlier}
 use Rattle.bz_mark.specs.declared.marks.Mark.{Mark}
+use Rattle.bz_sight.specs.Awaiting.{Awaits}
 use Rattle.bz_sight.specs.Passing.{Passed, AllStay}
 use Rattle.bz_sight.specs.Sight.{next_instant}
 use Rattle.bz_sight.specs.Starts.{Sees}
@@ -22,6 +23,7 @@ use Rattle.bz_task.proofs.Proved.{quiet_acts_are_lawful, same_records_show_the_s
 use Rattle.bz_word.specs.Statuses.{status}
 use Rattle.bz_refinement.specs.Laws.{HasBegun, GoesOn, QuietMarksAreLawful, IsStore, StoresAreTold, FlushesAreTold, goes_on, fills}
 use Rattle.bz_refinement.specs.Story.{Story, scene, loaded, is_load_of}
+use Rattle.bz_refinement.proofs.Awaiting.{of-mine}
 use Rattle.bz_refinement.proofs.Scenes.{now-is, before-is, scenes-apart, scenes-seen}
 
 -- which of the first marks are loads stays as marks are added
@@ -108,17 +110,18 @@ module _ (c : Config) (old new : SwapMemory) (log : Log) (story : Story) (mark :
   own-stays : (filled : ℕ → ℕ → Bool) (w since : ℕ) (opened : Open) (a : ℕ) → IsMine (scene c log.past story w since opened) a → IsMine (scene c (mark ∷ log.past) (goes_on log story new filled) w since opened) a
   own-stays filled w since opened = mine-stays (scene c log.past story w since opened) (scene c (mark ∷ log.past) (goes_on log story new filled) w since opened) refl (subst (IsQuiet c (story.at (length log.past))) (sym (later-here filled w since opened)) passed.rests.quiet) (λ a. refl) (λ k. refl)
 
-  -- a flush of one's own
-  flushes : AllStay old new → (w line since : ℕ) (opened : Open) → HasBegun log story since → ((a : ℕ) → line_of a ≡ line → is_settled_at new a ≡ true)
+  -- the end of a flush of one's own
+  flushes : AllStay old new → (w line since : ℕ) (opened : Open) → HasBegun log story since → ((a : ℕ) → line_of a ≡ line → Awaits old w a → is_settled_at new a ≡ true)
       → Flushes line (scene c log.past story w since opened) (scene c (mark ∷ log.past) (goes_on log story new story.filled) w since opened)
-  flushes all w line since opened begun copies = record {
+  flushes all w line since opened begun settles = record {
     continues = continues c log.past mark story (goes_on log story new story.filled) w since opened opened (before story.filled);
     took = λ k. refl;
     effected = refl;
     reserved = λ a. refl;
     filled = λ k. refl;
     value = λ a. ap (λ z. z.value a) (later-here story.filled w since opened) ∙ (leaves all w since opened begun).value a;
-    flushed = λ a in-line mine. subst (λ z. IsDurableAt z a) (sym (later-here story.filled w since opened)) (flushes_are_seen c (story.at (length log.past)) old new line (scene c log.past story w since opened) g.living.seen g.passes all (sees w since opened begun).scene refl refl copies a in-line mine);
+    flushed = λ a in-line mine. subst (λ z. IsDurableAt z a) (sym (later-here story.filled w since opened)) (flushes_are_seen c (story.at (length log.past)) old new line (scene c log.past story w since opened) g.living.seen g.passes all (sees w since opened begun).scene refl refl
+        (λ b on own private. settles b on (g.living.awaits w b (of-mine c log story w since opened b own) private)) a in-line mine);
     stays = λ a mine f. subst (λ z. IsDurableAt z a) (sym (later-here story.filled w since opened)) ((leaves all w since opened begun).flushed a mine f);
     mine = own-stays story.filled w since opened;
   }
@@ -162,4 +165,4 @@ stores-told = record {
 }
 
 pub flushes-told : FlushesAreTold
-flushes-told c old new log story mark w line since opened g all begun copies = flushes c old new log story mark g all w line since opened begun copies
+flushes-told c old new log story mark w line since opened g all begun settles = flushes c old new log story mark g all w line since opened begun settles

@@ -22,7 +22,7 @@ pub fn stores_are_told()
     ensures { StoresAreTold }
 {}
 
-/// A private flush is one to its worker.
+/// The end of a private flush is one to its worker.
 pub fn flushes_are_told()
     ensures { FlushesAreTold }
 {}

@@ -32,8 +32,8 @@ frame-eviction old new w a told h = record {
 
 pub frame-start : (m : SwapMemory) (w : ℕ) (doing : Doing) → IsFrame m (started m w doing) w
 frame-start m w doing = record {
-  count = length-set m.workers w (record { doing = doing; flush_next = begins_by_flush doing });
-  others = λ v other. ap (λ (u : Working). u.doing) (get_or-set_other m.workers w v (record { doing = doing; flush_next = begins_by_flush doing }) idle other);
+  count = length-set m.workers w (record { doing = doing; flush_next = begins_by_flush doing w });
+  others = λ v other. ap (λ (u : Working). u.doing) (get_or-set_other m.workers w v (record { doing = doing; flush_next = begins_by_flush doing w }) idle other);
 }
 
 -- outside a recovery time an eviction tells its effect

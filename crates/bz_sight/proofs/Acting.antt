@@ -6,9 +6,9 @@ use Rattle.bz_layout.specs.declared.config.Config.{Config}
 use Rattle.bz_pm.specs.After.{after_store}
 use Rattle.bz_pm.specs.State.{State}
 use Rattle.bz_swap_cells.proofs.Pasts.{past_of}
-use Rattle.bz_swap_acts.specs.Rule.{after_act}
+use Rattle.bz_swap_acts.specs.Rule.{after_act, is_flush_act}
 use Rattle.bz_swap_acts.specs.declared.acted.Act.{Act}
-use Rattle.bz_swap_acts.specs.declared.acted.Act.TheVariants.{Store, Flush}
+use Rattle.bz_swap_acts.specs.declared.acted.Act.TheVariants.{Store, Ask, Fence}
 use Rattle.bz_swap_cells.specs.Store.{IsOutside}
 use Rattle.bz_swap_machine.specs.declared.done.Done.{Done}
 use Rattle.bz_swap_machine.specs.declared.done.Done.TheVariants.{Busy, Read, Swapped, Stored, Flushed}
@@ -25,6 +25,7 @@ use Rattle.bz_task.specs.Instant.{Instant}
 use Rattle.bz_sight.specs.Acts.{QuietStepsPass, StepsLeaveCaches, StoringStepsStore, FlushingStepsFlush, EffectStepsTakePlace, EvictionsAreSeen}
 use Rattle.bz_sight.specs.Passing.{SameRest}
 use Rattle.bz_sight.specs.Sight.{IsSeen, IsHidden}
+use Rattle.bz_sight.proofs.Awaiting.{flushing-answer, step-awaits, eviction-awaits}
 use Rattle.bz_sight.proofs.Passings.{held}
 
 -- what no step changes
@@ -54,13 +55,6 @@ storing-answer m a v made Busy h = absurd h
 storing-answer m a v made (Read u) h = absurd h
 storing-answer m a v made (Swapped t) h = absurd h
 storing-answer m a v made Flushed h = absurd h
-
-flushing-answer : (m : SwapMemory) (line : ℕ) (made : Act) (done : Done) → IsAnswer m (Flushing line) made done → (made ≡ Flush line) × (done ≡ Flushed)
-flushing-answer m line made Flushed h = (h, refl)
-flushing-answer m line made Busy h = absurd h
-flushing-answer m line made (Read u) h = absurd h
-flushing-answer m line made (Swapped t) h = absurd h
-flushing-answer m line made Stored h = absurd h
 
 no-effect : (done : Done) (told : Option ℕ) → (done ≡ Busy) ⊎ (told ≡ None) → done ≢ Busy → told ≡ None
 no-effect done told (inl e) ne = absurd (ne e)
@@ -97,14 +91,25 @@ storing c x old new w made done told a v seen step doing within =
     private e (inr p) = absurd (let f : Storing a v ≡ Swapping p.swap = sym doing ∙ p.doing in cc)
 
 pub flushing : FlushingStepsFlush
-flushing c x old new w made done told line seen step doing within =
-    let told-so : (made ≡ Flush line) × (done ≡ Flushed) = flushing-answer new line made done (subst (λ d. IsAnswer new d made done) doing step.one.answer) in
-    record {
-      act = told-so.0;
-      answer = told-so.1;
-      quiet = no-effect done told step.later (λ e. absurd (let f : Flushed ≡ Busy = sym told-so.1 ∙ e in cc));
-      settles = λ b e. settled_words_stay.flush old new w line done told b (subst (λ act. IsStep old w act done told new) told-so.0 step) e;
-    }
+flushing c x old new w made done told line seen step doing within = elim (flushing-answer new line (doing_of old w) made done after doing step.one.answer) [
+  | inl ask ↦ record { quiet = asked told refl ask.1; ends = λ busy. absurd (busy ask.0) }
+  | inr fence ↦ record {
+    quiet = no-effect done told step.later (λ e. absurd (let f : Flushed ≡ Busy = sym fence.0 ∙ e in cc));
+    ends = λ busy. record {
+      answer = fence.0;
+      settles = λ a is awaits. settled_words_stay.fenced old new w done told a (subst (λ act. IsStep old w act done told new) fence.1 step)
+          (awaits (record { doing = doing ∙ ap Flushing (sym is); fence = sym step.one.flush ∙ ap is_flush_act fence.1 }));
+    };
+  }
+]
+  where
+    after : new.phase ≢ Recovering
+    after is = seen.phase (sym step.one.others.phase ∙ is)
+
+    -- an ask makes no effect
+    asked : (t : Option ℕ) → told ≡ t → made ≡ Ask line → told ≡ None
+    asked None is made = is
+    asked (Some s) is made = absurd (let f : Ask line ≡ Fence = sym made ∙ (step.inside s is).0 in cc)
 
 pub quiet-step : QuietStepsPass
 quiet-step c x old new w made done seen step holds hidden =
@@ -115,6 +120,7 @@ quiet-step c x old new w made done seen step holds hidden =
       fields = plain_fields_stay.step old new w made done None before.memory step seen.fields;
       quiet = step.effect;
       settled = λ a cached settled. settled_words_stay.step old new w made done None a step cached settled;
+      awaits = step-awaits old new w made done None (λ is. seen.phase (sym step.one.others.phase ∙ is)) step;
       cached = λ a o private. elim (cases-storing (doing_of old w)) [
         | inl s ↦ elim (cases_eq a s.0) [
           | inl e ↦ inr (subst (λ b. IsHidden c x b) (sym e) (hidden s.0 s.1.0 s.1.1))
@@ -138,6 +144,7 @@ effect-step c x old new w made done s seen step holds =
       durable = (effects_stay_inside.step old new w made done s before.memory step).outside;
       cached = λ a o private. step.untouched a o private (λ v f. not-storing a v f);
       settled = λ a cached settled. settled_words_stay.step old new w made done (Some s) a step cached settled;
+      awaits = step-awaits old new w made done (Some s) (λ is. seen.phase (sym step.one.others.phase ∙ is)) step;
     }
   where
     not-storing : (a v : ℕ) → doing_of old w ≡ Storing a v → ⊥
@@ -185,6 +192,7 @@ evictions = record {
     fields = plain_fields_stay.eviction old new a None e seen.fields;
     quiet = evict-quiet old new seen.phase e.effect;
     settled = λ b cached settled. settled_words_stay.eviction old new a None b e settled;
+    awaits = λ v b cached. eviction-awaits old new a None e v b;
     cached = λ b o private. inl (ap (λ ws. slice_index ws b) (cached-same old new a None e));
   };
   leaves = λ old new a told e. λ b o private. ap (λ ws. slice_index ws b) (cached-same old new a told e);
@@ -196,5 +204,6 @@ evictions = record {
     durable = (effects_stay_inside.eviction old new a s e).outside;
     cached = λ b o private. ap (λ ws. slice_index ws b) (cached-same old new a (Some s) e);
     settled = λ b cached settled. settled_words_stay.eviction old new a (Some s) b e settled;
+    awaits = λ v b cached. eviction-awaits old new a (Some s) e v b;
   };
 }

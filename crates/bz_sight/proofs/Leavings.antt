@@ -103,4 +103,4 @@ stores-seen c x old new a v seen p s = record {
 }
 
 pub flushes-seen : FlushesAreSeen
-flushes-seen c x old new line v seen p all good same at settles a in-line mine = kept c x old new v seen p good same at a mine (settles a in-line)
+flushes-seen c x old new line v seen p all good same at settles a in-line mine = kept c x old new v seen p good same at a mine (settles a in-line mine (own-private c x old v seen good same at a mine))

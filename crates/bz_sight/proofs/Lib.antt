@@ -1,4 +1,5 @@
 mod Acting
+mod Awaiting
 mod Effecting
 mod Leavings
 mod Openings

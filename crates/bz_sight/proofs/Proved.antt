@@ -1,5 +1,6 @@
 -- What this crate proves, as lemmas that other crates cite by these names.
 use Rattle.bz_sight.proofs.Acting.{effect-step, evictions, flushing, leave-caches, quiet-step, storing}
+use Rattle.bz_sight.proofs.Awaiting.{starts-keep}
 use Rattle.bz_sight.proofs.Effecting.{effects-keep-own, effects-take-place}
 use Rattle.bz_sight.proofs.Leavings.{flushes-seen, leaves-all, stores-seen}
 use Rattle.bz_sight.proofs.Openings.{fresh-seen}
@@ -9,6 +10,7 @@ use Rattle.bz_sight.proofs.Starting.{hidden, hidden-values, may-start, starts-se
 use Rattle.bz_sight.proofs.SwapMemories.{changes-nothing, effect-shows, leaves-values}
 use Rattle.bz_sight.proofs.Swapped.{lawful-as, resolves-as}
 use Rattle.bz_sight.specs.Acts.{EffectStepsTakePlace, EvictionsAreSeen, FlushingStepsFlush, QuietStepsPass, StepsLeaveCaches, StoringStepsStore}
+use Rattle.bz_sight.specs.Awaiting.{StartsKeepAwaits}
 use Rattle.bz_sight.specs.Effects.{EffectsKeepOwn, EffectsTakePlace}
 use Rattle.bz_sight.specs.Laws.{HiddenWordsAreValues}
 use Rattle.bz_sight.specs.Opening.{FreshMemoryIsSeen}
@@ -41,7 +43,7 @@ steps_leave_caches = leave-caches
 pub storing_steps_store : StoringStepsStore
 storing_steps_store = storing
 
--- the step of a private flush
+-- the step of a private flush, an ask or a fence
 pub flushing_steps_flush : FlushingStepsFlush
 flushing_steps_flush = flushing
 
@@ -108,3 +110,7 @@ tasks_may_start = may-start
 -- a start makes no act: the same memory is seen
 pub starts_are_seen : StartsAreSeen
 starts_are_seen = starts-seen
+
+-- and what a worker awaits that is to fence a line stays awaited
+pub starts_keep_awaits : StartsKeepAwaits
+starts_keep_awaits = starts-keep

@@ -13,11 +13,12 @@ use Rattle.bz_task.specs.Instant.{Instant, IsDurableAt}
 use Rattle.bz_task.specs.Scene.{Scene, IsMine, IsScene, IsFlushed, here}
 use Rattle.bz_task.specs.Steps.{IsStep}
 use Rattle.bz_task.specs.Swaps.{Stand, SwapsTo, ShowsSettled}
+use Rattle.bz_sight.specs.Awaiting.{Awaits}
 use Rattle.bz_sight.specs.Passing.{SameRest}
 use Rattle.bz_sight.specs.Sight.{IsSeen, answer_at}
 
 -- swap s takes effect in its descriptor; no word outside the descriptors changes in the memory itself, and no private one in
--- the caches; a settled word that stays there stays settled
+-- the caches; a settled word that stays there stays settled, and an awaited one awaited
 pub record TakesPlace (old new : SwapMemory) (s : ℕ) : Type 0 where
   pub same : SameRest old new
   pub holds : Holds new
@@ -26,6 +27,7 @@ pub record TakesPlace (old new : SwapMemory) (s : ℕ) : Type 0 where
   pub durable : (a : ℕ) → IsOutside old.swaps a → slice_index new.durable a ≡ slice_index old.durable a
   pub cached : (a : ℕ) → IsOutside old.swaps a → is_named old a ≡ false → slice_index new.cached a ≡ slice_index old.cached a
   pub settled : (a : ℕ) → slice_index new.cached a ≡ slice_index old.cached a → is_settled_at old a ≡ true → is_settled_at new a ≡ true
+  pub awaits : (v a : ℕ) → slice_index new.cached a ≡ slice_index old.cached a → Awaits old v a → Awaits new v a
 
 -- the memory after it: what is in the tree now has been reached
 abbrev pub effect_instant : Config → SwapMemory → Instant → Instant

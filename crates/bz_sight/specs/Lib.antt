@@ -1,4 +1,5 @@
 pub mod Sight
+pub mod Awaiting
 pub mod Passing
 pub mod Effects
 pub mod Acts

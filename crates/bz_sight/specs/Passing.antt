@@ -11,6 +11,7 @@ use Rattle.bz_task.specs.Instant.{Instant, IsDurableAt}
 use Rattle.bz_task.specs.Others.{LeavesAll, StoresTo}
 use Rattle.bz_task.specs.Resting.{HoldsTheSame, Rests}
 use Rattle.bz_task.specs.Scene.{Scene, IsMine, IsScene, here}
+use Rattle.bz_sight.specs.Awaiting.{Awaits}
 use Rattle.bz_sight.specs.Sight.{IsSeen, IsHidden, next_instant}
 
 -- what no act changes
@@ -20,14 +21,15 @@ pub record SameRest (old new : SwapMemory) : Type 0 where
   pub begun : new.begun ≡ old.begun
   pub size : length new.durable ≡ length old.durable
 
--- no swap takes effect, a settled word that stays in the caches stays settled, and of the private words there at most hidden
--- ones become others
+-- no swap takes effect, a settled word that stays in the caches stays settled, and an awaited one awaited, and of the private
+-- words there at most hidden ones become others
 pub record Passes (c : Config) (x : Instant) (old new : SwapMemory) : Type 0 where
   pub same : SameRest old new
   pub holds : Holds new
   pub fields : HavePlainFields new
   pub quiet : NoneTakesEffect old new
   pub settled : (a : ℕ) → slice_index new.cached a ≡ slice_index old.cached a → is_settled_at old a ≡ true → is_settled_at new a ≡ true
+  pub awaits : (v a : ℕ) → slice_index new.cached a ≡ slice_index old.cached a → Awaits old v a → Awaits new v a
   pub cached : (a : ℕ) → IsOutside old.swaps a → is_named old a ≡ false → (slice_index new.cached a ≡ slice_index old.cached a) ⊎ IsHidden c x a
 
 -- for readers nothing changed
@@ -65,5 +67,5 @@ StoresAreSeen = (c : Config) (x : Instant) (old new : SwapMemory) (a v : ℕ) �
 abbrev pub FlushesAreSeen : Type 0
 FlushesAreSeen =
     (c : Config) (x : Instant) (old new : SwapMemory) (line : ℕ) (v : Scene) → IsSeen c old x → Passes c x old new → AllStay old new → IsScene v → v.past.config ≡ c → here v ≡ x →
-    ((a : ℕ) → line_of a ≡ line → is_settled_at new a ≡ true) →
+    ((a : ℕ) → line_of a ≡ line → IsMine v a → is_named old a ≡ false → is_settled_at new a ≡ true) →
     (a : ℕ) → line_of a ≡ line → IsMine v a → IsDurableAt (next_instant new x) a

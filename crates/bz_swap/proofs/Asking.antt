@@ -191,6 +191,10 @@ module _ (p : Parts) (r : IsRunning p) (w : ℕ) (store : Store) (l : Worker) (d
       let more = ask-more m n w (b / 8) a.told after within writes in
       asked-place store.past w l (place.FenceRead b v) (leads (place.AskRead b v) is) (omega (arith, more, few)) tt
   by-place (place.FenceRead b v) is at few writes = empty-few store.past w l (fence-none m n w a.told after within writes)
+  by-place (place.AskLine line) is at few writes =
+      let more = ask-more m n w line a.told after within writes in
+      asked-place store.past w l (place.FenceLine line) (leads (place.AskLine line) is) (omega (arith, more, few)) tt
+  by-place (place.FenceLine line) is at few writes = empty-few store.past w l (fence-none m n w a.told after within writes)
   by-place other is at few writes = empty-few store.past w l (outside-none m n w p.store.swaps a.told after writes few)
 
   pub own-asked : AsksFew store.past w l

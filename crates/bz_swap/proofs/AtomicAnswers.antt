@@ -1,22 +1,22 @@
 -- What a step answers, and the misses that it notes, as the atomic swap memory says.
-use Rattle.std.specs.Prelude.{◌≡◌, ◌≢◌, ◌==◌, ℕ, ◌*◌, ◌/◌, ◌<◌, Bool, true, false, length, slice_index}
-use Rattle.std.proofs.Common.{arith, refl, ap, sym, subst, ◌∙◌}
-use Rattle.std.proofs.lemmas.Grind.{common_steps}
-use Rattle.bz_swap_cells.proofs.FromPm.Lemmas.{flush}
-use Rattle.bz_swap_cells.specs.FromPm.After.{after_flush}
+use Rattle.std.specs.Prelude.{◌≡◌, ◌≢◌, ℕ, ◌/◌, Bool, true, false, slice_index}
+use Rattle.std.proofs.Common.{refl, ap, sym, subst, ◌∙◌}
 use Rattle.bz_swap_cells.specs.FromPm.State.{State}
 use Rattle.bz_swap_acts.specs.declared.acted.Act.{Act}
-use Rattle.bz_swap_acts.specs.declared.acted.Act.TheVariants.{Load, Flush}
-use Rattle.bz_swap_acts.specs.Rule.{after_act, FoundRightly, IsWithin, IsActOf}
+use Rattle.bz_swap_acts.specs.declared.acted.Act.TheVariants.{Load, Ask, Fence}
+use Rattle.bz_swap_acts.specs.Rule.{after_act, FoundRightly, IsActOf}
 use Rattle.bz_swap_cells.specs.Store.{IsOutside}
 use Rattle.bz_swap_machine.specs.declared.done.Done.{Done}
 use Rattle.bz_swap_machine.specs.declared.done.Done.TheVariants.{Busy, Read, Swapped, Stored, Flushed}
 use Rattle.bz_swap.specs.Atomic.{value_of, NotesRightly, Answers}
 use Rattle.bz_swap.specs.Effects.{NotesMisses}
 use Rattle.bz_swap.specs.Held.{IsHeld}
-use Rattle.bz_swap.specs.Steps.{IsAnswer}
-use Rattle.bz_swap.specs.SwapMemory.{SwapMemory, Doing, Reading, Swapping, Loading, Storing, Flushing, memory_words, memory_state, value_at, is_named}
-use Rattle.bz_swap.specs.declared.phase.Phase.TheVariants.{Recovering}
+use Rattle.bz_swap.specs.Steps.{IsAnswer, IsFlushPart}
+use Rattle.bz_swap.specs.SettledWords.{IsAwaited}
+use Rattle.bz_swap.specs.SwapMemory.{SwapMemory, Doing, Reading, Swapping, Loading, Storing, Flushing, memory_words, memory_state, value_at, is_named, is_settled_at}
+use Rattle.bz_swap.specs.declared.phase.Phase.TheVariants.{Opened, Running, Recovering}
+use Rattle.bz_swap.specs.declared.phase.Phase.{Phase}
+use Rattle.bz_swap.proofs.SettledWords.{settled-same}
 use Rattle.bz_swap.proofs.AtomicValues.{value-named, value-private, entry-named}
 
 pub notes : (old new : SwapMemory) → NotesMisses old new → NotesRightly old new
@@ -33,15 +33,6 @@ loaded old new w made a v act is =
     let after : memory_state new ≡ memory_state old = act.after ∙ ap (after_act w (memory_state old)) is in
     ap (λ (m : State). slice_index m.words.cached a) after ∙ sym found
 
--- a flush makes the words of its line durable
-flushed-line : (old new : SwapMemory) (w : ℕ) (made : Act) (line a : ℕ) → IsHeld old → IsActOf (memory_state old) w made (memory_state new) → IsWithin (length old.cached) made → made ≡ Flush line → a / 8 ≡ line
-    → slice_index new.durable a ≡ slice_index new.cached a
-flushed-line old new w made line a held act within is here =
-    let after : memory_state new ≡ after_flush (memory_state old) line = act.after ∙ ap (after_act w (memory_state old)) is in
-    let inside : line * 8 < length old.cached = subst (IsWithin (length old.cached)) is within in
-    let test : (a / 8 == line) ≡ true = grind (arith, common_steps, here) in
-    ap (λ (m : State). slice_index m.words.durable a) after ∙ (flush (memory_words old) line held.memory inside).durable a ∙ rw test (ap (λ (m : State). slice_index m.words.cached a) (sym after))
-
 read-answer : (old new : SwapMemory) (w : ℕ) (made : Act) (a v : ℕ) → new.phase ≢ Recovering → IsActOf (memory_state old) w made (memory_state new) → made ≡ Load a v → (is_named new a ≡ true → value_at new a ≡ v) → value_of new a ≡ v
 read-answer old new w made a v works act is value = by_name (is_named new a) refl
   where
@@ -49,22 +40,35 @@ read-answer old new w made a v works act is value = by_name (is_named new a) ref
     by_name true named = value-named new a named ∙ value named
     by_name false private = value-private new a works private ∙ loaded old new w made a v act is
 
-flush-answer : (old new : SwapMemory) (w : ℕ) (made : Act) (line : ℕ) → new.phase ≢ Recovering → IsHeld old → IsHeld new → IsActOf (memory_state old) w made (memory_state new) → IsWithin (length old.cached) made → made ≡ Flush line
-    → (a : ℕ) → IsOutside new.swaps a → a / 8 ≡ line → value_at new a ≡ value_of new a
-flush-answer old new w made line works held holds act within is a out here = by_name (is_named new a) refl
+-- after a flush the words of its line that were awaited are durable
+flush-answer : (new : SwapMemory) → new.phase ≢ Recovering → IsHeld new → (a : ℕ) → IsOutside new.swaps a → is_settled_at new a ≡ true → value_at new a ≡ value_of new a
+flush-answer new works holds a out settled = by_name (is_named new a) refl
   where
     by_name : (b : Bool) → is_named new a ≡ b → value_at new a ≡ value_of new a
     by_name true named = sym (value-named new a named)
-    by_name false private = (holds.private a out private).1 ∙ flushed-line old new w made line a held act within is here ∙ sym (value-private new a works private)
+    by_name false private = (holds.private a out private).1 ∙ sym (settled-same new a settled) ∙ sym (value-private new a works private)
 
-pub answers : (old new : SwapMemory) (w : ℕ) (made : Act) (doing : Doing) (done : Done) → new.phase ≢ Recovering → IsHeld old → IsHeld new → IsActOf (memory_state old) w made (memory_state new) → IsWithin (length old.cached) made
-    → IsAnswer new doing made done → Answers new doing done
-answers old new w made (Reading a) Busy works held holds act within answer = tt
-answers old new w made (Reading a) (Read v) works held holds act within answer = read-answer old new w made a v works act answer.load answer.value
-answers old new w made (Swapping s) Busy works held holds act within answer = tt
-answers old new w made (Swapping s) (Swapped true) works held holds act within answer = answer
-answers old new w made (Swapping s) (Swapped false) works held holds act within answer = answer
-answers old new w made (Loading a) (Read v) works held holds act within answer = loaded old new w made a v act answer
-answers old new w made (Storing a v) Stored works held holds act within answer = tt
-answers old new w made (Flushing line) Flushed works held holds act within answer = flush-answer old new w made line works held holds act within answer
-answers old new w made doing done works held holds act within answer = absurd answer
+flush-answers : (phase : Phase) (old new : SwapMemory) (w : ℕ) (made : Act) (line : ℕ) (done : Done) → new.phase ≡ phase → phase ≢ Recovering → IsHeld new
+    → ((l : ℕ) → made ≡ Ask l → (a : ℕ) → a / 8 ≡ l → IsAwaited new w a) → (made ≡ Fence → (a : ℕ) → IsAwaited old w a → is_settled_at new a ≡ true) → IsFlushPart phase line made done → Answers old w new (Flushing line) done
+flush-answers Opened old new w made line Busy is works holds asks fences part = asks line part
+flush-answers Running old new w made line Busy is works holds asks fences part = asks line part
+flush-answers Opened old new w made line Flushed is works holds asks fences part = λ a out awaited. flush-answer new (λ bad. works (sym is ∙ bad)) holds a out (fences part a awaited)
+flush-answers Running old new w made line Flushed is works holds asks fences part = λ a out awaited. flush-answer new (λ bad. works (sym is ∙ bad)) holds a out (fences part a awaited)
+flush-answers Recovering old new w made line done is works holds asks fences part = absurd (works refl)
+flush-answers phase old new w made line done is works holds asks fences part = absurd part
+
+pub answers : (old new : SwapMemory) (w : ℕ) (made : Act) (doing : Doing) (done : Done) → new.phase ≢ Recovering → IsHeld old → IsHeld new → IsActOf (memory_state old) w made (memory_state new) → ((l : ℕ) → made ≡ Ask l → (a : ℕ) → a / 8 ≡ l → IsAwaited new w a) → (made ≡ Fence → (a : ℕ) → IsAwaited old w a → is_settled_at new a ≡ true)
+    → IsAnswer new doing made done → Answers old w new doing done
+answers old new w made (Reading a) Busy works held holds act asks fences answer = tt
+answers old new w made (Reading a) (Read v) works held holds act asks fences answer = read-answer old new w made a v works act answer.load answer.value
+answers old new w made (Swapping s) Busy works held holds act asks fences answer = tt
+answers old new w made (Swapping s) (Swapped true) works held holds act asks fences answer = answer
+answers old new w made (Swapping s) (Swapped false) works held holds act asks fences answer = answer
+answers old new w made (Loading a) (Read v) works held holds act asks fences answer = loaded old new w made a v act answer
+answers old new w made (Storing a v) Stored works held holds act asks fences answer = tt
+answers old new w made (Flushing line) Busy works held holds act asks fences answer = flush-answers new.phase old new w made line Busy refl works holds asks fences answer
+answers old new w made (Flushing line) Flushed works held holds act asks fences answer = flush-answers new.phase old new w made line Flushed refl works holds asks fences answer
+answers old new w made (Flushing line) (Read v) works held holds act asks fences answer = flush-answers new.phase old new w made line (Read v) refl works holds asks fences answer
+answers old new w made (Flushing line) (Swapped b) works held holds act asks fences answer = flush-answers new.phase old new w made line (Swapped b) refl works holds asks fences answer
+answers old new w made (Flushing line) Stored works held holds act asks fences answer = flush-answers new.phase old new w made line Stored refl works holds asks fences answer
+answers old new w made doing done works held holds act asks fences answer = absurd answer

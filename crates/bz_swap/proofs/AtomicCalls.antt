@@ -22,6 +22,7 @@ use Rattle.bz_swap.proofs.AtomicAnswers.{notes, answers}
 use Rattle.bz_swap.proofs.AtomicStarts.{start-values, swap-values, cut-value, renewal-values}
 use Rattle.bz_swap.proofs.AtomicSteps.{IsLeft, IsFrame, others-kept, left-kept, same-named, quiet-happens, effect-happens, durable-act, durable-evicted}
 use Rattle.bz_swap.proofs.AtomicValues.{value-private}
+use Rattle.bz_swap.proofs.SettledKept.{settled_words_stay}
 
 -- what a step leaves as it was
 step-frame : (old new : SwapMemory) (w : ℕ) (made : Act) (done : Done) (told : Option ℕ) (event : Event) → old.phase ≢ Recovering → IsHeld old → IsHeld new → IsStep old w made done told new
@@ -88,11 +89,13 @@ step-happens old new w made done None (Swapping s) is working held holds step = 
 step-happens old new w made done None (Loading b) is working held holds step = quiet-happens old new (step-frame old new w made done None Quiet working held holds step (λ a v other storing. (let both : Loading b ≡ Storing a v = sym is ∙ storing in absurd cc))) step.effect
 step-happens old new w made done None (Flushing line) is working held holds step = quiet-happens old new (step-frame old new w made done None Quiet working held holds step (λ a v other storing. (let both : Flushing line ≡ Storing a v = sym is ∙ storing in absurd cc))) step.effect
 
-step-atomic : (old new : SwapMemory) (w : ℕ) (made : Act) (done : Done) (told : Option ℕ) → old.phase ≢ Recovering → IsHeld old → IsHeld new → IsStep old w made done told new → IsAtomicStep old (doing_of old w) done told new
+step-atomic : (old new : SwapMemory) (w : ℕ) (made : Act) (done : Done) (told : Option ℕ) → old.phase ≢ Recovering → IsHeld old → IsHeld new → IsStep old w made done told new → IsAtomicStep old w (doing_of old w) done told new
 step-atomic old new w made done told working held holds step = record {
   happens = step-happens old new w made done told (doing_of old w) refl working held holds step;
   notes = notes old new step.misses;
-  answer = answers old new w made (doing_of old w) done (λ is. working (sym step.one.others.phase ∙ is)) held holds step.one.act step.one.within step.one.answer;
+  answer = answers old new w made (doing_of old w) done (λ is. working (sym step.one.others.phase ∙ is)) held holds step.one.act
+      (λ l is a here. settled_words_stay.asked old new w l done told a (subst (λ z. IsStep old w z done told new) is step) here)
+      (λ is a awaited. settled_words_stay.fenced old new w done told a (subst (λ z. IsStep old w z done told new) is step) awaited) step.one.answer;
 }
 
 -- an eviction

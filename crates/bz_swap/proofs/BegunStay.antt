@@ -62,7 +62,7 @@ begun-start : (m : SwapMemory) (w : ℕ) (doing : Doing) → doing_of m w ≡ Id
 begun-start m w doing is_idle all s begun = by_old (all s begun)
   where
     by_old : BegunOrTaken m s → BegunOrTaken (started m w doing) s
-    by_old (inl worker) = inl (worker.0, other-doing m w worker.0 s (record { doing = doing; flush_next = begins_by_flush doing }) is_idle worker.1)
+    by_old (inl worker) = inl (worker.0, other-doing m w worker.0 s (record { doing = doing; flush_next = begins_by_flush doing w }) is_idle worker.1)
     by_old (inr taken) = inr taken
 
 begun-swap : (m : SwapMemory) (w : ℕ) (entries : List Entry) → w < length m.workers → doing_of m w ≡ Idle → BegunAreTaken m → BegunAreTaken (swapping m w entries)

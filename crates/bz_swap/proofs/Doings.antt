@@ -40,6 +40,8 @@ doing-going (place.ClearRead a v) o g = refl
 doing-going (place.LoadWord a) o g = absurd g
 doing-going (place.StoreWord a v) o g = absurd g
 doing-going (place.FlushLine line) o g = absurd g
+doing-going (place.AskLine line) o g = absurd g
+doing-going (place.FenceLine line) o g = absurd g
 
 -- an operation that has answered is no longer done
 pub done-idle : (d : Doing) (done : Done) → (done ≡ Busy → ⊥) → doing_after d done ≡ Idle
@@ -67,6 +69,8 @@ idle-place (place.ClearRead a v) o h is = absurd (busy-not_idle o h is)
 idle-place (place.LoadWord a) o h is = absurd cc
 idle-place (place.StoreWord a v) o h is = absurd cc
 idle-place (place.FlushLine line) o h is = absurd cc
+idle-place (place.AskLine line) o h is = absurd cc
+idle-place (place.FenceLine line) o h is = absurd cc
 
 pub place-idle : (x : Place) (o : Operation) → x ≡ place.Idle → doing_at x o ≡ Idle
 place-idle x o is = rw is refl

@@ -6,7 +6,7 @@ use Rattle.bz_word.specs.declared.kind.WordKind.{WordKind}
 use Rattle.bz_word.specs.declared.kind.WordKind.TheVariants.{Value, Dirty, Swap, Tag}
 use Rattle.bz_swap_machine.specs.declared.status.Verdict.{Verdict}
 use Rattle.bz_swap_machine.specs.declared.place.Place.{Place}
-use Rattle.bz_swap_machine.specs.declared.place.Place.TheVariants.{Idle, Prepare, Learn, Help, ReadWord, AskRead, FenceRead, ClearRead, LoadWord, StoreWord, FlushLine}
+use Rattle.bz_swap_machine.specs.declared.place.Place.TheVariants.{Idle, Prepare, Learn, Help, ReadWord, AskRead, FenceRead, ClearRead, LoadWord, StoreWord, FlushLine, AskLine, FenceLine}
 use Rattle.bz_swap_machine.specs.declared.place.PrepareStep.TheVariants.{WriteWord, WriteStatus, AskHead, AskTail, FenceDescriptor}
 use Rattle.bz_swap_machine.specs.declared.place.HelpStep.TheVariants.{Look}
 use Rattle.bz_swap_machine.specs.declared.place.Next.{Next}
@@ -33,6 +33,8 @@ IsGoing (ClearRead a v) = Unit {0}
 IsGoing (LoadWord a) = ⊥
 IsGoing (StoreWord a v) = ⊥
 IsGoing (FlushLine line) = ⊥
+IsGoing (AskLine line) = ⊥
+IsGoing (FenceLine line) = ⊥
 
 -- a place whose act can answer with a word
 abbrev pub ReadsAt : Place → Type 0
@@ -47,6 +49,8 @@ ReadsAt (ClearRead a v) = ⊥
 ReadsAt (LoadWord a) = Unit {0}
 ReadsAt (StoreWord a v) = ⊥
 ReadsAt (FlushLine line) = ⊥
+ReadsAt (AskLine line) = ⊥
+ReadsAt (FenceLine line) = ⊥
 
 -- the worker goes on with its operation
 pub record GoesOn (l : Local) (at : Place) (after : Stepped) : Type 0 where
@@ -63,8 +67,16 @@ pub record HasEnded (at : Place) (after : Stepped) : Type 0 where
   pub told : IsGoing at → (after.done ≡ Stored → ⊥) × (after.done ≡ Flushed → ⊥)
   pub read : (v : ℕ) → after.done ≡ Read v → ReadsAt at
 
+-- it has asked for a line, and makes a fence next
+pub record IsBetween (l : Local) (at : Place) (after : Stepped) : Type 0 where
+  pub line : ℕ
+  pub from : at ≡ AskLine line
+  pub place : after.local.place ≡ FenceLine line
+  pub operation : after.local.operation ≡ l.operation
+  pub busy : after.done ≡ Busy
+
 abbrev pub Leads : Local → Place → Stepped → Type 0
-Leads l at after = GoesOn l at after ⊎ HasEnded at after
+Leads l at after = GoesOn l at after ⊎ HasEnded at after ⊎ IsBetween l at after
 
 going-if : (b : Bool) (x y : Place) → IsGoing x → IsGoing y → IsGoing (if b then x else y)
 going-if true x y f g = f
@@ -77,7 +89,7 @@ going-resumed l None (Reading a) busy = (tt, refl)
 going-resumed l None (Swapping s) busy = (tt, refl)
 
 leads-completed : (m : Memory) (l : Local) (d : Verdict) (b : Bool) → is_own l.operation l.current ≡ b → IsBusy l.operation → (at : Place) → IsGoing at → Leads l at (completed m l d)
-leads-completed m l d true own busy at from = rw own (inr (record { place = refl; operation = refl; done = λ h. absurd cc; told = λ g. (λ h. absurd cc, λ h. absurd cc); read = λ v h. absurd cc }))
+leads-completed m l d true own busy at from = rw own (inr (inl (record { place = refl; operation = refl; done = λ h. absurd cc; told = λ g. (λ h. absurd cc, λ h. absurd cc); read = λ v h. absurd cc })))
 leads-completed m l d false own busy at from =
     let (place, operation) = going-resumed l l.back l.operation busy in
     rw own (inl (record { from = from; place = place; operation = operation; busy = refl }))
@@ -88,7 +100,7 @@ leads-help m l (Meet t) busy at from = inl (record { from = from; place = tt; op
 leads-help m l (Complete d) busy at from = leads-completed m l d _ refl busy at from
 
 leads-read : (m : Memory) (l : Local) (a : ℕ) (found : WordKind) → Leads l (ReadWord a) (read_act m l a found)
-leads-read m l a (Value v) = inr (record { place = refl; operation = refl; done = λ h. absurd cc; told = λ g. (λ h. absurd cc, λ h. absurd cc); read = λ u h. tt })
+leads-read m l a (Value v) = inr (inl (record { place = refl; operation = refl; done = λ h. absurd cc; told = λ g. (λ h. absurd cc, λ h. absurd cc); read = λ u h. tt }))
 leads-read m l a (Dirty v) = inl (record { from = tt; place = tt; operation = refl; busy = refl })
 leads-read m l a (Swap t) = inl (record { from = tt; place = tt; operation = refl; busy = refl })
 leads-read m l a (Tag t i w q) = inl (record { from = tt; place = tt; operation = refl; busy = refl })
@@ -110,6 +122,8 @@ leads-act m w l (ReadWord a) some busy = leads-read m l a (m.cached a)
 leads-act m w l (AskRead a v) some busy = inl (record { from = tt; place = tt; operation = refl; busy = refl })
 leads-act m w l (FenceRead a v) some busy = inl (record { from = tt; place = tt; operation = refl; busy = refl })
 leads-act m w l (ClearRead a v) some busy = inl (record { from = tt; place = tt; operation = refl; busy = refl })
-leads-act m w l (LoadWord a) some busy = inr (record { place = refl; operation = refl; done = λ h. absurd cc; told = λ g. absurd g; read = λ v h. tt })
-leads-act m w l (StoreWord a v) some busy = inr (record { place = refl; operation = refl; done = λ h. absurd cc; told = λ g. absurd g; read = λ v h. absurd cc })
-leads-act m w l (FlushLine line) some busy = inr (record { place = refl; operation = refl; done = λ h. absurd cc; told = λ g. absurd g; read = λ v h. absurd cc })
+leads-act m w l (LoadWord a) some busy = inr (inl (record { place = refl; operation = refl; done = λ h. absurd cc; told = λ g. absurd g; read = λ v h. tt }))
+leads-act m w l (StoreWord a v) some busy = inr (inl (record { place = refl; operation = refl; done = λ h. absurd cc; told = λ g. absurd g; read = λ v h. absurd cc }))
+leads-act m w l (FlushLine line) some busy = inr (inl (record { place = refl; operation = refl; done = λ h. absurd cc; told = λ g. absurd g; read = λ v h. absurd cc }))
+leads-act m w l (AskLine line) some busy = inr (inr (record { line = line; from = refl; place = refl; operation = refl; busy = refl }))
+leads-act m w l (FenceLine line) some busy = inr (inl (record { place = refl; operation = refl; done = λ h. absurd cc; told = λ g. absurd g; read = λ v h. absurd cc }))

@@ -174,6 +174,8 @@ by-act e m w l (place.ClearRead a v) at none = inl (stays-cleared m a v (m.cache
 by-act e m w l (place.LoadWord a) at none = inl refl
 by-act e m w l (place.StoreWord a v) at none = inl refl
 by-act e m w l (place.FlushLine line) at none = inl refl
+by-act e m w l (place.AskLine line) at none = inl refl
+by-act e m w l (place.FenceLine line) at none = inl (stays-fenced m w l.current (none refl))
 
 effect-some : (b c : Bool) (s t : ℕ) → ◌≡◌ {A = Option ℕ} (if b && not c then Some s else None) (Some t) → (b ≡ true) × (c ≡ false) × (s ≡ t)
 effect-some true false s t is = (refl, refl, cc)

@@ -14,7 +14,7 @@ use Rattle.bz_swap.specs.Solo.{allowed_by_kind}
 use Rattle.bz_swap.specs.Held.{Holds}
 use Rattle.bz_swap.specs.Starts.{MayRecover, MayLoad, MayStore, MayFlush, started, phase_of, begins_by_flush}
 use Rattle.bz_swap.specs.SwapMemory.{Doing, Loading, Storing, Flushing}
-use Rattle.bz_swap.specs.Inside.Parts.{Parts, idle_worker, worker_at, working, begun_seen, seen}
+use Rattle.bz_swap.specs.Inside.Parts.{Parts, idle_worker, worker_at, working, begun_seen, flush_begins, seen}
 use Rattle.bz_swap.specs.Inside.Allowances.{after_start}
 use Rattle.bz_swap.specs.Inside.Kept.{IsKept, KeptIn, RecoversAt}
 use Rattle.bz_swap.proofs.Alone.{left-seen}
@@ -45,7 +45,7 @@ none-begun Running p not kept = absurd (not refl)
 none-begun Recovering p not kept = refl
 
 raw-begun : (p : Parts) (k : IsKept p) (at : Place) (l : Worker) (d : Doing) → MayRecover (seen p) → l ≡ worker_at p 0 → RecoversAt p.store at
-    → at ≢ place.Idle → working (placed l at) ≡ record { doing = d; flush_next = begins_by_flush d } → 0 < allowed_by_kind d → IsBegun p 0 (placed l at) d
+    → at ≢ place.Idle → working (placed l at) ≡ record { doing = d; flush_next = begins_by_flush d 0 } → 0 < allowed_by_kind d → IsBegun p 0 (placed l at) d
 raw-begun p k at l d may is lies busy shows some =
     let (rest, others) = resting p.phase p may.phase k.kept in
     let here : worker_at (with_start p 0 (placed l at) (allowed_by_kind d)) 0 ≡ placed l at = get_or-set_same p.workers 0 (placed l at) idle_worker k.some in
@@ -87,7 +87,7 @@ store-begun p k (suc w) a v l may is =
     let s = store-started p k (suc w) a v l may (worker-read p (suc w) l (workers-within p (suc w) may.work.within) is) in
     record { kept = s.kept; is = s.is; holds = s.holds }
 
-pub flush-begun : (p : Parts) (k : IsKept p) (w line : ℕ) (l : Worker) → MayFlush (seen p) w line → l ≡ get_or p.workers w l → IsBegun p w (placed l (place.FlushLine line)) (Flushing line)
+pub flush-begun : (p : Parts) (k : IsKept p) (w line : ℕ) (l : Worker) → MayFlush (seen p) w line → l ≡ get_or p.workers w l → IsBegun p w (placed l (flush_begins w line)) (Flushing line)
 flush-begun p k zero line l may is = raw-begun p k (place.FlushLine line) l (Flushing line) may.recover (worker-read p 0 l k.some is) may.within (λ idle. (let bad = idle in absurd cc)) refl (omega arith)
 flush-begun p k (suc w) line l may is =
     let s = flush-started p k (suc w) line l may (worker-read p (suc w) l (workers-within p (suc w) may.work.within) is) in

@@ -51,18 +51,20 @@ recovers-at p k w l phase busy is =
     (subst (λ u. RecoversAt p.store u.place) (sym (is ∙ ap (worker_at p) zero)) r.recoverer, λ idle. busy-place p w busy (sym (ap (λ u. u.place) is) ∙ idle))
 
 -- what was asked is what was done, and answered
-asked-answer : (m : SwapMemory) (at : Place) (o : Operation) (acted : Acted) → IsAsked at acted → IsAnswer m (doing_at at o) acted.act acted.done
-asked-answer m (place.LoadWord a) o acted is = rw is.1.1 is.1.0
-asked-answer m (place.StoreWord a v) o acted is = rw is.1 is.0
-asked-answer m (place.FlushLine line) o acted is = rw is.1 is.0
-asked-answer m place.Idle o acted is = absurd is
-asked-answer m (place.Prepare step) o acted is = absurd is
-asked-answer m (place.Learn k) o acted is = absurd is
-asked-answer m (place.Help step) o acted is = absurd is
-asked-answer m (place.ReadWord a) o acted is = absurd is
-asked-answer m (place.AskRead a v) o acted is = absurd is
-asked-answer m (place.FenceRead a v) o acted is = absurd is
-asked-answer m (place.ClearRead a v) o acted is = absurd is
+asked-answer : (m : SwapMemory) (at : Place) (o : Operation) (acted : Acted) → m.phase ≡ Recovering → IsAsked at acted → IsAnswer m (doing_at at o) acted.act acted.done
+asked-answer m (place.LoadWord a) o acted phase is = rw is.1.1 is.1.0
+asked-answer m (place.StoreWord a v) o acted phase is = rw is.1 is.0
+asked-answer m (place.FlushLine line) o acted phase is = rw (phase, is.1) is.0
+asked-answer m place.Idle o acted phase is = absurd is
+asked-answer m (place.Prepare step) o acted phase is = absurd is
+asked-answer m (place.Learn k) o acted phase is = absurd is
+asked-answer m (place.Help step) o acted phase is = absurd is
+asked-answer m (place.ReadWord a) o acted phase is = absurd is
+asked-answer m (place.AskRead a v) o acted phase is = absurd is
+asked-answer m (place.FenceRead a v) o acted phase is = absurd is
+asked-answer m (place.ClearRead a v) o acted phase is = absurd is
+asked-answer m (place.AskLine line) o acted phase is = absurd is
+asked-answer m (place.FenceLine line) o acted phase is = absurd is
 
 asked-flush : (at : Place) (acted : Acted) → IsAsked at acted → is_flush_act acted.act ≡ is_flush at
 asked-flush (place.LoadWord a) acted is = ap is_flush_act is.1.0
@@ -76,6 +78,8 @@ asked-flush (place.ReadWord a) acted is = absurd is
 asked-flush (place.AskRead a v) acted is = absurd is
 asked-flush (place.FenceRead a v) acted is = absurd is
 asked-flush (place.ClearRead a v) acted is = absurd is
+asked-flush (place.AskLine line) acted is = absurd is
+asked-flush (place.FenceLine line) acted is = absurd is
 
 asked-idle : (at : Place) (o : Operation) (acted : Acted) → IsAsked at acted → Idle ≡ doing_after (doing_at at o) acted.done
 asked-idle (place.LoadWord a) o acted is = rw is.1.1 refl
@@ -89,6 +93,8 @@ asked-idle (place.ReadWord a) o acted is = absurd is
 asked-idle (place.AskRead a v) o acted is = absurd is
 asked-idle (place.FenceRead a v) o acted is = absurd is
 asked-idle (place.ClearRead a v) o acted is = absurd is
+asked-idle (place.AskLine line) o acted is = absurd is
+asked-idle (place.FenceLine line) o acted is = absurd is
 
 -- the act is one on a word or line of the memory
 asked-within : (st : Store) (at : Place) (acted : Acted) → RecoversAt st at → IsAsked at acted → IsWithin (length st.cached) acted.act
@@ -103,6 +109,8 @@ asked-within st (place.ReadWord a) acted lies is = absurd is
 asked-within st (place.AskRead a v) acted lies is = absurd is
 asked-within st (place.FenceRead a v) acted lies is = absurd is
 asked-within st (place.ClearRead a v) acted lies is = absurd is
+asked-within st (place.AskLine line) acted lies is = absurd is
+asked-within st (place.FenceLine line) acted lies is = absurd is
 
 -- no ask is counted
 count-act : (m : State) (w : ℕ) (at : Place) (acted : Acted) → IsAsked at acted → (after_act w m acted.act).count ≡ m.count
@@ -117,6 +125,8 @@ count-act m w (place.ReadWord a) acted is = absurd is
 count-act m w (place.AskRead a v) acted is = absurd is
 count-act m w (place.FenceRead a v) acted is = absurd is
 count-act m w (place.ClearRead a v) acted is = absurd is
+count-act m w (place.AskLine line) acted is = absurd is
+count-act m w (place.FenceLine line) acted is = absurd is
 
 -- what is kept after the step
 pub raw-kept : (p : Parts) (k : IsKept p) (w : ℕ) (store : Store) (l : Worker) (acted : Acted) → p.phase ≡ Recovering → w < length (seen p).workers → doing_of (seen p) w ≢ Idle → l ≡ worker_at p w
@@ -194,7 +204,7 @@ raw-seen p k w store l acted phase within busy steps is made =
           taken = ap (λ (u : Store). u.taken) (made.after w);
           workers = λ v ne. worker-seen q v ∙ ap working (other-worker p w v store (placed l place.Idle) ne) ∙ sym (worker-seen p v);
         };
-        answer = subst (λ d. IsAnswer (seen q) d acted.act acted.done) (ap (λ (u : Working). u.doing) (sym was)) (asked-answer (seen q) l.place l.operation acted made.asked);
+        answer = subst (λ d. IsAnswer (seen q) d acted.act acted.done) (ap (λ (u : Working). u.doing) (sym was)) (asked-answer (seen q) l.place l.operation acted phase made.asked);
         spent = left-spent p w store (placed l place.Idle) (left-seen p k w) (raw-left p k w phase (workers-within p w within) busy);
       };
       effect = refl;

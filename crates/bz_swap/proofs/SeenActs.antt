@@ -23,9 +23,10 @@ use Rattle.bz_swap_cells.specs.Store.{Store, IsOutside, kind_at, typed, store_st
 use Rattle.bz_swap_acts.specs.Made.{made}
 use Rattle.bz_swap_acts.specs.Rule.{IsActOf, IsToldAt}
 use Rattle.bz_swap_acts.specs.declared.acted.Act.{Act}
-use Rattle.bz_swap_acts.specs.declared.acted.Act.TheVariants.{Load}
-use Rattle.bz_swap.specs.declared.phase.Phase.TheVariants.{Recovering}
-use Rattle.bz_swap.specs.Steps.{IsAnswer, IsStep, doing_after}
+use Rattle.bz_swap_acts.specs.declared.acted.Act.TheVariants.{Load, Ask, Fence}
+use Rattle.bz_swap.specs.declared.phase.Phase.{Phase}
+use Rattle.bz_swap.specs.declared.phase.Phase.TheVariants.{Opened, Running, Recovering}
+use Rattle.bz_swap.specs.Steps.{IsAnswer, IsFlushPart, IsStep, doing_after}
 use Rattle.bz_swap.specs.SwapMemory.{SwapMemory, Storing, Working, worker_of}
 use Rattle.bz_swap.specs.Inside.Parts.{Parts, worker_at, listed, entry_list, seen, working, doing_at, doing_operation}
 use Rattle.bz_swap.specs.Inside.Kept.{IsRunning, PlaceLies, state_of}
@@ -60,9 +61,13 @@ doing-made p r w store l done a (inl goes) =
     let same : l.operation ≡ (worker_at p w).operation = ap (λ (x : Local). x.operation) a.local ∙ goes.operation in
     let busy : done ≡ Busy = a.is_done ∙ goes.busy in
     rw busy (doing-going l.place l.operation going ∙ ap doing_operation same ∙ sym (doing-going (worker_at p w).place (worker_at p w).operation goes.from))
-doing-made p r w store l done a (inr ended) =
+doing-made p r w store l done a (inr (inl ended)) =
     let idle : l.place ≡ place.Idle = ap (λ (x : Local). x.place) a.local ∙ ended.place in
     ap (λ x. doing_at x l.operation) idle ∙ sym (done-idle (doing_at (worker_at p w).place (worker_at p w).operation) done (λ is. ended.done (sym a.is_done ∙ is)))
+doing-made p r w store l done a (inr (inr between)) =
+    let next : l.place ≡ place.FenceLine between.line = ap (λ (x : Local). x.place) a.local ∙ between.place in
+    let busy : done ≡ Busy = a.is_done ∙ between.busy in
+    rw busy (ap (λ x. doing_at x l.operation) next ∙ sym (ap (λ x. doing_at x (worker_at p w).operation) between.from))
 
 read-found : (m : Memory) (l : Local) (a v : ℕ) (found : WordKind) → (read_act m l a found).done ≡ Read v → found ≡ Value v
 read-found m l a v (Value u) is = cc
@@ -91,6 +96,8 @@ read-load p r w store told (place.ClearRead b u) a v reads at lies is rule done 
 read-load p r w store told (place.LoadWord b) a v reads at lies is rule done o = absurd at
 read-load p r w store told (place.StoreWord b u) a v reads at lies is rule done o = absurd reads
 read-load p r w store told (place.FlushLine line) a v reads at lies is rule done o = absurd reads
+read-load p r w store told (place.AskLine line) a v reads at lies is rule done o = absurd reads
+read-load p r w store told (place.FenceLine line) a v reads at lies is rule done o = absurd reads
 
 -- the answer of an act at a place on the way
 answer-going : (p : Parts) (r : IsRunning p) (w : ℕ) (store : Store) (l : Worker) (done : Done) (told : Act) → MayStep p w → p.phase ≢ Recovering → Acts p r.beside w store l done → IsMadeAct p w store told
@@ -106,31 +113,47 @@ answer-going p r w store l done told may phase a made_act leads going =
   where
     not_stored : Leads (local_of (worker_at p w)) (worker_at p w).place (made p.store r.beside (worker_at p w) w) → (made p.store r.beside (worker_at p w) w).done ≡ Stored → ⊥
     not_stored (inl goes) is = (let bad : Busy ≡ Stored = sym goes.busy ∙ is in absurd cc)
-    not_stored (inr ended) is = (ended.told going).0 is
+    not_stored (inr (inl ended)) is = (ended.told going).0 is
+    not_stored (inr (inr between)) is = (let bad : Busy ≡ Stored = sym between.busy ∙ is in absurd cc)
 
     not_flushed : Leads (local_of (worker_at p w)) (worker_at p w).place (made p.store r.beside (worker_at p w) w) → (made p.store r.beside (worker_at p w) w).done ≡ Flushed → ⊥
     not_flushed (inl goes) is = (let bad : Busy ≡ Flushed = sym goes.busy ∙ is in absurd cc)
-    not_flushed (inr ended) is = (ended.told going).1 is
+    not_flushed (inr (inl ended)) is = (ended.told going).1 is
+    not_flushed (inr (inr between)) is = (let bad : Busy ≡ Flushed = sym between.busy ∙ is in absurd cc)
 
     reads : Leads (local_of (worker_at p w)) (worker_at p w).place (made p.store r.beside (worker_at p w) w) → (v : ℕ) → (made p.store r.beside (worker_at p w) w).done ≡ Read v → ReadsAt (worker_at p w).place
     reads (inl goes) v is = (let bad : Busy ≡ Read v = sym goes.busy ∙ is in absurd cc)
-    reads (inr ended) v is = ended.read v is
+    reads (inr (inl ended)) v is = ended.read v is
+    reads (inr (inr between)) v is = (let bad : Busy ≡ Read v = sym between.busy ∙ is in absurd cc)
 
 -- the answer at any place
-answer-at : (p : Parts) (r : IsRunning p) (w : ℕ) (n : SwapMemory) (done : Done) (told : Act) (x : Place) → AtPlace r.entries (typed p.store r.beside) w (local_of (worker_at p w)) x
+-- outside a recovery time a flush is an ask and then a fence
+ask-part : (phase : Phase) (line : ℕ) (told : Act) (done : Done) → phase ≢ Recovering → done ≡ Busy → told ≡ Ask line → IsFlushPart phase line told done
+ask-part Opened line told done works d is = rw d is
+ask-part Running line told done works d is = rw d is
+ask-part Recovering line told done works d is = absurd (works refl)
+
+fence-part : (phase : Phase) (line : ℕ) (told : Act) (done : Done) → phase ≢ Recovering → done ≡ Flushed → told ≡ Fence → IsFlushPart phase line told done
+fence-part Opened line told done works d is = rw d is
+fence-part Running line told done works d is = rw d is
+fence-part Recovering line told done works d is = absurd (works refl)
+
+answer-at : (p : Parts) (r : IsRunning p) (w : ℕ) (n : SwapMemory) (done : Done) (told : Act) (x : Place) → n.phase ≢ Recovering → AtPlace r.entries (typed p.store r.beside) w (local_of (worker_at p w)) x
     → x ≢ place.Idle → (IsGoing x → IsAnswer n (doing_operation (worker_at p w).operation) told done) → IsToldAt x told → done ≡ (act (typed p.store r.beside) w (local_of (worker_at p w)) x).done
     → IsAnswer n (doing_at x (worker_at p w).operation) told done
-answer-at p r w n done told place.Idle at some going is d = absurd (some refl)
-answer-at p r w n done told (place.Prepare step) at some going is d = going tt
-answer-at p r w n done told (place.Learn k) at some going is d = going tt
-answer-at p r w n done told (place.Help step) at some going is d = going tt
-answer-at p r w n done told (place.ReadWord a) at some going is d = going tt
-answer-at p r w n done told (place.AskRead a v) at some going is d = going tt
-answer-at p r w n done told (place.FenceRead a v) at some going is d = going tt
-answer-at p r w n done told (place.ClearRead a v) at some going is d = going tt
-answer-at p r w n done told (place.LoadWord a) at some going is d = absurd at
-answer-at p r w n done told (place.StoreWord a v) at some going is d = rw d is
-answer-at p r w n done told (place.FlushLine line) at some going is d = rw d is
+answer-at p r w n done told place.Idle works at some going is d = absurd (some refl)
+answer-at p r w n done told (place.Prepare step) works at some going is d = going tt
+answer-at p r w n done told (place.Learn k) works at some going is d = going tt
+answer-at p r w n done told (place.Help step) works at some going is d = going tt
+answer-at p r w n done told (place.ReadWord a) works at some going is d = going tt
+answer-at p r w n done told (place.AskRead a v) works at some going is d = going tt
+answer-at p r w n done told (place.FenceRead a v) works at some going is d = going tt
+answer-at p r w n done told (place.ClearRead a v) works at some going is d = going tt
+answer-at p r w n done told (place.LoadWord a) works at some going is d = absurd at
+answer-at p r w n done told (place.StoreWord a v) works at some going is d = rw d is
+answer-at p r w n done told (place.FlushLine line) works at some going is d = absurd at
+answer-at p r w n done told (place.AskLine line) works at some going is d = ask-part n.phase line told done works d is
+answer-at p r w n done told (place.FenceLine line) works at some going is d = fence-part n.phase line told done works d is
 
 -- the word of an address that nothing names stays, but for a private store at it
 not-storing : (x : Place) (o : Operation) (a : ℕ) → ((v : ℕ) → doing_at x o ≢ Storing a v) → (v : ℕ) → x ≢ place.StoreWord a v
@@ -159,7 +182,7 @@ step-seen p r w store l done told may phase a made_act =
     let taken : store.taken ≡ p.store.taken = ap (λ (m : Memory). m.taken) a.memory ∙ f.taken in
     let was : worker_of (seen p) w ≡ working old = worker-seen p w in
     let is : worker_of (seen q) w ≡ working l = worker-seen q w ∙ ap working (same-worker p w store l may.within) in
-    let answer = answer-at p r w (seen q) done told old.place (r.state.knows w).place may.busy (answer-going p r w store l done told may phase a made_act leads) made_act.is_told a.is_done in
+    let answer = answer-at p r w (seen q) done told old.place phase (r.state.knows w).place may.busy (answer-going p r w store l done told may phase a made_act leads) made_act.is_told a.is_done in
     let atomic = acts_atomically (state_of p r.entries r.beside) (Acting w) tt r.state in
     record {
       one = record {

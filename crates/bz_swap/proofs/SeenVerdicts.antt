@@ -86,6 +86,8 @@ swap-operation (place.ClearRead a v) o s is = is
 swap-operation (place.LoadWord a) o s is = absurd cc
 swap-operation (place.StoreWord a v) o s is = absurd cc
 swap-operation (place.FlushLine line) o s is = absurd cc
+swap-operation (place.AskLine line) o s is = absurd cc
+swap-operation (place.FenceLine line) o s is = absurd cc
 
 pub decided-seen : (p : Parts) (r : IsRunning p) (w : ℕ) (store : Store) (l : Worker) (done : Done) → MayStep p w → Acts p r.beside w store l done
     → (s : ℕ) (won : Bool) → doing_of (seen p) w ≡ Swapping s → done ≡ Swapped won → IsDecided (seen (after_step p w store l)) s won

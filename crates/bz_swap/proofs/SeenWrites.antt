@@ -177,6 +177,8 @@ writes-at p r w told (place.StoreWord a v) phase at range lies doing made =
     store-writes (seen p) w a v told made (inl (record { doing = doing; outside = lies.outside; private = (shows p r phase).named a ∙ at; value = range }))
 writes-at p r w told (place.AskRead a v) phase at range lies doing made = ask-writes (seen p) w _ told made
 writes-at p r w told (place.FenceRead a v) phase at range lies doing made = fence-writes (seen p) w told made
+writes-at p r w told (place.AskLine line) phase at range lies doing made = ask-writes (seen p) w _ told made
+writes-at p r w told (place.FenceLine line) phase at range lies doing made = fence-writes (seen p) w told made
 writes-at p r w told other phase at range lies doing made = outside-writes (seen p) w told made
 
 pub writes-seen : (p : Parts) (r : IsRunning p) (w : ℕ) (told : Act) → p.phase ≢ Recovering → WritesAt p.store.swaps (worker_at p w) (worker_at p w).place told → WritesLawfully (seen p) w told

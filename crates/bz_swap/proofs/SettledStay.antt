@@ -55,7 +55,7 @@ settled-eviction old new a told s not h settled = record {
 pub start-settled : (m : SwapMemory) (w : ℕ) (doing : Doing) (s : ℕ) → doing ≢ Swapping s → IsSettled m s → IsSettled (started m w doing) s
 start-settled m w doing s another settled = record {
   begun = settled.begun;
-  undone = λ v is. settled.undone v (start-before m w (record { doing = doing; flush_next = begins_by_flush doing }) v s another is);
+  undone = λ v is. settled.undone v (start-before m w (record { doing = doing; flush_next = begins_by_flush doing w }) v s another is);
 }
 
 settled-swap : (m : SwapMemory) (w : ℕ) (entries : List Entry) (s : ℕ) → IsSettled m s → StaysSettled m (swapping m w entries) s

@@ -116,7 +116,7 @@ phase-some zero some = absurd (omega (arith, some))
 phase-some (suc w) some = refl
 
 -- what callers see after a start
-pub start-seen : (p : Parts) (r : IsRunning p) (w : ℕ) (l : Worker) (v : Event) (d : Doing) → p.phase ≢ Recovering → Starts p r w l v (allowed_by_kind d) → working l ≡ record { doing = d; flush_next = begins_by_flush d }
+pub start-seen : (p : Parts) (r : IsRunning p) (w : ℕ) (l : Worker) (v : Event) (d : Doing) → p.phase ≢ Recovering → Starts p r w l v (allowed_by_kind d) → working l ≡ record { doing = d; flush_next = begins_by_flush d w }
     → seen (with_worker p w l (allowed_by_kind d)) ≡ started (seen p) w d
 start-seen p r w l v d phase h is =
     let after = start-running p r w l v (allowed_by_kind d) h in
@@ -134,7 +134,7 @@ pub record IsStarted (p : Parts) (w : ℕ) (l : Worker) (d : Doing) : Type 0 whe
   pub holds : Holds (seen (with_worker p w l (allowed_by_kind d)))
 
 pub is-started : (p : Parts) (k : IsKept p) (phase : p.phase ≢ Recovering) (w : ℕ) (l : Worker) (v : Event) (d : Doing) → Starts p (running p.phase p phase k.kept) w l v (allowed_by_kind d)
-    → working l ≡ record { doing = d; flush_next = begins_by_flush d } → IsStarted p w l d
+    → working l ≡ record { doing = d; flush_next = begins_by_flush d w } → IsStarted p w l d
 is-started p k phase w l v d h is =
     let r = running p.phase p phase k.kept in
     let after = start-running p r w l v (allowed_by_kind d) h in

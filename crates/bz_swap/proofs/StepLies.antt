@@ -35,6 +35,8 @@ place-shape st new shape (place.FenceRead a v) h = lies-shape st new a shape h
 place-shape st new shape (place.ClearRead a v) h = lies-shape st new a shape h
 place-shape st new shape (place.StoreWord a v) h = lies-shape st new a shape h
 place-shape st new shape (place.FlushLine line) h = lies-shape st new (line * 8) shape h
+place-shape st new shape (place.AskLine line) h = lies-shape st new (line * 8) shape h
+place-shape st new shape (place.FenceLine line) h = lies-shape st new (line * 8) shape h
 place-shape st new shape place.Idle h = tt
 place-shape st new shape (place.Prepare step) h = tt
 place-shape st new shape (place.Learn k) h = tt
@@ -57,6 +59,8 @@ rests-going (place.ClearRead a v) o g busy = busy
 rests-going (place.LoadWord a) o g busy = absurd g
 rests-going (place.StoreWord a v) o g busy = absurd g
 rests-going (place.FlushLine line) o g busy = absurd g
+rests-going (place.AskLine line) o g busy = absurd g
+rests-going (place.FenceLine line) o g busy = absurd g
 
 pub busy-going : (x : Place) (o : Operation) → IsGoing x → RestsAt x o → IsBusy o
 busy-going place.Idle o g h = absurd g
@@ -70,6 +74,8 @@ busy-going (place.ClearRead a v) o g h = h
 busy-going (place.LoadWord a) o g h = absurd g
 busy-going (place.StoreWord a v) o g h = absurd g
 busy-going (place.FlushLine line) o g h = absurd g
+busy-going (place.AskLine line) o g h = absurd g
+busy-going (place.FenceLine line) o g h = absurd g
 
 -- the address that is read is the operation's
 pub lies-going : (e : ℕ → Entries) (m : Memory) (w : ℕ) (l : Local) (st : Store) (x : Place) → IsGoing x → AtPlace e m w l x → OperationLies st l.operation → PlaceLies st x
@@ -84,6 +90,8 @@ lies-going e m w l st (place.ClearRead a v) g at h = rw at at h
 lies-going e m w l st (place.LoadWord a) g at h = absurd g
 lies-going e m w l st (place.StoreWord a v) g at h = absurd g
 lies-going e m w l st (place.FlushLine line) g at h = absurd g
+lies-going e m w l st (place.AskLine line) g at h = absurd g
+lies-going e m w l st (place.FenceLine line) g at h = absurd g
 
 -- the worker that stepped
 pub stepped-worker : (p : Parts) (r : IsRunning p) (w : ℕ) (store : Store) (l : Worker) (done : Done) (n : Memory) → Acts p r.beside w store l done
@@ -95,10 +103,17 @@ stepped-worker p r w store l done n a (inl goes) known =
     let busy : IsBusy l.operation = rw same (busy-going (worker_at p w).place (worker_at p w).operation goes.from old.rests) in
     let lies : OperationLies store l.operation = rw same (operation-shape p.store store a.shape (worker_at p w).operation old.operation) in
     record { rests = rests-going l.place l.operation going busy; operation = lies; place = lies-going r.entries n w (local_of l) store l.place going known.place lies }
-stepped-worker p r w store l done n a (inr ended) known =
+stepped-worker p r w store l done n a (inr (inl ended)) known =
     let idle : l.place ≡ place.Idle = ap (λ (x : Local). x.place) a.local ∙ ended.place in
     let nothing : l.operation ≡ operation.Nothing = ap (λ (x : Local). x.operation) a.local ∙ ended.operation in
     record { rests = rw (idle, nothing) refl; operation = rw nothing tt; place = rw idle tt }
+stepped-worker p r w store l done n a (inr (inr between)) known =
+    let old = r.workers w in
+    let next : l.place ≡ place.FenceLine between.line = ap (λ (x : Local). x.place) a.local ∙ between.place in
+    let same : l.operation ≡ (worker_at p w).operation = ap (λ (x : Local). x.operation) a.local ∙ between.operation in
+    let nothing : (worker_at p w).operation ≡ operation.Nothing = rw between.from at old.rests in
+    let lies : LiesOutside p.store (between.line * 8) = rw between.from at old.place in
+    record { rests = rw (next, same) nothing; operation = rw (same, nothing) tt; place = rw next (lies-shape p.store store (between.line * 8) a.shape lies) }
 
 -- a worker with something to come back to is on the way
 pub going-busy : (x : Place) (o : Operation) → RestsAt x o → IsBusy o → IsGoing x
@@ -113,3 +128,5 @@ going-busy (place.ClearRead a v) o h busy = tt
 going-busy (place.LoadWord a) o h busy = absurd (rw h at busy)
 going-busy (place.StoreWord a v) o h busy = absurd (rw h at busy)
 going-busy (place.FlushLine line) o h busy = absurd (rw h at busy)
+going-busy (place.AskLine line) o h busy = absurd (rw h at busy)
+going-busy (place.FenceLine line) o h busy = absurd (rw h at busy)

@@ -53,7 +53,8 @@ pub swap-stays : (p : Parts) (r : IsRunning p) (w : ℕ) (store : Store) (l : Wo
     → Leads (local_of (worker_at p w)) (worker_at p w).place (made p.store r.beside (worker_at p w) w)
     → (s : ℕ) → (made p.store r.beside (worker_at p w) w).memory.answer s ≡ None → (worker_at p w).operation ≡ operation.Swapping s → l.operation ≡ operation.Swapping s
 swap-stays p r w store l done a (inl goes) s none is = ap (λ (x : Local). x.operation) a.local ∙ goes.operation ∙ is
-swap-stays p r w store l done a (inr ended) s none is =
+swap-stays p r w store l done a (inr (inr between)) s none is = ap (λ (x : Local). x.operation) a.local ∙ between.operation ∙ is
+swap-stays p r w store l done a (inr (inl ended)) s none is =
     let busy : IsBusy (worker_at p w).operation = rw is tt in
     let going : IsGoing (worker_at p w).place = going-busy (worker_at p w).place (worker_at p w).operation (r.workers w).rests busy in
     let right = (acts_atomically (state_of p r.entries r.beside) (Act w) tt r.state).answer in

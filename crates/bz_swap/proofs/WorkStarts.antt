@@ -1,6 +1,6 @@
 -- Starts of workers from 1 on: a read, a private store, a private flush.
-use Rattle.std.specs.Prelude.{◌≡◌, ℕ, ◌*◌, length, None}
-use Rattle.std.proofs.Common.{refl, ap, sym, subst, ◌∙◌}
+use Rattle.std.specs.Prelude.{◌≡◌, ℕ, ◌*◌, ◌<◌, false, length, None}
+use Rattle.std.proofs.Common.{arith, refl, ap, sym, subst, ◌∙◌, zero, suc}
 use Rattle.bz_swap_machine.specs.declared.place.Place.{Place}
 use Rattle.bz_swap_machine.specs.declared.place.Place.TheVariants as place
 use Rattle.bz_swap_machine.specs.declared.worker.Operation.TheVariants as operation
@@ -9,7 +9,7 @@ use Rattle.bz_swap_machine.specs.State.{StartRead, StartStore, StartFlush, with_
 use Rattle.bz_swap_machine.specs.Workers.{local_of}
 use Rattle.bz_swap_machine.proofs.BudgetStarts.{starts_add_by_kind}
 use Rattle.bz_swap_acts.specs.Ready.{LiesOutside}
-use Rattle.bz_swap.specs.Starts.{IsAddress, MayRead, IsPrivateStore, IsPrivateFlush}
+use Rattle.bz_swap.specs.Starts.{IsAddress, MayRead, IsPrivateStore, IsPrivateFlush, begins_by_flush}
 use Rattle.bz_swap.specs.SwapMemory.{Idle, Reading, Storing, Flushing, doing_of}
 use Rattle.bz_swap.specs.Inside.Parts.{Parts, worker_at, seen}
 use Rattle.bz_swap.specs.Inside.Kept.{IsRunning, IsKept, RestsAt, state_of}
@@ -74,22 +74,26 @@ store-started p k w a v l may is =
       adds = (starts_add_by_kind (state_of p r.entries r.beside) w (length p.workers) r.bounded.owned at).store a v;
     }) refl
 
-pub flush-started : (p : Parts) (k : IsKept p) (w line : ℕ) (l : Worker) → IsPrivateFlush (seen p) w line → l ≡ worker_at p w → IsStarted p w (placed l (place.FlushLine line)) (Flushing line)
+asks-first : (line w : ℕ) → 0 < w → begins_by_flush (Flushing line) w ≡ false
+asks-first line zero some = absurd (omega (arith, some))
+asks-first line (suc w) some = refl
+
+pub flush-started : (p : Parts) (k : IsKept p) (w line : ℕ) (l : Worker) → IsPrivateFlush (seen p) w line → l ≡ worker_at p w → IsStarted p w (placed l (place.AskLine line)) (Flushing line)
 flush-started p k w line l may is =
     let r = running p.phase p may.work.phase k.kept in
     let at = idle-at p r w may.work.idle in
     let lies = lies-address p (line * 8) may.address in
     let nothing : l.operation ≡ operation.Nothing = ap (λ u. u.operation) is ∙ nothing-at p r w at in
-    is-started p k may.work.phase w (placed l (place.FlushLine line)) (StartFlush w line) (Flushing line) (record {
+    is-started p k may.work.phase w (placed l (place.AskLine line)) (StartFlush w line) (Flushing line) (record {
       some = may.work.some;
       within = workers-within p w may.work.within;
       idle = at;
       may = at;
       hold = tt;
       among = workers-within p w may.work.within;
-      becomes = ap (λ u. with_local (state_of p r.entries r.beside) w (local_of (placed u (place.FlushLine line)))) (sym is);
+      becomes = ap (λ u. with_local (state_of p r.entries r.beside) w (local_of (placed u (place.AskLine line)))) (sym is);
       worker = record { rests = nothing; operation = rw nothing tt; place = lies };
       allowed = k.allowed;
       busy = λ is_idle. (let bad = is_idle in absurd cc);
       adds = (starts_add_by_kind (state_of p r.entries r.beside) w (length p.workers) r.bounded.owned at).flush line;
-    }) refl
+    }) (rw (asks-first line w may.work.some) refl)

@@ -11,6 +11,7 @@ use Rattle.bz_swap_machine.specs.declared.done.Done.{Done}
 use Rattle.bz_swap_machine.specs.declared.done.Done.TheVariants.{Busy, Read, Swapped, Stored, Flushed}
 use Rattle.bz_swap.specs.declared.phase.Phase.{Phase}
 use Rattle.bz_swap.specs.declared.phase.Phase.TheVariants.{Opened, Running, Recovering}
+use Rattle.bz_swap.specs.SettledWords.{IsAwaited}
 use Rattle.bz_swap.specs.SwapMemory.{SwapMemory, Doing, Reading, memory_state, Swapping, Loading, Storing, Flushing, value_at, has_effect, is_missed, entries_of, is_target, is_named}
 
 -- the value of an address: of a private word, which no swap has named since the last renewal, the cached word; of a named
@@ -66,17 +67,19 @@ pub record NotesRightly (old new : SwapMemory) : Type 0 where
   pub stays : (s : ℕ) → is_missed old s ≡ true → is_missed new s ≡ true
 
 -- what an operation may answer: a read the value of its address, true after the effect, false of a swap that is noted as
--- missed and has no effect; after a private flush a power cut leaves the values of its line
-abbrev pub Answers : SwapMemory → Doing → Done → Type 0
-Answers m (Reading a) Busy = Unit {0}
-Answers m (Reading a) (Read v) = value_of m a ≡ v
-Answers m (Swapping s) Busy = Unit {0}
-Answers m (Swapping s) (Swapped true) = has_effect m s ≡ true
-Answers m (Swapping s) (Swapped false) = (has_effect m s ≡ false) × (is_missed m s ≡ true)
-Answers m (Loading a) (Read v) = slice_index m.cached a ≡ v
-Answers m (Storing a v) Stored = Unit {0}
-Answers m (Flushing line) Flushed = (a : ℕ) → IsOutside m.swaps a → line_of a ≡ line → value_at m a ≡ value_of m a
-Answers m doing done = ⊥
+-- missed and has no effect; a private flush first asks for its line, so that each word of it is awaited, and after its fence a
+-- power cut leaves the value of each that was awaited until then
+abbrev pub Answers : SwapMemory → ℕ → SwapMemory → Doing → Done → Type 0
+Answers old w m (Reading a) Busy = Unit {0}
+Answers old w m (Reading a) (Read v) = value_of m a ≡ v
+Answers old w m (Swapping s) Busy = Unit {0}
+Answers old w m (Swapping s) (Swapped true) = has_effect m s ≡ true
+Answers old w m (Swapping s) (Swapped false) = (has_effect m s ≡ false) × (is_missed m s ≡ true)
+Answers old w m (Loading a) (Read v) = slice_index m.cached a ≡ v
+Answers old w m (Storing a v) Stored = Unit {0}
+Answers old w m (Flushing line) Busy = (a : ℕ) → line_of a ≡ line → IsAwaited m w a
+Answers old w m (Flushing line) Flushed = (a : ℕ) → IsOutside m.swaps a → IsAwaited old w a → value_at m a ≡ value_of m a
+Answers old w m doing done = ⊥
 
 -- the event of an act that tells this effect, and of an eviction that does
 abbrev pub told_event : Option ℕ → Event → Event
@@ -87,11 +90,11 @@ abbrev pub event_of : Doing → Event
 event_of (Storing a v) = PrivateStore a v
 event_of doing = Quiet
 
--- a step of a worker that does this
-pub record IsAtomicStep (old : SwapMemory) (doing : Doing) (done : Done) (told : Option ℕ) (new : SwapMemory) : Type 0 where
+-- a step of worker w, which does this
+pub record IsAtomicStep (old : SwapMemory) (w : ℕ) (doing : Doing) (done : Done) (told : Option ℕ) (new : SwapMemory) : Type 0 where
   pub happens : Happens old (told_event told (event_of doing)) new
   pub notes : NotesRightly old new
-  pub answer : Answers new doing done
+  pub answer : Answers old w new doing done
 
 -- in a recovery time worker 0 alone loads, stores and flushes words as they are, by the memory's own rule
 pub record IsRecoveryStep (old : SwapMemory) (w : ℕ) (made : Act) (told : Option ℕ) (new : SwapMemory) : Type 0 where

@@ -18,7 +18,7 @@ abbrev pub KeepsValues : SwapMemory → SwapMemory → Type 0
 KeepsValues old new = (a : ℕ) → IsOutside old.swaps a → value_of new a ≡ value_of old a
 
 pub record AccessIsAtomic : Type 0 where
-  pub step : (old new : SwapMemory) (w : ℕ) (made : Act) (done : Done) (told : Option ℕ) → old.phase ≢ Recovering → IsHeld old → IsHeld new → IsStep old w made done told new → IsAtomicStep old (doing_of old w) done told new
+  pub step : (old new : SwapMemory) (w : ℕ) (made : Act) (done : Done) (told : Option ℕ) → old.phase ≢ Recovering → IsHeld old → IsHeld new → IsStep old w made done told new → IsAtomicStep old w (doing_of old w) done told new
   pub recovery : (old new : SwapMemory) (w : ℕ) (made : Act) (done : Done) (told : Option ℕ) → IsRawStep old w made done told new → IsRecoveryStep old w made told new
   pub eviction : (old new : SwapMemory) (a : ℕ) (told : Option ℕ) → old.phase ≢ Recovering → IsHeld old → IsHeld new → IsEviction old a told new → Happens old (told_event told Quiet) new
   pub start : (m : SwapMemory) (w : ℕ) (doing : Doing) → m.phase ≢ Recovering → 0 < w → KeepsValues m (started m w doing)

@@ -73,10 +73,11 @@ pub record MaySwap (m : SwapMemory) (w : ℕ) (entries : List Entry) : Type 0 wh
   pub work : MayWork m w
   pub each : All (IsEntry m) entries
 
--- what a worker's next act is, where it has started this: a flush or not
-abbrev pub begins_by_flush : Doing → Bool
-begins_by_flush (Flushing line) = true
-begins_by_flush doing = false
+-- whether worker w, which has started this, flushes next: in a recovery time worker 0 does so by one act, and any other worker
+-- asks first
+abbrev pub begins_by_flush : Doing → ℕ → Bool
+begins_by_flush (Flushing line) zero = true
+begins_by_flush doing w = false
 
 -- the phase that a start of worker w leads to
 abbrev pub phase_of : ℕ → Phase
@@ -87,7 +88,7 @@ phase_of (suc w) = Running
 abbrev pub started : SwapMemory → ℕ → Doing → SwapMemory
 started m w doing = record m {
   phase = phase_of w;
-  workers = slice_set m.workers w (record { doing = doing; flush_next = begins_by_flush doing });
+  workers = slice_set m.workers w (record { doing = doing; flush_next = begins_by_flush doing w });
   runner = w;
   left = left_to m w + allowed_by_kind doing;
 }

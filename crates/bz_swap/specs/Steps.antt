@@ -3,7 +3,7 @@ use Rattle.std.specs.Prelude.{◌≡◌, ◌≢◌, ◌⊎◌, ℕ, ◌+◌, ◌
 use Rattle.bz_layout.specs.Addresses.{swap_address}
 use Rattle.bz_swap_acts.specs.Rule.{IsActOf, IsWithin, is_flush_act}
 use Rattle.bz_swap_acts.specs.declared.acted.Act.{Act}
-use Rattle.bz_swap_acts.specs.declared.acted.Act.TheVariants.{Load, Store, Flush, Fence}
+use Rattle.bz_swap_acts.specs.declared.acted.Act.TheVariants.{Load, Store, Flush, Ask, Fence}
 use Rattle.bz_swap_cells.specs.FromPm.State.{IsState}
 use Rattle.bz_swap_cells.specs.FromPm.Words.{HoldsWords}
 use Rattle.bz_swap_cells.specs.Store.{IsOutside}
@@ -22,6 +22,14 @@ pub record AnswersRead (m : SwapMemory) (a : ℕ) (act : Act) (v : ℕ) : Type 0
   pub plain : v < 2 ^ 61
   pub value : is_named m a ≡ true → value_at m a ≡ v
 
+-- a private flush is an ask and then a fence; in a recovery time it is one act
+abbrev pub IsFlushPart : Phase → ℕ → Act → Done → Type 0
+IsFlushPart Recovering line act Flushed = act ≡ Flush line
+IsFlushPart Recovering line act done = ⊥
+IsFlushPart phase line act Busy = act ≡ Ask line
+IsFlushPart phase line act Flushed = act ≡ Fence
+IsFlushPart phase line act done = ⊥
+
 -- what an operation may answer, with this act, in the memory after it
 abbrev pub IsAnswer : SwapMemory → Doing → Act → Done → Type 0
 IsAnswer m (Reading a) act Busy = Unit {0}
@@ -31,7 +39,7 @@ IsAnswer m (Swapping s) act (Swapped true) = has_effect m s ≡ true
 IsAnswer m (Swapping s) act (Swapped false) = (has_effect m s ≡ false) × (is_missed m s ≡ true)
 IsAnswer m (Loading a) act (Read v) = act ≡ Load a v
 IsAnswer m (Storing a v) act Stored = act ≡ Store a v
-IsAnswer m (Flushing line) act Flushed = act ≡ Flush line
+IsAnswer m (Flushing line) act done = IsFlushPart m.phase line act done
 IsAnswer m doing act done = ⊥
 
 -- what is done afterwards: the same, or nothing where the operation has answered

@@ -40,7 +40,7 @@ pub record IsActOf (old : State) (w : ℕ) (act : Act) (new : State) : Type 0 wh
   pub found : FoundRightly old.words act
   pub after : new ≡ after_act w old act
 
--- a flush or a fence
+-- a flush, which a recovery makes, or a fence
 abbrev pub is_flush_act : Act → Bool
 is_flush_act (Load a v) = false
 is_flush_act (Store a v) = false
@@ -49,9 +49,11 @@ is_flush_act (Flush line) = true
 is_flush_act (Ask line) = false
 is_flush_act Fence = true
 
--- the act of a read is a load of its address, that of a private store or flush is the one that was asked for
+-- the act of a read is a load of its address, that of a private store is the one that was asked for, and a private
+-- flush is an ask and a fence
 abbrev pub IsToldAt : Place → Act → Type 0
 IsToldAt (place.ReadWord a) act = (v : ℕ) × (act ≡ Load a v)
 IsToldAt (place.StoreWord a v) act = act ≡ Store a v
-IsToldAt (place.FlushLine line) act = act ≡ Flush line
+IsToldAt (place.AskLine line) act = act ≡ Ask line
+IsToldAt (place.FenceLine line) act = act ≡ Fence
 IsToldAt other act = Unit {0}

@@ -59,6 +59,8 @@ abbrev pub WritesAt : ℕ → Worker → Place → Act → Type 0
 WritesAt swaps l (place.Prepare step) act = PreparesBy swaps l step act
 WritesAt swaps l (place.Help step) act = HelpsBy swaps l.current step act
 WritesAt swaps l (place.StoreWord a v) act = act ≡ Store a v
+WritesAt swaps l (place.AskLine line) act = act ≡ Ask line
+WritesAt swaps l (place.FenceLine line) act = act ≡ Fence
 WritesAt swaps l (place.AskRead a v) act = act ≡ Ask (a / 8)
 WritesAt swaps l (place.FenceRead a v) act = act ≡ Fence
 WritesAt swaps l other act = StaysOutside swaps act

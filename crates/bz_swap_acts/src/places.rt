@@ -13,7 +13,9 @@ ghost use Rattle.bz_swap_acts.specs.Writes.{WritesAt};
 use crate::acted::Acted;
 use crate::help::help;
 use crate::prepare::{learn, prepare};
-use crate::reading::{ask_read, clear_read, fence_read, flush_line, read_word, store_word};
+use crate::reading::{
+    ask_line, ask_read, clear_read, fence_line, fence_read, read_word, store_word,
+};
 use bz_swap_cells::Cells;
 use bz_swap_machine::{Place, Worker};
 
@@ -32,8 +34,9 @@ fn act_at(cells: &mut Cells, worker: &mut Worker, w: u8, place: Place) -> Acted
         Place::FenceRead { address, value } => fence_read(cells, worker, w, address, value),
         Place::ClearRead { address, value } => clear_read(cells, worker, address, value),
         Place::StoreWord { address, value } => store_word(cells, worker, address, value),
-        Place::FlushLine(line) => flush_line(cells, worker, line),
-        Place::Idle | Place::LoadWord(_) => unreachable!(),
+        Place::AskLine(line) => ask_line(cells, worker, w, line),
+        Place::FenceLine(line) => fence_line(cells, worker, w, line),
+        Place::Idle | Place::LoadWord(_) | Place::FlushLine(_) => unreachable!(),
     }
 }
 

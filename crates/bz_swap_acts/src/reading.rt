@@ -4,14 +4,14 @@ ghost use Rattle.std.specs.Prelude.{◌≡◌, ◌*◌, ◌<◌, ◌^◌, ℕ, l
 ghost use Rattle.bz_swap_machine.specs.Machine.{Memory};
 ghost use Rattle.bz_swap_machine.specs.Steps.{answers, read_act};
 ghost use Rattle.bz_swap_machine.specs.Workers.{local_of};
-ghost use Rattle.bz_swap_machine.specs.declared.place.Place.TheVariants.{ReadWord, AskRead, FenceRead, ClearRead, StoreWord, FlushLine};
+ghost use Rattle.bz_swap_machine.specs.declared.place.Place.TheVariants.{ReadWord, AskRead, FenceRead, ClearRead, StoreWord, AskLine, FenceLine};
 ghost use Rattle.bz_swap_cells.specs.Store.{IsStore, MayAsk};
 ghost use Rattle.bz_swap_acts.specs.Parts.{IsStep};
 ghost use Rattle.bz_swap_acts.specs.Ready.{LiesOutside};
 
 use crate::acted::Acted;
 use crate::values::clear_value;
-use crate::words::{ask_word, fence, flush_word, load_word, store_value};
+use crate::words::{ask_word, fence, load_word, store_value};
 use bz_layout::LINE_WORDS;
 use bz_swap_cells::Cells;
 use bz_swap_machine::{Done, Operation, Place, Worker};
@@ -124,14 +124,28 @@ pub(crate) fn store_word(cells: &mut Cells, worker: &mut Worker, address: u32, v
     }
 }
 
-/// Flushes a line of private words.
-pub(crate) fn flush_line(cells: &mut Cells, worker: &mut Worker, line: u32) -> Acted
+/// Asks for a line of private words.
+pub(crate) fn ask_line(cells: &mut Cells, worker: &mut Worker, w: u8, line: u32) -> Acted
     requires typed { IsStore cells.old }
+    requires asker { MayAsk cells.old w }
     requires lies { LiesOutside cells.old (line * 8) }
-    ensures { (w : ℕ) → IsStep cells.old worker.old w (FlushLine line) result cells.new worker.new }
+    ensures { IsStep cells.old worker.old w (AskLine line) result cells.new worker.new }
+{
+    worker.place = Place::FenceLine(line);
+    Acted {
+        act: ask_word(cells, w, line * LINE_WORDS),
+        done: Done::Busy,
+    }
+}
+
+/// Makes the fence after it.
+pub(crate) fn fence_line(cells: &mut Cells, worker: &mut Worker, w: u8, line: u32) -> Acted
+    requires typed { IsStore cells.old }
+    requires number { w < length cells.old.next_tags }
+    ensures { IsStep cells.old worker.old w (FenceLine line) result cells.new worker.new }
 {
     Acted {
-        act: flush_word(cells, line * LINE_WORDS),
+        act: fence(cells, w),
         done: answer(worker, Done::Flushed),
     }
 }

@@ -9,7 +9,7 @@ ghost use Rattle.bz_swap_acts.specs.Parts.{IsMade, IsMadeBy};
 ghost use Rattle.bz_swap_acts.specs.Ready.{LiesOutside};
 ghost use Rattle.bz_swap_acts.specs.Rule.{is_flush_act};
 ghost use Rattle.bz_swap_acts.specs.Writes.{StaysOutside};
-ghost use Rattle.bz_swap_acts.specs.declared.acted.Act.TheVariants.{Load, Store, Flush, Ask, Fence};
+ghost use Rattle.bz_swap_acts.specs.declared.acted.Act.TheVariants.{Load, Store, Ask, Fence};
 
 use crate::acted::Act;
 use bz_layout::LINE_WORDS;
@@ -120,22 +120,6 @@ pub(crate) fn store_value(cells: &mut Cells, a: u32, value: u64) -> Act
 {
     cells.store_word(a, WordKind::Value(value));
     Act::Store { a, v: value }
-}
-
-/// Flushes the line of an address.
-pub(crate) fn flush_word(cells: &mut Cells, a: u32) -> Act
-    requires typed { IsStore cells.old }
-    requires lies { LiesOutside cells.old a }
-    ensures changed { (b : Beside) → typed cells.new b ≡ with_copies (typed cells.old b) (in_line a) }
-    ensures made { IsMade cells.old result cells.new }
-    ensures flush { is_flush_act result ≡ true }
-    ensures writes { StaysOutside cells.old.swaps result }
-    ensures told { result ≡ Flush (a / 8) }
-{
-    cells.flush_word(a);
-    Act::Flush {
-        line: a / LINE_WORDS,
-    }
 }
 
 /// Asks for the line of an address.

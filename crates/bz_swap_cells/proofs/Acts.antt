@@ -1,5 +1,5 @@
 -- The acts on words outside the descriptors: what they leave is a store, and means the machine's change.
-use Rattle.std.specs.Prelude.{◌≡◌, if◌then◌else◌, ◌==◌, ℕ, ◌*◌, ◌/◌, ◌<◌, Bool, true, false, List, length, slice_index, slice_set}
+use Rattle.std.specs.Prelude.{◌≡◌, if◌then◌else◌, ◌==◌, ℕ, ◌<◌, Bool, true, false, List, length, slice_index, slice_set}
 use Rattle.std.proofs.Common.{arith, sym, ap, ◌∙◌}
 use Rattle.std.proofs.lemmas.Grind.{common_steps}
 use Rattle.bz_word.specs.Kinds.{word, IsKind}
@@ -7,17 +7,15 @@ use Rattle.bz_word.proofs.Lemmas.KindWords.{kind-word, IsWord-word}
 use Rattle.bz_word.specs.declared.kind.WordKind.{WordKind}
 use Rattle.bz_layout.specs.Addresses.{swap_address}
 use Rattle.bz_pm.specs.State.{State}
-use Rattle.bz_pm.specs.Acts.{with_line, stored}
+use Rattle.bz_pm.specs.Acts.{stored}
 use Rattle.bz_pm.specs.Changes.{StoresOnly}
-use Rattle.bz_pm.specs.After.{after_cas, after_flush}
-use Rattle.bz_pm.proofs.Dates.{state_flushed}
-use Rattle.bz_pm.proofs.Lemmas.{store, flush}
-use Rattle.bz_swap_machine.specs.Changes.{with_word, with_copies, in_line}
+use Rattle.bz_pm.specs.After.{after_cas}
+use Rattle.bz_pm.proofs.Lemmas.{store}
+use Rattle.bz_swap_machine.specs.Changes.{with_word}
 use Rattle.bz_swap_cells.specs.Store.{Store, Beside, IsStore, IsOutside, IsStatusWord, typed, kind_at, store_words, store_state, with_state}
-use Rattle.bz_swap_cells.proofs.Pasts.{dated-flush}
 use Rattle.bz_swap_cells.proofs.Places.{outside-told, status-not_outside}
-use Rattle.bz_swap_cells.proofs.Stores.{words-chosen, words-set, store-cached, store-durable}
-use Rattle.bz_swap_cells.proofs.Typed.{typed-stored, typed-flushed}
+use Rattle.bz_swap_cells.proofs.Stores.{words-set, store-cached}
+use Rattle.bz_swap_cells.proofs.Typed.{typed-stored}
 
 stores : (st : Store) (a : ℕ) (k : WordKind) → IsStore st → a < length st.cached → IsKind k → StoresOnly (store_words st) (stored (store_words st) a (word k)) a (word k)
 stores st a k i within is_kind = store (store_words st) a (word k) i.has_room.memory within (IsWord-word k is_kind).size
@@ -59,19 +57,6 @@ pub typed-compared : (st : Store) (b : Beside) (a : ℕ) (old new : WordKind) (m
     → typed (with_state st m) b ≡ with_word (typed st b) a new
 typed-compared st b a old new m e i out within is_kind hit =
     rw e (ap (λ ws. typed (record st { cached = ws; durable = st.durable }) b) (compared-hit st.cached a (word old) (word new) hit) ∙ typed-store st b a new i out within is_kind)
-
--- the flush of any line leaves a store
-pub store-flush : (st : Store) (line : ℕ) → IsStore st → line * 8 < length st.cached → IsStore (with_state st (after_flush (store_state st) line))
-store-flush st line i within =
-    let change = flush (store_words st) line i.has_room.memory within in
-    store-durable st (with_line line st.cached st.durable) _ i change.stays (state_flushed (store_state st) line i.has_room.state within)
-    (words-chosen st.swaps (λ c. c / 8 == line) st.cached st.durable (with_line line st.cached st.durable) change.durable i.cached i.durable)
-
-pub typed-flush : (st : Store) (b : Beside) (a : ℕ) → IsStore st → IsOutside st.swaps a → a < length st.cached
-    → typed (with_state st (after_flush (store_state st) (a / 8))) b ≡ with_copies (typed st b) (in_line a)
-typed-flush st b a i out within =
-    typed-flushed st b a (with_line (a / 8) st.cached st.durable) _ out (flush (store_words st) (a / 8) i.has_room.memory (omega arith)).durable
-    (dated-flush (store_state st) (a / 8) i.has_room.state (omega arith))
 
 -- what stands at an address outside the descriptors
 pub kind_at-word : (swaps : ℕ) (ws : List ℕ) (a : ℕ) (k : WordKind) → IsOutside swaps a → IsKind k → word k ≡ slice_index ws a → k ≡ kind_at swaps ws a

@@ -1,20 +1,17 @@
 -- Asks and fences: what they leave is a store, and means the machine's change.
-use Rattle.std.specs.Prelude.{◌≡◌, ◌≢◌, if◌then◌else◌, ◌==◌, ℕ, ◌+◌, ◌-◌, ◌*◌, ◌/◌, ◌^◌, ◌<◌, ◌≤◌, Bool, true, false, List, [], length, slice_index}
-use Rattle.std.proofs.Common.{arith, refl, sym, ap, ◌∙◌, inl, inr}
+use Rattle.std.specs.Prelude.{◌≡◌, ◌≢◌, if◌then◌else◌, ◌==◌, ℕ, ◌+◌, ◌*◌, ◌/◌, ◌<◌, ◌≤◌, Bool, true, false, [], length, slice_index}
+use Rattle.std.proofs.Common.{arith, refl, ◌∙◌, inl, inr}
 use Rattle.std.proofs.lemmas.Grind.{common_steps}
 use Rattle.std.proofs.lemmas.List.{length-set}
 use Rattle.std.proofs.lemmas.Bool.{cases_lt, cases_eq}
 use Rattle.bz_layout.specs.Addresses.{swap_address}
-use Rattle.bz_pm.specs.State.{State, IsState, asks_of}
 use Rattle.bz_pm.specs.After.{after_ask, after_fence}
 use Rattle.bz_pm.specs.Changes.{AsksOnly, FencesOnly}
-use Rattle.bz_pm.specs.declared.asks.Ask.{Ask}
-use Rattle.bz_pm.proofs.Dates.{state_asked, state_fenced}
 use Rattle.bz_pm.proofs.Proved as memory
 use Rattle.bz_swap_machine.specs.Pending.{Pending}
 use Rattle.bz_swap_machine.specs.Changes.{in_line, in_head, in_tail, line_of, head_of, tail_of, with_ask, fenced}
-use Rattle.bz_swap_cells.specs.Store.{Store, Beside, IsStore, HasRoom, MayAsk, IsOutside, typed, store_words, store_state, with_state, word_pending, field_address, field_count}
-use Rattle.bz_swap_cells.proofs.Descriptors.{same, agree, turned, status-told}
+use Rattle.bz_swap_cells.specs.Store.{Store, Beside, IsStore, HasRoom, MayAsk, IsOutside, typed, store_state, with_state, word_pending, field_address, field_count}
+use Rattle.bz_swap_cells.proofs.Descriptors.{same, agree, turned}
 use Rattle.bz_swap_cells.proofs.Pasts.{past_of, one-more, saved-ask, fenced-fence, settled-fence, asked-ask, asked-fence, words-fence}
 use Rattle.bz_swap_cells.proofs.Pendings.{AreSaved, kind-asked, status-asked, field-asked, kind-fenced, status-fenced, field-fenced, kind-settled, status-settled, field-settled}
 use Rattle.bz_swap_cells.proofs.Places.{differ, told-outside, status-not_in_line, field-not_in_line, inside-not_in_line}

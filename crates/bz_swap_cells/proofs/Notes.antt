@@ -1,11 +1,10 @@
 -- The tables beside the words after a change of one place.
-use Rattle.std.specs.Prelude.{◌≡◌, if◌then◌else◌, ◌==◌, ℕ, ◌+◌, ◌<◌, Bool, true, false, List, length, slice_index, slice_set, get_or}
+use Rattle.std.specs.Prelude.{◌≡◌, if◌then◌else◌, ℕ, ◌+◌, ◌<◌, Bool, true, false, List, length, slice_index, slice_set, get_or}
 use Rattle.std.proofs.Common.{arith}
 use Rattle.std.proofs.lemmas.List.{get_or-set_same, get_or-set_other}
 use Rattle.std.proofs.lemmas.Grind.{common_steps}
 use Rattle.bz_swap_machine.specs.Machine.{is_succeeded}
 use Rattle.bz_swap_machine.specs.Changes.{put, with_word, with_tag, with_miss}
-use Rattle.bz_word.specs.declared.kind.WordKind.{WordKind}
 use Rattle.bz_word.specs.declared.kind.WordKind.TheVariants.{Tag}
 use Rattle.bz_swap_cells.specs.Store.{Store, Beside, typed, status_at}
 

@@ -1,5 +1,5 @@
 -- What is kept of asks after an act of the simulated memory, by address.
-use Rattle.std.specs.Prelude.{◌≡◌, ◌≢◌, if◌then◌else◌, ◌==◌, ◌&&◌, ℕ, ◌+◌, ◌-◌, ◌*◌, ◌/◌, ◌%◌, ◌^◌, ◌<◌, ◌≤◌, Bool, true, false, nat_lt, List, [], ◌∷◌, length, drop, slice_index, get_or, Some, None}
+use Rattle.std.specs.Prelude.{◌≡◌, ◌≢◌, if◌then◌else◌, ◌==◌, ◌&&◌, ℕ, ◌+◌, ◌-◌, ◌*◌, ◌/◌, ◌%◌, ◌^◌, ◌<◌, ◌≤◌, Bool, true, false, nat_lt, List, [], ◌∷◌, length, drop, slice_index, Some, None}
 use Rattle.std.specs.declared.option.Option.{Option}
 use Rattle.std.proofs.Common.{arith, refl, sym, ap, ◌∙◌, inl, inr}
 use Rattle.std.proofs.lemmas.List.{get_or-take, get_or-drop}
@@ -8,10 +8,10 @@ use Rattle.std.proofs.lemmas.Bool.{cases_eq}
 use Rattle.bz_word.specs.Kinds.{IsWord}
 use Rattle.bz_layout.specs.Addresses.{swap_address}
 use Rattle.bz_pm.specs.State.{State, IsState, AreAsks, asks_of, ask_for}
-use Rattle.bz_pm.specs.After.{next_moment, line_words, ask_now, after_flush, after_eviction, after_ask, after_fence}
+use Rattle.bz_pm.specs.After.{next_moment, line_words, ask_now, after_eviction, after_ask}
 use Rattle.bz_pm.specs.Changes.{AsksOnly, FencesOnly, fenced_word, fenced_since}
 use Rattle.bz_pm.specs.declared.asks.Ask.{Ask}
-use Rattle.bz_pm.proofs.Dates.{dates_flushed, dates_evicted}
+use Rattle.bz_pm.proofs.Dates.{dates_evicted}
 use Rattle.bz_swap_machine.specs.Pending as pending
 use Rattle.bz_swap_machine.specs.Pending.{Saved}
 use Rattle.bz_swap_cells.specs.Store.{Past, IsStatusWord, AreWords, AreAsked, saved_word, word_pending}
@@ -21,9 +21,6 @@ use Rattle.bz_swap_cells.proofs.Pendings.{AreDated, AreSaved, AreFenced}
 -- what is kept of a memory
 abbrev pub past_of : State → Past
 past_of m = record { count = m.count; since = m.since; asks = m.asks }
-
-pub dated-flush : (m : State) (line : ℕ) → IsState m → line * 8 < length m.words.cached → AreDated (λ b. b / 8 == line) m.count (word_pending (past_of m)) (word_pending (past_of (after_flush m line)))
-dated-flush m line i within b = λ k. record { since = dates_flushed m line b i within k; asked = (word_pending (past_of m) b).asked }
 
 pub dated-evict : (m : State) (a : ℕ) → IsState m → a < length m.words.cached → AreDated (λ b. b == a) m.count (word_pending (past_of m)) (word_pending (past_of (after_eviction m a)))
 dated-evict m a i within b = λ k. record { since = dates_evicted m a b i within k; asked = (word_pending (past_of m) b).asked }

@@ -10,9 +10,9 @@ use Rattle.bz_word.specs.declared.kind.WordKind.TheVariants.{Value}
 use Rattle.bz_pm.specs.State.{ask_for}
 use Rattle.bz_pm.specs.declared.asks.Ask.{Ask}
 use Rattle.bz_swap_machine.specs.Machine.{MayLast}
-use Rattle.bz_swap_machine.specs.Pending.{Saved, Pending, no_asks, Lasts, IsLast, IsDurable, IsAsked}
+use Rattle.bz_swap_machine.specs.Pending.{Saved, no_asks, IsLast, IsDurable, IsAsked}
 use Rattle.bz_swap_machine.proofs.Lasting.{lasts-cases}
-use Rattle.bz_swap_cells.specs.Store.{Store, Past, Beside, IsOutside, is_outside, typed, kind_at, saved_word, saved_as, pending_as, word_pending, kind_pending, saves_word, all_save, is_settled}
+use Rattle.bz_swap_cells.specs.Store.{Store, Past, Beside, IsOutside, is_outside, typed, kind_at, saved_word, saved_as, pending_as, word_pending, saves_word, all_save, is_settled}
 use Rattle.bz_swap_cells.proofs.Places.{outside-told}
 
 first-true : (a b : Bool) → (a && b) ≡ true → a ≡ true

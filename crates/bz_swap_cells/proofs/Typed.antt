@@ -1,5 +1,5 @@
 -- What the words mean after a change of some of them.
-use Rattle.std.specs.Prelude.{◌≡◌, ◌==◌, if◌then◌else◌, ℕ, ◌<◌, Bool, true, false, List, slice_index}
+use Rattle.std.specs.Prelude.{◌≡◌, ◌==◌, ℕ, ◌<◌, Bool, false, List, slice_index}
 use Rattle.std.proofs.Common.{arith, refl, inl, inr}
 use Rattle.std.proofs.lemmas.Grind.{common_steps}
 use Rattle.std.proofs.lemmas.Bool.{cases_eq}
@@ -8,10 +8,10 @@ use Rattle.bz_word.proofs.Lemmas.KindWords.{kind-word}
 use Rattle.bz_word.specs.declared.kind.WordKind.{WordKind}
 use Rattle.bz_layout.specs.Addresses.{swap_address}
 use Rattle.bz_swap_machine.specs.Machine.{Memory}
-use Rattle.bz_swap_machine.specs.Changes.{put, with_word, with_copies, in_line}
+use Rattle.bz_swap_machine.specs.Changes.{put, with_word, with_copies}
 use Rattle.bz_swap_cells.specs.Store.{Store, Beside, typed, kind_at, IsOutside, is_outside, field_address, field_count, word_pending}
 use Rattle.bz_swap_cells.proofs.Readers.{AreChosen, kind-chosen, kind-stays, status-stays, field-stays}
-use Rattle.bz_swap_cells.proofs.Places.{differ, outside-told, status-not_outside, field-not_outside, status-not_in_line, field-not_in_line, inside-not_in_line}
+use Rattle.bz_swap_cells.proofs.Places.{differ, outside-told, status-not_outside, field-not_outside}
 use Rattle.bz_swap_cells.proofs.Pendings.{AreDated, kind-dated, status-undated, field-undated}
 
 -- two memories that agree everywhere, with the same beside the words, are one
@@ -75,13 +75,3 @@ typed-copied st b p into dates h dated no_status no_field inside =
     (λ s. status-undated st.swaps p st.past.count (word_pending st.past) (word_pending (record st.past { since = dates })) dated s (no_status s))
     (λ s j. field-undated st.swaps p st.past.count (word_pending st.past) (word_pending (record st.past { since = dates })) dated s j (no_field s j))
     refl refl refl refl refl refl refl
-
--- the line of a word outside the descriptors becomes durable
-pub typed-flushed : (st : Store) (b : Beside) (a : ℕ) (into dates : List ℕ) → IsOutside st.swaps a
-    → AreChosen (in_line a) (slice_index st.cached) (slice_index st.durable) (slice_index into)
-    → AreDated (in_line a) st.past.count (word_pending st.past) (word_pending (record st.past { since = dates }))
-    → typed (record st { cached = st.cached; durable = into; past = record st.past { since = dates } }) b ≡ with_copies (typed st b) (in_line a)
-typed-flushed st b a into dates out h dated = typed-copied st b (in_line a) into dates h dated
-    (λ s lt. differ _ _ (status-not_in_line st.swaps a s out lt))
-    (λ s k lt less. differ _ _ (field-not_in_line st.swaps a s k out lt less))
-    (λ c told. differ _ _ (inside-not_in_line st.swaps a c out told))

@@ -7,7 +7,7 @@ use Rattle.bz_word.specs.declared.kind.WordKind.TheVariants.{Value}
 use Rattle.bz_layout.specs.Addresses.{swap_address}
 use Rattle.bz_layout.specs.declared.sizes.TheConstants.{SUPERBLOCK_WORDS, SWAP_COUNT_AT}
 use Rattle.bz_pm.specs.Words.{Words, IsMemory, HoldsWords}
-use Rattle.bz_pm.specs.State.{State, IsState, asks_of, ask_for}
+use Rattle.bz_pm.specs.State.{State, IsState, ask_for}
 use Rattle.bz_pm.specs.After.{after_renewal}
 use Rattle.bz_pm.specs.declared.asks.Ask.{Ask}
 use Rattle.bz_swap_machine.specs.declared.status.SwapStatus.{SwapStatus}

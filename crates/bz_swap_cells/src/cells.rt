@@ -4,8 +4,8 @@ ghost use Rattle.std.specs.Prelude.{◌≡◌, ◌≢◌, ◌==◌, ◌/◌, ◌
 ghost use Rattle.bz_word.specs.Kinds.{IsKind, word};
 ghost use Rattle.bz_layout.specs.Addresses.{swap_address};
 ghost use Rattle.bz_pm.specs.Acts.{stored, compared};
-ghost use Rattle.bz_pm.specs.After.{after_flush, after_eviction, after_ask, after_fence};
-ghost use Rattle.bz_swap_machine.specs.Changes.{with_word, with_copies, in_line, with_status, with_durable_status, with_field, with_durable_fields, line_of, head_of, tail_of, with_ask, fenced};
+ghost use Rattle.bz_pm.specs.After.{after_eviction, after_ask, after_fence};
+ghost use Rattle.bz_swap_machine.specs.Changes.{with_word, with_copies, with_status, with_durable_status, with_field, with_durable_fields, line_of, head_of, tail_of, with_ask, fenced};
 ghost use Rattle.bz_swap_cells.specs.Store.{Beside, HasRoom, IsStore, IsOutside, MayAsk, SameShape, typed, store_words, with_words, store_state, with_state, status_word, kind_at, status_at, descriptor_word_at, field_address, field_count};
 
 use crate::address::{field_at, swap_at};
@@ -104,19 +104,6 @@ impl Cells {
     {
         let found = self.pm.cas(a, word_of(old), word_of(new));
         kind_in(found)
-    }
-
-    /// Flushes the line of a word outside the descriptors.
-    pub fn flush_word(&mut self, a: u32)
-        requires typed { IsStore self.old }
-        requires outside { IsOutside self.old.swaps a }
-        requires within { a < length self.old.cached }
-        ensures words { self.new ≡ with_state self.old (after_flush (store_state self.old) (a / 8)) }
-        ensures changed { (b : Beside) → typed self.new b ≡ with_copies (typed self.old b) (in_line a) }
-        ensures typed { IsStore self.new }
-        ensures shape { SameShape self.old self.new }
-    {
-        self.pm.flush(a / LINE_WORDS);
     }
 
     /// A descriptor's status.

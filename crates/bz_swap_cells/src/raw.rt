@@ -5,8 +5,8 @@ use crate::cells::Cells;
 impl Cells {
     ghost use Rattle.std.specs.Prelude.{◌≡◌, ◌*◌, ◌<◌, length, slice_index};
     ghost use Rattle.bz_pm.specs.Acts.{stored};
-    ghost use Rattle.bz_pm.specs.After.{after_flush, after_eviction, after_power_cut};
-    ghost use Rattle.bz_swap_cells.specs.Store.{HasRoom, store_words, with_words, store_state, with_state};
+    ghost use Rattle.bz_pm.specs.After.{after_ask, after_fence, after_flush, after_eviction, after_power_cut};
+    ghost use Rattle.bz_swap_cells.specs.Store.{HasRoom, MayAsk, store_words, with_words, store_state, with_state};
 
     /// The cached word at an address.
     pub fn load(&self, a: u32) -> u64
@@ -31,6 +31,25 @@ impl Cells {
         ensures room { HasRoom self.new }
     {
         self.pm.store(a, value);
+    }
+
+    /// Asks, for a worker, for a line.
+    pub fn ask(&mut self, w: u8, line: u32)
+        requires asker { MayAsk self.old w }
+        requires within { line * 8 < length self.old.cached }
+        ensures words { self.new ≡ with_state self.old (after_ask (store_state self.old) w line) }
+        ensures room { HasRoom self.new }
+    {
+        self.pm.ask(w, line);
+    }
+
+    /// Makes what a worker asked for durable, each word unless a later value of it is.
+    pub fn settle(&mut self, w: u8)
+        requires { w < length self.old.next_tags }
+        ensures words { self.new ≡ with_state self.old (after_fence (store_state self.old) w) }
+        ensures room { HasRoom self.new }
+    {
+        self.pm.fence(w);
     }
 
     /// Flushes a line.

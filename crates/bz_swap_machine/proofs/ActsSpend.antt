@@ -5,7 +5,7 @@ use Rattle.bz_word.specs.declared.kind.WordKind.TheVariants.{Dirty}
 use Rattle.bz_swap_machine.specs.declared.place.HelpStep.{HelpStep}
 use Rattle.bz_swap_machine.specs.declared.place.HelpStep.TheVariants.{Look, InstallTag, LookUnderTag, InstallPointer, RemoveTag, AskDirty, FenceDirty, ClearDirty, AskTarget, FenceTargets, Decide, AskStatus, FenceStatus, ClearStatus, PutFinal, AskFinal, FenceFinal, ClearFinal, SweepTag}
 use Rattle.bz_swap_machine.specs.declared.place.Place.{Place}
-use Rattle.bz_swap_machine.specs.declared.place.Place.TheVariants.{Idle, Prepare, Learn, Help, ReadWord, AskRead, FenceRead, ClearRead, LoadWord, StoreWord, FlushLine}
+use Rattle.bz_swap_machine.specs.declared.place.Place.TheVariants.{Idle, Prepare, Learn, Help, ReadWord, AskRead, FenceRead, ClearRead, LoadWord, FlushLine, StoreWord, AskLine, FenceLine}
 use Rattle.bz_swap_machine.specs.declared.place.PrepareStep.{PrepareStep}
 use Rattle.bz_swap_machine.specs.declared.place.PrepareStep.TheVariants.{WriteWord, WriteStatus, AskHead, AskTail, FenceDescriptor}
 use Rattle.bz_swap_machine.specs.declared.status.SwapStatus.{SwapStatus}
@@ -35,7 +35,7 @@ use Rattle.bz_swap_machine.proofs.SpendPuts.{spends-put_final}
 use Rattle.bz_swap_machine.proofs.SpendReads.{spends-clear_read}
 use Rattle.bz_swap_machine.proofs.SpendStale.{spends-remove_tag, spends-stale_sweep, spends-stale_pointer, spends-stale_tag}
 use Rattle.bz_swap_machine.proofs.SpendStores.{spends-store}
-use Rattle.bz_swap_machine.proofs.Spends.{Spends, spends-learn, spends-look, spends-under, spends-ask_dirty, spends-fence_dirty, spends-ask_target, spends-fence_targets, spends-ask_status, spends-fence_status, spends-ask_final, spends-fence_final, spends-write_word, spends-ask_head, spends-ask_tail, spends-ask_read, spends-fence_read, spends-flush_line}
+use Rattle.bz_swap_machine.proofs.Spends.{Spends, spends-learn, spends-look, spends-under, spends-ask_dirty, spends-fence_dirty, spends-ask_target, spends-fence_targets, spends-ask_status, spends-fence_status, spends-ask_final, spends-fence_final, spends-write_word, spends-ask_head, spends-ask_tail, spends-ask_read, spends-fence_read, spends-ask_line, spends-fence_line}
 use Rattle.bz_swap_machine.proofs.Lasting.{lasts-durable}
 
 -- the status of a published swap is not free
@@ -147,8 +147,10 @@ acts x w n (AskRead a v) bounded at busy known rests = spends-ask_read x.entries
 acts x w n (FenceRead a v) bounded at busy known rests = spends-fence_read x.entries x.local x.memory w n (x.local w) a v
 acts x w n (ClearRead a v) bounded at busy known rests = spends-clear_read x.entries x.local x.memory w n (x.local w) a v bounded.few bounded.short
 acts x w n (LoadWord a) bounded at busy known rests = absurd known
+acts x w n (FlushLine line) bounded at busy known rests = absurd known
 acts x w n (StoreWord a v) bounded at busy known rests = spends-store x.entries x.local x.memory w n (x.local w) a v (bounded.state.sound.private a known) rests
-acts x w n (FlushLine line) bounded at busy known rests = spends-flush_line x.entries x.local x.memory w n (x.local w) line rests
+acts x w n (AskLine line) bounded at busy known rests = spends-ask_line x.entries x.local x.memory w n (x.local w) line
+acts x w n (FenceLine line) bounded at busy known rests = spends-fence_line x.entries x.local x.memory w n (x.local w) line rests
 
 pub acts_spend : ActsSpend
 acts_spend x w n bounded busy =

@@ -1,7 +1,7 @@
 -- The start of an operation that is one act, or of a read, adds what it allows.
 use Rattle.std.proofs.Common.{◌≡◌, ℕ, ◌+◌, ◌≤◌, arith, refl, ap, sym, subst, None}
 use Rattle.bz_swap_machine.specs.declared.place.Place.{Place}
-use Rattle.bz_swap_machine.specs.declared.place.Place.TheVariants.{Idle, ReadWord, StoreWord, FlushLine}
+use Rattle.bz_swap_machine.specs.declared.place.Place.TheVariants.{Idle, ReadWord, StoreWord, AskLine}
 use Rattle.bz_swap_machine.specs.declared.worker.Operation.TheVariants.{Nothing, Reading}
 use Rattle.bz_swap_machine.specs.Allowed.{for_act, for_word, for_flush}
 use Rattle.bz_swap_machine.specs.Changes.{put}
@@ -38,8 +38,8 @@ starts_add_by_kind x w n own idle = record {
   store = λ a v. started x w n (record (x.local w) { place = StoreWord a v }) for_word idle
       (here-rises (scene_of x) w n (x.local w) (record (x.local w) { place = StoreWord a v }) Idle (StoreWord a v) for_word refl (ap (λ o. reserve_by o (if_any (open_count (scene_of x) w n))) (resting x w own idle)) refl
       (ap (λ o. own_missing_by (scene_of x) o) (resting x w own idle)) refl (omega arith));
-  flush = λ line. started x w n (record (x.local w) { place = FlushLine line }) for_flush idle
-      (here-rises (scene_of x) w n (x.local w) (record (x.local w) { place = FlushLine line }) Idle (FlushLine line) for_flush refl (ap (λ o. reserve_by o (if_any (open_count (scene_of x) w n))) (resting x w own idle)) refl
+  flush = λ line. started x w n (record (x.local w) { place = AskLine line }) for_flush idle
+      (here-rises (scene_of x) w n (x.local w) (record (x.local w) { place = AskLine line }) Idle (AskLine line) for_flush refl (ap (λ o. reserve_by o (if_any (open_count (scene_of x) w n))) (resting x w own idle)) refl
       (ap (λ o. own_missing_by (scene_of x) o) (resting x w own idle)) refl (omega arith));
 }
 

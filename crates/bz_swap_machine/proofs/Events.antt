@@ -1,5 +1,5 @@
 -- Every event keeps the invariant.
-use Rattle.std.proofs.Common.{◌≡◌, ◌≢◌, ℕ, ◌==◌, ◌&&◌, if◌then◌else◌, ◌<◌, ◌≤◌, Bool, true, false, arith, refl, sym, subst, ◌∙◌, None}
+use Rattle.std.proofs.Common.{◌≡◌, ◌≢◌, ℕ, ◌==◌, ◌&&◌, if◌then◌else◌, ◌<◌, ◌≤◌, Bool, true, false, arith, refl, sym, subst, None}
 use Rattle.std.proofs.lemmas.Grind.{common_steps}
 use Rattle.bz_swap_machine.specs.Machine.{Entries, Memory}
 use Rattle.bz_swap_machine.specs.Changes.{put, with_copies, with_durable_status, with_durable_fields}
@@ -63,7 +63,7 @@ asked-current x w i t ne = i.home w t (not-both (has_asked (x.local w).place) (t
     not-both false b h = refl
 
 pub good-stepped : (x : State) (w : ℕ) → IsState x → Good x.entries x.memory w (x.local w) (stepped x w)
-good-stepped x w i = good-act x.entries x.memory w (x.local w) (x.local w).place (asked-current x w i) i.apart (i.short (x.local w).current) i.sound (i.knows w).place (i.knows w).owns (i.knows w).back
+good-stepped x w i = good-act x.entries x.memory w (x.local w) (x.local w).place (λ none. i.home w (x.local w).current (rw none refl)) (asked-current x w i) i.apart (i.short (x.local w).current) i.sound (i.knows w).place (i.knows w).owns (i.knows w).back
 
 first-false : (a b : Bool) → a ≡ false → (a && b) ≡ false
 first-false true b h = absurd (cc)

@@ -1,5 +1,5 @@
 -- Every act of another worker keeps what is known of the memory after a worker's own fence.
-use Rattle.std.proofs.Common.{◌≡◌, ◌≢◌, ℕ, ◌/◌, ◌==◌, ◌&&◌, if◌then◌else◌, Bool, true, false, sym, ◌∙◌}
+use Rattle.std.proofs.Common.{◌≡◌, ◌≢◌, ℕ, ◌*◌, ◌==◌, ◌&&◌, if◌then◌else◌, Bool, true, false, sym, ◌∙◌}
 use Rattle.bz_word.specs.declared.kind.WordKind.{WordKind}
 use Rattle.bz_word.specs.declared.kind.WordKind.TheVariants.{Value, Dirty, Swap, Tag}
 use Rattle.bz_swap_machine.specs.declared.status.SwapStatus.{SwapStatus}
@@ -11,7 +11,7 @@ use Rattle.bz_swap_machine.specs.declared.place.HelpStep.TheVariants.{Look, Inst
 use Rattle.bz_swap_machine.specs.declared.place.Next.{Next}
 use Rattle.bz_swap_machine.specs.declared.place.Next.TheVariants.{Step, Meet, Complete}
 use Rattle.bz_swap_machine.specs.declared.place.Place.{Place}
-use Rattle.bz_swap_machine.specs.declared.place.Place.TheVariants.{Idle, Prepare, Learn, Help, ReadWord, AskRead, FenceRead, ClearRead, LoadWord, StoreWord, FlushLine}
+use Rattle.bz_swap_machine.specs.declared.place.Place.TheVariants.{Idle, Prepare, Learn, Help, ReadWord, AskRead, FenceRead, ClearRead, LoadWord, FlushLine, StoreWord, AskLine, FenceLine}
 use Rattle.bz_swap_machine.specs.declared.place.PrepareStep.{PrepareStep}
 use Rattle.bz_swap_machine.specs.declared.place.PrepareStep.TheVariants.{WriteWord, WriteStatus, AskHead, AskTail, FenceDescriptor}
 use Rattle.bz_swap_machine.specs.Machine.{Entries, Memory, entries_in}
@@ -22,7 +22,7 @@ use Rattle.bz_swap_machine.specs.Sound.{Sound}
 use Rattle.bz_swap_machine.specs.Steps.{Local, Stepped, is_own, after_help, prepare_act, read_act, act}
 use Rattle.bz_swap_machine.proofs.Change.{Change}
 use Rattle.bz_swap_machine.proofs.Good.{Good}
-use Rattle.bz_swap_machine.proofs.KeepsAsked.{SettlesFor, keeps-for, descriptor-for, for-same, for-copies, for-ask, for-fence}
+use Rattle.bz_swap_machine.proofs.KeepsAsked.{SettlesFor, keeps-for, descriptor-for, for-same, for-ask, for-fence}
 use Rattle.bz_swap_machine.proofs.KeptKnowledge.{KeepsFor}
 
 after-if : (m : Memory) (v : ℕ) (b : Bool) (x y : After) → SettlesFor m x.memory v → SettlesFor m y.memory v → SettlesFor m (if b then x else y).memory v
@@ -134,8 +134,10 @@ for-act e m w l v (AskRead a y) other g = for-ask m w (line_of a) v other
 for-act e m w l v (FenceRead a y) other g = for-fence e m w v other g
 for-act e m w l v (ClearRead a y) other g = for-cleared m a y v (m.cached a)
 for-act e m w l v (LoadWord a) other g = for-same m m v
+for-act e m w l v (FlushLine line) other g = for-same m m v
 for-act e m w l v (StoreWord a y) other g = for-same m (with_word m a (Value y)) v
-for-act e m w l v (FlushLine line) other g = for-copies e m (λ b. b / 8 == line) v g
+for-act e m w l v (AskLine line) other g = for-ask m w (line_of (line * 8)) v other
+for-act e m w l v (FenceLine line) other g = for-fence e m w v other g
 
 -- a change that all other workers' facts survive
 pub keeps_for-change : (e : ℕ → Entries) (m n : Memory) (v s : ℕ) → Sound e m → Change e m n s → SettlesFor m n v → KeepsFor e m n v

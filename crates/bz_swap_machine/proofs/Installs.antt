@@ -10,7 +10,7 @@ use Rattle.bz_swap_machine.specs.Machine.{Entries, Memory, is_succeeded}
 use Rattle.bz_swap_machine.specs.Changes.{with_tag, with_miss}
 use Rattle.bz_swap_machine.specs.Sound.{Follows, Sound}
 use Rattle.bz_swap_machine.specs.Facts.{Fact}
-use Rattle.bz_swap_machine.specs.declared.place.HelpStep.TheVariants.{InstallTag, LookUnderTag, InstallPointer, RemoveTag, AskDirty, FenceDirty, Decide}
+use Rattle.bz_swap_machine.specs.declared.place.HelpStep.TheVariants.{InstallTag, LookUnderTag, InstallPointer, RemoveTag, AskDirty, Decide}
 use Rattle.bz_swap_machine.specs.declared.place.Next.TheVariants.{Step, Meet}
 use Rattle.bz_swap_machine.specs.HelpActs.{stays, passed, after_install_tag, after_look_under}
 use Rattle.bz_swap_machine.proofs.Change.{Change}

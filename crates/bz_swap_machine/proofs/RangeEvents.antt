@@ -1,5 +1,5 @@
 -- Every event keeps the numbers in the ranges that words can hold.
-use Rattle.std.proofs.Common.{◌≡◌, ℕ, ◌+◌, ◌*◌, ◌/◌, ◌==◌, if◌then◌else◌, ◌<◌, Bool, true, false, arith, refl, subst, Some, None}
+use Rattle.std.proofs.Common.{◌≡◌, ℕ, ◌+◌, ◌*◌, ◌==◌, if◌then◌else◌, ◌<◌, Bool, true, false, arith, refl, subst, Some, None}
 use Rattle.bz_word.specs.declared.kind.WordKind.{WordKind}
 use Rattle.bz_word.specs.declared.kind.WordKind.TheVariants.{Value, Dirty, Swap, Tag}
 use Rattle.bz_swap_machine.specs.Machine.{Entries, Memory}
@@ -11,7 +11,7 @@ use Rattle.bz_swap_machine.specs.declared.place.Next.TheVariants.{Step, Meet, Co
 use Rattle.bz_swap_machine.specs.HelpActs.{help_act}
 use Rattle.std.specs.declared.option.Option.{Option}
 use Rattle.bz_swap_machine.specs.declared.place.Place.{Place}
-use Rattle.bz_swap_machine.specs.declared.place.Place.TheVariants.{Idle, Prepare, Learn, Help, ReadWord, AskRead, FenceRead, ClearRead, LoadWord, StoreWord, FlushLine}
+use Rattle.bz_swap_machine.specs.declared.place.Place.TheVariants.{Idle, Prepare, Learn, Help, ReadWord, AskRead, FenceRead, ClearRead, LoadWord, FlushLine, StoreWord, AskLine, FenceLine}
 use Rattle.bz_swap_machine.specs.declared.place.PrepareStep.{PrepareStep}
 use Rattle.bz_swap_machine.specs.declared.place.PrepareStep.TheVariants.{WriteWord, WriteStatus, AskHead, AskTail, FenceDescriptor}
 use Rattle.bz_swap_machine.specs.declared.worker.Operation.{Operation}
@@ -84,8 +84,10 @@ range-act e m w l (AskRead b v) f r sm a t h = record { memory = holds-ask m w (
 range-act e m w l (FenceRead b v) f r sm a t h = record { memory = holds-fenced m w h; place = r }
 range-act e m w l (ClearRead b v) f r sm a t h = record { memory = holds-cleared m b v (m.cached b) r h; place = tt }
 range-act e m w l (LoadWord b) f r sm a t h = record { memory = h; place = tt }
+range-act e m w l (FlushLine line) f r sm a t h = record { memory = h; place = tt }
 range-act e m w l (StoreWord b v) f r sm a t h = record { memory = holds-word m b (Value v) r h; place = tt }
-range-act e m w l (FlushLine line) f r sm a t h = record { memory = holds-copies m (λ b. b / 8 == line) h; place = tt }
+range-act e m w l (AskLine line) f r sm a t h = record { memory = holds-ask m w (line_of (line * 8)) h; place = tt }
+range-act e m w l (FenceLine line) f r sm a t h = record { memory = holds-fenced m w h; place = tt }
 
 published-small : (e : ℕ → Entries) (m : Memory) (s : ℕ) → Sound e m → HoldsKinds m → m.published s ≡ true → s < 2 ^ 16
 published-small e m s g h p = grind (arith, g.not_begun s, h.taken)

@@ -2,7 +2,7 @@
 use Rattle.std.proofs.Common.{◌≡◌, ◌==◌, ◌&&◌, if◌then◌else◌, ℕ, ◌+◌, ◌-◌, ◌*◌, ◌<◌, ◌≤◌, Bool, true, false, arith, refl, ap, subst}
 use Rattle.std.proofs.lemmas.Grind.{common_steps}
 use Rattle.bz_word.specs.declared.kind.WordKind.TheVariants.{Dirty, Swap}
-use Rattle.bz_swap_machine.specs.declared.place.HelpStep.TheVariants.{ClearStatus, PutFinal, AskFinal, FenceFinal}
+use Rattle.bz_swap_machine.specs.declared.place.HelpStep.TheVariants.{ClearStatus, PutFinal, AskFinal}
 use Rattle.bz_swap_machine.specs.declared.place.Place.TheVariants.{Help}
 use Rattle.bz_swap_machine.specs.declared.status.SwapStatus.{SwapStatus}
 use Rattle.bz_swap_machine.specs.declared.status.SwapStatus.TheVariants.{Free, Undecided, Deciding, Decided}

@@ -2,7 +2,7 @@
 use Rattle.std.proofs.Common.{◌≡◌, ◌==◌, ◌&&◌, ◌||◌, not, nat_lt, if◌then◌else◌, ℕ, ◌+◌, ◌*◌, ◌≤◌, Bool, true, false, arith, refl, ap, sym, subst, ◌∙◌, Some, None}
 use Rattle.std.proofs.lemmas.Grind.{common_steps}
 use Rattle.std.specs.declared.option.Option.{Option}
-use Rattle.bz_swap_machine.specs.declared.place.HelpStep.TheVariants.{Decide, AskStatus, FenceStatus, PutFinal}
+use Rattle.bz_swap_machine.specs.declared.place.HelpStep.TheVariants.{Decide, AskStatus, PutFinal}
 use Rattle.bz_swap_machine.specs.declared.place.Place.{Place}
 use Rattle.bz_swap_machine.specs.declared.place.Place.TheVariants.{Idle, Learn, Help}
 use Rattle.bz_swap_machine.specs.declared.status.SwapStatus.{SwapStatus}

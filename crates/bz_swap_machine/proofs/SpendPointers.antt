@@ -4,7 +4,7 @@ use Rattle.std.proofs.lemmas.Grind.{common_steps}
 use Rattle.bz_word.specs.declared.kind.WordKind.{WordKind}
 use Rattle.bz_word.specs.declared.kind.WordKind.TheVariants.{Value, Dirty, Swap, Tag}
 use Rattle.bz_swap_machine.specs.declared.place.HelpStep.{HelpStep}
-use Rattle.bz_swap_machine.specs.declared.place.HelpStep.TheVariants.{InstallTag, InstallPointer, AskTarget, FenceTargets}
+use Rattle.bz_swap_machine.specs.declared.place.HelpStep.TheVariants.{InstallTag, InstallPointer, AskTarget}
 use Rattle.bz_swap_machine.specs.declared.place.Next.TheVariants.{Step}
 use Rattle.bz_swap_machine.specs.declared.place.Place.TheVariants.{Help}
 use Rattle.bz_swap_machine.specs.declared.worker.Operation.{Operation}

@@ -3,7 +3,7 @@ use Rattle.std.proofs.Common.{◌≡◌, ◌==◌, if◌then◌else◌, ℕ, ◌
 use Rattle.std.proofs.lemmas.Grind.{common_steps}
 use Rattle.bz_word.specs.declared.kind.WordKind.{WordKind}
 use Rattle.bz_word.specs.declared.kind.WordKind.TheVariants.{Value, Dirty, Swap, Tag}
-use Rattle.bz_swap_machine.specs.declared.place.HelpStep.TheVariants.{PutFinal, AskFinal, FenceFinal, SweepTag}
+use Rattle.bz_swap_machine.specs.declared.place.HelpStep.TheVariants.{PutFinal, AskFinal, SweepTag}
 use Rattle.bz_swap_machine.specs.declared.place.Next.TheVariants.{Step}
 use Rattle.bz_swap_machine.specs.declared.place.Place.TheVariants.{Help}
 use Rattle.bz_swap_machine.specs.declared.status.Verdict.{Verdict}

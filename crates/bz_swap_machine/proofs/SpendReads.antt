@@ -5,7 +5,7 @@ use Rattle.bz_word.specs.declared.kind.WordKind.TheVariants.{Value, Dirty}
 use Rattle.bz_swap_machine.specs.declared.place.HelpStep.{HelpStep}
 use Rattle.bz_swap_machine.specs.declared.place.HelpStep.TheVariants.{AskFinal, FenceFinal, ClearFinal}
 use Rattle.bz_swap_machine.specs.declared.place.Place.{Place}
-use Rattle.bz_swap_machine.specs.declared.place.Place.TheVariants.{Help, ReadWord, AskRead, FenceRead, ClearRead}
+use Rattle.bz_swap_machine.specs.declared.place.Place.TheVariants.{Help, ReadWord, AskRead, ClearRead}
 use Rattle.bz_swap_machine.specs.declared.status.Verdict.{Verdict}
 use Rattle.bz_swap_machine.specs.Allowed.{counted}
 use Rattle.bz_swap_machine.specs.Budget.{for_dirty, for_stale, open_count, open_above, walk_at, reserve, detour, own_missing, left_by_help, left_by_place, for_walks, left_by_others, fresh_budget, allowed_by_others, budget_at}

@@ -3,7 +3,7 @@ use Rattle.std.proofs.Common.{◌≡◌, ◌==◌, ◌&&◌, not, if◌then◌el
 use Rattle.std.proofs.lemmas.Grind.{common_steps}
 use Rattle.bz_word.specs.declared.kind.WordKind.{WordKind}
 use Rattle.bz_word.specs.declared.kind.WordKind.TheVariants.{Value, Dirty, Swap, Tag}
-use Rattle.bz_swap_machine.specs.declared.place.HelpStep.TheVariants.{Look, InstallTag, LookUnderTag, InstallPointer, RemoveTag, AskDirty, FenceDirty, AskTarget, FenceTargets, Decide, PutFinal, SweepTag}
+use Rattle.bz_swap_machine.specs.declared.place.HelpStep.TheVariants.{Look, InstallTag, LookUnderTag, InstallPointer, RemoveTag, AskDirty, AskTarget, Decide, PutFinal, SweepTag}
 use Rattle.bz_swap_machine.specs.declared.place.Next.{Next}
 use Rattle.bz_swap_machine.specs.declared.place.Next.TheVariants.{Step, Meet}
 use Rattle.bz_swap_machine.specs.declared.place.Place.{Place}

@@ -6,7 +6,7 @@ use Rattle.bz_word.specs.declared.kind.WordKind.TheVariants.{Value, Dirty, Swap,
 use Rattle.bz_swap_machine.specs.declared.place.HelpStep.{HelpStep}
 use Rattle.bz_swap_machine.specs.declared.place.Next.{Next}
 use Rattle.bz_swap_machine.specs.declared.place.Next.TheVariants.{Step, Meet}
-use Rattle.bz_swap_machine.specs.declared.place.HelpStep.TheVariants.{InstallTag, LookUnderTag, AskDirty, FenceDirty, AskTarget, FenceTargets, Decide}
+use Rattle.bz_swap_machine.specs.declared.place.HelpStep.TheVariants.{InstallTag, LookUnderTag, AskDirty, AskTarget, Decide}
 use Rattle.bz_swap_machine.specs.declared.place.Place.TheVariants.{Help}
 use Rattle.bz_swap_machine.specs.declared.status.Verdict.TheVariants.{Failed}
 use Rattle.bz_swap_machine.specs.Budget.{is_fresh_at, budget_at}

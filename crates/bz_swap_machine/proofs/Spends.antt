@@ -2,7 +2,7 @@
 use Rattle.std.proofs.Common.{◌≡◌, ◌==◌, ◌&&◌, not, if◌then◌else◌, ℕ, ◌+◌, ◌-◌, ◌*◌, ◌<◌, ◌≤◌, Bool, true, false, arith, refl, ap, sym, subst}
 use Rattle.std.proofs.lemmas.Grind.{common_steps}
 use Rattle.bz_swap_machine.specs.declared.place.Place.{Place}
-use Rattle.bz_swap_machine.specs.declared.place.Place.TheVariants.{Idle, Prepare, Learn, Help, ReadWord, AskRead, FenceRead, ClearRead, FlushLine}
+use Rattle.bz_swap_machine.specs.declared.place.Place.TheVariants.{Idle, Prepare, Learn, Help, ReadWord, AskRead, FenceRead, ClearRead, AskLine, FenceLine}
 use Rattle.bz_swap_machine.specs.declared.place.PrepareStep.TheVariants.{WriteWord, WriteStatus, AskHead, AskTail, FenceDescriptor}
 use Rattle.bz_swap_machine.specs.declared.place.HelpStep.TheVariants.{Look, InstallTag, LookUnderTag, InstallPointer, RemoveTag, AskDirty, FenceDirty, ClearDirty, AskTarget, FenceTargets, Decide, AskStatus, FenceStatus, ClearStatus, PutFinal, AskFinal, FenceFinal, ClearFinal}
 use Rattle.bz_word.specs.declared.kind.WordKind.TheVariants.{Value}
@@ -181,9 +181,12 @@ spends-fence_read e local m w n l a v = by_fresh (is_fresh_at (meets e local m) 
     by_fresh true told = fresh-falls (meets e local m) w n l (FenceRead a v) (ClearRead a v) told told (here-falls (meets e local m) w n l l (FenceRead a v) (ClearRead a v) refl refl refl refl refl (omega arith))
     by_fresh false told = stale-falls (meets e local m) w n l (FenceRead a v) (ClearRead a v) told told (omega arith)
 
-pub spends-flush_line : (e : ℕ → Entries) (local : ℕ → Local) (m : Memory) (w n : ℕ) (l : Local) (line : ℕ) → l.operation ≡ Nothing → Spends e local m w n l (FlushLine line)
-spends-flush_line e local m w n l line rests =
-    here-falls (meets e local m) w n l (record l { operation = Nothing; place = Idle }) (FlushLine line) Idle refl (ap (λ o. reserve_by o (if_any (open_count (meets e local m) w n))) (sym rests)) refl
+pub spends-ask_line : (e : ℕ → Entries) (local : ℕ → Local) (m : Memory) (w n : ℕ) (l : Local) (line : ℕ) → Spends e local m w n l (AskLine line)
+spends-ask_line e local m w n l line = here-falls (meets e local m) w n l l (AskLine line) (FenceLine line) refl refl refl refl refl (omega arith)
+
+pub spends-fence_line : (e : ℕ → Entries) (local : ℕ → Local) (m : Memory) (w n : ℕ) (l : Local) (line : ℕ) → l.operation ≡ Nothing → Spends e local m w n l (FenceLine line)
+spends-fence_line e local m w n l line rests =
+    here-falls (meets e local m) w n l (record l { operation = Nothing; place = Idle }) (FenceLine line) Idle refl (ap (λ o. reserve_by o (if_any (open_count (meets e local m) w n))) (sym rests)) refl
     (ap (λ o. own_missing_by (meets e local m) o) (sym rests)) refl (omega arith)
 
 -- the load of the word that is read, where it is a value

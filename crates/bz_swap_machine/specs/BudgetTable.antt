@@ -3,7 +3,7 @@ use Rattle.std.specs.Prelude.{◌≡◌, ℕ, zero, suc, List, [], ◌∷◌}
 use Rattle.bz_swap_machine.specs.declared.status.Verdict.TheVariants.{Succeeded}
 use Rattle.bz_swap_machine.specs.declared.place.HelpStep.{HelpStep}
 use Rattle.bz_swap_machine.specs.declared.place.HelpStep.TheVariants.{Look, InstallTag, LookUnderTag, InstallPointer, AskDirty, FenceDirty, ClearDirty, AskTarget, FenceTargets, Decide, AskStatus, FenceStatus, ClearStatus, PutFinal, AskFinal, FenceFinal, ClearFinal, SweepTag}
-use Rattle.bz_swap_machine.specs.declared.place.Place.TheVariants.{Prepare, Learn, Help, ReadWord, AskRead, FenceRead, ClearRead, LoadWord, StoreWord, FlushLine}
+use Rattle.bz_swap_machine.specs.declared.place.Place.TheVariants.{Prepare, Learn, Help, ReadWord, AskRead, FenceRead, ClearRead, LoadWord, StoreWord, AskLine, FenceLine}
 use Rattle.bz_swap_machine.specs.declared.place.PrepareStep.TheVariants.{WriteWord, WriteStatus, AskHead, AskTail, FenceDescriptor}
 use Rattle.bz_swap_machine.specs.Budget.{left_at, budget}
 use Rattle.bz_swap_machine.specs.Examples.{run}
@@ -16,7 +16,7 @@ at_entries step = left_at (Help (step 0)) ∷ left_at (Help (step 3)) ∷ []
 -- what each place counts of the visit that is left: at the first and the last of thirteen words, or of four entries
 pub record PlacesCount : Type 0 where
   -- an operation of one act, and a read, which cleans a dirty value first
-  pub single : left_at (LoadWord 0) ∷ left_at (StoreWord 0 0) ∷ left_at (FlushLine 0) ∷ [] ≡ 1 ∷ 1 ∷ 2 ∷ []
+  pub single : left_at (LoadWord 0) ∷ left_at (StoreWord 0 0) ∷ left_at (AskLine 0) ∷ left_at (FenceLine 0) ∷ [] ≡ 1 ∷ 1 ∷ 2 ∷ 1 ∷ []
   pub read : left_at (AskRead 0 0) ∷ left_at (FenceRead 0 0) ∷ left_at (ClearRead 0 0) ∷ left_at (ReadWord 0) ∷ [] ≡ 4 ∷ 3 ∷ 2 ∷ 1 ∷ []
   -- the own descriptor, and another's that is learnt
   pub write : left_at (Prepare (WriteWord 0)) ∷ left_at (Prepare (WriteWord 12)) ∷ left_at (Prepare WriteStatus) ∷ [] ≡ 46 ∷ 34 ∷ 33 ∷ []

@@ -1,7 +1,7 @@
 -- Which acts are flushes or fences: the place where a worker's act is due tells.
 use Rattle.std.specs.Prelude.{Bool, true, false}
 use Rattle.bz_swap_machine.specs.declared.place.Place.{Place}
-use Rattle.bz_swap_machine.specs.declared.place.Place.TheVariants.{Idle, Prepare, Learn, Help, ReadWord, AskRead, FenceRead, ClearRead, LoadWord, StoreWord, FlushLine}
+use Rattle.bz_swap_machine.specs.declared.place.Place.TheVariants.{Idle, Prepare, Learn, Help, ReadWord, AskRead, FenceRead, ClearRead, LoadWord, FlushLine, StoreWord, AskLine, FenceLine}
 use Rattle.bz_swap_machine.specs.declared.place.PrepareStep.{PrepareStep}
 use Rattle.bz_swap_machine.specs.declared.place.PrepareStep.TheVariants.{WriteWord, WriteStatus, AskHead, AskTail, FenceDescriptor}
 use Rattle.bz_swap_machine.specs.declared.place.HelpStep.{HelpStep}
@@ -45,5 +45,7 @@ is_flush (AskRead a v) = false
 is_flush (FenceRead a v) = true
 is_flush (ClearRead a v) = false
 is_flush (LoadWord a) = false
-is_flush (StoreWord a v) = false
 is_flush (FlushLine line) = true
+is_flush (StoreWord a v) = false
+is_flush (AskLine line) = false
+is_flush (FenceLine line) = true

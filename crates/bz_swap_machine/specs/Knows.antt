@@ -4,7 +4,7 @@ use Rattle.std.specs.declared.option.Option.{Option}
 use Rattle.bz_swap_machine.specs.declared.status.SwapStatus.{SwapStatus}
 use Rattle.bz_swap_machine.specs.declared.status.SwapStatus.TheVariants.{Undecided}
 use Rattle.bz_swap_machine.specs.declared.place.Place.{Place}
-use Rattle.bz_swap_machine.specs.declared.place.Place.TheVariants.{Idle, Prepare, Learn, Help, ReadWord, AskRead, FenceRead, ClearRead, LoadWord, StoreWord, FlushLine}
+use Rattle.bz_swap_machine.specs.declared.place.Place.TheVariants.{Idle, Prepare, Learn, Help, ReadWord, AskRead, FenceRead, ClearRead, LoadWord, FlushLine, StoreWord, AskLine, FenceLine}
 use Rattle.bz_swap_machine.specs.declared.place.PrepareStep.{PrepareStep}
 use Rattle.bz_swap_machine.specs.declared.place.PrepareStep.TheVariants.{WriteWord, WriteStatus, AskHead, AskTail, FenceDescriptor}
 use Rattle.bz_swap_machine.specs.declared.place.HelpStep.{HelpStep}
@@ -71,8 +71,10 @@ AtPlace e m w l (AskRead a v) = l.operation ≡ Reading a
 AtPlace e m w l (FenceRead a v) = l.operation ≡ Reading a
 AtPlace e m w l (ClearRead a v) = l.operation ≡ Reading a
 AtPlace e m w l (LoadWord a) = ⊥
+AtPlace e m w l (FlushLine line) = ⊥
 AtPlace e m w l (StoreWord a v) = m.named a ≡ false
-AtPlace e m w l (FlushLine line) = Unit {0}
+AtPlace e m w l (AskLine line) = Unit {0}
+AtPlace e m w l (FenceLine line) = Unit {0}
 
 -- worker w has asked for no status, unless for that of its current swap at a place between that ask and the fence after it
 abbrev pub prepare_asked : PrepareStep → Bool

@@ -1,7 +1,7 @@
 -- The whole machine, what happens to it, and its invariant.
-use Rattle.std.specs.Prelude.{◌≡◌, ◌≢◌, ℕ, ◌<◌, ◌≤◌, ◌==◌, Bool, true, false, List, [], ◌∷◌, None}
+use Rattle.std.specs.Prelude.{◌≡◌, ℕ, ◌<◌, ◌≤◌, ◌==◌, Bool, true, false, List, [], ◌∷◌, None}
 use Rattle.bz_swap_machine.specs.declared.status.SwapStatus.TheVariants.{Free}
-use Rattle.bz_swap_machine.specs.declared.place.Place.TheVariants.{Idle, Prepare, ReadWord, StoreWord, FlushLine}
+use Rattle.bz_swap_machine.specs.declared.place.Place.TheVariants.{Idle, Prepare, ReadWord, StoreWord, AskLine}
 use Rattle.bz_swap_machine.specs.declared.place.PrepareStep.TheVariants.{WriteWord}
 use Rattle.bz_swap_machine.specs.declared.worker.Operation.TheVariants.{Nothing, Reading, Swapping}
 use Rattle.bz_word.specs.declared.kind.WordKind.{WordKind}
@@ -46,7 +46,7 @@ swapping l s x = record { operation = Swapping s; place = Prepare (WriteWord 0);
 abbrev pub happens : State → Event → State
 happens x (StartRead w a) = with_local x w (record (x.local w) { operation = Reading a; place = ReadWord a; back = None })
 happens x (StartStore w a v) = with_local x w (record (x.local w) { place = StoreWord a v })
-happens x (StartFlush w line) = with_local x w (record (x.local w) { place = FlushLine line })
+happens x (StartFlush w line) = with_local x w (record (x.local w) { place = AskLine line })
 happens x (StartSwap w new targets) = record {
   entries = put x.entries x.memory.taken new;
   memory = with_taken x.memory w targets;

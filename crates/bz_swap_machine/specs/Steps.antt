@@ -1,5 +1,5 @@
 -- One act of a worker: what it changes, where the worker's next act is due, and what is answered.
-use Rattle.std.specs.Prelude.{if◌then◌else◌, ℕ, ◌+◌, ◌*◌, ◌/◌, ◌==◌, ◌&&◌, not, Bool, true, false, Some, None}
+use Rattle.std.specs.Prelude.{if◌then◌else◌, ℕ, ◌+◌, ◌*◌, ◌==◌, ◌&&◌, not, Bool, true, false, Some, None}
 use Rattle.std.specs.declared.option.Option.{Option}
 use Rattle.bz_word.specs.Kinds.{word}
 use Rattle.bz_word.specs.declared.kind.WordKind.{WordKind}
@@ -8,7 +8,7 @@ use Rattle.bz_swap_machine.specs.declared.status.SwapStatus.TheVariants.{Undecid
 use Rattle.bz_swap_machine.specs.declared.status.Verdict.{Verdict}
 use Rattle.bz_swap_machine.specs.declared.status.Verdict.TheVariants.{Succeeded, Failed}
 use Rattle.bz_swap_machine.specs.declared.place.Place.{Place}
-use Rattle.bz_swap_machine.specs.declared.place.Place.TheVariants.{Idle, Prepare, Learn, Help, ReadWord, AskRead, FenceRead, ClearRead, LoadWord, StoreWord, FlushLine}
+use Rattle.bz_swap_machine.specs.declared.place.Place.TheVariants.{Idle, Prepare, Learn, Help, ReadWord, AskRead, FenceRead, ClearRead, LoadWord, FlushLine, StoreWord, AskLine, FenceLine}
 use Rattle.bz_swap_machine.specs.declared.place.PrepareStep.{PrepareStep}
 use Rattle.bz_swap_machine.specs.declared.place.PrepareStep.TheVariants.{WriteWord, WriteStatus, AskHead, AskTail, FenceDescriptor}
 use Rattle.bz_swap_machine.specs.declared.place.HelpStep.TheVariants.{Look, InstallTag}
@@ -19,7 +19,7 @@ use Rattle.bz_swap_machine.specs.declared.worker.Operation.TheVariants.{Nothing,
 use Rattle.bz_swap_machine.specs.declared.done.Done.{Done}
 use Rattle.bz_swap_machine.specs.declared.done.Done.TheVariants.{Busy, Read, Swapped, Stored, Flushed}
 use Rattle.bz_swap_machine.specs.Machine.{Memory, entries_in, is_succeeded}
-use Rattle.bz_swap_machine.specs.Changes.{put, with_word, with_copies, with_status, with_field, with_published, with_answer, line_of, head_of, tail_of, with_ask, fenced}
+use Rattle.bz_swap_machine.specs.Changes.{put, with_word, with_status, with_field, with_published, with_answer, line_of, head_of, tail_of, with_ask, fenced}
 use Rattle.bz_swap_machine.specs.HelpActs.{cleared_word, help_act}
 
 -- one worker, but for the number of its next tag: what it comes back to, where its next act is due, the swap that
@@ -117,8 +117,10 @@ act m w l (AskRead a v) = goes_on (with_ask m w (line_of a)) l (FenceRead a v)
 act m w l (FenceRead a v) = goes_on (fenced m w) l (ClearRead a v)
 act m w l (ClearRead a v) = goes_on (cleared_word m a v (m.cached a)) l (ReadWord a)
 act m w l (LoadWord a) = answers m l (Read (word (m.cached a)))
+act m w l (FlushLine line) = answers m l Flushed
 act m w l (StoreWord a v) = answers (with_word m a (Value v)) l Stored
-act m w l (FlushLine line) = answers (with_copies m (λ b. b / 8 == line)) l Flushed
+act m w l (AskLine line) = goes_on (with_ask m w (line_of (line * 8))) l (FenceLine line)
+act m w l (FenceLine line) = answers (fenced m w) l Flushed
 
 -- the swap that took effect at an act, eviction or fence that can have made the status of s durable
 abbrev pub effect_of : Memory → Memory → ℕ → Option ℕ

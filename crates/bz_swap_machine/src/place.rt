@@ -27,8 +27,12 @@ pub enum Place {
     LoadWord(u32),
     /// Store a word: a private one, or in a recovery time any.
     StoreWord { address: u32, value: u64 },
-    /// Flush a line.
+    /// Flush a line as it is: worker 0, in a recovery time.
     FlushLine(u32),
+    /// Ask for a line.
+    AskLine(u32),
+    /// Fence, so that it is durable.
+    FenceLine(u32),
 }
 
 /// What is due on a descriptor before its swap is published.
@@ -164,14 +168,14 @@ impl HelpStep {
 }
 
 impl Place {
-    /// Whether the act that is due is a flush or a fence.
+    /// Whether the act that is due is a fence, or a flush.
     pub fn is_flush(&self) -> bool
         ensures { result ≡ flushes self.now }
     {
         match self {
             Place::Prepare(step) => step.is_flush(),
             Place::Help(step) => step.is_flush(),
-            Place::FenceRead { .. } | Place::FlushLine(_) => true,
+            Place::FenceRead { .. } | Place::FenceLine(_) | Place::FlushLine(_) => true,
             _ => false,
         }
     }

@@ -12,7 +12,7 @@ use Rattle.bz_mark.specs.Log.{with_mark}
 use Rattle.bz_mark.proofs.MomentLaws.{mark_at-newest}
 use Rattle.bz_any_task.specs.Duties.{asks_of, facts_of, publishing_of}
 use Rattle.bz_sight.specs.Passing.{AllStay}
-use Rattle.bz_sight.specs.Acts.{IsFlushing}
+use Rattle.bz_sight.specs.Acts.{HasFlushed}
 use Rattle.bz_word.specs.declared.entry.Entry.{Entry}
 use Rattle.bz_sight.specs.Sight.{answer_at}
 use Rattle.bz_sight.specs.Starts.{Sees}
@@ -223,19 +223,19 @@ module _ (b : StepLaws) (old new : Parts) (w : ℕ) (x : OpenCall) (made : Act) 
         (ap (untold old.access) swaps ∙ told-by (has_effect old.access t) (sym (a.step.effect.swaps t) ∙ effect)) (ap underway swaps)
         (λ h lost. let wins : won ≡ true = (b.solo.wins.answer old.access new.access w made None t won (subst (λ (z : Done). IsStep old.access w made z None new.access) e a.step) swaps (subst (DoesWell old.access) swaps h)).0 in absurd (cc (wins, lost)))
 
-  -- a flush has been made
-  module _ (line : ℕ) (asked : its.asked ≡ todo.Flush line) (flushes : doing_of old.access w ≡ Flushing line) (within : line * 8 < length old.access.cached) where
-    is-flushing : IsFlushing old.access new.access made answer None line
-    is-flushing = b.flushing old.config (k.story.at (length old.journal.past)) old.access new.access w made answer None line k.living.seen a.step flushes within
+  -- a flush has ended
+  module _ (line : ℕ) (asked : its.asked ≡ todo.Flush line) (flushes : doing_of old.access w ≡ Flushing line) (within : line * 8 < length old.access.cached) (ended : answer ≢ done.Busy) where
+    has-flushed : HasFlushed old.access new.access w answer line
+    has-flushed = (b.flushing old.config (k.story.at (length old.journal.past)) old.access new.access w made answer None line k.living.seen a.step flushes within).ends ended
 
     flushed : Flushes line before later
-    flushed = b.flushes old.config old.access new.access old.journal k.story (mark_of w made) w line its.call_open.look.since its.opened (goes b old new w x made answer k is-worker a) all-stay (begun-in k.living its.call_open) is-flushing.settles
+    flushed = b.flushes old.config old.access new.access old.journal k.story (mark_of w made) w line its.call_open.look.since its.opened (goes b old new w x made answer k is-worker a) all-stay (begun-in k.living its.call_open) has-flushed.settles
 
     took : facts_of x.task Took later
     took = its.tasked.laws.acts.flushed before later line (sym its.tasked.config) (subst (λ z. facts_of x.task z before) (ap (stage_in old.access) flushes) its.facts) (sees b old new w x made answer k is-worker a w x its).scene later-seen.scene (its.asks ∙ ap Some asked) flushed
 
     pub told-flush : IsTold new w x seen.Flushed
-    told-flush = be-told Took seen.Flushed (λ f. absurd (cc (is-flushing.answer, f))) took
+    told-flush = be-told Took seen.Flushed ended took
         (no-finish old.access w x seen.Flushed (λ s f. absurd (cc (flushes, f))) its.finishing)
         (subst (λ z. Hears z seen.Flushed) (sym (its.asks ∙ ap Some asked)) tt)
         (subst (λ z. Tells z Took seen.Flushed later) (sym (its.asks ∙ ap Some asked)) tt)

@@ -134,8 +134,10 @@ module _ (p : Parts) (k : IsAwake p) (w : ℕ) (call : Call) (may : MayBegin p w
         fields = k.living.seen.fields;
         quiet = record { values = λ a n. refl; swaps = λ t. refl };
         settled = λ a cached settled. settled;
+        awaits = λ v a cached awaits. awaits;
         cached = λ a o n. inl refl;
       };
+      keeps = λ v a held fence private. refl;
       marked = k.living.words;
       past = record { count = k.living.past.count; since = k.living.past.since; asks = k.living.past.asks; workers = k.living.past.workers };
       powered = tt;

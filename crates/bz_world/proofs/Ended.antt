@@ -120,8 +120,10 @@ module _ (b : EndLaws) (p : Parts) (w : ℕ) (on : MustGoOn p w) where
         fields = was.living.seen.fields;
         quiet = record { values = λ a n. refl; swaps = λ t. refl };
         settled = λ a cached settled. settled;
+        awaits = λ v a cached awaits. awaits;
         cached = λ a o n. inl refl;
       };
+      keeps = λ v a held fence private. refl;
       marked = was.living.words;
       past = record { count = was.living.past.count; since = was.living.past.since; asks = was.living.past.asks; workers = was.living.past.workers };
       powered = tt;

@@ -18,6 +18,7 @@ use Rattle.bz_swap_marks.proofs.Pasts.{evict-past}
 use Rattle.bz_refinement.specs.Laws.{GoesOn, goes_on}
 use Rattle.bz_refinement.specs.Living.{IsLiving}
 use Rattle.bz_refinement.specs.Story.{scene, Story}
+use Rattle.bz_refinement.proofs.Proved.{acts_keep_awaited}
 use Rattle.bz_swap.specs.Effects.{NoneTakesEffect, EffectIs}
 use Rattle.bz_swap.specs.EffectPlaces.{EffectsStayInside}
 use Rattle.bz_swap.specs.Evictions.{EvictsIn}
@@ -109,7 +110,7 @@ module _ (b : StepLaws) (sees : EvictionsAreSeen) (old new : Parts) (a : ℕ) (k
   passed = b.pass old.config (k.story.at (length old.journal.past)) old.access new.access k.living.seen passes
 
   goes : GoesOn old.config old.access new.access old.journal k.story (Evict a)
-  goes = record { living = k.living; passes = passes; marked = evict-marked old new a None k e; past = evict-past old.access new.access (state_after_marks old.journal.start old.journal.past) a None e.eviction k.living.past; powered = tt }
+  goes = record { living = k.living; passes = passes; keeps = acts_keep_awaited.quiet old.config old.access new.access old.journal k.story k.living (sees.leaves old.access new.access a None e.eviction); marked = evict-marked old new a None k e; past = evict-past old.access new.access (state_after_marks old.journal.start old.journal.past) a None e.eviction k.living.past; powered = tt }
 
   abbrev after : Story
   after = goes_on old.journal k.story new.access k.story.filled

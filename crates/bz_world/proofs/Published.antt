@@ -165,8 +165,10 @@ module _ (b : StrikeLaws) (p : Parts) (s : ℕ) (h : IsStriking p s) (publishes 
       fields = seen-now.fields;
       quiet = record { values = λ a n. refl; swaps = λ t. refl };
       settled = λ a cached settled. settled;
+      awaits = λ v a cached awaits. awaits;
       cached = λ a o n. inl refl;
     };
+    keeps = λ v a held fence private. refl;
     marked = h.marked;
     past = record { count = h.past.count; since = h.past.since; asks = h.past.asks; workers = h.past.workers };
     powered = tt;

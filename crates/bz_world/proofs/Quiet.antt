@@ -13,7 +13,7 @@ use Rattle.bz_sight.specs.Starts.{Sees}
 use Rattle.bz_sound.specs.Calls.{Open, open_call}
 use Rattle.bz_sound.specs.Memory.Calls.{HasOpenCall}
 use Rattle.bz_sound.specs.Power.Sound.{IsSound}
-use Rattle.bz_refinement.specs.Laws.{HasBegun, GoesOn, goes_on}
+use Rattle.bz_refinement.specs.Laws.{HasBegun, GoesOn, goes_on, KeepsAwaited}
 use Rattle.bz_refinement.specs.Living.{IsLiving}
 use Rattle.bz_refinement.specs.Story.{Story, scene, and_then}
 use Rattle.bz_swap.specs.SwapMemory.{Doing, Idle, Storing, doing_of}
@@ -53,6 +53,8 @@ use Rattle.bz_world.proofs.Staying.{SameFor, Pays, slot-stays, told-stays, wante
 use Rattle.bz_world.proofs.ToldActs.{act-avoids, own-avoids}
 use Rattle.bz_world.specs.Inside.Merging.{MergesDuly}
 use Rattle.bz_world.proofs.Merging.{duly-later, still-effects}
+use Rattle.bz_sight.specs.Acts.{IsStoring}
+use Rattle.bz_refinement.proofs.Proved.{acts_keep_awaited}
 
 -- the call of a worker that serves one is open, so it is one of the workers
 module _ (p : Parts) (k : IsAwake p) (w : ℕ) (x : OpenCall) (is-worker : get_or p.workers.items w None ≡ Some x) where
@@ -115,8 +117,23 @@ module _ (b : StepLaws) (old new : Parts) (w : ℕ) (x : OpenCall) (made : Act) 
   pub passed : Passed old.config (k.story.at (length old.journal.past)) new.access
   passed = b.pass old.config (k.story.at (length old.journal.past)) old.access new.access k.living.seen passes
 
+  -- what others await stays in the caches
+  quiet-keeps : ((d u : ℕ) → doing_of old.access w ≢ Storing d u) → KeepsAwaited old.config old.access new.access old.journal k.story
+  quiet-keeps none = acts_keep_awaited.quiet old.config old.access new.access old.journal k.story k.living (b.caches old.access new.access w made done None a.step none)
+
+  keeps-by : (todo : Todo) → s.asked ≡ todo → IsDoing old.access old.owners.items w todo → KeepsAwaited old.config old.access new.access old.journal k.story
+  keeps-by (todo.Read c) e h = quiet-keeps (λ d u storing. absurd (cc (h, storing)))
+  keeps-by (todo.Load c) e h = absurd h
+  keeps-by (todo.Flush line) e h = quiet-keeps (λ d u storing. absurd (cc (h.0, storing)))
+  keeps-by (todo.Swap entries) e h = quiet-keeps (λ d u storing. absurd (cc (h.doing, storing)))
+  keeps-by todo.Finish e h = absurd h
+  keeps-by (todo.Store c v) e h =
+      let stores : IsStoring old.access new.access made done None c v = b.storing old.config (k.story.at (length old.journal.past)) old.access new.access w made done None c v k.living.seen a.step h.0 h.1 in
+      acts_keep_awaited.store old.config old.access new.access old.journal k.story w c v s.call_open.look.since s.opened k.living
+      (record { stores = stores.stores; begun = begun-in k.living s.call_open; own = own c v h.0 }) (a.step.one.doing ∙ ap (doing_after (doing_of old.access w)) stores.answer)
+
   pub goes : GoesOn old.config old.access new.access old.journal k.story (mark_of w made)
-  goes = record { living = k.living; passes = passes; marked = act-marked w old.access new.access old.journal made done k.living.words k.living.past a.step.one; past = act-kept w old.access new.access old.journal made done k.living.words k.living.past a.step.one; powered = leaves-power w old.journal.past made }
+  goes = record { living = k.living; passes = passes; keeps = keeps-by s.asked refl s.doing; marked = act-marked w old.access new.access old.journal made done k.living.words k.living.past a.step.one; past = act-kept w old.access new.access old.journal made done k.living.words k.living.past a.step.one; powered = leaves-power w old.journal.past made }
 
   pub sound : IsSound old.config old.at_start (with_mark old.journal (mark_of w made))
   sound = act-sound b.journal old new k.story w made done None k.living k.sound a (may-act old.at_start old.journal.past w (some-worker old k w x is-worker) (call-is-open old k w x is-worker)) passed

@@ -174,7 +174,7 @@ module _ (turns : TurnsMakeNoMark) (p : Parts) (k : IsRecovering p recovery.Aske
   pub started-recovering : IsStarted (record p { access = started p.access 0 doing })
   started-recovering = record {
     dark = record {
-      tabled = tabled-beside (record { workers = refl; owners = refl; crew = length-set p.access.workers 0 (record { doing = doing; flush_next = begins_by_flush doing }); steps = refl; rest = refl }) k.dark.tabled;
+      tabled = tabled-beside (record { workers = refl; owners = refl; crew = length-set p.access.workers 0 (record { doing = doing; flush_next = begins_by_flush doing 0 }); steps = refl; rest = refl }) k.dark.tabled;
       sound = k.dark.sound;
       leaves = k.dark.leaves;
       none = k.dark.none;

@@ -35,7 +35,7 @@ pub record StartsOne (old new : SwapMemory) (w : ℕ) : Type 0 where
 pub starts-one : (old new : SwapMemory) (w : ℕ) (doing : Doing) → new ≡ started old w doing → StartsOne old new w
 starts-one old new w doing is = record {
   taken = ap (λ (m : SwapMemory). m.taken) is;
-  others = λ v ne. ap (λ (m : SwapMemory). worker_of m v) is ∙ get_or-set_other old.workers w v (record { doing = doing; flush_next = begins_by_flush doing }) idle ne;
+  others = λ v ne. ap (λ (m : SwapMemory). worker_of m v) is ∙ get_or-set_other old.workers w v (record { doing = doing; flush_next = begins_by_flush doing w }) idle ne;
 }
 
 -- and so does a swap's start, which takes one

@@ -1,5 +1,5 @@
 -- A worker starts what its task asks for.
-use Rattle.std.proofs.Common.{◌≡◌, ◌≢◌, ℕ, ◌+◌, ◌<◌, ◌≤◌, length, arith, refl, sym, ap, subst, ◌∙◌, inl, inr, None}
+use Rattle.std.proofs.Common.{◌≡◌, ◌≢◌, ℕ, ◌+◌, ◌<◌, ◌≤◌, length, arith, false, refl, sym, ap, subst, ◌∙◌, inl, inr, None}
 use Rattle.std.specs.Prelude.{get_or}
 use Rattle.std.proofs.lemmas.Bool.{cases_eq}
 use Rattle.std.proofs.lemmas.List.{get_or-set_same, get_or-set_other, length-set}
@@ -8,12 +8,12 @@ use Rattle.bz_any_task.specs.Duties.{made_of, facts_of}
 use Rattle.bz_sight.specs.Sight.{IsSeen}
 use Rattle.bz_sight.specs.Starts.{StartsAreSeen, Sees}
 use Rattle.bz_sound.specs.Solitary.{NoneIsOpenBesideASolitaryCall}
-use Rattle.bz_refinement.specs.Living.{IsLiving}
+use Rattle.bz_refinement.specs.Living.{IsLiving, IsHeldBy}
 use Rattle.bz_refinement.specs.Story.{Story, scene}
 use Rattle.bz_task.specs.Requests.{IsAskable}
 use Rattle.bz_swap.specs.Held.{Holds}
 use Rattle.bz_swap.specs.Starts.{MayWork, started, begins_by_flush}
-use Rattle.bz_swap.specs.SwapMemory.{SwapMemory, Doing, Working, Swapping, idle, doing_of}
+use Rattle.bz_swap.specs.SwapMemory.{SwapMemory, Doing, Working, Swapping, idle, doing_of, is_named}
 use Rattle.bz_task.specs.Scene.{Scene, Waiting, IsScene}
 use Rattle.bz_task.specs.declared.todo.Todo.{Todo}
 use Rattle.bz_world.specs.Inside.Acted.{IsBetween}
@@ -36,13 +36,15 @@ use Rattle.bz_world.proofs.Solitary.{in-place, only-own, started-solitary}
 use Rattle.bz_world.proofs.Powered.{begun-in}
 use Rattle.bz_world.proofs.Staying.{SameFor, slot-same}
 use Rattle.bz_world.proofs.Tabled.{tabled-beside}
+use Rattle.bz_sight.specs.Awaiting.{Awaits}
+use Rattle.bz_sight.proofs.Proved.{starts_keep_awaits}
 
 -- what a worker does that has started something, and what the others do
 pub starts-it : (m : SwapMemory) (w : ℕ) (doing : Doing) → w < length m.workers → doing_of (started m w doing) w ≡ doing
-starts-it m w doing l = ap (λ (z : Working). z.doing) (get_or-set_same m.workers w (record { doing = doing; flush_next = begins_by_flush doing }) idle l)
+starts-it m w doing l = ap (λ (z : Working). z.doing) (get_or-set_same m.workers w (record { doing = doing; flush_next = begins_by_flush doing w }) idle l)
 
 pub starts-others : (m : SwapMemory) (w v : ℕ) (doing : Doing) → v ≢ w → doing_of (started m w doing) v ≡ doing_of m v
-starts-others m w v doing ne = ap (λ (z : Working). z.doing) (get_or-set_other m.workers w v (record { doing = doing; flush_next = begins_by_flush doing }) idle ne)
+starts-others m w v doing ne = ap (λ (z : Working). z.doing) (get_or-set_other m.workers w v (record { doing = doing; flush_next = begins_by_flush doing w }) idle ne)
 
 -- the worker may start something
 pub may-work : (p : Parts) (w : ℕ) (todo : Todo) → (m : MustStart p w todo) → MayWork p.access w
@@ -78,7 +80,9 @@ module _ (solo : UndisturbedLaws) (starts : StartsAreSeen) (begun : BegunLaws) (
   living : IsLiving p.config (started p.access w doing) p.journal between.story
   living =
       let seen : IsSeen p.config (started p.access w doing) (between.story.at (length p.journal.past)) = starts.start p.config (between.story.at (length p.journal.past)) p.access w doing between.living.seen work.some holds in
-      assumption (between.living, seen)
+      let awaits : (v a : ℕ) → IsHeldBy p.config (between.story.at (length p.journal.past)) between.story v a → is_named (started p.access w doing) a ≡ false → Awaits (started p.access w doing) v a =
+      λ v a held private. starts_keep_awaits.start p.access w doing v a work.some work.within (between.living.awaits v a held private) in
+      assumption (between.living, seen, awaits)
 
   abbrev its-scene : Scene
   its-scene = scene p.config p.journal.past between.story w between.call_open.look.since between.opened
@@ -150,7 +154,7 @@ module _ (solo : UndisturbedLaws) (starts : StartsAreSeen) (begun : BegunLaws) (
   started-kept = record {
     on = between.on;
     story = between.story;
-    tabled = tabled-beside (record { workers = refl; owners = refl; crew = length-set p.access.workers w (record { doing = doing; flush_next = begins_by_flush doing }); steps = refl; rest = refl }) between.tabled;
+    tabled = tabled-beside (record { workers = refl; owners = refl; crew = length-set p.access.workers w (record { doing = doing; flush_next = begins_by_flush doing w }); steps = refl; rest = refl }) between.tabled;
     taken = let t = between.taken in record { shown = t.shown; held = begun.taken.start p.access w doing between.idle t.held; few = t.few; notes = notes; unused = t.unused; only = t.only; unstored = t.unstored };
     living = living;
     sound = between.sound;

@@ -131,6 +131,7 @@ module _ (b : StrikeLaws) (p : Parts) (s : ℕ) (h : IsStriking p s) where
     begun = begun-in kept.living its.call_open;
     list = owner.list;
     few = few;
+    at_swap = λ line is. let bad : Flushing line ≡ Swapping s = sym is ∙ (h.work.doing w ∙ h.takes.effect.pending) in absurd cc;
     good = good;
   }
 

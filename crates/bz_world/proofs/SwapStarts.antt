@@ -1,5 +1,5 @@
 -- A worker starts a swap that its task asks for.
-use Rattle.std.proofs.Common.{◌≡◌, ◌≢◌, ℕ, ◌<◌, if◌then◌else◌, Bool, List, [], ◌∷◌, ◌++◌, length, slice_index, arith, refl, sym, ap, subst, ◌∙◌, inl, inr, Option, Some, None}
+use Rattle.std.proofs.Common.{◌≡◌, ◌≢◌, ℕ, ◌<◌, if◌then◌else◌, Bool, false, List, [], ◌∷◌, ◌++◌, length, slice_index, arith, refl, sym, ap, subst, ◌∙◌, inl, inr, Option, Some, None}
 use Rattle.std.specs.Prelude.{get_or, All}
 use Rattle.std.specs.Global.{Vec}
 use Rattle.std.proofs.lemmas.Bool.{cases_eq}
@@ -14,12 +14,12 @@ use Rattle.bz_sight.specs.Sight.{IsHidden, IsSeen}
 use Rattle.bz_sight.specs.Starts.{StartsAreSeen, Sees, StoresAreHidden, OwnWordsAreHidden}
 use Rattle.bz_sound.specs.Solitary.{NoneIsOpenBesideASolitaryCall}
 use Rattle.bz_refinement.specs.Laws.{ScenesAreSeen}
-use Rattle.bz_refinement.specs.Living.{IsLiving}
+use Rattle.bz_refinement.specs.Living.{IsLiving, IsHeldBy}
 use Rattle.bz_refinement.specs.Story.{scene}
 use Rattle.bz_swap.specs.EntryLists.{IsEntryList}
 use Rattle.bz_swap.specs.Held.{Holds}
 use Rattle.bz_swap.specs.Starts.{MayWork, MaySwap, swapping, begins_by_flush}
-use Rattle.bz_swap.specs.SwapMemory.{SwapMemory, Doing, Idle, Reading, Swapping, Loading, Storing, Flushing, doing_of, entries_of}
+use Rattle.bz_swap.specs.SwapMemory.{SwapMemory, Doing, Idle, Reading, Swapping, Loading, Storing, Flushing, doing_of, entries_of, is_named}
 use Rattle.bz_task.specs.Requests.{IsEntryToAsk, IsOwnStore}
 use Rattle.bz_task.specs.Scene.{Scene, Waiting, Took, IsScene}
 use Rattle.bz_task.specs.declared.todo.Todo.{Todo}
@@ -47,6 +47,8 @@ use Rattle.bz_world.proofs.Powered.{begun-in}
 use Rattle.bz_world.proofs.Starting.{starts-it, starts-others}
 use Rattle.bz_world.proofs.Staying.{finishing-stays}
 use Rattle.bz_world.proofs.Tabled.{tabled-beside}
+use Rattle.bz_sight.specs.Awaiting.{Awaits}
+use Rattle.bz_sight.proofs.Proved.{starts_keep_awaits}
 
 module _ (scenes : ScenesAreSeen) (hidden : OwnWordsAreHidden) (p : Parts) (w : ℕ) (asked : Todo) (m : MustStart p w asked) where
   abbrev pub between : IsBetween p w m.serving
@@ -104,7 +106,9 @@ module _ (solo : UndisturbedLaws) (starts : StartsAreSeen) (scenes : ScenesAreSe
   living : IsLiving p.config new p.journal was.story
   living =
       let seen : IsSeen p.config new (was.story.at (length p.journal.past)) = starts.swap p.config (was.story.at (length p.journal.past)) p.access w entries (scene p.config p.journal.past was.story w was.call_open.look.since was.opened) was.living.seen (scenes p.config p.access p.journal was.story w was.call_open.look.since was.opened was.living (begun-in was.living was.call_open)) may ask holds in
-      assumption (was.living, seen)
+      let awaits : (v a : ℕ) → IsHeldBy p.config (was.story.at (length p.journal.past)) was.story v a → is_named new a ≡ false → Awaits new v a =
+      λ v a held private. starts_keep_awaits.swap p.access w entries v a work.within (was.living.awaits v a held) private in
+      assumption (was.living, seen, awaits)
 
   does : doing_of new w ≡ Swapping p.access.taken
   does = starts-it p.access w (Swapping p.access.taken) work.within
@@ -243,7 +247,7 @@ module _ (solo : UndisturbedLaws) (starts : StartsAreSeen) (scenes : ScenesAreSe
   swapping-kept = record {
     on = was.on;
     story = was.story;
-    tabled = let t = was.tabled in tabled-beside (record { workers = refl; owners = size ∙ sym t.owner_places; crew = length-set p.access.workers w (record { doing = Swapping p.access.taken; flush_next = begins_by_flush (Swapping p.access.taken) }); steps = refl; rest = refl }) t;
+    tabled = let t = was.tabled in tabled-beside (record { workers = refl; owners = size ∙ sym t.owner_places; crew = length-set p.access.workers w (record { doing = Swapping p.access.taken; flush_next = begins_by_flush (Swapping p.access.taken) w }); steps = refl; rest = refl }) t;
     taken = let t = was.taken in record {
       shown = t.shown;
       held = begun.taken.swap p.access w entries work.within was.idle t.held;

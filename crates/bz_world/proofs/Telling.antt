@@ -213,7 +213,7 @@ module _ (scenes : ScenesAreSeen) (slots : SlotsAreTaken) (laws : SolitaryLaws) 
         (λ alone. not-again (omega (arith, told.alone.counted, alone))) told.paid)
 
     living : IsLiving p.config p.access p.journal after
-    living = slots.living p.config p.access p.journal told.between.story w p.slots left told.between.living (may-take p.config (image_at_on p.journal.start p.journal.past) told.between.story p.slots left told.between.free)
+    living = slots.living p.config p.access p.journal told.between.story w p.slots left told.between.living told.between.idle (may-take p.config (image_at_on p.journal.start p.journal.past) told.between.story p.slots left told.between.free)
 
     other : (v : ℕ) → v ≢ w → (since : ℕ) (opened : Open) → scene p.config p.journal.past after v since opened ≡ scene p.config p.journal.past told.between.story v since opened
     other v ne since opened = slots.others p.config p.journal.past told.between.story w v since opened p.slots left ne

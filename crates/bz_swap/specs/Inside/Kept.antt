@@ -61,6 +61,8 @@ abbrev pub RestsAt : Place → Operation → Type 0
 RestsAt place.Idle o = o ≡ operation.Nothing
 RestsAt (place.StoreWord a v) o = o ≡ operation.Nothing
 RestsAt (place.FlushLine line) o = o ≡ operation.Nothing
+RestsAt (place.AskLine line) o = o ≡ operation.Nothing
+RestsAt (place.FenceLine line) o = o ≡ operation.Nothing
 RestsAt (place.LoadWord a) o = o ≡ operation.Nothing
 RestsAt other o = IsBusy o
 
@@ -77,6 +79,8 @@ PlaceLies st (place.FenceRead a v) = LiesOutside st a
 PlaceLies st (place.ClearRead a v) = LiesOutside st a
 PlaceLies st (place.StoreWord a v) = LiesOutside st a
 PlaceLies st (place.FlushLine line) = LiesOutside st (line * 8)
+PlaceLies st (place.AskLine line) = LiesOutside st (line * 8)
+PlaceLies st (place.FenceLine line) = LiesOutside st (line * 8)
 PlaceLies st other = Unit {0}
 
 -- what is known of a worker besides the machine's facts
@@ -103,6 +107,7 @@ abbrev pub lines_at : Place → ℕ
 lines_at (place.Prepare step) = lines_preparing step
 lines_at (place.Help step) = lines_helping step
 lines_at (place.FenceRead a v) = 1
+lines_at (place.FenceLine line) = 1
 lines_at other = 0
 
 -- a line that a worker has asked for

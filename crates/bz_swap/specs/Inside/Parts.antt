@@ -67,6 +67,8 @@ doing_at place.Idle o = Idle
 doing_at (place.LoadWord a) o = Loading a
 doing_at (place.StoreWord a v) o = Storing a v
 doing_at (place.FlushLine line) o = Flushing line
+doing_at (place.AskLine line) o = Flushing line
+doing_at (place.FenceLine line) o = Flushing line
 doing_at (place.Prepare step) o = doing_operation o
 doing_at (place.Learn k) o = doing_operation o
 doing_at (place.Help step) o = doing_operation o
@@ -99,3 +101,8 @@ seen p = record {
   runner = p.allowance.runner;
   left = p.allowance.left;
 }
+
+-- where a flush begins: worker 0 makes it by one act, and any other worker asks first
+abbrev pub flush_begins : ℕ → ℕ → Place
+flush_begins zero line = place.FlushLine line
+flush_begins (suc w) line = place.AskLine line

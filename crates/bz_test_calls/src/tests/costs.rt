@@ -7,7 +7,7 @@ use bz_mark::Mark;
 use bz_world::World;
 use std::process::Abort;
 
-// Acts by their kinds; a flush is one of the fences.
+// Acts by their kinds.
 #[derive(Clone, Copy, Debug, PartialEq, Eq)]
 struct Costs {
     stores: u32,
@@ -31,7 +31,7 @@ fn costs_from(world: &World, from: u32) -> Costs {
             Some(Mark::Store { .. }) => &mut costs.stores,
             Some(Mark::Cas { .. }) => &mut costs.swaps,
             Some(Mark::Ask { .. }) => &mut costs.asks,
-            Some(Mark::Fence { .. } | Mark::Flush { .. }) => &mut costs.fences,
+            Some(Mark::Fence { .. }) => &mut costs.fences,
             _ => continue,
         };
         *kind = kind.saturating_add(1);
@@ -39,7 +39,7 @@ fn costs_from(world: &World, from: u32) -> Costs {
     costs
 }
 
-// Whether the next act of worker 1 is a fence or a flush, as the world foretells it.
+// Whether the next act of worker 1 is a fence, as the world foretells it.
 fn flushes_next(rt: &impl Abort, world: &World) -> bool {
     assert!(rt; world.config().workers >= 1);
     world.flush_next(1)
@@ -81,14 +81,14 @@ fn cost_at_most(rt: &impl Abort, world: &mut World, asked: &[(Call, Answer, Cost
 const INSERT: Costs = Costs {
     stores: 18,
     swaps: 20,
-    asks: 14,
+    asks: 15,
     fences: 11,
 };
 
 const UPDATE: Costs = Costs {
     stores: 15,
     swaps: 16,
-    asks: 12,
+    asks: 13,
     fences: 10,
 };
 

@@ -86,8 +86,9 @@ fn one_inserts(rt: &impl Abort, outcome: &Outcome) {
 fn one_of_two_inserts_of_a_key_finds_it(rt: HostRuntime) {
     let key = numbered(&rt, 0);
     let (whole, _) = ends(&rt, rt.alloc(), &[key, key], MOST, MOST).first;
-    // a lookup of 6 loads, two swaps of two words, and the two words of the record and their flush
-    same(&rt, whole, 6 + 32 + 3 + 32);
+    // a lookup of 6 loads, two swaps of two words, and the two words of the record with the ask and the fence for
+    // their line
+    same(&rt, whole, 6 + 32 + 4 + 32);
     for acts in 0..=whole {
         for turn in [acts, MOST] {
             one_inserts(&rt, &ends(&rt, rt.alloc(), &[key, key], acts, turn));
@@ -105,7 +106,7 @@ fn both_end(rt: &impl Abort, outcome: &Outcome, first: Answer, second: Answer, m
 #[test]
 fn a_stopped_insert_holds_nobody_up(rt: HostRuntime) {
     let keys = [numbered(&rt, 0), numbered(&rt, 1)];
-    for acts in 0..=81 {
+    for acts in 0..=82 {
         let ends = ends(&rt, rt.alloc(), &keys, acts, MOST);
         both_end(&rt, &ends, Answer::Inserted, Answer::Inserted, 200);
     }

@@ -273,7 +273,7 @@ fn a_tree_of_the_greatest_height_takes_no_more_leaves(rt: HostRuntime) {
 }
 
 // The most acts of an insert that is alone.
-const WORST: u32 = 12_579;
+const WORST: u32 = 13_108;
 
 #[test]
 fn the_worst_insert_alone_takes_no_more_than_its_numbers(rt: HostRuntime) {

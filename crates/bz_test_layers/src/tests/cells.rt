@@ -29,14 +29,17 @@ fn zeros(alloc: Global) -> Result<Cells, Memory>
 }
 
 #[test]
-fn a_word_is_durable_once_its_line_is_flushed(rt: HostRuntime) -> Result<(), Fail> {
+fn a_word_is_durable_once_its_line_is_fenced(rt: HostRuntime) -> Result<(), Fail> {
     let mut cells = zeros(rt.alloc())?;
     let dirty = WordKind::Dirty(7);
     let other = cells.cas_word(NODE, WordKind::Value(1), dirty);
     let word = cells.load_word(NODE);
     let found = cells.cas_word(NODE, WordKind::Value(0), dirty);
     cells.store_word(NODE + 8, WordKind::Swap(1));
-    cells.flush_word(NODE + 7);
+    if cells.may_ask(WORKERS) {
+        cells.ask_word(WORKERS, NODE + 7);
+    }
+    cells.fence(WORKERS);
     cells.cut();
     let words = [cells.load(NODE), cells.load(NODE + 8)];
     same(&rt, [other, word, found], [WordKind::Value(0); 3]);

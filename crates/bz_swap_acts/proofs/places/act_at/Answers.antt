@@ -21,5 +21,8 @@ returns-in-ClearRead c = rw c.in-ClearRead.is (c.clear_read.ensures c.args.w)
 pub returns-in-StoreWord : goal.returns-in-StoreWord
 returns-in-StoreWord c = rw c.in-StoreWord.is (c.store_word.ensures c.args.w)
 
-pub returns-in-FlushLine : goal.returns-in-FlushLine
-returns-in-FlushLine c = rw c.in-FlushLine.is (c.flush_line.ensures c.args.w)
+pub returns-in-AskLine : goal.returns-in-AskLine
+returns-in-AskLine c = rw c.in-AskLine.is c.ask_line.ensures
+
+pub returns-in-FenceLine : goal.returns-in-FenceLine
+returns-in-FenceLine c = rw c.in-FenceLine.is c.fence_line.ensures

@@ -1,4 +1,4 @@
-use Rattle.std.proofs.Common.{◌≡◌, sym, slice_index}
+use Rattle.std.proofs.Common.{sym, slice_index}
 use Rattle.bz_swap_machine.specs.Machine.{Entries, entries_in}
 use Rattle.bz_swap_cells.specs.Store.{typed}
 use Rattle.bz_swap_acts.proofs.Found.{made-by}

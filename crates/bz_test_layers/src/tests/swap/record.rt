@@ -21,7 +21,12 @@ const NAME: u64 = 7;
 
 const COUNT: u64 = 1;
 
-// Makes the n-th act of worker 1: two private stores, two private flushes, and the acts of the swap.
+// The acts of a whole publication: two private stores, an ask and a fence for each of them, and the acts of a swap of two words.
+const ACTS: u32 = STORES_AND_FLUSHES + 32;
+
+const STORES_AND_FLUSHES: u32 = 6;
+
+// Makes the n-th act of worker 1.
 fn act(watched: &mut Watched, layout: Layout, n: u32) {
     let [first, second] = layout.words;
     match n {
@@ -34,8 +39,11 @@ fn act(watched: &mut Watched, layout: Layout, n: u32) {
         2 => {
             watched.flush(1, first);
         }
-        3 => {
+        4 => {
             watched.flush(1, second);
+        }
+        3 | 5 => {
+            watched.world.step(1);
         }
         _ => {
             watched.step(1);
@@ -47,7 +55,7 @@ fn act(watched: &mut Watched, layout: Layout, n: u32) {
 fn act_and_evict(watched: &mut Watched, random: &mut Random, layout: Layout, count: u32) {
     let [name, number] = layout.published;
     for n in 0..count {
-        if n == 4 {
+        if n == STORES_AND_FLUSHES {
             let changes = [Change::of(name, 0, NAME), Change::of(number, 0, COUNT)];
             watched.begin(1, &changes);
         }
@@ -80,7 +88,7 @@ fn goes_well(alloc: Global, layout: Layout, count: u32, seed: u64) -> Result<boo
     let mut random = Random::from_seed(seed);
     act_and_evict(&mut watched, &mut random, layout, count);
     let published = matches!(watched.fate(0), Fate::Effective | Fate::Answered(true));
-    let ended = count < 36 || published;
+    let ended = count < ACTS || published;
     watched.cut();
     let cut = is_whole(&watched, layout, published);
     let recovered = recover(&mut watched, &mut random) && is_whole(&watched, layout, published);
@@ -91,7 +99,7 @@ fn goes_well(alloc: Global, layout: Layout, count: u32, seed: u64) -> Result<boo
 fn a_published_record_is_whole(rt: HostRuntime) -> Result<(), Fail> {
     for (words, published) in [([1, 2], [0, 3]), ([3, 6], [0, 7]), ([0, 7], [1, 2])] {
         let layout = Layout { words, published };
-        for count in 0..=36 {
+        for count in 0..=ACTS {
             for seed in 0..200 {
                 let well = goes_well(rt.alloc(), layout, count, seed)?;
                 assert!(rt; well, "{layout:?} {count} {seed}");

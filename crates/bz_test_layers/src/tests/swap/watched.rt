@@ -345,7 +345,7 @@ impl Watched {
         made
     }
 
-    /// Flushes the line of a place; false where that may not come.
+    /// Begins to flush the line of a place: makes the first act of it. False where that may not come.
     pub(crate) fn flush(&mut self, w: u8, place: usize) -> bool {
         let a = self.address(place);
         self.world.flush(w, a).is_some()

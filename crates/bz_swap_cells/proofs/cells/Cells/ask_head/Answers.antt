@@ -1,4 +1,4 @@
-use Rattle.std.specs.Prelude.{◌+◌, ◌/◌}
+use Rattle.std.specs.Prelude.{◌/◌}
 use Rattle.bz_layout.specs.Addresses.{swap_address}
 use Rattle.bz_swap_cells.proofs.AskActs.{store-ask, typed-ask_head}
 use Rattle.bz_swap_cells.proofs.DescriptorActs.{head-within}

@@ -1,4 +1,4 @@
-use Rattle.std.specs.Prelude.{◌≡◌, ◌+◌, ℕ, List, slice_index, slice_set}
+use Rattle.std.specs.Prelude.{◌≡◌, ◌+◌, slice_index, slice_set}
 use Rattle.std.proofs.Common.{ap, ◌∙◌}
 use Rattle.bz_swap_cells.specs.Store.{Store, typed}
 use Rattle.bz_swap_cells.proofs.Notes.{number-set, typed-tagged}
