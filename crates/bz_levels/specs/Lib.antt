@@ -1,0 +1,4 @@
+pub mod InnerMerge
+pub mod RootLowering
+pub mod Restructures
+pub mod Laws

@@ -1,0 +1,5 @@
+mod Children
+mod Nodes
+mod Reading
+mod Rows
+pub mod Proved

@@ -1,0 +1,2 @@
+pub mod Uniting
+pub mod Laws
