@@ -42,10 +42,10 @@ module _ (old new : Parts) (a : ℕ) (k : IsKept old) (room : length old.journal
   held : IsHeld new.access
   held = holds-held new.access.phase new.access (λ is. k.memory.calm.phase (sym (ap (λ (m : SwapMemory). m.phase) e.eviction.is) ∙ is)) e.held
 
-  quiet : IsCalm new.access × SameValues old.access new.access
+  pub quiet : IsCalm new.access × SameValues old.access new.access
   quiet = quiet_acts_leave.eviction old.access new.access a k.memory.calm held e.eviction
 
-  none : NoneTakesEffect old.access new.access
+  pub none : NoneTakesEffect old.access new.access
   none = evicts-effect old.access new.access a None k.memory.calm.phase e.eviction
 
   memory : IsMemory new.access (with_mark old.journal (Memory (Evict a)))

@@ -23,7 +23,9 @@ pub mod Movers
 pub mod Winning
 pub mod Rounds
 pub mod Moved
+pub mod Fewer
 pub mod Left
+pub mod Evicting
 pub mod Pays
 pub mod Few
 pub mod Solo

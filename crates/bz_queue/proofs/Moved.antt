@@ -1,12 +1,9 @@
--- How often a call may have to go back, over an act that gives a swap its effect: another one's effect on its counter is the last one.
+-- How often a call may have to go back, over an act or an eviction that gives a swap its effect: another one's effect on its counter is the last one.
 use Rattle.std.proofs.Common.{◌≡◌, ◌≢◌, ◌≤◌, ◌+◌, inl, inr, ◌==◌, ℕ, zero, suc, Bool, true, false, List, refl, sym, ap, subst, ◌∙◌, arith, Option, Some, None}
 use Rattle.std.proofs.lemmas.Bool.{and_from, and_parts, cases_eq, eq-eqb, eqb-true}
 use Rattle.bz_word.specs.declared.entry.Entry.{Entry}
-use Rattle.bz_swap_acts.specs.declared.acted.Act.{Act}
 use Rattle.bz_swap_machine.specs.Allowed.{counted}
-use Rattle.bz_swap_machine.specs.declared.done.Done.{Done}
 use Rattle.bz_swap.specs.Effects.{TakesEffect}
-use Rattle.bz_swap.specs.Steps.{IsStep}
 use Rattle.bz_swap.specs.SwapMemory.{SwapMemory, Swapping, value_at, entries_of, doing_of}
 use Rattle.bz_rivals.specs.Wins.{Stand}
 use Rattle.bz_rivals.proofs.Falls.{does-within}
@@ -22,7 +19,7 @@ use Rattle.bz_queue.specs.Inside.Serving.{IsAt, IsSlot}
 use Rattle.bz_queue.specs.declared.serving.OpenCall.{OpenCall}
 use Rattle.bz_queue.specs.declared.serving.Place.{Place}
 use Rattle.bz_queue.proofs.Movers.{Mover, Stays, may-move, none-move}
-use Rattle.bz_queue.proofs.Rounds.{stays-step, rounds-fall, swap-lost, at-swap}
+use Rattle.bz_queue.proofs.Rounds.{LeavesSwaps, rounds-fall, swap-lost, at-swap}
 use Rattle.bz_queue.proofs.Struck.{HasSwap, has-swap}
 
 -- a change makes its counter one more, and leaves each word but that and its cell
@@ -46,11 +43,8 @@ suits-one (call.Put item) call.Take word apart one two = two one
 suits-one call.Take (call.Put other) word apart one two = one two
 suits-one call.Take call.Take word apart one two = apart refl
 
-module _ (r : Ring) (old new : SwapMemory) (past : List QMark) (owners : List ℕ) (crew w : ℕ) (made : Act) (ended : Done) (s : ℕ) (step : IsStep old w made ended (Some s) new) (swaps : old.swaps ≡ r.swaps)
+module _ (r : Ring) (old new : SwapMemory) (past : List QMark) (owners : List ℕ) (crew w s : ℕ) (leaves : LeavesSwaps old new w) (takes : TakesEffect old new s) (swaps : old.swaps ≡ r.swaps)
     (slot : ℕ → Option OpenCall) (slots : (u : ℕ) → IsSlot r old past owners crew u (slot u)) (owned : (u t k : ℕ) → doing_of old u ≡ Swapping k → doing_of old t ≡ Swapping k → u ≡ t) (changed : (called : QCall) (counter word : ℕ) → IsSwapOf r old s called counter word → IsChanged r old new called counter word) where
-  abbrev pub takes : TakesEffect old new s
-  takes = step.effect
-
   -- whose effect it is
   abbrev pub v : ℕ
   v = takes.worker
@@ -66,7 +60,7 @@ module _ (r : Ring) (old new : SwapMemory) (past : List QMark) (owners : List �
   is-changed = changed h.x.call h.counter h.word (record { swaps = swaps; entries = entries })
 
   abbrev stays : Stays old new w
-  stays = stays-step old new w made ended (Some s) step
+  stays = leaves.stays
 
   -- the counter was moved: nobody can move it any more
   none-after : (u : ℕ) → Mover new w (change.counter_of h.x.call) u → ⊥
@@ -134,12 +128,12 @@ module _ (r : Ring) (old new : SwapMemory) (past : List QMark) (owners : List �
   apart-rounds : v ≢ w → (called : QCall) (begun : ℕ) (effect : Option ℕ) (place : Place) → change.counter_of h.x.call ≢ change.counter_of called → IsAt r old past owners w called begun effect place
       → rounds_left new w called effect place ≤ rounds_left old w called effect place
   apart-rounds other called begun effect place apart at =
-      rounds-fall r old new past owners w made ended (Some s) step called begun effect place (same-counter called apart) (λ counter word is.
-      let it = at-swap r old new past owners w made ended (Some s) step called begun effect place counter word is at in
+      rounds-fall r old new past owners w leaves called begun effect place (same-counter called apart) (λ counter word is.
+      let it = at-swap r old new past owners w leaves called begun effect place counter word is at in
       let not_this : it.s ≢ s = λ same. other (owned-one it.s it.doing same) in
-      swap-lost r old new past owners w made ended (Some s) step called begun effect counter word it (takes.other_swaps it.s not_this)
+      swap-lost r old new past owners w leaves called begun effect counter word it (takes.other_swaps it.s not_this)
       (λ stands.
-      let before : entries_of new it.s ≡ change.entries_of r called counter word = stays.entries w it.s it.doing ∙ it.entries in
+      let before : entries_of new it.s ≡ change.entries_of r called counter word = leaves.entries it.s ∙ it.entries in
       subst (Stand new) (sym before) (stands-still called counter word apart it.suits (subst (Stand old) it.entries stands))))
     where
       owned-one : (t : ℕ) → doing_of old w ≡ Swapping t → t ≡ s → v ≡ w

@@ -1,16 +1,19 @@
--- A worker that steps alone: its call is open until it ends, and its marks are of those that it had left.
-use Rattle.std.proofs.Common.{◌≡◌, ◌≢◌, ◌⊎◌, inl, inr, ℕ, zero, suc, ◌+◌, ◌≤◌, ◌==◌, Bool, true, false, List, ◌∷◌, length, arith, refl, sym, ap, subst, ◌∙◌, Option, Some, None, nat_lt}
-use Rattle.std.specs.Prelude.{is_none, if◌then◌else◌, option_map, MatchOption}
+-- A worker that steps alone, with evictions between: its call is open until it ends, and its marks are of those that it had left.
+use Rattle.std.proofs.Common.{◌≡◌, ◌≢◌, ◌⊎◌, inl, inr, ℕ, suc, ◌+◌, ◌≤◌, ◌==◌, Bool, true, false, List, [], ◌∷◌, length, arith, refl, sym, ap, subst, ◌∙◌, Option, Some, None, nat_lt}
+use Rattle.std.specs.Prelude.{is_none, if◌then◌else◌, nat_le, option_map, MatchOption}
 use Rattle.std.proofs.lemmas.Bool.Decides.{nat_tests}
 use Rattle.bz_swap_acts.specs.declared.acted.Act.{Act}
+use Rattle.bz_mark.specs.declared.marks.Mark.TheVariants.{Evict}
 use Rattle.bz_swap_marks.specs.Marks.{mark_of}
 use Rattle.bz_ring.specs.declared.marks.QMark.{QMark}
 use Rattle.bz_ring.specs.declared.marks.QMark.TheVariants.{Memory}
 use Rattle.bz_ring.specs.Calls.{Open, open_call, with_effect}
-use Rattle.bz_queue.specs.QueueView.{QueueView, GoesOn, IsStruck, Steps, IsApplied, is_short, left_in, step_refusal}
-use Rattle.bz_queue.specs.Solo.{MayStep, SoloCallsEnd, StepsOn, most_alone}
+use Rattle.bz_ring.specs.Content.{size_of}
+use Rattle.bz_queue.specs.QueueView.{QueueView, Evicts, GoesOn, IsStruck, Steps, IsApplied, is_short, left_in, step_refusal}
+use Rattle.bz_queue.specs.Solo.{MayStep, SoloCallsEnd, StepsOn, evictions_in, most_alone, steps_in}
 use Rattle.bz_queue.specs.declared.answers.QApplied.{QApplied}
 use Rattle.bz_queue.specs.declared.answers.QApplied.TheVariants as applied
+use Rattle.bz_queue.specs.declared.answers.QEvent.{QEvent}
 use Rattle.bz_queue.specs.declared.answers.QEvent.TheVariants as event
 use Rattle.bz_queue.specs.declared.open.Numbers.{Numbers}
 use Rattle.bz_queue.proofs.Marks.{act-plain, plain-calls}
@@ -57,46 +60,84 @@ struck-longer : (w : ℕ) (made : Act) (past struck : List QMark) → IsStruck (
 struck-longer w made past struck (inl same) = omega (arith, ap length same)
 struck-longer w made past struck (inr (v, (n, is))) = omega (arith, ap length is)
 
-same-numbers : (old : QueueView) (w : ℕ) (answer : QApplied) (new : QueueView) → Steps old w answer new → new.numbers ≡ old.numbers
-same-numbers old w answer new s = ap (λ (q : QueueView). q.numbers) s.rest
+evicted-open : (w a : ℕ) (past struck : List QMark) → IsStruck (Memory (Evict a) ∷ past) struck → open_call w past ≢ None → open_call w struck ≢ None
+evicted-open w a past struck (inl same) some none = some (ap (open_call w) (sym same) ∙ none)
+evicted-open w a past struck (inr (v, (n, is))) some none = still-open (v == w) (suc (length past)) (open_call w past) some (ap (open_call w) (sym is) ∙ none)
 
--- so much is known of a queue in which the worker has made so many steps alone since that one
-record Run (old : QueueView) (w n : ℕ) (q : QueueView) : Type 0 where
+-- how an eviction is answered
+abbrev by_size : Bool → Bool → Option QApplied
+by_size past short = if past then Some applied.NoWord else (if short then Some applied.Limit else None)
+
+-- an eviction is made, or nothing changes
+eviction-cases : (past short : Bool) (old : QueueView) (a : ℕ) (answer : QApplied) (new : QueueView) → MatchOption (by_size past short) (Evicts old a answer new) (λ refusal. (answer ≡ refusal) × (new ≡ old)) → (new ≡ old) ⊎ Evicts old a answer new
+eviction-cases true short old a answer new (e, same) = inl same
+eviction-cases false true old a answer new (e, same) = inl same
+eviction-cases false false old a answer new h = inr h
+
+evicted : (old : QueueView) (a : ℕ) (answer : QApplied) (new : QueueView) → IsApplied old (event.Evict a) answer new → (new ≡ old) ⊎ Evicts old a answer new
+evicted old a answer new h = eviction-cases (nat_le (size_of old.numbers.ring) a) (is_short old.log) old a answer new h
+
+-- so much is known of a queue after such events: the steps took of what was left at first, which is few once something has happened
+record Run (old : QueueView) (w : ℕ) (events : List QEvent) (q : QueueView) : Type 0 where
   may : MayStep q w
   numbers : q.numbers ≡ old.numbers
-  more : length old.log.past + n ≤ length q.log.past
-  pays : length q.log.past + left_in q w ≤ length old.log.past + left_in old w
-  few : 1 ≤ n → left_in old w ≤ most_alone old
+  steps : steps_in events + left_in q w ≤ left_in old w
+  marks : length q.log.past + left_in q w ≤ length old.log.past + left_in old w + evictions_in events
+  few : (q ≡ old) ⊎ (left_in old w ≤ most_alone old)
 
--- what is left to a call at first, once a step was made
-few-at-first : (old mid : QueueView) (w n : ℕ) (answer : QApplied) (new : QueueView) → StepsOn n old w mid → Run old w n mid → Steps mid w answer new → left_in old w ≤ most_alone old
-few-at-first old mid w zero answer new same run s = subst (λ (q : QueueView). left_in q w ≤ most_alone q) same s.few
-few-at-first old mid w (suc n) answer new on run s = run.few (omega arith)
+few-on : (old mid : QueueView) (w : ℕ) → (mid ≡ old) ⊎ (left_in old w ≤ most_alone old) → left_in mid w ≤ most_alone mid → left_in old w ≤ most_alone old
+few-on old mid w (inl same) few = subst (λ (q : QueueView). left_in q w ≤ most_alone q) same few
+few-on old mid w (inr is) few = is
 
-run-on : (old mid new : QueueView) (w n : ℕ) → StepsOn n old w mid → Run old w n mid → Steps mid w applied.Stepped new → Run old w (suc n) new
-run-on old mid new w n on run s =
+run-stepped : (old mid new : QueueView) (w : ℕ) (events : List QEvent) → Run old w events mid → Steps mid w applied.Stepped new → Run old w (event.Step w ∷ events) new
+run-stepped old mid new w events run s =
     let longer = struck-longer w s.made mid.log.past s.struck s.effect in
+    let numbers : new.numbers ≡ mid.numbers = ap (λ (q : QueueView). q.numbers) s.rest in
     record {
       may = record {
-        within = subst (λ (it : Numbers). w ≤ it.workers) (sym (same-numbers mid w applied.Stepped new s)) run.may.within;
+        within = subst (λ (it : Numbers). w ≤ it.workers) (sym numbers) run.may.within;
         is_open = subst (λ (past : List QMark). open_call w past ≢ None) (sym s.ends) (struck-open w s.made mid.log.past s.struck s.effect run.may.is_open);
       };
-      numbers = same-numbers mid w applied.Stepped new s ∙ run.numbers;
-      more = omega (arith, run.more, longer, ap length s.ends);
-      pays = omega (arith, run.pays, s.pays);
-      few = λ some. few-at-first old mid w n applied.Stepped new on run s;
+      numbers = numbers ∙ run.numbers;
+      steps = omega (arith, run.steps, longer, s.pays, ap length s.ends);
+      marks = omega (arith, run.marks, s.pays);
+      few = inr (few-on old mid w run.few s.few);
     }
+
+run-evicted : (old mid new : QueueView) (w a : ℕ) (answer : QApplied) (events : List QEvent) → Run old w events mid → Evicts mid a answer new → Run old w (event.Evict a ∷ events) new
+run-evicted old mid new w a answer events run e =
+    let numbers : new.numbers ≡ mid.numbers = ap (λ (q : QueueView). q.numbers) e.rest in
+    record {
+      may = record {
+        within = subst (λ (it : Numbers). w ≤ it.workers) (sym numbers) run.may.within;
+        is_open = evicted-open w a mid.log.past new.log.past e.effect run.may.is_open;
+      };
+      numbers = numbers ∙ run.numbers;
+      steps = omega (arith, run.steps, e.no_more w);
+      marks = omega (arith, run.marks, e.pays w run.may.is_open);
+      few = inr (few-on old mid w run.few (e.few w));
+    }
+
+-- a refused eviction changes nothing
+run-refused : (old mid : QueueView) (w a : ℕ) (events : List QEvent) → Run old w events mid → Run old w (event.Evict a ∷ events) mid
+run-refused old mid w a events run = record { may = run.may; numbers = run.numbers; steps = run.steps; marks = omega (arith, run.marks); few = run.few }
 
 not-limit : (old : QueueView) (answer : QApplied) (new : QueueView) → IsShort old answer new → answer ≡ applied.Stepped → ⊥
 not-limit old answer new short is = (let both : applied.Limit ≡ applied.Stepped = sym short.answered ∙ is in cc)
 
-run-of : (n : ℕ) (old q : QueueView) (w : ℕ) → MayStep old w → StepsOn n old w q → Run old w n q
-run-of zero old q w may same = subst (Run old w 0) (sym same) (record { may = may; numbers = refl; more = omega arith; pays = omega arith; few = λ some. absurd (omega arith) })
-run-of (suc n) old q w may (mid, (on, h)) =
-    let run = run-of n old mid w may on in
-    elim (stepped mid w applied.Stepped q run.may h) [
+run-of : (events : List QEvent) (old q : QueueView) (w : ℕ) → MayStep old w → StepsOn events old w q → Run old w events q
+run-of [] old q w may same = subst (Run old w []) (sym same) (record { may = may; numbers = refl; steps = omega arith; marks = omega arith; few = inl refl })
+run-of (event.Step v ∷ events) old q w may (own, (mid, (on, h))) =
+    let run = run-of events old mid w may on in
+    subst (λ (u : ℕ). Run old w (event.Step u ∷ events) q) (sym own) (elim (stepped mid w applied.Stepped q run.may h) [
       | inl short ↦ absurd (not-limit mid applied.Stepped q short refl)
-      | inr s ↦ run-on old mid q w n on run s
+      | inr s ↦ run-stepped old mid q w events run s
+    ])
+run-of (event.Evict a ∷ events) old q w may (mid, (on, (answer, h))) =
+    let run = run-of events old mid w may on in
+    elim (evicted mid a answer q h) [
+      | inl same ↦ subst (Run old w (event.Evict a ∷ events)) (sym same) (run-refused old mid w a events run)
+      | inr e ↦ run-evicted old mid q w a answer events run e
     ]
 
 goes-or-ends : (past : List QMark) (w : ℕ) (answer : QApplied) (new : List QMark) → GoesOn past w answer new → (answer ≡ applied.Stepped) ⊎ ((number : ℕ) × (answer ≡ applied.Ended number))
@@ -104,23 +145,27 @@ goes-or-ends past w applied.Stepped new h = inl refl
 goes-or-ends past w (applied.Ended number) new h = inr (number, refl)
 goes-or-ends past w other new h = absurd h
 
--- so few steps were made, where as few marks are left at first
-run-few : (old last : QueueView) (w n : ℕ) → StepsOn n old w last → Run old w n last → (n ≤ most_alone old) × (length last.log.past ≤ length old.log.past + most_alone old)
-run-few old last w zero same run = (omega arith, omega (arith, ap (λ (q : QueueView). length q.log.past) same))
-run-few old last w (suc n) on run = (omega (arith, run.more, run.pays, run.few (omega arith)), omega (arith, run.pays, run.few (omega arith)))
+-- so few steps were made, and so few marks
+few-steps : (old last : QueueView) (w : ℕ) (events : List QEvent) → Run old w events last → (last ≡ old) ⊎ (left_in old w ≤ most_alone old) → steps_in events ≤ most_alone old
+few-steps old last w events run (inl same) = omega (arith, run.steps, ap (λ (q : QueueView). left_in q w) same)
+few-steps old last w events run (inr few) = omega (arith, run.steps, few)
+
+few-marks : (old last : QueueView) (w : ℕ) (events : List QEvent) → Run old w events last → (last ≡ old) ⊎ (left_in old w ≤ most_alone old) → length last.log.past ≤ length old.log.past + most_alone old + evictions_in events
+few-marks old last w events run (inl same) = omega (arith, ap (λ (q : QueueView). length q.log.past) same)
+few-marks old last w events run (inr few) = omega (arith, run.marks, few)
 
 pub solo-calls-end : SoloCallsEnd
-solo-calls-end old last new w n answer may on h =
-    let run = run-of n old last w may on in
+solo-calls-end old last new w events answer may on h =
+    let run = run-of events old last w may on in
     elim (stepped last w answer new run.may h) [
-      | inl short ↦ (let few = run-few old last w n on run in record {
+      | inl short ↦ record {
         answered = inr (inr (short.answered, short.short));
-        steps = few.0;
-        marks = omega (arith, few.1, ap (λ (q : QueueView). length q.log.past) short.same);
-      })
-      | inr s ↦ (let first = few-at-first old last w n answer new on run s in record {
+        steps = few-steps old last w events run run.few;
+        marks = omega (arith, few-marks old last w events run run.few, ap (λ (q : QueueView). length q.log.past) short.same);
+      }
+      | inr s ↦ (let first = few-on old last w run.few s.few in record {
         answered = elim (goes-or-ends s.struck w answer new.log.past s.ends) [ inl goes ↦ inl goes | inr ends ↦ inr (inl ends) ];
-        steps = omega (arith, run.more, run.pays, first);
-        marks = omega (arith, run.pays, s.pays, first);
+        steps = omega (arith, run.steps, first);
+        marks = omega (arith, run.marks, s.pays, first);
       })
     ]

@@ -40,16 +40,21 @@ answered-well old new w s made told (done.Read v) step doing well none = absurd 
 answered-well old new w s made told done.Stored step doing well none = absurd (subst (λ (it : Doing). IsAnswer new it made done.Stored) doing step.one.answer)
 answered-well old new w s made told done.Flushed step doing well none = absurd (subst (λ (it : Doing). IsAnswer new it made done.Flushed) doing step.one.answer)
 
+-- so an act of its worker leaves it under way, and notes no miss
+pub well-step : (old new : SwapMemory) (w s : ℕ) (made : Act) (told : Option ℕ) (ended : Done) → IsStep old w made ended told new → doing_of old w ≡ Swapping s → GoesWell old s → has_effect new s ≡ false
+    → (doing_of new w ≡ Swapping s) × (is_missed new s ≡ false)
+well-step old new w s made told ended step doing well none =
+    let busy = answered-well old new w s made told ended step doing well none in (step.one.doing ∙ ap (doing_after (doing_of old w)) busy ∙ doing, own_swaps_win.unnoted old new w made ended told s step well)
+
 -- a swap without effect whose targets hold what they held is lost only if it was
-pub lost-falls : (old new : SwapMemory) (w s : ℕ) (made : Act) (told : Option ℕ) (ended : Done) → IsStep old w made ended told new → doing_of old w ≡ Swapping s → has_effect new s ≡ false
+pub lost-falls : (old new : SwapMemory) (w s : ℕ) → (GoesWell old s → (doing_of new w ≡ Swapping s) × (is_missed new s ≡ false)) → doing_of old w ≡ Swapping s
     → (Stand old (entries_of old s) → Stand new (entries_of new s)) → has_effect old s ≡ false → is_lost new None (doing_of new w) ≡ true → is_lost old None (doing_of old w) ≡ true
-lost-falls old new w s made told ended step doing none stands before lost = elim (cases_Bool (is_to_win old s)) [
+lost-falls old new w s goes_on doing stands before lost = elim (cases_Bool (is_to_win old s)) [
   | inl wins ↦ (
       let well = to-well old s wins in
-      let busy = answered-well old new w s made told ended step doing well none in
-      let on : doing_of new w ≡ Swapping s = step.one.doing ∙ ap (doing_after (doing_of old w)) busy ∙ doing in
-      let still : is_to_win new s ≡ true = of-well new s (own_swaps_win.unnoted old new w made ended told s step well) (stands (well.stands before)) in
-      let there : not (is_to_win new s) ≡ true = subst (λ (it : Doing). is_lost new None it ≡ true) on lost in
+      let on = goes_on well in
+      let still : is_to_win new s ≡ true = of-well new s on.1 (stands (well.stands before)) in
+      let there : not (is_to_win new s) ≡ true = subst (λ (it : Doing). is_lost new None it ≡ true) on.0 lost in
       absurd (let both : true ≡ false = sym still ∙ not-true (is_to_win new s) there in cc)
       )
   | inr loses ↦ subst (λ (it : Doing). is_lost old None it ≡ true) (sym doing) (not_from_false (is_to_win old s) loses)

@@ -158,6 +158,10 @@ pub record Evicts (old : QueueView) (a : ℕ) (answer : QApplied) (new : QueueVi
   pub answered : answer ≡ applied.Evicted
   pub effect : IsStruck (Memory (Evict a) ∷ old.log.past) new.log.past
   pub rest : new ≡ record old { log = record old.log { past = new.log.past }; left = new.left }
+  -- no call has more marks left than before; of an open call's the effect's mark is one, and the eviction's own is beside them
+  pub no_more : (w : ℕ) → left_in new w ≤ left_in old w
+  pub pays : (w : ℕ) → open_call w old.log.past ≢ None → length new.log.past + left_in new w ≤ length old.log.past + left_in old w + 1
+  pub few : (w : ℕ) → left_in old w ≤ for_worker * (old.numbers.workers + 2)
 
 -- the answer to an event: a refusal exactly where one applies, and then nothing changes
 abbrev pub IsApplied : QueueView → QEvent → QApplied → QueueView → Type 0

@@ -6,4 +6,6 @@ pub mod Growing
 pub mod EachMoment
 pub mod FreshRings
 pub mod Examples
+pub mod Ends
+pub mod Solitary
 pub mod Proved

@@ -3,9 +3,11 @@ use Rattle.bz_ring.proofs.Changes.{cells_tell_the_list as cells_tell_the_list-ho
 use Rattle.bz_ring.proofs.Contents.{content_is_these as content_is_these-holds}
 use Rattle.bz_ring.proofs.FreshRings.{fresh_memory_is_empty as fresh_memory_is_empty-holds}
 use Rattle.bz_ring.proofs.Growing.{fresh_journals_are_sound as fresh_journals_are_sound-holds, sound_journals_grow as sound_journals_grow-holds}
+use Rattle.bz_ring.proofs.Solitary.{none_is_open_beside as none_is_open_beside-holds}
 use Rattle.bz_ring.specs.ContentLaws.{CellsTellTheList, ContentIsThese, OtherWordsDoNotMatter, PutsAppend, TakesDrop}
 use Rattle.bz_ring.specs.Fresh.{FreshMemoryIsEmpty}
 use Rattle.bz_ring.specs.Growth.{FreshJournalsAreSound, SoundJournalsGrow}
+use Rattle.bz_ring.specs.Solitary.{NoneIsOpenBesideASolitaryCall}
 
 -- the content of a memory is a list exactly where its counters and cells hold that list, place by place
 pub content_is_these : ContentIsThese
@@ -38,3 +40,7 @@ fresh_journals_are_sound = fresh_journals_are_sound-holds
 -- a sound journal grows by a begin, by an act that leaves the list, by an act and the effect that it made durable, and by an end
 pub sound_journals_grow : SoundJournalsGrow
 sound_journals_grow = sound_journals_grow-holds
+
+-- beside a solitary call no other is open
+pub none_is_open_beside : NoneIsOpenBesideASolitaryCall
+none_is_open_beside = none_is_open_beside-holds

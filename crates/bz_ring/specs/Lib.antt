@@ -11,3 +11,5 @@ pub mod Example
 pub mod Moments
 pub mod Growth
 pub mod Fresh
+pub mod Ends
+pub mod Solitary

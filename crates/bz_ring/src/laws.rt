@@ -1,7 +1,9 @@
 //! Laws of rings and of their journals. Each function does nothing: its contract is the law.
 ghost use Rattle.bz_ring.specs.Fresh.{FreshMemoryIsEmpty};
+ghost use Rattle.bz_ring.specs.Ends.{EndsTell};
 ghost use Rattle.bz_ring.specs.Growth.{SoundJournalsGrow, FreshJournalsAreSound};
 ghost use Rattle.bz_ring.specs.Moments.{EachMomentIsMeant};
+ghost use Rattle.bz_ring.specs.Solitary.{NoneIsOpenBesideASolitaryCall};
 ghost use Rattle.bz_ring.specs.ContentLaws.{ContentIsThese, PutsAppend, TakesDrop, CellsTellTheList, OtherWordsDoNotMatter};
 ghost use Rattle.bz_ring.specs.Example.{FullByTwoLoads, WorkedAreRight, WorkedAreRefused};
 
@@ -64,4 +66,15 @@ pub fn sound_journals_grow()
 /// Soundness speaks of each moment that is not inner, whichever its number.
 pub fn each_moment_is_meant()
     ensures { EachMomentIsMeant }
+{}
+
+/// What the End of a call tells in a sound journal: Spent, that no descriptor was left for another call; any other reply, what the
+/// list answers at a moment of the call.
+pub fn ends_tell()
+    ensures { EndsTell }
+{}
+
+/// While a call is solitary no other worker's call is open.
+pub fn none_is_open_beside()
+    ensures { NoneIsOpenBesideASolitaryCall }
 {}
