@@ -1,0 +1,12 @@
+mod Tests
+mod Settling
+mod Restoring
+mod Replaying
+mod Deciding
+mod Knowing
+mod Following
+mod Mapping
+mod Judging
+mod Passing
+mod LawProofs
+mod ExampleProofs

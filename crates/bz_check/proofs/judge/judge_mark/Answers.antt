@@ -1,0 +1,23 @@
+use Rattle.std.proofs.Common.{arith, subst}
+use Rattle.bz_call.specs.Map.{Map}
+use Rattle.bz_check.specs.Pairs.{Holds}
+use Rattle.bz_check.proofs.Replaying.{replays_more}
+use Rattle.bz_check.proofs.Knowing.{knows_more}
+use Rattle.bz_check.proofs.Mapping.{map_more}
+use Rattle.bz_check.proofs.Judging.{fault_tells}
+use Rattle.bz_check.proofs.judge.judge_mark.Goals as goal
+
+pub returns-clause-words : goal.returns-clause-words
+returns-clause-words c = λ start past now image of r. rw (c.in_ok-take.ensures, now) (replays_more start past c.args.replay.now c.args.mark.now r image.lines of)
+
+pub returns-clause-calls : goal.returns-clause-calls
+returns-clause-calls c = λ at_start past now k. rw (c.take-2.ensures, now) (knows_more at_start past c.args.table.now c.args.mark.now k c.names_worker.ensures (omega (arith, now, c.requires.few)))
+
+pub returns-clause-pairs : goal.returns-clause-pairs
+returns-clause-pairs c = λ at_start past at k h.
+    let P : Map → Type 0 = λ m. Holds m c.step_map.new.map.entries in
+    subst P (map_more at_start past c.args.table.now c.args.mark.now at k c.names_worker.ensures) (c.in_ok-step_map.ensures _ h)
+
+pub returns-clause-fault : goal.returns-clause-fault
+returns-clause-fault c = λ start at_start past at now image are r k h.
+    rw c.fault_of-fault.ensures (fault_tells at_start start at past c.args.mark.now c.args.replay.now c.args.table.now c.args.map.now.entries image are (omega (arith, now, c.requires.few)) r k c.names_worker.ensures h)

@@ -1,0 +1,20 @@
+-- Laws of verdicts, and of the rules.
+use Rattle.std.specs.Prelude.{◌≡◌, ◌↔◌, ℕ, List}
+use Rattle.bz_call.specs.Map.{Map}
+use Rattle.bz_layout.specs.declared.config.Config.{Config}
+use Rattle.bz_mark.specs.Log.{Log}
+use Rattle.bz_mark.specs.declared.marks.Mark.{Mark}
+use Rattle.bz_mark.specs.declared.power.Power.{Power}
+use Rattle.bz_sound.specs.Power.Sound.{IsSound}
+use Rattle.bz_check.specs.declared.verdict.Verdict.{Verdict}
+use Rattle.bz_check.specs.Rules.{KeepsTruthAndCalls, IsFormed, IsSoundTo}
+use Rattle.bz_check.specs.Verdicts.{IsVerdict}
+
+-- a journal is sound exactly where it is formed and its marks keep each of the five rules
+abbrev pub SoundKeepsAllRules : Type 0
+SoundKeepsAllRules = (c : Config) (at_start : Power) (log : Log) → IsSound c at_start log ↔ (IsFormed c log × IsSoundTo c at_start log log.past)
+
+-- one verdict is right of marks by the rules of truth and of calls
+abbrev pub OneVerdict : Type 0
+OneVerdict = (at_start : Power) (start : List ℕ) (map : Map) (past : List Mark) (one other : Verdict)
+    → IsVerdict (KeepsTruthAndCalls at_start start map) past one → IsVerdict (KeepsTruthAndCalls at_start start map) past other → one ≡ other

@@ -1,0 +1,11 @@
+pub mod Asks
+pub mod Restored
+pub mod Kept
+pub mod Replays
+pub mod Verdicts
+pub mod Rules
+pub mod Tables
+pub mod Pairs
+pub mod Knowing
+pub mod Laws
+pub mod Example
