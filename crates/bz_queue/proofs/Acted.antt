@@ -1,5 +1,5 @@
 -- What an act of a worker leads to, of all parts.
-use Rattle.std.proofs.Common.{◌≡◌, ◌≢◌, ◌<◌, inl, inr, ℕ, zero, suc, List, length, get_or, refl, sym, ap, subst, ◌∙◌, arith, Option, None}
+use Rattle.std.proofs.Common.{◌≡◌, ◌≢◌, ◌<◌, inl, inr, ℕ, zero, suc, List, length, get_or, refl, sym, ap, subst, ◌∙◌, arith, Option, Some, None}
 use Rattle.std.proofs.lemmas.Bool.{cases_eq}
 use Rattle.bz_swap_acts.specs.declared.acted.Act.{Act}
 use Rattle.bz_swap_machine.specs.declared.done.Done.{Done}
@@ -21,11 +21,14 @@ use Rattle.bz_queue.specs.Inside.Going.{MustGoOn}
 use Rattle.bz_queue.specs.Inside.Kept.{IsTabled, IsKept}
 use Rattle.bz_queue.specs.Inside.Left.{PaysFor}
 use Rattle.bz_queue.specs.Inside.Serving.{IsSlot}
+use Rattle.bz_queue.specs.Inside.Sparing.{IsSparingSlot}
 use Rattle.bz_queue.specs.QueueView.{IsStruck}
 use Rattle.bz_queue.specs.declared.parts.Parts.{Parts}
 use Rattle.bz_queue.proofs.Acting.{IsServing, is-serving, busy-at, quiet, quiet-sound, quiet-leaves, others-do, still-opened, answered, now-idle, goes-on}
-use Rattle.bz_queue.proofs.Marks.{act-plain, plain-power}
+use Rattle.bz_queue.proofs.Marks.{act-plain, plain-calls, plain-power}
+use Rattle.bz_queue.proofs.Rounds.{step-leaves}
 use Rattle.bz_queue.proofs.Slots.{slot-still}
+use Rattle.bz_queue.proofs.Sparing.{alone-quiet, beside}
 use Rattle.bz_queue.proofs.Tables.{tabled-still}
 
 pub holds-held : (phase : Phase) (m : SwapMemory) → phase ≢ Recovering → HoldsIn phase m → IsHeld m
@@ -111,6 +114,15 @@ module _ (old new : Parts) (w : ℕ) (made : Act) (ended : Done) (k : IsKept old
   other-slot : (v : ℕ) → v ≢ w → IsSlot old.numbers.ring new.access p.journal.past old.owners.items old.numbers.workers v (get_or old.workers.items v None)
   other-slot v other = slot v (others-do old.numbers.ring old.access new.access old.journal old.owners.items old.numbers.workers w made ended k.tabled.swaps k.memory k.sound s.x s.served held a.step v other)
 
+  still-open : open_call w p.journal.past ≢ None
+  still-open none = open_is (sym (plain-calls w old.journal.past (mark_of w made) (act-plain w made)) ∙ none)
+
+  own-alone : IsSparingSlot old.numbers.ring new.access p.journal.past w (Some s.x)
+  own-alone =
+      alone-quiet old.numbers.ring old.access new.access old.journal.past old.owners.items old.numbers.workers w (mark_of w made) s.x (step-leaves old.access new.access w made ended None a.step) a.step.effect.swaps
+      (quiet old.numbers.ring old.access new.access old.journal old.owners.items old.numbers.workers w made ended k.tabled.swaps k.memory k.sound s.x s.served held a.step).1 a.step.one.others.taken (act-plain w made) s.served
+      (subst (IsSparingSlot old.numbers.ring old.access old.journal.past w) s.is (k.alone w))
+
   pub kept-on : ended ≡ done.Busy → IsKept new
   kept-on is = subst IsKept (sym a.rest) (record {
     tabled = tabled;
@@ -119,6 +131,12 @@ module _ (old new : Parts) (w : ℕ) (made : Act) (ended : Done) (k : IsKept old
     slots = λ v. elim (cases_eq v w) [
       | inl own ↦ slot v (ap (doing_of new.access) own ∙ goes-on old.numbers.ring old.access new.access old.journal old.owners.items old.numbers.workers w made ended k.tabled.swaps k.memory k.sound s.x s.served held a.step is ∙ ap (doing_of old.access) (sym own))
       | inr other ↦ other-slot v other
+    ];
+    sparing = (tt, k.sparing);
+    alone = λ v. elim (cases_eq v w) [
+      | inl own ↦
+          subst (λ (u : ℕ). IsSparingSlot old.numbers.ring new.access p.journal.past u (get_or old.workers.items u None)) (sym own) (subst (IsSparingSlot old.numbers.ring new.access p.journal.past w) (sym s.is) own-alone)
+      | inr other ↦ beside old.numbers.ring new.access p.journal.past w v (get_or old.workers.items v None) other still-open
     ];
   })
 
@@ -132,6 +150,8 @@ module _ (old new : Parts) (w : ℕ) (made : Act) (ended : Done) (k : IsKept old
       is = s.is;
       idle = now-idle old.numbers.ring old.access new.access old.journal old.owners.items old.numbers.workers w made ended k.tabled.swaps k.memory k.sound s.x s.served held a.step other;
       others = other-slot;
+      sparing = (tt, k.sparing);
+      alone = own-alone;
     };
     answered = answered old.numbers.ring old.access new.access old.journal old.owners.items old.numbers.workers w made ended k.tabled.swaps k.memory k.sound s.x s.served held a.step ended refl other;
   }

@@ -5,21 +5,23 @@ use Rattle.std.proofs.lemmas.List.{map-set}
 use Rattle.std.proofs.lemmas.Bool.{cases_eq, eq-eqb, ne_eqb, le-ltb, lt-leb}
 use Rattle.bz_swap.specs.Held.{IsHeld}
 use Rattle.bz_swap.specs.Starts.{MayRead, started}
-use Rattle.bz_swap.specs.SwapMemory.{SwapMemory, Working, Reading, idle, worker_of}
+use Rattle.bz_swap.specs.SwapMemory.{SwapMemory, Working, Idle, Reading, Swapping, doing_of, idle, worker_of}
 use Rattle.bz_ring.specs.declared.calls.QCall.{QCall}
 use Rattle.bz_ring.specs.declared.calls.QCall.TheVariants as call
 use Rattle.bz_ring.specs.declared.marks.QMark.{QMark}
 use Rattle.bz_ring.specs.declared.marks.QMark.TheVariants.{Begin, End, Effect, Memory}
 use Rattle.bz_ring.specs.Calls.{Open, open_call, begun_calls, count_begins}
-use Rattle.bz_ring.specs.Journal.{with_mark}
+use Rattle.bz_ring.specs.Journal.{at_moment, with_mark}
+use Rattle.bz_ring.specs.Solitary.{taken_in}
 use Rattle.bz_ring.specs.Sound.{IsSound}
-use Rattle.bz_ring.proofs.EachMoment.{at_moment-earlier}
+use Rattle.bz_ring.proofs.EachMoment.{at_moment-earlier, at_moment-now}
 use Rattle.bz_ring.proofs.Proved.{sound_journals_grow}
 use Rattle.bz_change.specs.Changes as change
 use Rattle.bz_queue.specs.Inside.Begun.{MayBegin}
 use Rattle.bz_queue.specs.Inside.Kept.{IsTabled, IsMemory, IsKept, view_of}
 use Rattle.bz_queue.specs.Inside.Left.{lefts_of}
 use Rattle.bz_queue.specs.Inside.Serving.{IsFree, IsServed, IsSlot}
+use Rattle.bz_queue.specs.Inside.Sparing.{IsAlone, IsSparingSlot}
 use Rattle.bz_queue.specs.QueueView.{QueueView, IsCall, begin_answer, after_begin}
 use Rattle.bz_queue.specs.declared.answers.QBegun.TheVariants.{Begun}
 use Rattle.bz_queue.specs.declared.parts.Parts.{Parts}
@@ -27,6 +29,7 @@ use Rattle.bz_queue.specs.declared.serving.OpenCall.{OpenCall}
 use Rattle.bz_queue.specs.declared.serving.Place.TheVariants.{Counter}
 use Rattle.bz_queue.proofs.Memories.{started-memory}
 use Rattle.bz_queue.proofs.Slots.{Leaves, slot-still}
+use Rattle.bz_queue.proofs.Sparing.{idle-slot, no-rounds, taken-told}
 use Rattle.bz_queue.proofs.Went.{set-here, set-other, set-length, counter-address}
 
 fits-word : (called : QCall) → IsCall called → change.word_after called ≤ 2 ^ 60
@@ -146,10 +149,43 @@ module _ (old new : Parts) (w : ℕ) (called : QCall) (n : ℕ) (k : IsKept old)
   memory : IsMemory m (with_mark old.journal (Begin w n called))
   memory =
       let it = started-memory old.access old.journal w (Reading (change.counter_of called)) k.memory may.worker free.idle (λ s is. cc) held in
-      record { words = it.words; past = it.past; calm = it.calm; owned = it.owned; noted = it.noted; shown = record { begun = it.shown.begun; shown = it.shown.shown }; unused = it.unused; low = omega (arith, it.low) }
+      record { words = it.words; past = it.past; calm = it.calm; owned = it.owned; noted = it.noted; shown = record { begun = it.shown.begun; shown = it.shown.shown; only = it.shown.only }; unused = it.unused; low = omega (arith, it.low) }
+
+  -- where no other call is open nobody does anything
+  idle-before : ((u : ℕ) → open_call u old.journal.past ≡ None) → (v : ℕ) → doing_of old.access v ≡ Idle
+  idle-before none v = idle-slot old.numbers.ring old.access old.journal.past old.owners.items old.numbers.workers v (get_or old.workers.items v None) (none v) (k.slots v)
+
+  now-open : open_call w past ≡ Some (record { number = n; call = called; begun = length old.journal.past; effect = None })
+  now-open = ap (λ (test : Bool). let opened : Option Open = if test then Some (record { number = n; call = called; begun = length old.journal.past; effect = None }) else open_call w old.journal.past in opened) (eq-eqb w w refl)
+
+  own-alone : IsSparingSlot old.numbers.ring m past w (Some (first-of called))
+  own-alone opened is solitary =
+      let first : Open = record { number = n; call = called; begun = length old.journal.past; effect = None } in
+      let same : opened ≡ first = (let both : Some opened ≡ Some first = sym is ∙ now-open in cc) in
+      let idle = idle-before solitary.1 in
+      let nobody : (v s : ℕ) → doing_of old.access v ≡ Swapping s → ⊥ = λ v s doing. (let both : Swapping s ≡ Idle = sym doing ∙ idle v in cc) in
+      let shown : taken_in old.numbers.ring old.journal.past ≡ old.access.taken = taken-told old.numbers.ring old.access old.journal.past k.tabled.swaps k.memory.calm.held.taken k.memory.shown nobody in
+      let earlier : at_moment (length old.journal.past) past ≡ old.journal.past = at_moment-earlier (length old.journal.past) (Begin w n called) old.journal.past (omega arith) ∙ at_moment-now old.journal.past in
+      let its : IsAlone old.numbers.ring m past w (length old.journal.past) (first-of called) = record {
+        rounds = no-rounds m w called None Counter (λ v other. ap (λ (it : Working). it.doing) (others-same v other) ∙ idle v) refl;
+        taken = (let now : old.access.taken ≡ taken_in old.numbers.ring (at_moment (length old.journal.past) past) = sym shown ∙ ap (taken_in old.numbers.ring) (sym earlier) in omega (arith, now));
+      } in
+      subst (λ (b : ℕ). IsAlone old.numbers.ring m past w b (first-of called)) (sym (ap (λ (o : Open). o.begun) same)) its
+
+  other-alone : (v : ℕ) (slot : Option OpenCall) → v ≢ w → IsSparingSlot old.numbers.ring m past v slot
+  other-alone v None other = tt
+  other-alone v (Some x) other = λ opened is solitary. absurd (other (sym solitary.0))
+
+  alone : (v : ℕ) → IsSparingSlot old.numbers.ring m past v (get_or new.workers.items v None)
+  alone v = elim (cases_eq v w) [
+    | inl same ↦
+        subst (λ (u : ℕ). IsSparingSlot old.numbers.ring m past u (get_or new.workers.items u None)) (sym same)
+        (subst (IsSparingSlot old.numbers.ring m past w) (sym (ap (λ (all : List (Option OpenCall)). get_or all w None) table ∙ set-here old.workers.items w (Some (first-of called)) None place-within)) own-alone)
+    | inr other ↦ other-alone v (get_or new.workers.items v None) other
+  ]
 
   pub kept-begun : IsKept new
-  kept-begun = subst IsKept (sym rest) (record { tabled = tabled; memory = memory; sound = sound; slots = slot })
+  kept-begun = subst IsKept (sym rest) (record { tabled = tabled; memory = memory; sound = sound; slots = slot; sparing = (tt, k.sparing); alone = alone })
 
 -- no worker has begun more calls than all have
 pub few-calls : (w : ℕ) (past : List QMark) → begun_calls w past ≤ count_begins past

@@ -14,6 +14,7 @@ use Rattle.bz_queue.specs.Inside.Going.{IsBetween, MustJudge, WentOn}
 use Rattle.bz_queue.specs.Inside.Kept.{IsTabled, IsKept}
 use Rattle.bz_queue.specs.Inside.Left.{PaysFor}
 use Rattle.bz_queue.specs.Inside.Serving.{counter_now, IsChanged, IsAt, IsServed, IsSlot}
+use Rattle.bz_queue.specs.Inside.Sparing.{IsSparingSlot}
 use Rattle.bz_queue.specs.declared.answers.QApplied.TheVariants.{Stepped}
 use Rattle.bz_queue.specs.declared.parts.Parts.{Parts}
 use Rattle.bz_queue.specs.declared.serving.OpenCall.{OpenCall}
@@ -23,6 +24,7 @@ use Rattle.bz_queue.proofs.Contents.{holds-now}
 use Rattle.bz_queue.proofs.Ends.{place-of}
 use Rattle.bz_queue.proofs.Memories.{swapping-memory}
 use Rattle.bz_queue.proofs.Slots.{Leaves, slot-still}
+use Rattle.bz_queue.proofs.Sparing.{beside}
 use Rattle.bz_queue.proofs.Tables.{tabled-still, ring-of}
 use Rattle.bz_queue.proofs.Went.{set-here, set-other, set-length, counter-address, cell-address, may-work, same-past}
 
@@ -78,7 +80,8 @@ appended-before begun entries s within = grind (arith, common_steps)
 module _ (old new : Parts) (w : ℕ) (x : OpenCall) (counter word : ℕ) (h : MustJudge old w x counter word) (suits : change.Suits x.call word) (may : MaySwap old.access w (change.entries_of old.numbers.ring x.call counter word))
     (left : old.access.taken < old.access.swaps) (held : IsHeld (swapping old.access w (change.entries_of old.numbers.ring x.call counter word)))
     (rest : new ≡ record old { access = swapping old.access w (change.entries_of old.numbers.ring x.call counter word); owners = new.owners; workers = new.workers })
-    (owners : new.owners.items ≡ slice_set old.owners.items old.access.taken w) (table : new.workers.items ≡ slice_set old.workers.items w (Some (record x { place = Swap counter word }))) (pays : PaysFor old new w) where
+    (owners : new.owners.items ≡ slice_set old.owners.items old.access.taken w) (table : new.workers.items ≡ slice_set old.workers.items w (Some (record x { place = Swap counter word }))) (pays : PaysFor old new w)
+    (own_alone : IsSparingSlot old.numbers.ring (swapping old.access w (change.entries_of old.numbers.ring x.call counter word)) old.journal.past w (Some (record x { place = Swap counter word }))) where
   abbrev b : IsBetween old w x
   b = h.look.between
 
@@ -166,9 +169,17 @@ module _ (old new : Parts) (w : ℕ) (x : OpenCall) (counter word : ℕ) (h : Mu
     power = refl;
   })
 
+  alone : (v : ℕ) → IsSparingSlot old.numbers.ring m old.journal.past v (get_or new.workers.items v None)
+  alone v = elim (cases_eq v w) [
+    | inl own ↦
+        subst (λ (u : ℕ). IsSparingSlot old.numbers.ring m old.journal.past u (get_or new.workers.items u None)) (sym own)
+        (subst (IsSparingSlot old.numbers.ring m old.journal.past w) (sym (ap (λ (all : List (Option OpenCall)). get_or all w None) table ∙ set-here old.workers.items w (Some (record x { place = Swap counter word })) None (place-of old w x b))) own_alone)
+    | inr other ↦ beside old.numbers.ring m old.journal.past w v (get_or new.workers.items v None) other (λ none. cc (none, b.opened.is_open))
+  ]
+
   pub swap-begun : WentOn old w Stepped new
   swap-begun = record {
-    kept = subst IsKept (sym rest) (record { tabled = tabled; memory = swapping-memory old.access old.journal w entries b.memory may held; sound = b.sound; slots = slot });
+    kept = subst IsKept (sym rest) (record { tabled = tabled; memory = swapping-memory old.access old.journal w entries b.memory may held; sound = b.sound; slots = slot; sparing = b.sparing; alone = alone });
     numbers = ap (λ (q : Parts). q.numbers) rest;
     start = ap (λ (q : Parts). q.journal.start) rest;
     most = ap (λ (q : Parts). q.journal.most) rest;

@@ -119,3 +119,12 @@ pub no-fewer : (p q : ℕ → Bool) (f : ℕ → ℕ) (a n b k : ℕ) → IsApar
 unfolding passing
 no-fewer p q f a zero b k h = omega arith
 no-fewer p q f a (suc n) b k h = more-passing (p a) p q f a n b k refl h (λ q rest. no-fewer p q f (a + 1) n b k rest)
+
+-- those below a number, where just these pass
+pub below-passing : (p : ℕ → Bool) (a n k : ℕ) → k ≤ n → ((i : ℕ) → a ≤ i → i < a + k → p i ≡ true) → ((i : ℕ) → a + k ≤ i → i < a + n → p i ≡ false) → passing p a n ≡ k
+unfolding passing
+below-passing p a zero k few low high = omega arith
+below-passing p a (suc n) zero few low high =
+    omega (arith, ap counts (high a (omega arith) (omega arith)), below-passing p (a + 1) n zero (omega arith) (λ i from to. absurd (omega arith)) (λ i from to. high i (omega arith) (omega arith)))
+below-passing p a (suc n) (suc k) few low high =
+    omega (arith, ap counts (low a (omega arith) (omega arith)), below-passing p (a + 1) n k (omega arith) (λ i from to. low i (omega arith) (omega arith)) (λ i from to. high i (omega arith) (omega arith)))

@@ -1,21 +1,28 @@
 -- The mark of an effect: the parts are kept again.
-use Rattle.std.proofs.Common.{◌≡◌, ◌≢◌, ◌<◌, inl, inr, ℕ, List, [], ◌∷◌, length, get_or, slice_index, refl, sym, ap, subst, ◌∙◌, arith, Option, Some, None}
-use Rattle.std.specs.Prelude.{slice_set}
-use Rattle.std.proofs.lemmas.Bool.{cases_eq}
+use Rattle.std.proofs.Common.{◌≡◌, ◌≢◌, ◌<◌, inl, inr, ℕ, Bool, false, List, [], ◌∷◌, length, get_or, slice_index, refl, sym, ap, subst, ◌∙◌, arith, Option, Some, None}
+use Rattle.std.specs.Prelude.{slice_set, if◌then◌else◌, option_map}
+use Rattle.std.proofs.lemmas.Bool.{cases_eq, eq-eqb}
 use Rattle.std.proofs.lemmas.Grind.{common_steps}
 use Rattle.bz_ring.specs.declared.marks.QMark.{QMark}
 use Rattle.bz_ring.specs.declared.marks.QMark.TheVariants.{Effect, Memory}
-use Rattle.bz_ring.specs.Calls.{begun_calls}
-use Rattle.bz_ring.specs.Journal.{with_mark}
+use Rattle.bz_swap.specs.SwapMemory.{Idle, doing_of}
+use Rattle.bz_ring.specs.Calls.{Open, begun_calls, open_call, with_effect}
+use Rattle.bz_ring.specs.Journal.{at_moment, with_mark}
 use Rattle.bz_ring.specs.Sound.{first_items}
+use Rattle.bz_ring.proofs.EachMoment.{at_moment-earlier}
+use Rattle.bz_ring.proofs.Proved.{none_is_open_beside}
 use Rattle.bz_queue.specs.Inside.Acted.{IsStriking}
 use Rattle.bz_queue.specs.Inside.Kept.{IsTabled, IsKept}
+use Rattle.bz_queue.specs.Inside.Left.{is_stale}
 use Rattle.bz_queue.specs.Inside.Serving.{IsSlot, with_moment}
+use Rattle.bz_queue.specs.Inside.Sparing.{IsAlone, IsSparingSlot}
 use Rattle.bz_queue.specs.declared.parts.Parts.{Parts}
 use Rattle.bz_queue.specs.declared.serving.OpenCall.{OpenCall}
+use Rattle.bz_queue.specs.declared.serving.Place.{Place}
 use Rattle.bz_queue.proofs.Contents.{begins-empty}
-use Rattle.bz_queue.proofs.Marks.{plain-power}
+use Rattle.bz_queue.proofs.Marks.{plain-calls, plain-power}
 use Rattle.bz_queue.proofs.Slots.{slot-still}
+use Rattle.bz_queue.proofs.Sparing.{beside, idle-slot, no-rounds, still-alone}
 use Rattle.bz_queue.proofs.Struck.{HasSwap, has-swap, struck-sound, struck-memory, struck-leaves, struck-slot}
 use Rattle.bz_queue.proofs.Tables.{tabled-still, ring-of}
 
@@ -112,10 +119,45 @@ module _ (p : Parts) (s : ℕ) (h : IsStriking p s) where
           (h.kept.slots u))
     ]
 
+    abbrev acted : List QMark
+    acted = Memory h.memory ∷ o.journal.past
+
+    abbrev before : Open
+    before = record { number = begun_calls v o.journal.past; call = swap-of.x.call; begun = swap-of.opened.begun; effect = swap-of.x.effect }
+
+    now-open : open_call v struck ≡ Some (with_effect (length acted) before)
+    now-open =
+        ap (λ (test : Bool). if test then option_map (with_effect (length acted)) (open_call v acted) else open_call v acted) (eq-eqb v v refl)
+        ∙ ap (option_map (with_effect (length acted))) (plain-calls v o.journal.past h.memory h.strikes.plain ∙ swap-of.opened.is_open)
+
+    -- it has had its effect, and nobody else does anything
+    own-alone : IsSparingSlot o.numbers.ring p.access struck v (Some (with_moment (length acted) swap-of.x))
+    own-alone opened is solitary =
+        let same : opened ≡ with_effect (length acted) before = (let both : Some opened ≡ Some (with_effect (length acted) before) = sym is ∙ now-open in cc) in
+        let begun : opened.begun ≡ swap-of.opened.begun = ap (λ (it : Open). it.begun) same in
+        let its : IsSparingSlot o.numbers.ring o.access o.journal.past v (Some swap-of.x) = subst (IsSparingSlot o.numbers.ring o.access o.journal.past v) swap-of.is (h.kept.alone v) in
+        let was = its before swap-of.opened.is_open solitary in
+        let earlier : at_moment swap-of.opened.begun struck ≡ at_moment swap-of.opened.begun o.journal.past =
+        at_moment-earlier swap-of.opened.begun (Effect v (begun_calls v o.journal.past)) acted (omega (arith, swap-of.opened.before)) ∙ at_moment-earlier swap-of.opened.begun (Memory h.memory) o.journal.past (omega (arith, swap-of.opened.before)) in
+        let idle : (u : ℕ) → u ≢ v → doing_of p.access u ≡ Idle =
+        λ u other. h.strikes.doing u ∙ idle-slot o.numbers.ring o.access o.journal.past o.owners.items o.numbers.workers u (get_or o.workers.items u None) (none_is_open_beside v u o.journal.past solitary other) (h.kept.slots u) in
+        let fresh : is_stale p.access v swap-of.x.call (Some (length acted)) swap-of.x.place ≡ false = subst (λ (place : Place). is_stale p.access v swap-of.x.call (Some (length acted)) place ≡ false) (sym swap-of.place) refl in
+        subst (λ (n : ℕ). IsAlone o.numbers.ring p.access struck v n (with_moment (length acted) swap-of.x)) (sym begun)
+        (still-alone o.numbers.ring o.access p.access o.journal.past struck v swap-of.opened.begun swap-of.x (with_moment (length acted) swap-of.x) earlier
+        (no-rounds p.access v swap-of.x.call (Some (length acted)) swap-of.x.place idle fresh) h.strikes.taken refl was)
+
+    alone : (u : ℕ) → IsSparingSlot o.numbers.ring p.access struck u (get_or new.workers.items u None)
+    alone u = elim (cases_eq u v) [
+      | inl same ↦ subst (λ (w : ℕ). IsSparingSlot o.numbers.ring p.access struck w (get_or new.workers.items w None)) (sym same) (subst (IsSparingSlot o.numbers.ring p.access struck v) (sym own) own-alone)
+      | inr differs ↦ beside o.numbers.ring p.access struck v u (get_or new.workers.items u None) differs (λ none. (let both : Some (with_effect (length acted) before) ≡ None = sym now-open ∙ none in cc))
+    ]
+
     pub kept-struck : IsKept new
     kept-struck = subst IsKept (sym is) (record {
       tabled = tabled;
       memory = struck-memory o.numbers.ring (ring-of o.numbers h.kept.tabled.numbers) o.access p.access o.journal o.owners.items o.numbers.workers s h.memory h.kept.tabled.swaps h.kept.memory h.kept.sound first h.strikes (get_or o.workers.items v None) swap-of;
       sound = struck-sound o.numbers.ring (ring-of o.numbers h.kept.tabled.numbers) o.access p.access o.journal o.owners.items o.numbers.workers s h.memory h.kept.tabled.swaps h.kept.memory h.kept.sound first h.strikes (get_or o.workers.items v None) swap-of;
       slots = slot;
+      sparing = (tt, (tt, h.kept.sparing));
+      alone = alone;
     })

@@ -1,25 +1,28 @@
 -- The end of a call.
-use Rattle.std.proofs.Common.{◌≡◌, ◌≢◌, ◌<◌, inl, inr, ℕ, Bool, List, ◌∷◌, length, get_or, slice_index, refl, sym, ap, subst, ◌∙◌, arith, Option, None}
+use Rattle.std.proofs.Common.{◌≡◌, ◌≢◌, ◌<◌, ◌+◌, inl, inr, ℕ, Bool, List, ◌∷◌, length, get_or, slice_index, refl, sym, ap, subst, ◌∙◌, arith, Option, None}
 use Rattle.std.specs.Prelude.{slice_set, if◌then◌else◌}
 use Rattle.std.proofs.lemmas.Bool.{cases_eq, eq-eqb, ne_eqb}
-use Rattle.bz_swap.specs.SwapMemory.{worker_of}
+use Rattle.bz_swap.specs.SwapMemory.{Idle, Swapping, doing_of, worker_of}
 use Rattle.bz_ring.specs.declared.calls.QReply.{QReply}
 use Rattle.bz_ring.specs.declared.marks.QMark.{QMark}
 use Rattle.bz_ring.specs.declared.marks.QMark.TheVariants.{End}
 use Rattle.bz_ring.specs.Calls.{Open, open_call, begun_calls}
-use Rattle.bz_ring.specs.Journal.{with_mark}
+use Rattle.bz_ring.specs.Journal.{at_moment, with_mark}
 use Rattle.bz_ring.specs.Replies.{Told}
+use Rattle.bz_ring.specs.Solitary.{EndTakes, IsSolitary, one_with, taken_in}
 use Rattle.bz_ring.specs.Sound.{IsSound}
 use Rattle.bz_ring.proofs.EachMoment.{at_moment-earlier}
-use Rattle.bz_ring.proofs.Proved.{sound_journals_grow}
+use Rattle.bz_ring.proofs.Proved.{none_is_open_beside, sound_journals_grow}
 use Rattle.bz_queue.specs.Inside.Going.{IsBetween, MustEnd, WentOn}
 use Rattle.bz_queue.specs.Inside.Kept.{IsTabled, IsMemory, IsKept}
 use Rattle.bz_queue.specs.Inside.Left.{PaysFor}
 use Rattle.bz_queue.specs.Inside.Serving.{IsSlot}
+use Rattle.bz_queue.specs.Inside.Sparing.{IsSparingSlot}
 use Rattle.bz_queue.specs.declared.answers.QApplied.TheVariants.{Ended}
 use Rattle.bz_queue.specs.declared.parts.Parts.{Parts}
 use Rattle.bz_queue.specs.declared.serving.OpenCall.{OpenCall}
 use Rattle.bz_queue.proofs.Slots.{Leaves, slot-still}
+use Rattle.bz_queue.proofs.Sparing.{beside-ended, idle-slot, same-effect, taken-told}
 use Rattle.bz_queue.proofs.Tables.{tabled-still}
 use Rattle.bz_queue.proofs.Went.{set-here, set-other, set-length}
 
@@ -100,14 +103,39 @@ module _ (old new : Parts) (w : ℕ) (x : OpenCall) (answer : QReply) (moment n 
     calm = b.memory.calm;
     owned = b.memory.owned;
     noted = b.memory.noted;
-    shown = record { begun = b.memory.shown.begun; shown = b.memory.shown.shown };
+    shown = record { begun = b.memory.shown.begun; shown = b.memory.shown.shown; only = b.memory.shown.only };
     unused = b.memory.unused;
     low = omega (arith, b.memory.low);
   }
 
+  -- it was solitary: nobody does a swap now, so the journal shows just what was taken
+  nobody-swaps : IsSolitary w old.journal.past → (v s : ℕ) → doing_of old.access v ≡ Swapping s → ⊥
+  nobody-swaps solitary v s doing = elim (cases_eq v w) [
+    | inl own ↦ (let both : Swapping s ≡ Idle = sym doing ∙ ap (doing_of old.access) own ∙ b.idle in cc)
+    | inr other ↦ (
+        let idle = idle-slot old.numbers.ring old.access old.journal.past old.owners.items old.numbers.workers v (get_or old.workers.items v None) (none_is_open_beside w v old.journal.past solitary other) (b.others v other) in
+        let both : Swapping s ≡ Idle = sym doing ∙ idle in
+        cc
+        )
+  ]
+
+  takes : EndTakes old.numbers.ring old.journal.past (End w n answer moment)
+  takes opened is solitary =
+      let its = b.alone opened is solitary in
+      taken-told old.numbers.ring old.access old.journal.past b.tabled.swaps b.memory.calm.held.taken b.memory.shown (nobody-swaps solitary) ∙ its.taken
+      ∙ ap (λ (k : ℕ). taken_in old.numbers.ring (at_moment opened.begun old.journal.past) + k) (h.exact ∙ ap one_with (sym (same-effect old.journal.past old.numbers.workers w x b.opened opened is)))
+
+  alone : (v : ℕ) → IsSparingSlot old.numbers.ring old.access past v (get_or new.workers.items v None)
+  alone v = elim (cases_eq v w) [
+    | inl own ↦
+        subst (λ (u : ℕ). IsSparingSlot old.numbers.ring old.access past u (get_or new.workers.items u None)) (sym own)
+        (subst (IsSparingSlot old.numbers.ring old.access past w) (sym (ap (λ (all : List (Option OpenCall)). get_or all w None) table ∙ set-here old.workers.items w None None (place-of old w x b))) tt)
+    | inr other ↦ beside-ended old.numbers.ring old.access old.journal.past w v n moment answer (get_or new.workers.items v None) other (λ none. cc (none, b.opened.is_open))
+  ]
+
   pub ended : WentOn old w (Ended n) new
   ended = record {
-    kept = subst IsKept (sym rest) (record { tabled = tabled; memory = memory; sound = sound; slots = slot });
+    kept = subst IsKept (sym rest) (record { tabled = tabled; memory = memory; sound = sound; slots = slot; sparing = (takes, b.sparing); alone = alone });
     numbers = ap (λ (q : Parts). q.numbers) rest;
     start = ap (λ (q : Parts). q.journal.start) rest;
     most = ap (λ (q : Parts). q.journal.most) rest;

@@ -1,5 +1,5 @@
 -- An eviction without effect leaves all as it was.
-use Rattle.std.proofs.Common.{◌≡◌, ◌<◌, ◌≤◌, ℕ, List, ◌∷◌, length, get_or, refl, sym, ap, subst, ◌∙◌, arith, None}
+use Rattle.std.proofs.Common.{◌≡◌, ◌<◌, ◌≤◌, ℕ, List, ◌∷◌, length, get_or, refl, sym, ap, subst, ◌∙◌, arith, Option, Some, None}
 use Rattle.bz_mark.specs.declared.marks.Mark.TheVariants.{Evict}
 use Rattle.bz_rivals.proofs.Proved.{notes_are_of_begun}
 use Rattle.bz_mark.specs.WordsAfter.{state_after_marks}
@@ -23,12 +23,16 @@ use Rattle.bz_change.specs.Values.{SameValues}
 use Rattle.bz_change.proofs.Proved.{quiet_acts_leave}
 use Rattle.bz_queue.specs.Inside.Acted.{IsEvicted}
 use Rattle.bz_queue.specs.Inside.Kept.{IsTabled, IsMemory, IsKept}
-use Rattle.bz_queue.specs.Inside.Serving.{counter_now}
+use Rattle.bz_queue.specs.Inside.Serving.{counter_now, IsSlot}
+use Rattle.bz_queue.specs.Inside.Sparing.{IsSparingSlot}
 use Rattle.bz_queue.specs.declared.parts.Parts.{Parts}
+use Rattle.bz_queue.specs.declared.serving.OpenCall.{OpenCall}
 use Rattle.bz_queue.proofs.Acted.{holds-held}
 use Rattle.bz_queue.proofs.Contents.{holds-now, decodes-now}
+use Rattle.bz_queue.proofs.Rounds.{eviction-leaves}
 use Rattle.bz_queue.proofs.Shown.{shown-eviction}
 use Rattle.bz_queue.proofs.Slots.{Leaves, slot-still}
+use Rattle.bz_queue.proofs.Sparing.{alone-quiet}
 use Rattle.bz_queue.proofs.Striking.{eviction-marked, evicts-effect, not-off}
 use Rattle.bz_queue.proofs.Tables.{tabled-still}
 
@@ -100,10 +104,18 @@ module _ (old new : Parts) (a : ℕ) (k : IsKept old) (room : length old.journal
     power = refl;
   })
 
+  alone : (v : ℕ) (slot : Option OpenCall) → IsSlot old.numbers.ring old.access old.journal.past old.owners.items old.numbers.workers v slot → IsSparingSlot old.numbers.ring old.access old.journal.past v slot → IsSparingSlot old.numbers.ring new.access past v slot
+  alone v None h was = tt
+  alone v (Some x) h was =
+      alone-quiet old.numbers.ring old.access new.access old.journal.past old.owners.items old.numbers.workers v (Evict a) x (eviction-leaves old.access new.access v a None k.memory.calm.phase e.eviction) none.swaps quiet.1
+      (ap (λ (m : SwapMemory). m.taken) e.eviction.is) tt h was
+
   pub kept-evicted : IsKept new
   kept-evicted = subst IsKept (sym e.rest) (record {
     tabled = tabled;
     memory = memory;
     sound = sound;
     slots = λ v. slot-still old.numbers.ring old.access new.access old.journal.past past old.owners.items old.owners.items old.numbers.workers v (get_or old.workers.items v None) (leaves v) (k.slots v);
+    sparing = (tt, k.sparing);
+    alone = λ v. alone v (get_or old.workers.items v None) (k.slots v) (k.alone v);
   })

@@ -14,6 +14,7 @@ use Rattle.bz_ring.specs.Content.{cell_of}
 use Rattle.bz_ring.specs.Journal.{at_moment}
 use Rattle.bz_ring.specs.Lists.{apply}
 use Rattle.bz_ring.specs.Replies.{IsAfterLoad, IsRightBy, ListReplies}
+use Rattle.bz_ring.specs.Solitary.{one_with}
 use Rattle.bz_ring.specs.Sound.{first_items}
 use Rattle.bz_ring.proofs.EachMoment.{at_moment-now}
 use Rattle.bz_change.specs.Changes as change
@@ -21,6 +22,7 @@ use Rattle.bz_change.proofs.Proved.{lists_follow}
 use Rattle.bz_queue.specs.Inside.Acted.{HasEnded}
 use Rattle.bz_queue.specs.Inside.Going.{IsBetween, HasRead, HasReadAt, HasSwapped, HasSwappedAt, MustGoOn, MustRead, MustLook, MustJudge, MustEnd, Starts}
 use Rattle.bz_queue.specs.Inside.Serving.{counter_now, RepliesAt, DidNotSuit}
+use Rattle.bz_queue.specs.Inside.Sparing.{swaps_at}
 use Rattle.bz_queue.specs.declared.parts.Parts.{Parts}
 use Rattle.bz_queue.specs.declared.serving.OpenCall.{OpenCall}
 use Rattle.bz_queue.specs.declared.serving.Place.{Place}
@@ -96,14 +98,15 @@ right-none r first past w opened call.Take at loaded lists = (loaded, lists)
 
 -- the counter is what it was before the cell was read
 pub confirmed : (p : Parts) (w : ℕ) (x : OpenCall) (counter at : ℕ) (b : IsBetween p w x) → HasRead p.access p.journal.past w (change.counter_of x.call) counter x.effect
-    → DidNotSuit p.numbers.ring p.access p.journal.past w x.call b.opened.begun counter at → MustEnd p w x (change.none_reply x.call) at
-confirmed p w x counter at b h d =
+    → DidNotSuit p.numbers.ring p.access p.journal.past w x.call b.opened.begun counter at → x.place ≡ Again counter at → MustEnd p w x (change.none_reply x.call) at
+confirmed p w x counter at b h d place =
     let same : d.then ≡ counter = omega (arith, d.rose, d.since, h.value) in
     let r = p.numbers.ring in
     let first = first-of p w x b in
     let lists = subst (λ (list : List ℕ). (apply r.capacity (items_after r.capacity list (at_moment at p.journal.past)) x.call).reply ≡ change.none_reply x.call) (sym first) (d.replies same) in
     record {
       between = b;
+      exact = ap swaps_at place ∙ ap one_with (sym h.none);
       right = record {
         after_begin = d.after_begin;
         before_end = d.before_now;
@@ -114,14 +117,15 @@ confirmed p w x counter at b h d =
     }
 
 -- the call's swap had its effect just after a moment
-pub took-effect : (p : Parts) (w : ℕ) (x : OpenCall) (word at : ℕ) (b : IsBetween p w x) → x.effect ≡ Some at
+pub took-effect : (p : Parts) (w : ℕ) (x : OpenCall) (counter word at : ℕ) (b : IsBetween p w x) → x.place ≡ Swap counter word → x.effect ≡ Some at
     → ((b.opened.begun < at) × (at < length p.journal.past)) × RepliesAt p.numbers.ring p.journal.past x.call at (change.change_reply x.call word) → MustEnd p w x (change.change_reply x.call word) at
-took-effect p w x word at b effect h =
+took-effect p w x counter word at b place effect h =
     let r = p.numbers.ring in
     let first = first-of p w x b in
     let lists = subst (λ (list : List ℕ). (apply r.capacity (items_after r.capacity list (at_moment at p.journal.past)) x.call).reply ≡ change.change_reply x.call word) (sym first) h.1 in
     record {
       between = b;
+      exact = ap swaps_at place ∙ ap one_with (sym effect);
       right = record {
         after_begin = h.0.0;
         before_end = omega (arith, h.0.1);
@@ -135,13 +139,13 @@ pub effect-end : (p : Parts) (w : ℕ) (x : OpenCall) (counter word at : ℕ) (a
 effect-end p w x counter word at answer must place effect is =
     let there = subst (λ (it : Place). HasSwappedAt p.numbers.ring p.journal.past x.call must.between.opened.begun true x.effect it) place must.answered in
     let here = subst (λ (it : Option ℕ). HasSwapped p.numbers.ring p.journal.past x.call must.between.opened.begun word true it) effect there in
-    subst (λ (it : QReply). MustEnd p w x it at) (sym is) (took-effect p w x word at must.between effect here)
+    subst (λ (it : QReply). MustEnd p w x it at) (sym is) (took-effect p w x counter word at must.between place effect here)
 
 pub none-end : (p : Parts) (w : ℕ) (x : OpenCall) (counter at value : ℕ) (answer : QReply) → MustGoOn p w x (Read value) → x.place ≡ Again counter at → value ≡ counter → answer ≡ change.none_reply x.call → MustEnd p w x answer at
 none-end p w x counter at value answer must place same is =
     let there = subst (λ (it : Place). HasReadAt p.numbers.ring p.access p.journal.past w x.call must.between.opened.begun value x.effect it) place must.answered in
     let read = subst (λ (v : ℕ). HasRead p.access p.journal.past w (change.counter_of x.call) v x.effect) same there.0 in
-    subst (λ (it : QReply). MustEnd p w x it at) (sym is) (confirmed p w x counter at must.between read there.1)
+    subst (λ (it : QReply). MustEnd p w x it at) (sym is) (confirmed p w x counter at must.between read there.1 place)
 
 pub unsuited-next : (p : Parts) (w : ℕ) (x : OpenCall) (counter word at a : ℕ) → MustJudge p w x counter word → (change.Suits x.call word → ⊥) → at ≡ length p.journal.past → a ≡ change.counter_of x.call → MustRead p w x (Again counter at) a
 unsuited-next p w x counter word at a h unsuits now address =

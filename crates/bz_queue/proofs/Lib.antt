@@ -23,6 +23,8 @@ pub mod Movers
 pub mod Winning
 pub mod Rounds
 pub mod Moved
+pub mod Sparing
+pub mod Alone
 pub mod Fewer
 pub mod Left
 pub mod Evicting

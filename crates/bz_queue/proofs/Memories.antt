@@ -43,7 +43,7 @@ started-memory m log w doing k some idle no_swap held = record {
   calm = starts_leave.start m w doing some k.calm held;
   owned = owned_stay.start m w doing no_swap (λ zero. absurd (omega arith)) k.owned;
   noted = notes_are_of_begun.start m w doing k.noted;
-  shown = record { begun = begun_stay_taken.start m w doing idle k.shown.begun; shown = k.shown.shown };
+  shown = record { begun = begun_stay_taken.start m w doing idle k.shown.begun; shown = k.shown.shown; only = k.shown.only };
   unused = k.unused;
   low = k.low;
 }
@@ -55,7 +55,11 @@ swapping-memory m log w entries k may held = record {
   calm = starts_leave.swap m w entries k.calm may held;
   owned = owned_stay.swap m w entries may.work.some k.owned;
   noted = notes_are_of_begun.swap m w entries k.noted;
-  shown = record { begun = begun_stay_taken.swap m w entries may.work.within may.work.idle k.shown.begun; shown = k.shown.shown };
+  shown = record {
+    begun = begun_stay_taken.swap m w entries may.work.within may.work.idle k.shown.begun;
+    shown = k.shown.shown;
+    only = λ s within is. (let below : s < m.taken = k.shown.only s within is in omega arith);
+  };
   unused = λ s from. k.unused s (omega arith);
   low = k.low;
 }

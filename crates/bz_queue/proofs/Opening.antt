@@ -25,6 +25,7 @@ use Rattle.bz_ring.proofs.Proved.{fresh_journals_are_sound, fresh_memory_is_empt
 use Rattle.bz_queue.specs.Inside.Kept.{IsTabled, IsMemory, IsKept, view_of}
 use Rattle.bz_queue.specs.Inside.Left.{each_from, left_of, lefts_of, marks_left}
 use Rattle.bz_queue.specs.Inside.Serving.{IsSlot}
+use Rattle.bz_queue.specs.Inside.Sparing.{IsSparingSlot}
 use Rattle.bz_queue.specs.QueueView.{QueueView, AreNumbers, new_view}
 use Rattle.bz_queue.specs.declared.open.Numbers.{Numbers}
 use Rattle.bz_queue.specs.declared.parts.Parts.{Parts}
@@ -82,7 +83,7 @@ module _ (n : Numbers) (are : AreNumbers n) where
     calm = record { phase = λ is. cc; held = held; settled = λ a outside none. settled_words_stay.opening Opened (fresh_words r) r.swaps n.workers a };
     owned = owned_stay.opening Opened (fresh_words r) r.swaps n.workers;
     noted = notes_are_of_begun.opening Opened (fresh_words r) r.swaps n.workers;
-    shown = record { begun = begun_stay_taken.opening Opened (fresh_words r) r.swaps n.workers; shown = λ s within taken. absurd (taken (free s)) };
+    shown = record { begun = begun_stay_taken.opening Opened (fresh_words r) r.swaps n.workers; shown = λ s within taken. absurd (taken (free s)); only = λ s within is. absurd (cc is) };
     unused = λ s from. no-effect s;
     low = omega (arith, (held.private TAIL_AT (inl (omega arith)) refl).1);
   }
@@ -130,6 +131,8 @@ module _ (n : Numbers) (are : AreNumbers n) where
       memory = fresh-memory n.marks held;
       sound = fresh_journals_are_sound r (fresh_words r) [] (fresh_memory_is_empty r (ring-of n are));
       slots = λ w. subst (λ (all : List (Option OpenCall)). IsSlot r m0 [] p.owners.items n.workers w (get_or all w None)) (sym workers) (subst (λ (all : List ℕ). IsSlot r m0 [] all n.workers w (get_or (replicate 65 None) w None)) (sym owners) (slot w));
+      sparing = tt;
+      alone = λ w. subst (λ (all : List (Option OpenCall)). IsSparingSlot r m0 [] w (get_or all w None)) (sym workers) (subst (IsSparingSlot r m0 [] w) (sym (everywhere 65 w None)) tt);
     })
 
     map-same : (k : ℕ) → map (λ (it : Working). it.flush_next) (replicate k idle) ≡ replicate k false

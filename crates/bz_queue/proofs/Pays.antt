@@ -47,7 +47,7 @@ stays-start m w doing = record {
 }
 
 -- the next read
-reading-starts : (r : Ring) (m : SwapMemory) (past : List QMark) (w a begun : ℕ) (called : QCall) (place : Place) → ReadsAt r m past w called begun place a
+pub reading-starts : (r : Ring) (m : SwapMemory) (past : List QMark) (w a begun : ℕ) (called : QCall) (place : Place) → ReadsAt r m past w called begun place a
     → starts_left (started m w (Reading a)) w called None place ≤ starts_left m w called None place
 reading-starts r m past w a begun called Counter h = omega (arith, stays-move m (started m w (Reading a)) w (change.counter_of called) (stays-start m w (Reading a)) refl)
 reading-starts r m past w a begun called (Cell counter) h = omega (arith, stays-move m (started m w (Reading a)) w (change.counter_of called) (stays-start m w (Reading a)) refl)
@@ -123,7 +123,7 @@ module _ (old new : Parts) (w : ℕ) (x : OpenCall) (counter word : ℕ) (h : Mu
     | inr other ↦ not_from_false (counter == counter_now old.access x.call) (ne_eqb counter (counter_now old.access x.call) other)
   ]
 
-  swap-rounds : rounds_left begun w x.call None (Swap counter word) ≤ rounds_left old.access w x.call None (Cell counter)
+  pub swap-rounds : rounds_left begun w x.call None (Swap counter word) ≤ rounds_left old.access w x.call None (Cell counter)
   swap-rounds = omega (
     arith,
     stays-move old.access begun w (change.counter_of x.call) stays refl,

@@ -13,9 +13,11 @@ use Rattle.bz_ring.specs.declared.calls.QCall.{QCall}
 use Rattle.bz_ring.specs.Calls.{Open, open_call, begun_calls}
 use Rattle.bz_ring.specs.Journal.{memory_of}
 use Rattle.bz_ring.specs.Replies.{AreSpent, IsRightBy}
+use Rattle.bz_ring.specs.Solitary.{one_with}
 use Rattle.bz_ring.specs.Sound.{first_items}
 use Rattle.bz_queue.specs.Inside.Going.{IsBetween, MustEnd}
 use Rattle.bz_queue.specs.Inside.Serving.{IsAt, IsSlot}
+use Rattle.bz_queue.specs.Inside.Sparing.{swaps_at}
 use Rattle.bz_queue.specs.declared.parts.Parts.{Parts}
 use Rattle.bz_queue.specs.declared.serving.OpenCall.{OpenCall}
 use Rattle.bz_queue.specs.declared.serving.Place.{Place}
@@ -112,9 +114,10 @@ module _ (p : Parts) (w : ℕ) (x : OpenCall) (b : IsBetween p w x) (none : p.ac
     no-fewer (λ s. not (taken s)) others (slice_index p.owners.items) 0 p.numbers.ring.swaps 1 MAX_WORKERS into,
   )
 
-  pub spent-end : x.effect ≡ None → MustEnd p w x Spent (length p.journal.past)
-  spent-end no_effect = record {
+  pub spent-end : x.effect ≡ None → swaps_at x.place ≡ 0 → MustEnd p w x Spent (length p.journal.past)
+  spent-end no_effect no_swap = record {
     between = b;
+    exact = no_swap ∙ ap one_with (sym no_effect);
     right = record {
       after_begin = b.opened.before;
       before_end = omega arith;

@@ -17,6 +17,7 @@ use Rattle.bz_queue.specs.Inside.Going.{IsBetween, MustRead, ReadsAt, WentOn}
 use Rattle.bz_queue.specs.Inside.Kept.{IsTabled, IsKept}
 use Rattle.bz_queue.specs.Inside.Left.{PaysFor}
 use Rattle.bz_queue.specs.Inside.Serving.{IsAt, IsServed, IsSlot}
+use Rattle.bz_queue.specs.Inside.Sparing.{IsSparingSlot}
 use Rattle.bz_queue.specs.declared.answers.QApplied.TheVariants.{Stepped}
 use Rattle.bz_queue.specs.declared.parts.Parts.{Parts}
 use Rattle.bz_queue.specs.declared.serving.OpenCall.{OpenCall}
@@ -24,6 +25,7 @@ use Rattle.bz_queue.specs.declared.serving.Place.{Place}
 use Rattle.bz_queue.specs.declared.serving.Place.TheVariants.{Counter, Cell, Again, Swap}
 use Rattle.bz_queue.proofs.Memories.{started-memory}
 use Rattle.bz_queue.proofs.Slots.{Extends, Leaves, slot-still}
+use Rattle.bz_queue.proofs.Sparing.{beside}
 use Rattle.bz_queue.proofs.Tables.{tabled-still, ring-of}
 
 pub set-here : {A : Type 0} (xs : List A) (i : ℕ) (x d : A) → i < length xs → get_or (slice_set xs i x) i d ≡ x
@@ -66,7 +68,8 @@ pub same-past : (past : List QMark) → Extends past past
 same-past past = record { longer = omega arith; earlier = λ at within. refl }
 
 module _ (old new : Parts) (w : ℕ) (x : OpenCall) (place : Place) (a : ℕ) (h : MustRead old w x place a) (held : IsHeld (started old.access w (Reading a)))
-    (rest : new ≡ record old { access = started old.access w (Reading a); workers = new.workers }) (table : new.workers.items ≡ slice_set old.workers.items w (Some (record x { place = place }))) (pays : PaysFor old new w) where
+    (rest : new ≡ record old { access = started old.access w (Reading a); workers = new.workers }) (table : new.workers.items ≡ slice_set old.workers.items w (Some (record x { place = place }))) (pays : PaysFor old new w)
+    (own_alone : IsSparingSlot old.numbers.ring (started old.access w (Reading a)) old.journal.past w (Some (record x { place = place }))) where
   abbrev b : IsBetween old w x
   b = h.between
 
@@ -140,6 +143,14 @@ module _ (old new : Parts) (w : ℕ) (x : OpenCall) (place : Place) (a : ℕ) (h
     power = refl;
   })
 
+  alone : (v : ℕ) → IsSparingSlot old.numbers.ring m old.journal.past v (get_or new.workers.items v None)
+  alone v = elim (cases_eq v w) [
+    | inl own ↦
+        subst (λ (u : ℕ). IsSparingSlot old.numbers.ring m old.journal.past u (get_or new.workers.items u None)) (sym own)
+        (subst (IsSparingSlot old.numbers.ring m old.journal.past w) (sym (ap (λ (all : List (Option OpenCall)). get_or all w None) table ∙ set-here old.workers.items w (Some (record x { place = place })) None place-within)) own_alone)
+    | inr other ↦ beside old.numbers.ring m old.journal.past w v (get_or new.workers.items v None) other (λ none. cc (none, b.opened.is_open))
+  ]
+
   pub read-next : WentOn old w Stepped new
   read-next = record {
     kept = subst IsKept (sym rest) (record {
@@ -147,6 +158,8 @@ module _ (old new : Parts) (w : ℕ) (x : OpenCall) (place : Place) (a : ℕ) (h
       memory = started-memory old.access old.journal w (Reading a) b.memory b.opened.worker b.idle (λ s is. cc) held;
       sound = b.sound;
       slots = slot;
+      sparing = b.sparing;
+      alone = alone;
     });
     numbers = ap (λ (q : Parts). q.numbers) rest;
     start = ap (λ (q : Parts). q.journal.start) rest;

@@ -5,3 +5,4 @@ pub mod Going
 pub mod Acted
 pub mod Begun
 pub mod Left
+pub mod Sparing

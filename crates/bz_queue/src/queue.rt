@@ -31,6 +31,7 @@ impl QueueWorld {
     ghost use Rattle.bz_mark.specs.WordsAfter.{words_after_marks};
     ghost use Rattle.bz_ring.specs.Content.{size_of};
     ghost use Rattle.bz_ring.specs.Journal.{mark_at, memory_of};
+    ghost use Rattle.bz_ring.specs.Solitary.{IsSparing};
     ghost use Rattle.bz_ring.specs.Sound.{IsSound};
     ghost use Rattle.bz_queue.specs.QueueView.{AreNumbers, IsCall, IsOpenFault, IsApplied, new_view, begin_answer, after_begin, flush_of, open_number};
 
@@ -75,10 +76,11 @@ impl QueueWorld {
         }
     }
 
-    /// How many marks the journal has, which is sound.
+    /// How many marks the journal has, which is sound. A call beside which no other was open took one descriptor if it had an effect, and otherwise none.
     pub fn length(&self) -> u32
         ensures length { result ≡ length self.now.log.past }
         ensures sound { IsSound self.now.numbers.ring self.now.log.start self.now.log.past }
+        ensures sparing { IsSparing self.now.numbers.ring self.now.log.past }
     {
         self.parts.journal.length()
     }

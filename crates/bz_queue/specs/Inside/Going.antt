@@ -11,11 +11,13 @@ use Rattle.bz_ring.specs.declared.ring.Ring.{Ring}
 use Rattle.bz_ring.specs.Calls.{begun_calls}
 use Rattle.bz_ring.specs.Content.{cell_of}
 use Rattle.bz_ring.specs.Replies.{IsAfterLoad, IsRightReply}
+use Rattle.bz_ring.specs.Solitary.{IsSparing, one_with}
 use Rattle.bz_ring.specs.Sound.{IsSound, first_items}
 use Rattle.bz_change.specs.Changes as change
 use Rattle.bz_queue.specs.Inside.Kept.{IsTabled, IsMemory, IsKept}
 use Rattle.bz_queue.specs.Inside.Left.{starts_left, PaysFor}
 use Rattle.bz_queue.specs.Inside.Serving.{IsSlot, IsOpened, DidNotSuit, counter_now, RepliesAt}
+use Rattle.bz_queue.specs.Inside.Sparing.{IsSparingSlot, swaps_at}
 use Rattle.bz_queue.specs.QueueView.{GoesOn}
 use Rattle.bz_queue.specs.declared.answers.QApplied.{QApplied}
 use Rattle.bz_queue.specs.declared.parts.Parts.{Parts}
@@ -32,6 +34,8 @@ pub record IsBetween (p : Parts) (w : ℕ) (x : OpenCall) : Type 0 where
   pub idle : doing_of p.access w ≡ Idle
   pub is : get_or p.workers.items w None ≡ Some x
   pub others : (v : ℕ) → v ≢ w → IsSlot p.numbers.ring p.access p.journal.past p.owners.items p.numbers.workers v (get_or p.workers.items v None)
+  pub sparing : IsSparing p.numbers.ring p.journal.past
+  pub alone : IsSparingSlot p.numbers.ring p.access p.journal.past w (Some x)
 
 -- a value that the call has read just now
 pub record HasRead (m : SwapMemory) (past : List QMark) (w a v : ℕ) (effect : Option ℕ) : Type 0 where
@@ -98,9 +102,10 @@ pub record MustJudge (p : Parts) (w : ℕ) (x : OpenCall) (counter word : ℕ) :
   pub plain : word < 2 ^ 61
   pub loaded : IsAfterLoad w p.journal.past
 
--- it is to end so
+-- it is to end so: it has begun a swap just where it had its effect
 pub record MustEnd (p : Parts) (w : ℕ) (x : OpenCall) (answer : QReply) (at : ℕ) : Type 0 where
   pub between : IsBetween p w x
+  pub exact : swaps_at x.place ≡ one_with x.effect
   pub right : IsRightReply p.numbers.ring (first_items p.numbers.ring p.journal.start) p.journal.past
       (record { worker = w; opened = record { number = begun_calls w p.journal.past; call = x.call; begun = between.opened.begun; effect = x.effect }; reply = answer; at = at })
 

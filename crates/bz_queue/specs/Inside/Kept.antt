@@ -17,9 +17,11 @@ use Rattle.bz_mark.specs.declared.power.Power.TheVariants as power
 use Rattle.bz_ring.specs.Follows.{power_after}
 use Rattle.bz_ring.specs.Fresh.{fresh_words}
 use Rattle.bz_ring.specs.Journal.{QLog, memory_of}
+use Rattle.bz_ring.specs.Solitary.{IsSparing}
 use Rattle.bz_ring.specs.Sound.{IsSound}
 use Rattle.bz_queue.specs.Inside.Left.{lefts_of}
 use Rattle.bz_queue.specs.Inside.Serving.{IsSlot}
+use Rattle.bz_queue.specs.Inside.Sparing.{IsSparingSlot}
 use Rattle.bz_queue.specs.QueueView.{QueueView, AreNumbers}
 use Rattle.bz_queue.specs.declared.parts.Parts.{Parts}
 
@@ -41,10 +43,11 @@ pub record IsTabled (p : Parts) : Type 0 where
   pub steps : p.access.steps ≤ length p.journal.past
   pub powered : power_after p.journal.past ≡ power.On
 
--- each swap begun is a worker's, or its descriptor was taken since power on, as the journal shows
+-- each swap begun is a worker's, or its descriptor was taken since power on, as the journal shows; and it shows no other taken
 pub record AreShown (m : SwapMemory) (past : List QMark) : Type 0 where
   pub begun : BegunAreTaken m
   pub shown : (s : ℕ) → s < m.swaps → IsTaken m s → is_taken s (since_on (memory_of past)) ≡ true
+  pub only : (s : ℕ) → s < m.swaps → is_taken s (since_on (memory_of past)) ≡ true → s < m.taken
 
 -- the swap memory, outside a recovery time: its words, and what it keeps of the past, are those that the marks make; and a word that no swap has named is the same
 -- in the caches and in the memory itself, so that what readers see is what the durable words stand for
@@ -64,6 +67,8 @@ pub record IsKept (p : Parts) : Type 0 where
   pub memory : IsMemory p.access p.journal
   pub sound : IsSound p.numbers.ring p.journal.start p.journal.past
   pub slots : (w : ℕ) → IsSlot p.numbers.ring p.access p.journal.past p.owners.items p.numbers.workers w (get_or p.workers.items w None)
+  pub sparing : IsSparing p.numbers.ring p.journal.past
+  pub alone : (w : ℕ) → IsSparingSlot p.numbers.ring p.access p.journal.past w (get_or p.workers.items w None)
 
 -- what callers see
 abbrev pub view_of : Parts → QueueView

@@ -7,11 +7,13 @@ use Rattle.bz_swap.specs.Starts.{MaySwap, swapping}
 use Rattle.bz_swap.specs.SwapMemory.{SwapMemory}
 use Rattle.bz_change.specs.Changes as change
 use Rattle.bz_queue.specs.Inside.Going.{MustEnd, WentOn}
+use Rattle.bz_queue.specs.Inside.Sparing.{swaps_at}
 use Rattle.bz_queue.specs.declared.parts.Parts.{Parts}
 use Rattle.bz_queue.specs.declared.serving.Place.TheVariants.{Swap}
 use Rattle.bz_queue.proofs.Acted.{swapping-held}
 use Rattle.bz_queue.proofs.Begins.{may-swap, swap-begun}
-use Rattle.bz_queue.proofs.Pays.{swap-pays}
+use Rattle.bz_queue.proofs.Alone.{swap-alone}
+use Rattle.bz_queue.proofs.Pays.{swap-pays, swap-rounds}
 use Rattle.bz_queue.proofs.Spending.{spent-end}
 use Rattle.bz_ring.specs.declared.calls.QReply.TheVariants.{Spent}
 use Rattle.bz_queue.proofs.going.change.Goals as goal
@@ -25,7 +27,7 @@ end-requires-clause-right c =
     let same = c.in-Err.ensures.begun in
     let at : c.length-at.result ≡ length p.journal.past = c.length-at.ensures in
     subst (λ (m : SwapMemory). MustEnd (record p { access = m }) c.args.w c.args.serving Spent c.length-at.result) (sym same.1)
-    (subst (MustEnd p c.args.w c.args.serving Spent) (sym at) (spent-end p c.args.w c.args.serving c.requires.judge.look.between same.0 c.requires.judge.look.none))
+    (subst (MustEnd p c.args.w c.args.serving Spent) (sym at) (spent-end p c.args.w c.args.serving c.requires.judge.look.between same.0 c.requires.judge.look.none (ap swaps_at c.requires.judge.place)))
 
 pub returns-in-Ok : goal.returns-in-Ok
 returns-in-Ok c =
@@ -39,6 +41,7 @@ returns-in-Ok c =
     let rest : after c.start_swap.new.self ≡ after (swapping p.access c.args.w entries) = ap after is in
     swap-begun p _ c.args.w x c.args.counter c.args.word c.requires.judge c.requires.suits (may-swap p c.args.w x c.args.counter c.args.word c.requires.judge) begun.1 held rest
     (ap (λ (k : ℕ). slice_set p.owners.items k c.args.w) begun.0) refl (swap-pays p _ c.args.w x c.args.counter c.args.word c.requires.judge rest refl)
+    (swap-alone p c.args.w x c.args.counter c.args.word c.requires.judge (swap-rounds p _ c.args.w x c.args.counter c.args.word c.requires.judge rest refl))
 
 pub returns-in-Err : goal.returns-in-Err
 returns-in-Err c =
