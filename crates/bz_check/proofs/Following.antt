@@ -30,17 +30,17 @@ some_same x y e = cc
 pub eq_of : (a b : ℕ) → (a == b) ≡ true → a ≡ b
 eq_of a b h = elim (cases_eq a b) [ inl e ↦ e | inr ne ↦ absurd (false_true (sym (other_test a b ne) ∙ h)) ]
 
-less_of : (a b : ℕ) → nat_lt a b ≡ true → a < b
+pub less_of : (a b : ℕ) → nat_lt a b ≡ true → a < b
 less_of a b h = grind (arith, nat_tests)
 
-less_test : (a b : ℕ) → a < b → nat_lt a b ≡ true
+pub less_test : (a b : ℕ) → a < b → nat_lt a b ≡ true
 less_test a b h = grind (arith, nat_tests)
 
-both_of : (a b : Bool) → (a && b) ≡ true → (a ≡ true) × (b ≡ true)
+pub both_of : (a b : Bool) → (a && b) ≡ true → (a ≡ true) × (b ≡ true)
 both_of true b h = (refl, h)
 both_of false b h = absurd (false_true h)
 
-both : (a b : Bool) → a ≡ true → b ≡ true → (a && b) ≡ true
+pub both : (a b : Bool) → a ≡ true → b ≡ true → (a && b) ≡ true
 both true b p q = q
 both false b p q = absurd (false_true p)
 

@@ -13,7 +13,7 @@ use Rattle.bz_check.specs.declared.verdict.JudgeRule.{JudgeRule}
 use Rattle.bz_check.specs.declared.verdict.JudgeRule.TheVariants.{Truth, Calls, Reply, Shape, Content}
 use Rattle.bz_check.specs.declared.verdict.Verdict.TheVariants.{Sound, Broken}
 use Rattle.bz_check.specs.Laws.{SoundKeepsAllRules, OneVerdict}
-use Rattle.bz_check.specs.Rules.{KeepsRule, KeepsTruthAndCalls, FollowsTruthAndCalls}
+use Rattle.bz_check.specs.Rules.{KeepsRule, KeepsJudged, FollowsJudged}
 use Rattle.bz_check.specs.Verdicts.{place_of, IsFirstBroken, BreaksFirst}
 use Rattle.bz_check.proofs.Deciding.{IsByMarks}
 use Rattle.bz_check.proofs.Judging.{by_marks}
@@ -86,12 +86,12 @@ same_broken Keeps past a b m n one other = elim (cases_lt m n) [
 ]
 
 -- marks that keep all rules break none at any moment
-never : (at_start : Power) (start : List ℕ) (map : Map) (past : List Mark) (rule : JudgeRule) (moment : ℕ) → ((kept : JudgeRule) → KeepsTruthAndCalls at_start start map kept past) → BreaksFirst (KeepsTruthAndCalls at_start start map) past rule moment → ⊥
+never : (at_start : Power) (start : List ℕ) (map : Map) (past : List Mark) (rule : JudgeRule) (moment : ℕ) → ((kept : JudgeRule) → KeepsJudged at_start start map kept past) → BreaksFirst (KeepsJudged at_start start map) past rule moment → ⊥
 never at_start start map past rule moment all breaks =
-    breaks.this.broken (front (KeepsTruthAndCalls at_start start map) (FollowsTruthAndCalls at_start start map) rule (length past - moment) past (by_marks at_start start map) (all rule))
+    breaks.this.broken (front (KeepsJudged at_start start map) (FollowsJudged at_start start map) rule (length past - moment) past (by_marks at_start start map) (all rule))
 
 pub one_verdict : OneVerdict
 one_verdict at_start start map past Sound Sound a b = refl
 one_verdict at_start start map past Sound (Broken rule moment) a b = absurd (never at_start start map past rule moment a b)
 one_verdict at_start start map past (Broken rule moment) Sound a b = absurd (never at_start start map past rule moment b a)
-one_verdict at_start start map past (Broken rule moment) (Broken other later) a b = same_broken (KeepsTruthAndCalls at_start start map) past rule other moment later a b
+one_verdict at_start start map past (Broken rule moment) (Broken other later) a b = same_broken (KeepsJudged at_start start map) past rule other moment later a b

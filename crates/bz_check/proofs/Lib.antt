@@ -6,7 +6,11 @@ mod Deciding
 mod Knowing
 mod Following
 mod Mapping
+mod Answering
+mod Seeing
+mod Replying
 mod Judging
 mod Passing
 mod LawProofs
+mod PlainLaws
 mod ExampleProofs

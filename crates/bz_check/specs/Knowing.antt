@@ -8,9 +8,11 @@ use Rattle.bz_mark.specs.Times.{power_of}
 use Rattle.bz_sound.specs.Calls.{Open, open_call, begun_calls}
 use Rattle.bz_check.specs.declared.table.OpenCall.{OpenCall}
 use Rattle.bz_check.specs.declared.verdict.JudgeRule.{JudgeRule}
-use Rattle.bz_check.specs.declared.verdict.JudgeRule.TheVariants.{Truth, Calls}
+use Rattle.bz_check.specs.declared.sights.Sight.{Sight}
+use Rattle.bz_check.specs.declared.verdict.JudgeRule.TheVariants.{Truth, Calls, Reply}
 use Rattle.bz_check.specs.Kept.{Kept}
 use Rattle.bz_check.specs.Pairs.{found_in, may_change}
+use Rattle.bz_check.specs.Sights.{replies_in}
 use Rattle.bz_check.specs.Tables.{Known, caller_at, open_in, may_follow_in}
 
 -- a call of the table, as the definitions have it
@@ -73,10 +75,11 @@ finds cached (Cas w a old new found) = is_word (slice_get cached a) found
 finds cached mark = true
 
 -- the first rule that a mark breaks, if it breaks one
-abbrev pub fault_by : Bool → Bool → Option JudgeRule
-fault_by false follows = Some Truth
-fault_by true false = Some Calls
-fault_by true true = None
+abbrev pub fault_by : Bool → Bool → Bool → Option JudgeRule
+fault_by false follows right = Some Truth
+fault_by true false right = Some Calls
+fault_by true true false = Some Reply
+fault_by true true true = None
 
-abbrev pub fault_in : Kept → Known → List (List ℕ × List ℕ) → Mark → Option JudgeRule
-fault_in m t pairs mark = fault_by (finds m.cached mark) (may_follow_in t (effect_changes t pairs mark) mark)
+abbrev pub fault_in : Kept → Known → List (List ℕ × List ℕ) → List (Option Sight) → ℕ → Mark → Option JudgeRule
+fault_in m t pairs seen now mark = fault_by (finds m.cached mark) (may_follow_in t (effect_changes t pairs mark) mark) (replies_in t seen now mark)

@@ -6,6 +6,9 @@ pub mod Verdicts
 pub mod Rules
 pub mod Tables
 pub mod Pairs
+pub mod Replies
+pub mod Answers
+pub mod Sights
 pub mod Knowing
 pub mod Laws
 pub mod Example

@@ -15,6 +15,7 @@ use Rattle.bz_sound.specs.Memory.Moments.{image_after, map_at_start}
 use Rattle.bz_sound.specs.Power.Calls.{MayFollow, CallsOnce}
 use Rattle.bz_sound.specs.Power.Replies.{RepliesAreRight}
 use Rattle.bz_sound.specs.Replies.{Pages}
+use Rattle.bz_check.specs.Replies.{HasPlainReply, PlainRepliesAreRight}
 use Rattle.bz_check.specs.declared.verdict.JudgeRule.{JudgeRule}
 use Rattle.bz_check.specs.declared.verdict.JudgeRule.TheVariants.{Truth, Calls, Reply, Shape, Content}
 
@@ -43,14 +44,17 @@ pub record IsFormed (c : Config) (log : Log) : Type 0 where
 abbrev pub IsSoundTo : Config → Power → Log → List Mark → Type 0
 IsSoundTo c at_start log past = (rule : JudgeRule) → KeepsRule c at_start log.start log.pages rule past
 
--- these marks keep the rules of truth and of calls; nothing is asked by the other rules. The map was this one at the start
-abbrev pub KeepsTruthAndCalls : Power → List ℕ → Map → JudgeRule → List Mark → Type 0
-KeepsTruthAndCalls at_start start map Truth past = IsTruthful start past
-KeepsTruthAndCalls at_start start map Calls past = CallsOnce at_start map past
-KeepsTruthAndCalls at_start start map rule past = Unit {0}
+-- these marks keep the rules of truth and of calls, and their replies are right as far as the map tells; nothing is asked by the other
+-- rules. The map was this one at the start
+abbrev pub KeepsJudged : Power → List ℕ → Map → JudgeRule → List Mark → Type 0
+KeepsJudged at_start start map Truth past = IsTruthful start past
+KeepsJudged at_start start map Calls past = CallsOnce at_start map past
+KeepsJudged at_start start map Reply past = PlainRepliesAreRight map past
+KeepsJudged at_start start map rule past = Unit {0}
 
 -- one mark more keeps them
-abbrev pub FollowsTruthAndCalls : Power → List ℕ → Map → List Mark → Mark → JudgeRule → Type 0
-FollowsTruthAndCalls at_start start map past mark Truth = Found (words_after_marks start past) mark
-FollowsTruthAndCalls at_start start map past mark Calls = MayFollow at_start map past mark
-FollowsTruthAndCalls at_start start map past mark rule = Unit {0}
+abbrev pub FollowsJudged : Power → List ℕ → Map → List Mark → Mark → JudgeRule → Type 0
+FollowsJudged at_start start map past mark Truth = Found (words_after_marks start past) mark
+FollowsJudged at_start start map past mark Calls = MayFollow at_start map past mark
+FollowsJudged at_start start map past mark Reply = HasPlainReply map past mark
+FollowsJudged at_start start map past mark rule = Unit {0}

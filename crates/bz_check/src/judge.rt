@@ -1,4 +1,4 @@
-//! The rules of truth and of calls, judged in one pass over the marks.
+//! The rules of truth and of calls, and replies as far as the map tells, judged in one pass over the marks.
 ghost use Rattle.std.specs.Prelude.{◌≡◌, ◌<◌, ◌+◌, ◌%◌, ◌^◌, ◌↔◌, ℕ, List, ◌∷◌, IfOk, OnOk, IsTrue, length};
 ghost use Rattle.bz_call.specs.Map.{Map};
 ghost use Rattle.bz_mark.specs.declared.power.Power.{Power as PowerWord};
@@ -10,11 +10,14 @@ ghost use Rattle.bz_check.specs.Kept.{IsSized};
 ghost use Rattle.bz_check.specs.Replays.{Replays};
 ghost use Rattle.bz_check.specs.Knowing.{Knows, HasWorker, effect_changes, map_then, is_word, finds, fault_in, fault_by};
 ghost use Rattle.bz_check.specs.Pairs.{Holds};
-ghost use Rattle.bz_check.specs.Rules.{KeepsTruthAndCalls, FollowsTruthAndCalls};
+ghost use Rattle.bz_check.specs.Rules.{KeepsJudged, FollowsJudged};
+ghost use Rattle.bz_check.specs.Sights.{seen_after};
 ghost use Rattle.bz_check.specs.Verdicts.{TellsFirst, IsVerdict, chosen};
 
 use crate::pairs::{changes, step};
 use crate::replay::Replay;
+use crate::replies::is_right;
+use crate::sights::Sights;
 use crate::table::Table;
 use crate::verdict::{JudgeRule, Verdict, first};
 use bz_key::{Key, Payload};
@@ -64,15 +67,18 @@ fn is_change(table: &Table, map: &BTreeMap<Key, Payload>, mark: &Mark) -> bool
     }
 }
 
-/// The rule that the two tests tell.
-fn rule_of(found: bool, follows: bool) -> Option<JudgeRule>
-    ensures { result ≡ fault_by found follows }
+/// The rule that the three tests tell.
+fn rule_of(found: bool, follows: bool, right: bool) -> Option<JudgeRule>
+    ensures { result ≡ fault_by found follows right }
 {
     if !found {
         return Some(JudgeRule::Truth);
     }
     if !follows {
         return Some(JudgeRule::Calls);
+    }
+    if !right {
+        return Some(JudgeRule::Reply);
     }
     None
 }
@@ -82,15 +88,18 @@ fn fault_of(
     replay: &Replay,
     table: &Table,
     map: &BTreeMap<Key, Payload>,
+    sights: &Sights,
+    now: u32,
     mark: &Mark,
 ) -> Option<JudgeRule>
     requires { length table.now.callers ≡ 256 }
-    ensures { result ≡ fault_in replay.now table.now map.now.entries mark.now }
+    ensures { result ≡ fault_in replay.now table.now map.now.entries sights.now now mark.now }
 {
     let found = is_found(replay, mark);
     let changes = is_change(table, map, mark);
     let follows = table.may_follow(changes, mark);
-    rule_of(found, follows)
+    let right = is_right(table, sights, now, mark);
+    rule_of(found, follows, right)
 }
 
 /// Makes the step of an Effect's call.
@@ -168,6 +177,7 @@ fn judge_mark(
     replay: &mut Replay,
     table: &mut Table,
     map: &mut BTreeMap<Key, Payload>,
+    sights: &mut Sights,
     now: u32,
     mark: &Mark,
 ) -> Result<Option<JudgeRule>, Memory>
@@ -178,11 +188,14 @@ fn judge_mark(
     ensures words { (start : List ℕ) (past : List MarkWord) → now ≡ length past → IsImage start → IsOfMemory (length start) mark.now → Replays start past replay.old → OnOk result (Replays start (mark.now ∷ past) replay.new) }
     ensures calls { (at_start : PowerWord) (past : List MarkWord) → now ≡ length past → Knows at_start past table.old → OnOk result (Knows at_start (mark.now ∷ past) table.new) }
     ensures pairs { (at_start : PowerWord) (past : List MarkWord) (at : Map) → Knows at_start past table.old → Holds (map_after at past) map.old.entries → OnOk result (Holds (map_after at (mark.now ∷ past)) map.new.entries) }
+    ensures seen { (at_start : PowerWord) (past : List MarkWord) (at : Map) → Knows at_start past table.old → Holds (map_after at past) map.old.entries → sights.old ≡ seen_after at past → OnOk result (sights.new ≡ seen_after at (mark.now ∷ past)) }
     ensures fault { (start : List ℕ) (at_start : PowerWord) (past : List MarkWord) (at : Map) → now ≡ length past → IsImage start → AreOfMemory (length start) past → Replays start past replay.old → Knows at_start past table.old → Holds (map_after at past) map.old.entries →
-        IfOk result (λ fault. TellsFirst (FollowsTruthAndCalls at_start start at past mark.now) fault) }
+        sights.old ≡ seen_after at past →
+        IfOk result (λ fault. TellsFirst (FollowsJudged at_start start at past mark.now) fault) }
 {
     names_worker(mark);
-    let fault = fault_of(replay, table, map, mark);
+    let fault = fault_of(replay, table, map, sights, now, mark);
+    sights.see(table, map, mark)?;
     step_map(table, map, mark)?;
     replay.take(now, mark)?;
     table.take(now, mark);
@@ -216,9 +229,10 @@ fn verdict_at(broken: Option<JudgeRule>, inner: bool, moment: u32) -> Option<Ver
     }
 }
 
-/// Judges the rules of truth and of calls, and no other: the least moment up to which the marks break one of the two, and the first of
-/// them that is broken there. The power at the start and the map there are given.
-pub fn judge_truth_and_calls(
+/// Judges the rules of truth and of calls, and replies as far as the map tells, and nothing else: the least moment up to which the marks
+/// break one of the three, and the first of them that is broken there. Where its call has no Effect, nothing is asked of a page but that
+/// its moment lies within the call, and of a Full nothing of what is spent. The power at the start and the map there are given.
+pub fn judge_truth_calls_and_plain_replies(
     alloc: Global,
     power: Power,
     map: BTreeMap<Key, Payload>,
@@ -227,17 +241,18 @@ pub fn judge_truth_and_calls(
     requires lines { length journal.now.start % 8 ≡ 0 }
     requires size { length journal.now.start < 2 ^ 32 }
     requires marks { AreOfMemory (length journal.now.start) journal.now.past }
-    ensures { (at : Map) → Holds at map.entries → IfOk result (λ verdict. IsVerdict (KeepsTruthAndCalls power journal.now.start at) journal.now.past verdict) }
+    ensures { (at : Map) → Holds at map.entries → IfOk result (λ verdict. IsVerdict (KeepsJudged power journal.now.start at) journal.now.past verdict) }
 {
     let start = journal.start();
     is_image(start);
     let mut replay = Replay::open(alloc, start)?;
     let mut table = Table::open(alloc, power)?;
     let mut pairs = map;
+    let mut sights = Sights::none(alloc);
     let mut broken: Option<JudgeRule> = None;
     for i in 0..journal.length() {
         let mark = journal.mark(i);
-        let fault = judge_mark(&mut replay, &mut table, &mut pairs, i, &mark)?;
+        let fault = judge_mark(&mut replay, &mut table, &mut pairs, &mut sights, i, &mark)?;
         let next = first(broken, fault);
         broken = next;
         let inner = is_inner(journal, i + 1);

@@ -1,5 +1,5 @@
 //! Laws of verdicts. Each function does nothing: its contract is the law.
-ghost use Rattle.bz_check.specs.Laws.{SoundKeepsAllRules, OneVerdict};
+ghost use Rattle.bz_check.specs.Laws.{SoundKeepsAllRules, OneVerdict, RepliesByTheMap};
 ghost use Rattle.bz_check.specs.Example.{WorkedVerdicts};
 
 /// A journal is sound exactly where it is formed and its marks keep each of the five rules.
@@ -7,7 +7,12 @@ pub fn sound_keeps_all_rules()
     ensures { SoundKeepsAllRules }
 {}
 
-/// By the rules of truth and of calls one verdict is right of a journal.
+/// A right reply is right as far as the map tells; without a page and a Full the two are one.
+pub fn replies_by_the_map()
+    ensures { RepliesByTheMap }
+{}
+
+/// By the rules of truth and of calls, and by replies as far as the map tells, one verdict is right of a journal.
 pub fn one_verdict()
     ensures { OneVerdict }
 {}

@@ -6,9 +6,11 @@ mod judge;
 pub mod laws;
 mod pairs;
 mod replay;
+mod replies;
 mod settle;
+mod sights;
 mod table;
 mod verdict;
 
-pub use judge::judge_truth_and_calls;
+pub use judge::judge_truth_calls_and_plain_replies;
 pub use verdict::{JudgeRule, Verdict};

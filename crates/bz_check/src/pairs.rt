@@ -2,7 +2,7 @@
 ghost use Rattle.std.specs.Prelude.{◌≡◌, OnOk};
 ghost use Rattle.std.specs.FinMap.{insert};
 ghost use Rattle.bz_call.specs.Map.{Map, apply};
-ghost use Rattle.bz_check.specs.Pairs.{Holds, found_in, may_change};
+ghost use Rattle.bz_check.specs.Pairs.{Holds, payload_at, found_in, may_change};
 
 use bz_call::Call;
 use bz_key::{Key, Payload};
@@ -20,6 +20,27 @@ pub(crate) fn changes(map: &BTreeMap<Key, Payload>, call: Call) -> bool
         Call::Upsert(_, _) => true,
         Call::Get(_) => false,
         Call::Page(_) => false,
+    }
+}
+
+/// What stands at a key.
+fn at_key(map: &BTreeMap<Key, Payload>, key: Key) -> Option<Payload>
+    ensures { result ≡ payload_at map.now.entries key }
+{
+    map.get(&key).copied()
+}
+
+/// What a call finds at its key.
+pub(crate) fn found_at(map: &BTreeMap<Key, Payload>, call: Call) -> Option<Payload>
+    ensures { result ≡ found_in map.now.entries call }
+{
+    match call {
+        Call::Insert(key, _) => at_key(map, key),
+        Call::Delete(key) => at_key(map, key),
+        Call::Update(key, _) => at_key(map, key),
+        Call::Upsert(key, _) => at_key(map, key),
+        Call::Get(key) => at_key(map, key),
+        Call::Page(key) => at_key(map, key),
     }
 }
 

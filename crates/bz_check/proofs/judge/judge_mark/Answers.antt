@@ -5,6 +5,8 @@ use Rattle.bz_check.proofs.Replaying.{replays_more}
 use Rattle.bz_check.proofs.Knowing.{knows_more}
 use Rattle.bz_check.proofs.Mapping.{map_more}
 use Rattle.bz_check.proofs.Judging.{fault_tells}
+use Rattle.bz_check.proofs.Passing.{seen_more}
+use Rattle.bz_check.proofs.Seeing.{sight_more}
 use Rattle.bz_check.proofs.judge.judge_mark.Goals as goal
 
 pub returns-clause-words : goal.returns-clause-words
@@ -18,6 +20,10 @@ returns-clause-pairs c = λ at_start past at k h.
     let P : Map → Type 0 = λ m. Holds m c.step_map.new.map.entries in
     subst P (map_more at_start past c.args.table.now c.args.mark.now at k c.names_worker.ensures) (c.in_ok-step_map.ensures _ h)
 
+pub returns-clause-seen : goal.returns-clause-seen
+returns-clause-seen c = λ at_start past at k h saw. seen_more at past c.args.mark.now c.args.sights.now c.see.new.self _ c.in_ok-see.ensures saw
+    (sight_more at_start past c.args.table.now c.args.mark.now at c.args.map.now.entries k c.names_worker.ensures h)
+
 pub returns-clause-fault : goal.returns-clause-fault
-returns-clause-fault c = λ start at_start past at now image are r k h.
-    rw c.fault_of-fault.ensures (fault_tells at_start start at past c.args.mark.now c.args.replay.now c.args.table.now c.args.map.now.entries image are (omega (arith, now, c.requires.few)) r k c.names_worker.ensures h)
+returns-clause-fault c = λ start at_start past at now image are r k h saw.
+    rw (c.fault_of-fault.ensures, now) (fault_tells at_start start at past c.args.mark.now c.args.replay.now c.args.table.now c.args.map.now.entries c.args.sights.now image are (omega (arith, now, c.requires.few)) r k c.names_worker.ensures h saw)
