@@ -8,4 +8,20 @@ mod Relinks
 mod RootTurns
 mod StillOpen
 mod InnerMerging
+mod Separators
+mod NodesRead
+mod Meeting
+mod JoinStaying
+mod JoinReading
+mod JoinTelling
+mod JoinWeighing
+mod Choosing
+mod JoinMaking
+mod JoinPlans
+mod JoinLooking
+mod JoinActing
+mod JoinGoing
+mod JoinSteps
+mod JoinTurning
+mod JoinViewing
 pub mod Proved

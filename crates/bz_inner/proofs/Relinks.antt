@@ -55,6 +55,10 @@ module _ (c : Config) (old to : ℕ) where
       go true e q further = inr (f.slot, (first f fs, grind (arith, nat_tests)))
       go false e q further = elim (further q) [ inl r ↦ inl r | inr w ↦ inr (w.0, (or-right (f.slot == w.0) (is_among (slots_of fs) w.0) w.1.0, w.1.1)) ]
 
+  -- the root pointer goes to the new root
+  pub set-root : (fs : List Freezing) (g : ℕ → ℕ) → swapped (relink_with c old to fs) g ROOT_AT ≡ to + 1
+  set-root fs g = far-set fs g ROOT_AT (λ k e z. absurd (omega (arith, z))) ∙ refl
+
   -- what holds of all entries holds of the root's
   pub root-holds : (P : Entry → Type 0) (fs : List Freezing) → All P (relink_with c old to fs) → P (root_entry old to)
   root-holds P [] h = All-head P (root_entry old to) [] h

@@ -4,3 +4,8 @@ pub mod LowerFacts
 pub mod LowerDuties
 pub mod Relinks
 pub mod InnerMerges
+pub mod Small
+pub mod Neighbours
+pub mod Joinings
+pub mod JoinFacts
+pub mod JoinDuties
