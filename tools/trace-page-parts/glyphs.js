@@ -41,7 +41,6 @@ const GLYPHS = {
   missed: (paint, x, y, s) => shape(paint, [[x, y - s], [x + s, y], [x, y + s], [x - s, y]], false),
   ask: (paint, x, y, s) => shape(paint, [[x, y - s], [x + s, y + s * 0.8], [x - s, y + s * 0.8]], false),
   fence: (paint, x, y, s) => paint.fillRect(x - s * 0.3, y - s * 1.4, s * 0.6, s * 2.8),
-  flush: (paint, x, y, s) => shape(paint, [[x, y - s], [x + s, y + s * 0.8], [x - s, y + s * 0.8]], true),
   evict: (paint, x, y, s) => shape(paint, [[x - s, y - s * 0.8], [x + s, y - s * 0.8], [x, y + s]], true),
   begin: (paint, x, y, s) => shape(paint, [[x - s * 0.3, y - s], [x + s, y], [x - s * 0.3, y + s]], false),
   end: (paint, x, y, s) => paint.strokeRect(x - s * 0.2, y - s, s * 0.4, s * 2),

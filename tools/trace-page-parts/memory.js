@@ -84,11 +84,6 @@ function fence(mark) {
   if (lastAsks().some((one) => one.worker === worker)) setAsks(mark + 1, lastAsks().filter((one) => one.worker !== worker));
 }
 
-function flush(mark) {
-  const from = marks.place[mark] * LINE_WORDS;
-  for (let address = from; address < from + LINE_WORDS; address++) settle(address, state[address], memory.asks);
-}
-
 function cut(mark) {
   for (const address of touched) {
     change(address, state[DURABLE + address]);
@@ -104,7 +99,6 @@ function apply(mark) {
   switch (marks.kind[mark]) {
     case KIND.store: return change(address, marks.first[mark]);
     case KIND.cas: return changed(mark) ? change(address, marks.second[mark]) : undefined;
-    case KIND.flush: return flush(mark);
     case KIND.ask: return ask(mark);
     case KIND.fence: return fence(mark);
     case KIND.evict: return settle(address, state[address], memory.asks);

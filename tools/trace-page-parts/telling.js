@@ -31,7 +31,6 @@ function plainText(mark) {
     case KIND.load: return `${who} loads ${placeText(address)}: ${wordText(address, marks.first[mark])}`;
     case KIND.store: return `${who} stores ${placeText(address)}: ${wordText(address, marks.first[mark])}`;
     case KIND.cas: return casText(mark, who);
-    case KIND.flush: return `${who} flushes ${lineText(address)}`;
     case KIND.ask: return `${who} asks for ${lineText(address)}`;
     case KIND.fence: return `${who} fences: what it asked for becomes durable`;
     case KIND.evict: return `${placeText(address)} becomes durable by itself`;
@@ -52,7 +51,7 @@ function markText(mark) {
 // The part of the memory that a mark is about, if any.
 function partOfMark(mark) {
   const kind = marks.kind[mark];
-  if (kind === KIND.flush || kind === KIND.ask) return placeOf(marks.place[mark] * LINE_WORDS);
+  if (kind === KIND.ask) return placeOf(marks.place[mark] * LINE_WORDS);
   return kind >= KIND.load && kind <= KIND.cas || kind === KIND.evict ? placeOf(marks.place[mark]) : null;
 }
 

@@ -5,15 +5,15 @@ use Rattle.std.proofs.lemmas.Bool.{cases_eq}
 use Rattle.std.proofs.lemmas.Bool.Decides.{nat_tests}
 use Rattle.bz_call.specs.Map.{Map, apply, IsChange}
 use Rattle.bz_mark.specs.declared.marks.Mark.{Mark}
-use Rattle.bz_mark.specs.declared.marks.Mark.TheVariants.{Begin, End, Load, Store, Cas, Flush, Ask, Fence, Evict, Cut, On, Ready, Effect}
+use Rattle.bz_mark.specs.declared.marks.Mark.TheVariants.{Begin, End, Load, Store, Cas, Ask, Fence, Evict, Cut, On, Ready, Effect}
 use Rattle.bz_mark.specs.declared.power.Power.{Power}
 use Rattle.bz_mark.specs.declared.power.Power.TheVariants as power
 use Rattle.bz_sound.specs.Calls.{Open, open_call, map_after, MayEnd, MayEffect}
 use Rattle.bz_sound.specs.Memory.Calls.{HasOpenCall}
-use Rattle.bz_sound.specs.Memory.Moments.{IsAfterFlush}
+use Rattle.bz_sound.specs.Memory.Moments.{IsAfterFence}
 use Rattle.bz_sound.specs.Power.Calls.{MayAct, IsAfterRecovering, BeginsPowered, MayFollow}
 use Rattle.bz_check.specs.declared.table.OpenCall.{OpenCall}
-use Rattle.bz_check.specs.Tables.{Known, caller_at, open_in, is_on_in, is_recovering_in, is_off_in, after_flush_in, after_recovering_in, has_number_in, may_effect_in, may_act_in, may_begin_in, may_follow_in}
+use Rattle.bz_check.specs.Tables.{Known, caller_at, open_in, is_on_in, is_recovering_in, is_off_in, after_fence_in, after_recovering_in, has_number_in, may_effect_in, may_act_in, may_begin_in, may_follow_in}
 use Rattle.bz_check.specs.Knowing.{open_of, newest_of, Knows, HasWorker}
 use Rattle.bz_check.proofs.Tests.{same_test, other_test}
 
@@ -86,26 +86,23 @@ not_off_test power.Recovering ne = refl
 not_off_test power.On ne = refl
 
 -- the newest mark
-flush_of : (past : List Mark) → after_flush_in (newest_of past) ≡ true → IsAfterFlush past
-flush_of [] h = absurd (false_true h)
-flush_of (Flush w line ∷ past) h = tt
-flush_of (Fence w ∷ past) h = tt
-flush_of (Evict a ∷ past) h = tt
-flush_of (mark ∷ past) h = absurd (false_true h)
+fence_of : (past : List Mark) → after_fence_in (newest_of past) ≡ true → IsAfterFence past
+fence_of [] h = absurd (false_true h)
+fence_of (Fence w ∷ past) h = tt
+fence_of (Evict a ∷ past) h = tt
+fence_of (mark ∷ past) h = absurd (false_true h)
 
-flush_test : (past : List Mark) → IsAfterFlush past → after_flush_in (newest_of past) ≡ true
-flush_test [] h = absurd h
-flush_test (Flush w line ∷ past) h = refl
-flush_test (Fence w ∷ past) h = refl
-flush_test (Evict a ∷ past) h = refl
-flush_test (mark ∷ past) h = absurd h
+fence_test : (past : List Mark) → IsAfterFence past → after_fence_in (newest_of past) ≡ true
+fence_test [] h = absurd h
+fence_test (Fence w ∷ past) h = refl
+fence_test (Evict a ∷ past) h = refl
+fence_test (mark ∷ past) h = absurd h
 
 recover_of : (past : List Mark) → after_recovering_in (newest_of past) ≡ true → IsAfterRecovering past
 recover_of [] h = absurd (false_true h)
 recover_of (Load w a v ∷ past) h = eq_of w 0 h
 recover_of (Store w a v ∷ past) h = eq_of w 0 h
 recover_of (Cas w a old new found ∷ past) h = eq_of w 0 h
-recover_of (Flush w line ∷ past) h = eq_of w 0 h
 recover_of (Ask w line ∷ past) h = eq_of w 0 h
 recover_of (Fence w ∷ past) h = eq_of w 0 h
 recover_of (mark ∷ past) h = absurd (false_true h)
@@ -115,7 +112,6 @@ recover_test [] h = absurd h
 recover_test (Load w a v ∷ past) h = same_test w 0 h
 recover_test (Store w a v ∷ past) h = same_test w 0 h
 recover_test (Cas w a old new found ∷ past) h = same_test w 0 h
-recover_test (Flush w line ∷ past) h = same_test w 0 h
 recover_test (Ask w line ∷ past) h = same_test w 0 h
 recover_test (Fence w ∷ past) h = same_test w 0 h
 recover_test (mark ∷ past) h = absurd h
@@ -220,7 +216,6 @@ follows_of at_start at past t changes (End w n reply moment) k has tells h = end
 follows_of at_start at past t changes (Load w a v) k has tells h = act_of at_start past t w k has h
 follows_of at_start at past t changes (Store w a v) k has tells h = act_of at_start past t w k has h
 follows_of at_start at past t changes (Cas w a old new found) k has tells h = act_of at_start past t w k has h
-follows_of at_start at past t changes (Flush w line) k has tells h = act_of at_start past t w k has h
 follows_of at_start at past t changes (Ask w line) k has tells h = act_of at_start past t w k has h
 follows_of at_start at past t changes (Fence w) k has tells h = act_of at_start past t w k has h
 follows_of at_start at past t changes (Evict a) k has tells h = λ e. not_off_of t.power h (k.power ∙ e)
@@ -228,9 +223,9 @@ follows_of at_start at past t changes Cut k has tells h = λ e. not_off_of t.pow
 follows_of at_start at past t changes On k has tells h = sym k.power ∙ off_of t.power h
 follows_of at_start at past t changes Ready k has tells h = recover_of past (sym (ap after_recovering_in k.newest) ∙ h)
 follows_of at_start at past t changes (Effect w n) k has tells h =
-    let one = both_of (after_flush_in t.newest) _ h in
+    let one = both_of (after_fence_in t.newest) _ h in
     let two = both_of (may_effect_in (open_in t w) n) changes one.1 in
-    (flush_of past (sym (ap after_flush_in k.newest) ∙ one.0), effect_of (open_in t w) at past w n changes (k.is_open w has) tells two.0 two.1)
+    (fence_of past (sym (ap after_fence_in k.newest) ∙ one.0), effect_of (open_in t w) at past w n changes (k.is_open w has) tells two.0 two.1)
 
 pub follows_test : (at_start : Power) (at : Map) (past : List Mark) (t : Known) (changes : Bool) (mark : Mark) → Knows at_start past t → HasWorker mark → TellsChange t changes (map_after at past) mark → MayFollow at_start at past mark → may_follow_in t changes mark ≡ true
 follows_test at_start at past t changes (Begin w n call) k has tells h = begin_test at_start past t w n k has h
@@ -238,7 +233,6 @@ follows_test at_start at past t changes (End w n reply moment) k has tells h = e
 follows_test at_start at past t changes (Load w a v) k has tells h = act_test at_start past t w k has h
 follows_test at_start at past t changes (Store w a v) k has tells h = act_test at_start past t w k has h
 follows_test at_start at past t changes (Cas w a old new found) k has tells h = act_test at_start past t w k has h
-follows_test at_start at past t changes (Flush w line) k has tells h = act_test at_start past t w k has h
 follows_test at_start at past t changes (Ask w line) k has tells h = act_test at_start past t w k has h
 follows_test at_start at past t changes (Fence w) k has tells h = act_test at_start past t w k has h
 follows_test at_start at past t changes (Evict a) k has tells h = not_off_test t.power (λ e. h (sym k.power ∙ e))
@@ -246,4 +240,4 @@ follows_test at_start at past t changes Cut k has tells h = not_off_test t.power
 follows_test at_start at past t changes On k has tells h = off_test t.power (k.power ∙ h)
 follows_test at_start at past t changes Ready k has tells h = ap after_recovering_in k.newest ∙ recover_test past h
 follows_test at_start at past t changes (Effect w n) k has tells h =
-    both (after_flush_in t.newest) _ (ap after_flush_in k.newest ∙ flush_test past h.0) (effect_test (open_in t w) at past w n changes (k.is_open w has) tells h.1)
+    both (after_fence_in t.newest) _ (ap after_fence_in k.newest ∙ fence_test past h.0) (effect_test (open_in t w) at past w n changes (k.is_open w has) tells h.1)

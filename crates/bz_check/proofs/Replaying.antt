@@ -6,7 +6,7 @@ use Rattle.std.proofs.lemmas.Bool.{cases_eq, cases_lt}
 use Rattle.std.proofs.lemmas.List.{get_or-set_same, get_or-set_other, get_or-replicate, get_or-take, get_or-drop, length-set, length-take, length-drop, length-replicate, ext_get_or}
 use Rattle.bz_pm.specs.After.{Dated, line_words, settled_words}
 use Rattle.bz_mark.specs.declared.marks.Mark.{Mark}
-use Rattle.bz_mark.specs.declared.marks.Mark.TheVariants.{Store, Cas, Flush, Ask, Fence, Evict, Cut}
+use Rattle.bz_mark.specs.declared.marks.Mark.TheVariants.{Store, Cas, Ask, Fence, Evict, Cut}
 use Rattle.bz_mark.specs.Dates.{cached_at, since, asked, durable_word}
 use Rattle.bz_mark.specs.Laws.{IsImage, IsOfMemory, AreOfMemory}
 use Rattle.bz_mark.specs.WordsAfter.{words_after_marks, KeepsLength}
@@ -14,7 +14,7 @@ use Rattle.bz_mark.proofs.DateLaws.{IsNoCut, changed, cached-before, cached-afte
 use Rattle.bz_mark.proofs.Proved as marks
 use Rattle.bz_check.specs.declared.asks.Asked.{Asked}
 use Rattle.bz_check.specs.Asks.{newest, AreWithin, settled}
-use Rattle.bz_check.specs.Kept.{Kept, IsSized, opened, dates_of, with_store, with_line, with_ask, with_fence, with_eviction, with_cut, kept_after}
+use Rattle.bz_check.specs.Kept.{Kept, IsSized, opened, dates_of, with_store, with_ask, with_fence, with_eviction, with_cut, kept_after}
 use Rattle.bz_check.specs.Replays.{IsTold, AreTold, Replays}
 use Rattle.bz_check.specs.Restored.{IsAt}
 use Rattle.bz_check.proofs.Tests.{same_test, other_test}
@@ -23,7 +23,6 @@ use Rattle.bz_check.proofs.Restoring.{length-restored, restored-word, at_more, a
 
 -- before a mark but a cut no word dates from later than the marks before it
 since_low : (mark : Mark) (past : List Mark) (a : ℕ) → IsNoCut mark → since (mark ∷ past) a ≤ length past
-since_low (Flush w line) past a go = either_most (a / 8 == line) (length past) (since past a) (length past) (omega arith) (since-within past a)
 since_low (Fence w) past a go = omega (arith, since-within past a, asked-within past w (a / 8))
 since_low (Evict b) past a go = either_most (a == b) (length past) (since past a) (length past) (omega arith) (since-within past a)
 since_low Cut past a go = absurd go
@@ -191,26 +190,6 @@ redated start past mark m d r go same long late dated dates asks workers lines t
 line_fits : (line size : ℕ) → size % 8 ≡ 0 → line * 8 < size → line * 8 + 8 ≤ size
 line_fits line size whole lt = omega arith
 
-flush_replays : (start : List ℕ) (past : List Mark) (m : Kept) (w line : ℕ) → Replays start past m → length start % 8 ≡ 0 → line * 8 < length start → Replays start (Flush w line ∷ past) (with_line m (length past) line)
-flush_replays start past m w line r whole lt =
-    let words : List ℕ = line_words line m.cached in
-    let fits : line * 8 + 8 ≤ length start = line_fits line (length start) whole lt in
-    let eight : length words ≡ 8 = length-line_words m.cached line (omega (arith, r.cached_size)) in
-    let long = long_words words (line * 8) (length past) (dates_of m) in
-    redated start past (Flush w line) m (settled_words (line * 8) (length past) words (dates_of m)) r tt (λ a x. refl) long.durable long.since
-    (λ a within. words_date words (cached_at start past) m.cut (line * 8) (length past) (dates_of m) a (omega (arith, r.durable_size)) (r.since_size ∙ sym r.durable_size) r.now
-    (λ k few. word-line_words m.cached line k (omega arith) ∙ r.cached (line * 8 + k) (omega arith)) (r.dated a within))
-    (λ a within. elim (cases_eq (a / 8) line) [
-      | inl here ↦
-          let one = since_in words (line * 8) (length past) (dates_of m) a (omega arith) (omega arith) (omega (arith, r.since_size)) in
-          rw (same_test (a / 8) line here) (omega (arith, one, r.since a within, since-within past a))
-      | inr away ↦
-          let out : (a < line * 8) ⊎ (line * 8 + length words ≤ a) = elim (cases_lt a (line * 8)) [ inl low ↦ inl low | inr le ↦ inr (omega arith) ] in
-          let one = since_out words (line * 8) (length past) (dates_of m) a out in
-          rw (other_test (a / 8) line away) (omega (arith, one, r.since a within))
-    ])
-    m.asks r.workers r.asked r.told
-
 evict_replays : (start : List ℕ) (past : List Mark) (m : Kept) (b : ℕ) → Replays start past m → b < length start → Replays start (Evict b ∷ past) (with_eviction m (length past) b)
 evict_replays start past m b r lt =
     let long = long_word b (length past) (slice_index m.cached b) (dates_of m) in
@@ -328,7 +307,6 @@ opened_replays start = record {
 pub replays_more : (start : List ℕ) (past : List Mark) (m : Kept) (mark : Mark) → Replays start past m → length start % 8 ≡ 0 → IsOfMemory (length start) mark → Replays start (mark ∷ past) (kept_after m (length past) mark)
 replays_more start past m (Store w a v) r whole of = stores start past (Store w a v) m a v r of.0 tt (λ b x. refl) (λ b. refl) (λ u line. refl)
 replays_more start past m (Cas w a old new found) r whole of = cas_replays start past m w a old new found r of.0
-replays_more start past m (Flush w line) r whole of = flush_replays start past m w line r whole of
 replays_more start past m (Ask w line) r whole of = ask_replays start past m w line r whole of.1 (omega (arith, of.0))
 replays_more start past m (Fence w) r whole of = fence_replays start past m w r (omega (arith, of))
 replays_more start past m (Evict a) r whole of = evict_replays start past m a r of

@@ -6,7 +6,7 @@ use Rattle.bz_call.specs.declared.calls.Call.TheVariants.{Insert, Get}
 use Rattle.bz_call.specs.declared.replies.Reply.TheVariants.{Inserted, Exists, Missing, Full}
 use Rattle.bz_call.specs.declared.replies.Spent.TheVariants.{Nodes}
 use Rattle.bz_mark.specs.declared.marks.Mark.{Mark}
-use Rattle.bz_mark.specs.declared.marks.Mark.TheVariants.{Begin, End, Load, Cas, Flush, Evict, Cut, On, Ready, Effect}
+use Rattle.bz_mark.specs.declared.marks.Mark.TheVariants.{Begin, End, Load, Cas, Fence, Evict, Cut, On, Ready, Effect}
 use Rattle.bz_mark.specs.declared.power.Power.TheVariants as power
 use Rattle.bz_check.specs.declared.verdict.JudgeRule.TheVariants.{Truth, Calls, Reply}
 use Rattle.bz_check.specs.declared.verdict.Verdict.{Verdict}
@@ -35,7 +35,7 @@ insert_begun = Begin 1 1 (Insert a_key []) ∷ []
 
 -- and one that took effect at moment 2
 abbrev pub insert_done : List Mark
-insert_done = Effect 1 1 ∷ Flush 1 0 ∷ insert_begun
+insert_done = Effect 1 1 ∷ Fence 1 ∷ insert_begun
 
 pub record WorkedVerdicts : Type 0 where
   -- no marks; a call with a load; and its end

@@ -3,7 +3,7 @@ use Rattle.std.specs.Prelude.{◌≡◌, ◌<◌, ◌==◌, ◌+◌, ◌*◌, �
 use Rattle.std.specs.List.{AllByRecursion}
 use Rattle.bz_pm.specs.After.{Dated, settled_word, settled_words, line_words}
 use Rattle.bz_mark.specs.declared.marks.Mark.{Mark}
-use Rattle.bz_mark.specs.declared.marks.Mark.TheVariants.{Store, Cas, Flush, Ask, Fence, Evict, Cut}
+use Rattle.bz_mark.specs.declared.marks.Mark.TheVariants.{Store, Cas, Ask, Fence, Evict, Cut}
 use Rattle.bz_check.specs.declared.asks.Asked.{Asked}
 use Rattle.bz_check.specs.Asks.{AreWithin, settled}
 use Rattle.bz_check.specs.Restored.{restored}
@@ -42,9 +42,6 @@ with_dates m d = record m { durable = d.durable; since = d.since }
 abbrev pub with_store : Kept → ℕ → ℕ → Kept
 with_store m a v = record m { cached = slice_set m.cached a v; stored = m.stored ++ a ∷ [] }
 
-abbrev pub with_line : Kept → ℕ → ℕ → Kept
-with_line m now line = with_dates m (settled_words (line * 8) now (line_words line m.cached) (dates_of m))
-
 abbrev pub with_ask : Kept → ℕ → ℕ → ℕ → Kept
 with_ask m now w line = record m { asks = slice_set m.asks w (get_or m.asks w [] ++ record { line = line; moment = now; words = line_words line m.cached } ∷ []) }
 
@@ -63,7 +60,6 @@ with_cut m now = record m { cached = restored m.stored m.cached m.durable; asks 
 abbrev pub kept_after : Kept → ℕ → Mark → Kept
 kept_after m now (Store w a v) = with_store m a v
 kept_after m now (Cas w a old new found) = if found == old then with_store m a new else m
-kept_after m now (Flush w line) = with_line m now line
 kept_after m now (Ask w line) = with_ask m now w line
 kept_after m now (Fence w) = with_fence m w
 kept_after m now (Evict a) = with_eviction m now a

@@ -2,7 +2,7 @@
 use Rattle.std.specs.Prelude.{◌≡◌, ◌<◌, ◌≤◌, ◌==◌, ℕ, Bool, true, false, List, [], ◌∷◌, length, slice_get, Option, Some, None, option_map, IfSome}
 use Rattle.bz_call.specs.Map.{Map, apply}
 use Rattle.bz_mark.specs.declared.marks.Mark.{Mark}
-use Rattle.bz_mark.specs.declared.marks.Mark.TheVariants.{Begin, End, Load, Store, Cas, Flush, Ask, Fence, Effect}
+use Rattle.bz_mark.specs.declared.marks.Mark.TheVariants.{Begin, End, Load, Store, Cas, Ask, Fence, Effect}
 use Rattle.bz_mark.specs.declared.power.Power.{Power}
 use Rattle.bz_mark.specs.Times.{power_of}
 use Rattle.bz_sound.specs.Calls.{Open, open_call, begun_calls}
@@ -40,7 +40,6 @@ HasWorker (End w n reply at) = w < 256
 HasWorker (Load w a v) = w < 256
 HasWorker (Store w a v) = w < 256
 HasWorker (Cas w a old new found) = w < 256
-HasWorker (Flush w line) = w < 256
 HasWorker (Ask w line) = w < 256
 HasWorker (Fence w) = w < 256
 HasWorker (Effect w n) = w < 256

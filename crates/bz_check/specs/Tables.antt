@@ -2,7 +2,7 @@
 use Rattle.std.specs.Prelude.{◌==◌, ◌&&◌, ◌+◌, ◌-◌, ◌^◌, not, nat_lt, nat_le, min, if◌then◌else◌, ℕ, Bool, true, false, List, replicate, slice_set, get_or, Option, Some, None, is_some, is_none}
 use Rattle.bz_call.specs.declared.calls.Call.{Call}
 use Rattle.bz_mark.specs.declared.marks.Mark.{Mark}
-use Rattle.bz_mark.specs.declared.marks.Mark.TheVariants.{Begin, End, Load, Store, Cas, Flush, Ask, Fence, Evict, Cut, On, Ready, Effect}
+use Rattle.bz_mark.specs.declared.marks.Mark.TheVariants.{Begin, End, Load, Store, Cas, Ask, Fence, Evict, Cut, On, Ready, Effect}
 use Rattle.bz_mark.specs.declared.power.Power.{Power}
 use Rattle.bz_mark.specs.declared.power.Power.TheVariants as power
 use Rattle.bz_check.specs.declared.table.OpenCall.{OpenCall}
@@ -82,21 +82,19 @@ abbrev pub is_off_in : Power → Bool
 is_off_in power.Off = true
 is_off_in other = false
 
-abbrev pub after_flush : Mark → Bool
-after_flush (Flush w line) = true
-after_flush (Fence w) = true
-after_flush (Evict a) = true
-after_flush mark = false
+abbrev pub after_fence : Mark → Bool
+after_fence (Fence w) = true
+after_fence (Evict a) = true
+after_fence mark = false
 
-abbrev pub after_flush_in : Option Mark → Bool
-after_flush_in None = false
-after_flush_in (Some mark) = after_flush mark
+abbrev pub after_fence_in : Option Mark → Bool
+after_fence_in None = false
+after_fence_in (Some mark) = after_fence mark
 
 abbrev pub after_recovering : Mark → Bool
 after_recovering (Load w a v) = w == 0
 after_recovering (Store w a v) = w == 0
 after_recovering (Cas w a old new found) = w == 0
-after_recovering (Flush w line) = w == 0
 after_recovering (Ask w line) = w == 0
 after_recovering (Fence w) = w == 0
 after_recovering mark = false
@@ -126,11 +124,10 @@ may_follow_in t changes (End w n reply at) = has_number_in (open_in t w) n
 may_follow_in t changes (Load w a v) = may_act_in t w
 may_follow_in t changes (Store w a v) = may_act_in t w
 may_follow_in t changes (Cas w a old new found) = may_act_in t w
-may_follow_in t changes (Flush w line) = may_act_in t w
 may_follow_in t changes (Ask w line) = may_act_in t w
 may_follow_in t changes (Fence w) = may_act_in t w
 may_follow_in t changes (Evict a) = not (is_off_in t.power)
 may_follow_in t changes Cut = not (is_off_in t.power)
 may_follow_in t changes On = is_off_in t.power
 may_follow_in t changes Ready = after_recovering_in t.newest
-may_follow_in t changes (Effect w n) = after_flush_in t.newest && (may_effect_in (open_in t w) n && changes)
+may_follow_in t changes (Effect w n) = after_fence_in t.newest && (may_effect_in (open_in t w) n && changes)

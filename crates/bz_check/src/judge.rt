@@ -147,9 +147,6 @@ fn names_worker(mark: &Mark)
         } => {
             let _worker = w;
         }
-        Mark::Flush { w, line: _ } => {
-            let _worker = w;
-        }
         Mark::Ask { w, line: _ } => {
             let _worker = w;
         }

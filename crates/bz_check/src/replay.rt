@@ -1,10 +1,10 @@
 //! The words of a memory, replayed mark by mark.
 ghost use Rattle.std.specs.Prelude.{◌≡◌, ◌<◌, ◌+◌, ◌%◌, ◌*◌, ◌^◌, IfOk, OnOk, length, slice_get};
 ghost use Rattle.bz_mark.specs.Laws.{IsOfMemory};
-ghost use Rattle.bz_check.specs.Kept.{Kept as Words, IsSized, opened, with_store, with_ask, with_line, with_fence, with_eviction, with_cut, kept_after};
+ghost use Rattle.bz_check.specs.Kept.{Kept as Words, IsSized, opened, with_store, with_ask, with_fence, with_eviction, with_cut, kept_after};
 
 use crate::asks::{Asked, Asks};
-use crate::settle::{forget, no_asks, restore, settle, settle_line, settle_word, words_of};
+use crate::settle::{forget, no_asks, restore, settle, settle_word, words_of};
 use bz_mark::Mark;
 use bz_oom::Memory;
 use std::alloc::Global;
@@ -71,20 +71,6 @@ impl Replay {
         Ok(())
     }
 
-    fn flush(&mut self, now: u32, line: u32)
-        requires sized { IsSized self.old }
-        requires line { line * 8 < length self.old.cached }
-        ensures { self.new ≡ with_line self.old now line }
-    {
-        let words = words_of(&self.cached, line as usize);
-        let ask = Asked {
-            line,
-            moment: now,
-            words,
-        };
-        settle_line(&ask, &mut self.durable, &mut self.since);
-    }
-
     fn ask(&mut self, now: u32, w: u8, line: u32) -> Result<(), Memory>
         requires sized { IsSized self.old }
         requires line { line * 8 < length self.old.cached }
@@ -149,10 +135,6 @@ impl Replay {
                 } else {
                     Ok(())
                 }
-            }
-            Mark::Flush { w: _, line } => {
-                self.flush(now, line);
-                Ok(())
             }
             Mark::Ask { w, line } => self.ask(now, w, line),
             Mark::Fence { w } => {

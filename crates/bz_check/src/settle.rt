@@ -25,7 +25,7 @@ pub(crate) fn settle_word(a: usize, moment: u32, word: u64, durable: &mut [u64],
 }
 
 /// Makes the words of a line durable as they were at a moment, each unless the durable one dates from then or later.
-pub(crate) fn settle_line(ask: &Asked, durable: &mut [u64], since: &mut [u32])
+fn settle_line(ask: &Asked, durable: &mut [u64], since: &mut [u32])
     requires within { ask.now.line * 8 + 8 ≤ length durable.old }
     requires dated { length since.old ≡ length durable.old }
     requires eight { length ask.now.words ≡ 8 }

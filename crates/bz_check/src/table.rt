@@ -1,6 +1,6 @@
 //! Which calls are open, what the power is, and which mark is the newest.
 ghost use Rattle.std.specs.Prelude.{◌≡◌, ◌+◌, ◌<◌, ◌^◌, IfOk, length};
-ghost use Rattle.bz_check.specs.Tables.{no_calls, with_begin, with_end, with_effect_of, calls_after, table_after, may_follow_in, may_begin_in, open_in, has_number_in, may_act_in, may_effect_in, is_on_in, is_recovering_in, is_off_in, after_flush_in, after_recovering_in, took};
+ghost use Rattle.bz_check.specs.Tables.{no_calls, with_begin, with_end, with_effect_of, calls_after, table_after, may_follow_in, may_begin_in, open_in, has_number_in, may_act_in, may_effect_in, is_on_in, is_recovering_in, is_off_in, after_fence_in, after_recovering_in, took};
 
 use crate::replay::WORKERS;
 use bz_call::Call;
@@ -73,15 +73,14 @@ fn is_off(power: Power) -> bool
     }
 }
 
-/// Whether the newest mark is a flush, a fence or an eviction.
-fn is_after_flush(newest: Option<Mark>) -> bool
-    ensures { result ≡ after_flush_in newest }
+/// Whether the newest mark is a fence or an eviction.
+fn is_after_fence(newest: Option<Mark>) -> bool
+    ensures { result ≡ after_fence_in newest }
 {
     let Some(mark) = newest else {
         return false;
     };
     match mark {
-        Mark::Flush { w: _, line: _ } => true,
         Mark::Fence { w: _ } => true,
         Mark::Evict { a: _ } => true,
         _ => false,
@@ -105,7 +104,6 @@ fn is_after_recovering(newest: Option<Mark>) -> bool
             new: _,
             found: _,
         } => w == 0,
-        Mark::Flush { w, line: _ } => w == 0,
         Mark::Ask { w, line: _ } => w == 0,
         Mark::Fence { w } => w == 0,
         _ => false,
@@ -227,7 +225,6 @@ impl Table {
                 new: _,
                 found: _,
             } => self.may_act(w),
-            Mark::Flush { w, line: _ } => self.may_act(w),
             Mark::Ask { w, line: _ } => self.may_act(w),
             Mark::Fence { w } => self.may_act(w),
             Mark::Evict { a: _ } => !is_off(self.power),
@@ -235,7 +232,7 @@ impl Table {
             Mark::On => is_off(self.power),
             Mark::Ready => is_after_recovering(self.newest),
             Mark::Effect { w, n } => {
-                is_after_flush(self.newest) && may_effect(self.open_call(w), n) && changes
+                is_after_fence(self.newest) && may_effect(self.open_call(w), n) && changes
             }
         }
     }

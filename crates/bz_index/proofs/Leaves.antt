@@ -58,7 +58,6 @@ act-quiet : (w : ℕ) (made : Act) → has_page (mark_of w made) ≡ false
 act-quiet w (act.Load a v) = refl
 act-quiet w (act.Store a v) = refl
 act-quiet w (act.Cas a old new found) = refl
-act-quiet w (act.Flush line) = refl
 act-quiet w (act.Ask line) = refl
 act-quiet w act.Fence = refl
 
@@ -66,7 +65,6 @@ act-nobodys : (w : ℕ) (made : Act) → maker_of (mark_of w made) ≡ PASSES
 act-nobodys w (act.Load a v) = refl
 act-nobodys w (act.Store a v) = refl
 act-nobodys w (act.Cas a old new found) = refl
-act-nobodys w (act.Flush line) = refl
 act-nobodys w (act.Ask line) = refl
 act-nobodys w act.Fence = refl
 

@@ -12,7 +12,7 @@ use Rattle.bz_call.specs.declared.replies.Spent.{Spent}
 use Rattle.bz_call.specs.declared.replies.Spent.TheVariants as spent
 use Rattle.bz_layout.specs.declared.config.Config.{Config}
 use Rattle.bz_mark.specs.declared.marks.Mark.{Mark}
-use Rattle.bz_mark.specs.declared.marks.Mark.TheVariants.{Begin, End, Load, Store, Cas, Flush, Ask, Fence, Evict, Cut, On, Ready, Effect}
+use Rattle.bz_mark.specs.declared.marks.Mark.TheVariants.{Begin, End, Load, Store, Cas, Ask, Fence, Evict, Cut, On, Ready, Effect}
 use Rattle.bz_lines.specs.Objects.{call_data, spent_data, pair_data, next_data, reply_data, data_of, word_pairs, head_data}
 
 call_whole : (call : Call) → has_float (call_data call) ≡ false
@@ -53,7 +53,6 @@ mark_whole pages (End w n reply at) = rw (reply_whole pages reply)
 mark_whole pages (Load w a v) = refl
 mark_whole pages (Store w a v) = refl
 mark_whole pages (Cas w a old new found) = refl
-mark_whole pages (Flush w line) = refl
 mark_whole pages (Ask w line) = refl
 mark_whole pages (Fence w) = refl
 mark_whole pages (Evict a) = refl

@@ -13,7 +13,7 @@ use Rattle.bz_call.specs.declared.replies.Spent.TheVariants as spent
 use Rattle.bz_layout.specs.declared.config.Config.{Config}
 use Rattle.bz_layout.specs.declared.sizes.TheConstants.{FORMAT}
 use Rattle.bz_mark.specs.declared.marks.Mark.{Mark}
-use Rattle.bz_mark.specs.declared.marks.Mark.TheVariants.{Begin, End, Load, Store, Cas, Flush, Ask, Fence, Evict, Cut, On, Ready, Effect}
+use Rattle.bz_mark.specs.declared.marks.Mark.TheVariants.{Begin, End, Load, Store, Cas, Ask, Fence, Evict, Cut, On, Ready, Effect}
 
 abbrev pub number_data : ℕ → Data
 number_data n = number (unsigned n)
@@ -75,8 +75,6 @@ data_of pages (Load w a v) = fields ((codes "a", number_data a) ∷ (codes "mark
 data_of pages (Store w a v) = fields ((codes "a", number_data a) ∷ (codes "mark", string (codes "store")) ∷ (codes "v", number_data v) ∷ (codes "w", number_data w) ∷ [])
 data_of pages (Cas w a old new found) =
     fields ((codes "a", number_data a) ∷ (codes "found", number_data found) ∷ (codes "mark", string (codes "cas")) ∷ (codes "new", number_data new) ∷ (codes "old", number_data old) ∷ (codes "w", number_data w) ∷ [])
--- this row goes when no act flushes any more
-data_of pages (Flush w line) = fields ((codes "line", number_data line) ∷ (codes "mark", string (codes "flush")) ∷ (codes "w", number_data w) ∷ [])
 data_of pages (Ask w line) = fields ((codes "line", number_data line) ∷ (codes "mark", string (codes "ask")) ∷ (codes "w", number_data w) ∷ [])
 data_of pages (Fence w) = fields ((codes "mark", string (codes "fence")) ∷ (codes "w", number_data w) ∷ [])
 data_of pages (Evict a) = fields ((codes "a", number_data a) ∷ (codes "mark", string (codes "evict")) ∷ [])

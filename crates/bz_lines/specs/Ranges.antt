@@ -10,7 +10,7 @@ use Rattle.bz_call.specs.declared.replies.Reply.{Reply}
 use Rattle.bz_call.specs.declared.replies.Reply.TheVariants as reply
 use Rattle.bz_layout.specs.declared.limits.TheConstants.{MAX_WORKERS}
 use Rattle.bz_mark.specs.declared.marks.Mark.{Mark}
-use Rattle.bz_mark.specs.declared.marks.Mark.TheVariants.{Begin, End, Load, Store, Cas, Flush, Ask, Fence, Evict, Effect}
+use Rattle.bz_mark.specs.declared.marks.Mark.TheVariants.{Begin, End, Load, Store, Cas, Ask, Fence, Evict, Effect}
 
 -- a call's name: its worker and its number
 pub record IsName (w n : ℕ) : Type 0 where
@@ -40,7 +40,6 @@ IsInRange words before (End w n reply at) = IsName w n × IsReplyInRange reply �
 IsInRange words before (Load w a v) = (w ≤ MAX_WORKERS) × (a < words) × (v < 2 ^ 64)
 IsInRange words before (Store w a v) = (w ≤ MAX_WORKERS) × (a < words) × (v < 2 ^ 64)
 IsInRange words before (Cas w a old new found) = (w ≤ MAX_WORKERS) × (a < words) × (old < 2 ^ 64) × (new < 2 ^ 64) × (found < 2 ^ 64)
-IsInRange words before (Flush w line) = (w ≤ MAX_WORKERS) × (line * 8 < words)
 IsInRange words before (Ask w line) = (w ≤ MAX_WORKERS) × (line * 8 < words)
 IsInRange words before (Fence w) = w ≤ MAX_WORKERS
 IsInRange words before (Evict a) = a < words

@@ -107,8 +107,6 @@ pub(crate) fn mark_object(alloc: Global, journal: &Journal, mark: Mark) -> Resul
             new,
             found,
         } => cas_object(alloc, w, a, old, new, found),
-        // until no act flushes any more
-        Mark::Flush { w, line } => line_object(alloc, "flush", w, line),
         Mark::Ask { w, line } => line_object(alloc, "ask", w, line),
         Mark::Fence { w } => fence_object(alloc, w),
         Mark::Evict { a } => evict_object(alloc, a),

@@ -3,7 +3,7 @@ use Rattle.std.proofs.Common.{◌≡◌, ◌≢◌, ◌<◌, ◌≤◌, ◌+◌,
 use Rattle.std.specs.Prelude.{nat_lt, max}
 use Rattle.std.proofs.lemmas.Bool.Decides.{nat_tests}
 use Rattle.bz_mark.specs.declared.marks.Mark.{Mark}
-use Rattle.bz_mark.specs.declared.marks.Mark.TheVariants.{Store, Cas, Flush, Ask, Fence, Evict, Cut}
+use Rattle.bz_mark.specs.declared.marks.Mark.TheVariants.{Store, Cas, Ask, Fence, Evict, Cut}
 use Rattle.bz_mark.specs.Dates.{asked, since, cached_at, durable_word}
 
 -- the mark is no cut
@@ -74,7 +74,6 @@ asked-within (mark ∷ past) w line = omega (arith, asked-within past w line)
 -- and no durable word dates from later
 pub since-within : (past : List Mark) (a : ℕ) → since past a ≤ length past
 since-within [] a = omega arith
-since-within (Flush w line ∷ past) a = either_most (a / 8 == line) (length past) (since past a) _ (omega arith) (omega (arith, since-within past a))
 since-within (Fence w ∷ past) a = omega (arith, since-within past a, asked-within past w (a / 8))
 since-within (Evict b ∷ past) a = either_most (a == b) (length past) (since past a) _ (omega arith) (omega (arith, since-within past a))
 since-within (Cut ∷ past) a = omega arith
@@ -95,14 +94,12 @@ asked-is mark past w line = refl
 
 -- and for the moment from which a word dates
 abbrev pub since_after : List Mark → Mark → ℕ → ℕ → ℕ
-since_after past (Flush w line) a x = if a / 8 == line then length past else x
 since_after past (Fence w) a x = max x (asked past w (a / 8))
 since_after past (Evict b) a x = if a == b then length past else x
 since_after past Cut a x = length past + 1
 since_after past mark a x = x
 
 pub since-is : (mark : Mark) (past : List Mark) (a : ℕ) → since (mark ∷ past) a ≡ since_after past mark a (since past a)
-since-is (Flush w line) past a = refl
 since-is (Fence w) past a = refl
 since-is (Evict b) past a = refl
 since-is Cut past a = refl
@@ -114,7 +111,6 @@ least_either false x y n p q = q
 
 -- it never falls
 pub since-rises : (past : List Mark) (mark : Mark) (a x : ℕ) → x ≤ length past → x ≤ since_after past mark a x
-since-rises past (Flush w line) a x h = least_either (a / 8 == line) (length past) x x h (omega arith)
 since-rises past (Fence w) a x h = omega arith
 since-rises past (Evict b) a x h = least_either (a == b) (length past) x x h (omega arith)
 since-rises past Cut a x h = omega arith
@@ -126,7 +122,6 @@ within_either false now x y m h = h
 
 -- and rises no further from a later moment than to that
 pub since-between : (past : List Mark) (mark : Mark) (a x y m : ℕ) → x ≤ max y m → since_after past mark a x ≤ max (since_after past mark a y) m
-since-between past (Flush w line) a x y m h = within_either (a / 8 == line) (length past) x y m h
 since-between past (Fence w) a x y m h = omega arith
 since-between past (Evict b) a x y m h = within_either (a == b) (length past) x y m h
 since-between past Cut a x y m h = omega arith

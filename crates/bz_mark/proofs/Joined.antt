@@ -5,19 +5,18 @@ use Rattle.std.proofs.lemmas.Bool.{cases_eq, cases_lt}
 use Rattle.std.proofs.lemmas.Bool.Decides.{nat_tests}
 use Rattle.std.proofs.lemmas.List.{get_or-replicate, get_or_past, get_or-set_same, get_or-set_other, length-replicate, length-set, get_or-take, get_or-drop}
 use Rattle.bz_layout.specs.declared.limits.TheConstants.{MAX_WORKERS}
-use Rattle.bz_pm.specs.Acts.{flushed, evicted, after_cut}
+use Rattle.bz_pm.specs.Acts.{evicted, after_cut}
 use Rattle.bz_pm.specs.State.{State, IsState, AreAsks, asks_of, ask_for}
 use Rattle.bz_pm.specs.After.{opened, after_ask, after_fence, line_words}
-use Rattle.bz_pm.specs.Changes.{StaysMemory, FlushesOnly, EvictsOnly, CutsOnly, FencesOnly, AsksOnly, fenced_word, fenced_since}
+use Rattle.bz_pm.specs.Changes.{StaysMemory, EvictsOnly, CutsOnly, FencesOnly, AsksOnly, fenced_word, fenced_since}
 use Rattle.bz_pm.specs.declared.asks.Ask.{Ask}
-use Rattle.bz_pm.proofs.Lemmas.Copies.{length-with_line, word-with_line}
 use Rattle.bz_pm.proofs.Proved as memory
 use Rattle.bz_mark.specs.declared.marks.Mark.{Mark}
-use Rattle.bz_mark.specs.declared.marks.Mark.TheVariants.{Store, Cas, Flush, Ask as Asks, Fence, Evict, Cut}
+use Rattle.bz_mark.specs.declared.marks.Mark.TheVariants.{Store, Cas, Ask as Asks, Fence, Evict, Cut}
 use Rattle.bz_mark.specs.Dates.{asked, since, cached_at}
 use Rattle.bz_mark.specs.WordsAfter.{state_after, state_after_marks}
 use Rattle.bz_mark.specs.Laws.{IsImage, IsOfMemory, AreOfMemory, WordsAreByMoments}
-use Rattle.bz_mark.proofs.DateLaws.{IsNoCut, changed, cached-before, cached-now, cached-cut, asked-within, since-within}
+use Rattle.bz_mark.proofs.DateLaws.{IsNoCut, changed, cached-before, cached-now, cached-cut, since-within}
 use Rattle.bz_mark.proofs.Counting.{counts, counted, cut_at, counted-before, counted-now, counted-newest, counted-rises}
 use Rattle.bz_mark.proofs.Joining.{AskIs, DateIs, DateIs-later, Joins, state-by, counted_one, AskIs-later, stays_so, word-in, few_asks, store_joins, cas_joins}
 
@@ -89,29 +88,6 @@ settled_joins start past mark here m n j v = record {
   asks = λ w line few. subst (λ (all : List (List Ask)). AskIs start (mark ∷ past) w line (ask_for (get_or all w []) line)) (sym v.same_asks)
       (AskIs-later start mark past w line (ask_for (asks_of m w) line) v.no_cut v.cut (v.asked w line) (j.asks w line few));
 }
-
-flush_joins : (start : List ℕ) (past : List Mark) (m : State) (w line : ℕ) → Joins start past m → length past < 2 ^ 64 - 1 → line * 8 < length start → Joins start (Flush w line ∷ past) (state_after m (Flush w line))
-flush_joins start past m w line j few within =
-    let f : FlushesOnly m.words (flushed m.words line) line = memory.flush m.words line j.state.memory (word-in start past m (line * 8) j within) in
-    let now : List ℕ = replicate (length m.since) m.count in
-    let long : length now ≡ length m.since = length-replicate (length m.since) m.count in
-    let here : line * 8 < length now = omega (arith, long, j.state.dated, j.size) in
-    let whole : length m.since % 8 ≡ 0 = rw j.state.dated j.state.memory.lines in
-    settled_joins start past (Flush w line) (λ a. a / 8 == line) m (state_after m (Flush w line)) j (record {
-      no_cut = tt;
-      cut = refl;
-      since = λ a. refl;
-      asked = λ u other. refl;
-      stays = f.stays;
-      none = refl;
-      count = refl;
-      quiet = λ a x. refl;
-      cached = f.cached;
-      durable = f.durable;
-      long = length-with_line line now m.since here long whole;
-      moments = λ a inside. word-with_line line now m.since a here long whole ∙ ap (λ (date : ℕ). if a / 8 == line then date else slice_index m.since a) (get_or-replicate (length m.since) a m.count 0 inside);
-      same_asks = refl;
-    })
 
 same_test : (a b : ℕ) → a ≡ b → (a == b) ≡ true
 same_test a b e = grind (arith, nat_tests)
@@ -308,7 +284,6 @@ opened_joins start image = record {
 mark_joins : (start : List ℕ) (past : List Mark) (m : State) (mark : Mark) → Joins start past m → length past < 2 ^ 64 - 1 → IsOfMemory (length start) mark → Joins start (mark ∷ past) (state_after m mark)
 mark_joins start past m (Store w a v) j few of = store_joins start past m w a v j few of.0 of.1
 mark_joins start past m (Cas w a old new found) j few of = cas_joins start past m w a old new found j few of.0 of.1
-mark_joins start past m (Flush w line) j few of = flush_joins start past m w line j few of
 mark_joins start past m (Asks w line) j few of = ask_joins start past m w line j few of.0 of.1
 mark_joins start past m (Fence w) j few of = fence_joins start past m w j few of
 mark_joins start past m (Evict a) j few of = evict_joins start past m a j of

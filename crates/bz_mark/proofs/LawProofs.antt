@@ -5,7 +5,6 @@ use Rattle.bz_mark.specs.declared.marks.Mark.{Mark}
 use Rattle.bz_mark.specs.declared.marks.Mark.TheVariants.{Load, Cas}
 use Rattle.bz_pm.specs.Words.{Words}
 use Rattle.bz_pm.specs.State.{State}
-use Rattle.bz_pm.specs.After.{next_moment}
 use Rattle.bz_mark.specs.Dates.{since}
 use Rattle.bz_mark.specs.Moments.{at_moment, mark_at}
 use Rattle.bz_mark.proofs.MomentLaws.{at_moment-earlier, at_moment-before, mark_at-earlier, mark_at-newest}

@@ -52,6 +52,6 @@ table_is_right = table_is_right-holds
 pub asks_and_fences_leave_these : AsksAndFencesLeaveThese
 asks_and_fences_leave_these = asks_and_fences_leave_these-holds
 
--- a power cut after a store, a flush and another store leaves one of the two stored values, and nothing else
+-- a power cut after a store, an ask and its fence and another store leaves one of the two stored values, and nothing else
 pub leaves_five_or_six : LeavesFiveOrSix
 leaves_five_or_six = leaves_five_or_six-holds

@@ -3,7 +3,7 @@ use Rattle.std.proofs.Common.{◌≡◌, ◌<◌, ◌≤◌, ◌/◌, ◌==◌, 
 use Rattle.std.specs.Prelude.{nat_lt, max}
 use Rattle.std.proofs.lemmas.Bool.{cases_lt}
 use Rattle.bz_mark.specs.declared.marks.Mark.{Mark}
-use Rattle.bz_mark.specs.declared.marks.Mark.TheVariants.{Flush, Ask, Fence, Evict, Cut}
+use Rattle.bz_mark.specs.declared.marks.Mark.TheVariants.{Ask, Fence, Evict, Cut}
 use Rattle.bz_mark.specs.Dates.{asked, since, cached_at}
 use Rattle.bz_mark.specs.Evictions.{AddsEvictions, none, added, kept}
 use Rattle.bz_mark.proofs.DateLaws.{IsNoCut, no_cut, before_it, after_it, changed, cached-before, cached-after, cached-beyond, asked-within, since-within, asked_after, asked-is, since_after, since-is}
@@ -119,8 +119,6 @@ module _ (start : List ℕ) (past more : List Mark) (r : Renumbers start past mo
   }
 
   since-to : (v : ℕ) (mark : Mark) (a : ℕ) → IsNoCut mark → ext r.to (length more) v (since_after more mark a (since more a)) ≡ since_after past mark a (r.to (since more a))
-  since-to v (Flush w line) a go = to-either (ext r.to (length more) v) (a / 8 == line) (length more) (length past) (since more a) (r.to (since more a))
-      (ext-old r.to (length more) v (length more) (omega arith) ∙ r.last) (ext-old r.to (length more) v (since more a) (since-within more a))
   since-to v (Fence w) a go =
       ext-old r.to (length more) v (max (since more a) (asked more w (a / 8))) (omega (arith, since-within more a, asked-within more w (a / 8)))
       ∙ to-max r.to r.rises (since more a) (asked more w (a / 8)) ∙ ap (max (r.to (since more a))) (r.asked w (a / 8))
@@ -143,11 +141,6 @@ later-evicted true x y n p q = p
 later-evicted false x y n p q = q
 
 later-marked : (past : List Mark) (mark : Mark) (a x y : ℕ) → x ≤ y → since_after past mark a x ≤ since_after past mark a y
-later-marked past (Flush w line) a x y h = either (a / 8 == line)
-  where
-    either : (t : Bool) → (if t then length past else x) ≤ (if t then length past else y)
-    either true = omega arith
-    either false = h
 later-marked past (Fence w) a x y h = omega arith
 later-marked past (Evict b) a x y h = either (a == b)
   where

@@ -1,5 +1,4 @@
 -- Laws of the words after marks: one mark more, lengths, and what was before a moment.
-pub mod Lines
 pub mod Settled
 use Rattle.std.proofs.Common.{◌≡◌, ◌≤◌, ◌<◌, ◌+◌, ◌%◌, ◌^◌, ℕ, List, [], ◌∷◌, ◌++◌, length, slice_index, refl, sym, ap, ◌∙◌, subst, inl, inr, arith, length-append}
 use Rattle.std.specs.Prelude.{Some, slice_get, ◌==◌, if◌then◌else◌}
@@ -10,18 +9,16 @@ use Rattle.std.proofs.lemmas.Grind.{common_steps}
 use Rattle.bz_pm.specs.Words.{IsMemory}
 use Rattle.bz_pm.specs.State.{State, asks_of}
 use Rattle.bz_mark.specs.declared.marks.Mark.{Mark}
-use Rattle.bz_mark.specs.declared.marks.Mark.TheVariants.{Store, Cas, Flush, Fence, Evict, Cut}
+use Rattle.bz_mark.specs.declared.marks.Mark.TheVariants.{Store, Cas, Fence, Evict, Cut}
 use Rattle.bz_mark.specs.Moments.{at_moment, mark_at}
 use Rattle.bz_mark.proofs.MomentLaws.{at_moment-earlier, at_moment-next, at_moment-before, at_moment-now, mark_at-earlier, mark_at-newest}
 use Rattle.bz_mark.specs.WordsAfter.{state_after, state_after_marks, words_after_marks, KeepsLength, Found, IsTruthful}
-use Rattle.bz_mark.proofs.WordLaws.Lines.{length-line}
 use Rattle.bz_mark.proofs.WordLaws.Settled.{length-settled}
 
 -- a mark keeps the number of words
 pub length-state_after : (start : List ℕ) (m : State) (mark : Mark) → KeepsLength start m.words → KeepsLength start (state_after m mark).words
 length-state_after start m (Store w a v) same = record { cached = length-set m.words.cached a v ∙ same.cached; durable = same.durable }
 length-state_after start m (Cas w a old new found) same = record { cached = grind (arith, common_steps, same.cached); durable = same.durable }
-length-state_after start m (Flush w line) same = record { cached = same.cached; durable = length-line line m.words.cached m.words.durable (same.cached ∙ sym same.durable) ∙ same.durable }
 length-state_after start m (Fence w) same = record { cached = same.cached; durable = length-settled (asks_of m w) (record { durable = m.words.durable; since = m.since }) ∙ same.durable }
 length-state_after start m (Evict a) same = record { cached = same.cached; durable = length-set m.words.durable a (slice_index m.words.cached a) ∙ same.durable }
 length-state_after start m Cut same = record { cached = same.durable; durable = same.durable }

@@ -5,7 +5,7 @@ use Rattle.bz_layout.specs.Addresses.{swap_address}
 use Rattle.bz_layout.specs.declared.config.Config.{Config}
 use Rattle.bz_layout.specs.declared.sizes.TheConstants.{SWAP_STATUS_AT}
 use Rattle.bz_mark.specs.declared.marks.Mark.{Mark}
-use Rattle.bz_mark.specs.declared.marks.Mark.TheVariants.{Load, Store, Cas, Flush, Ask, Fence}
+use Rattle.bz_mark.specs.declared.marks.Mark.TheVariants.{Load, Store, Cas, Ask, Fence}
 
 -- the status of a swap that has begun
 abbrev pub BEGUN : ℕ
@@ -30,7 +30,6 @@ acts_by w [] = 0
 acts_by w (Load v a x ∷ past) = if v == w then acts_by w past + 1 else acts_by w past
 acts_by w (Store v a x ∷ past) = if v == w then acts_by w past + 1 else acts_by w past
 acts_by w (Cas v a old new found ∷ past) = if v == w then acts_by w past + 1 else acts_by w past
-acts_by w (Flush v line ∷ past) = if v == w then acts_by w past + 1 else acts_by w past
 acts_by w (Ask v line ∷ past) = if v == w then acts_by w past + 1 else acts_by w past
 acts_by w (Fence v ∷ past) = if v == w then acts_by w past + 1 else acts_by w past
 acts_by w (mark ∷ past) = acts_by w past

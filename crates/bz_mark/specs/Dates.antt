@@ -2,7 +2,7 @@
 -- newest mark stands first.
 use Rattle.std.specs.Prelude.{◌==◌, ◌&&◌, if◌then◌else◌, nat_lt, ℕ, ◌+◌, ◌/◌, max, List, [], ◌∷◌, length, slice_index}
 use Rattle.bz_mark.specs.declared.marks.Mark.{Mark}
-use Rattle.bz_mark.specs.declared.marks.Mark.TheVariants.{Store, Cas, Flush, Ask, Fence, Evict, Cut}
+use Rattle.bz_mark.specs.declared.marks.Mark.TheVariants.{Store, Cas, Ask, Fence, Evict, Cut}
 
 -- the moment of a worker's last ask for a line since its last fence and the last cut, and 0 where there is none
 abbrev pub asked : List Mark → ℕ → ℕ → ℕ
@@ -15,7 +15,6 @@ asked (mark ∷ past) w line = asked past w line
 -- the moment from which the durable value of a word dates
 abbrev pub since : List Mark → ℕ → ℕ
 since [] a = 0
-since (Flush w line ∷ past) a = if a / 8 == line then length past else since past a
 since (Fence w ∷ past) a = max (since past a) (asked past w (a / 8))
 since (Evict b ∷ past) a = if a == b then length past else since past a
 since (Cut ∷ past) a = length past + 1

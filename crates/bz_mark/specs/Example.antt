@@ -2,7 +2,7 @@
 -- what a power cut may leave.
 use Rattle.std.specs.Prelude.{◌≡◌, ◌⊎◌, ◌↔◌, ℕ, List, [], ◌∷◌, length, replicate, reverse, slice_index}
 use Rattle.bz_mark.specs.declared.marks.Mark.{Mark}
-use Rattle.bz_mark.specs.declared.marks.Mark.TheVariants.{Load, Store, Cas, Flush, Ask, Fence, Evict, Cut, On}
+use Rattle.bz_mark.specs.declared.marks.Mark.TheVariants.{Load, Store, Cas, Ask, Fence, Evict, Cut, On}
 use Rattle.bz_mark.specs.WordsAfter.{words_after_marks}
 use Rattle.bz_mark.specs.Dates.{cached_at, durable_word}
 use Rattle.bz_mark.specs.Evictions.{MayBeLeft}
@@ -28,7 +28,8 @@ table =
     ∷ row (Load 1 8 6) (5 ∷ 11 ∷ 12 ∷ 13 ∷ 14 ∷ 15 ∷ 16 ∷ 17 ∷ 6 ∷ []) (10 ∷ 11 ∷ 12 ∷ 13 ∷ 14 ∷ 15 ∷ 16 ∷ 17 ∷ 18 ∷ [])
     ∷ row (Cas 1 7 17 3 17) (5 ∷ 11 ∷ 12 ∷ 13 ∷ 14 ∷ 15 ∷ 16 ∷ 3 ∷ 6 ∷ []) (10 ∷ 11 ∷ 12 ∷ 13 ∷ 14 ∷ 15 ∷ 16 ∷ 17 ∷ 18 ∷ [])
     ∷ row (Cas 2 7 17 4 3) (5 ∷ 11 ∷ 12 ∷ 13 ∷ 14 ∷ 15 ∷ 16 ∷ 3 ∷ 6 ∷ []) (10 ∷ 11 ∷ 12 ∷ 13 ∷ 14 ∷ 15 ∷ 16 ∷ 17 ∷ 18 ∷ [])
-    ∷ row (Flush 1 0) (5 ∷ 11 ∷ 12 ∷ 13 ∷ 14 ∷ 15 ∷ 16 ∷ 3 ∷ 6 ∷ []) (5 ∷ 11 ∷ 12 ∷ 13 ∷ 14 ∷ 15 ∷ 16 ∷ 3 ∷ 18 ∷ [])
+    ∷ row (Ask 1 0) (5 ∷ 11 ∷ 12 ∷ 13 ∷ 14 ∷ 15 ∷ 16 ∷ 3 ∷ 6 ∷ []) (10 ∷ 11 ∷ 12 ∷ 13 ∷ 14 ∷ 15 ∷ 16 ∷ 17 ∷ 18 ∷ [])
+    ∷ row (Fence 1) (5 ∷ 11 ∷ 12 ∷ 13 ∷ 14 ∷ 15 ∷ 16 ∷ 3 ∷ 6 ∷ []) (5 ∷ 11 ∷ 12 ∷ 13 ∷ 14 ∷ 15 ∷ 16 ∷ 3 ∷ 18 ∷ [])
     ∷ row (Store 1 1 2) (5 ∷ 2 ∷ 12 ∷ 13 ∷ 14 ∷ 15 ∷ 16 ∷ 3 ∷ 6 ∷ []) (5 ∷ 11 ∷ 12 ∷ 13 ∷ 14 ∷ 15 ∷ 16 ∷ 3 ∷ 18 ∷ [])
     ∷ row (Evict 8) (5 ∷ 2 ∷ 12 ∷ 13 ∷ 14 ∷ 15 ∷ 16 ∷ 3 ∷ 6 ∷ []) (5 ∷ 11 ∷ 12 ∷ 13 ∷ 14 ∷ 15 ∷ 16 ∷ 3 ∷ 6 ∷ [])
     ∷ row Cut (5 ∷ 11 ∷ 12 ∷ 13 ∷ 14 ∷ 15 ∷ 16 ∷ 3 ∷ 6 ∷ []) (5 ∷ 11 ∷ 12 ∷ 13 ∷ 14 ∷ 15 ∷ 16 ∷ 3 ∷ 6 ∷ [])
@@ -73,8 +74,6 @@ asks_and_fences =
     ∷ case (Store 1 0 5 ∷ Ask 1 0 ∷ Evict 0 ∷ Fence 1 ∷ []) (5, 5) (0, 0)
     -- one word of the line is evicted, and the other one is not
     ∷ case (Store 1 0 5 ∷ Store 1 1 7 ∷ Ask 1 0 ∷ Store 1 0 6 ∷ Store 1 1 8 ∷ Evict 0 ∷ Fence 1 ∷ []) (6, 6) (8, 7)
-    -- a flush is an eviction of each word of the line
-    ∷ case (Store 1 0 5 ∷ Store 1 1 7 ∷ Ask 1 0 ∷ Store 1 0 6 ∷ Flush 2 0 ∷ Fence 1 ∷ []) (6, 6) (7, 7)
     -- a fence forgets what it made durable
     ∷ case (Store 1 0 5 ∷ Ask 1 0 ∷ Fence 1 ∷ Store 1 0 6 ∷ Fence 1 ∷ []) (6, 5) (0, 0)
     ∷ []
@@ -93,10 +92,10 @@ LeaveThese (it ∷ cases) = HasWord (reverse it.marks) 0 it.first × HasWord (re
 abbrev pub AsksAndFencesLeaveThese : Type 0
 AsksAndFencesLeaveThese = LeaveThese asks_and_fences
 
--- a memory of one word, 4: a store of 5, a flush of its line, a store of 6
-abbrev pub flushed_between : List Mark
-flushed_between = Store 1 0 6 ∷ Flush 1 0 ∷ Store 1 0 5 ∷ []
+-- a memory of one word, 4: a store of 5, an ask for its line and the fence, a store of 6
+abbrev pub fenced_between : List Mark
+fenced_between = Store 1 0 6 ∷ Fence 1 ∷ Ask 1 0 ∷ Store 1 0 5 ∷ []
 
 -- a power cut then leaves 5 or 6, and nothing else
 abbrev pub LeavesFiveOrSix : Type 0
-LeavesFiveOrSix = (image : List ℕ) → MayBeLeft (4 ∷ []) flushed_between image ↔ ((image ≡ 5 ∷ []) ⊎ (image ≡ 6 ∷ []))
+LeavesFiveOrSix = (image : List ℕ) → MayBeLeft (4 ∷ []) fenced_between image ↔ ((image ≡ 5 ∷ []) ⊎ (image ≡ 6 ∷ []))

@@ -4,7 +4,7 @@ use Rattle.bz_layout.specs.declared.limits.TheConstants.{MAX_WORKERS}
 use Rattle.bz_pm.specs.After.{after_cas}
 use Rattle.bz_pm.specs.State.{State}
 use Rattle.bz_mark.specs.declared.marks.Mark.{Mark}
-use Rattle.bz_mark.specs.declared.marks.Mark.TheVariants.{Store, Cas, Flush, Ask, Fence, Evict}
+use Rattle.bz_mark.specs.declared.marks.Mark.TheVariants.{Store, Cas, Ask, Fence, Evict}
 use Rattle.bz_mark.specs.Dates.{since, cached_at, durable_word}
 use Rattle.bz_mark.specs.Moments.{at_moment, mark_at}
 use Rattle.bz_mark.specs.WordsAfter.{state_after, state_after_marks, words_after_marks, KeepsLength, Found, IsTruthful}
@@ -54,7 +54,6 @@ pub record IsImage (start : List ℕ) : Type 0 where
 abbrev pub IsOfMemory : ℕ → Mark → Type 0
 IsOfMemory words (Store w a v) = (a < words) × (v < 2 ^ 64)
 IsOfMemory words (Cas w a old new found) = (a < words) × (new < 2 ^ 64)
-IsOfMemory words (Flush w line) = line * 8 < words
 IsOfMemory words (Ask w line) = (w ≤ MAX_WORKERS) × (line * 8 < words)
 IsOfMemory words (Fence w) = w ≤ MAX_WORKERS
 IsOfMemory words (Evict a) = a < words

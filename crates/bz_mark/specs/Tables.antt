@@ -8,7 +8,7 @@ use Rattle.bz_call.specs.declared.replies.Reply.TheVariants.{Missing}
 use Rattle.bz_mark.specs.declared.marks.Mark.{Mark}
 use Rattle.bz_mark.specs.declared.marks.Mark.TheVariants as mark
 use Rattle.bz_mark.specs.declared.compact.CompactMark.{CompactMark}
-use Rattle.bz_mark.specs.declared.compact.CompactMark.TheVariants.{Begin, End, Load, Store, Cas, Flush, Ask, Fence, Evict, Cut, On, Ready, Effect}
+use Rattle.bz_mark.specs.declared.compact.CompactMark.TheVariants.{Begin, End, Load, Store, Cas, Ask, Fence, Evict, Cut, On, Ready, Effect}
 
 -- the mark that a compact one stands for
 abbrev pub whole : List Call → List Reply → CompactMark → Mark
@@ -17,7 +17,6 @@ whole calls replies (End w n place at) = mark.End w n (get_or replies place Miss
 whole calls replies (Load w a v) = mark.Load w a v
 whole calls replies (Store w a v) = mark.Store w a v
 whole calls replies (Cas w a old new found) = mark.Cas w a old new found
-whole calls replies (Flush w line) = mark.Flush w line
 whole calls replies (Ask w line) = mark.Ask w line
 whole calls replies (Fence w) = mark.Fence w
 whole calls replies (Evict a) = mark.Evict a

@@ -3,16 +3,15 @@ use Rattle.std.specs.Prelude.{◌≡◌, ◌==◌, if◌then◌else◌, ℕ, Lis
 use Rattle.bz_layout.specs.declared.limits.TheConstants.{MAX_WORKERS}
 use Rattle.bz_pm.specs.Words.{Words}
 use Rattle.bz_pm.specs.State.{State}
-use Rattle.bz_pm.specs.After.{opened, after_store, after_flush, after_ask, after_fence, after_eviction, after_power_cut}
+use Rattle.bz_pm.specs.After.{opened, after_store, after_ask, after_fence, after_eviction, after_power_cut}
 use Rattle.bz_mark.specs.declared.marks.Mark.{Mark}
-use Rattle.bz_mark.specs.declared.marks.Mark.TheVariants.{Load, Store, Cas, Flush, Ask, Fence, Evict, Cut}
+use Rattle.bz_mark.specs.declared.marks.Mark.TheVariants.{Load, Store, Cas, Ask, Fence, Evict, Cut}
 
 -- the memory after a mark: what the act leaves, and the same memory where the mark is no act that changes something.
 -- A compare-and-swap changes the word where it found the expected value.
 abbrev pub state_after : State → Mark → State
 state_after m (Store w a v) = after_store m a v
 state_after m (Cas w a old new found) = record m { words = record { cached = if found == old then slice_set m.words.cached a new else m.words.cached; durable = m.words.durable } }
-state_after m (Flush w line) = after_flush m line
 state_after m (Ask w line) = after_ask m w line
 state_after m (Fence w) = after_fence m w
 state_after m (Evict a) = after_eviction m a

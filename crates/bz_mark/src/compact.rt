@@ -36,10 +36,6 @@ pub enum CompactMark {
         new: u64,
         found: u64,
     },
-    Flush {
-        w: u8,
-        line: u32,
-    },
     Ask {
         w: u8,
         line: u32,
@@ -93,7 +89,6 @@ pub fn whole_mark(calls: &[Call], replies: &[Reply], mark: CompactMark) -> Mark
             new,
             found,
         },
-        CompactMark::Flush { w, line } => Mark::Flush { w, line },
         CompactMark::Ask { w, line } => Mark::Ask { w, line },
         CompactMark::Fence { w } => Mark::Fence { w },
         CompactMark::Evict { a } => Mark::Evict { a },

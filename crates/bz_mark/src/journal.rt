@@ -92,7 +92,6 @@ impl Journal {
                 new,
                 found,
             }),
-            Mark::Flush { w, line } => self.push_plain(CompactMark::Flush { w, line }),
             Mark::Ask { w, line } => self.push_plain(CompactMark::Ask { w, line }),
             Mark::Fence { w } => self.push_plain(CompactMark::Fence { w }),
             Mark::Evict { a } => self.push_plain(CompactMark::Evict { a }),

@@ -43,12 +43,6 @@ pub enum Mark {
         found: u64,
     },
 
-    /// A flush of a line.
-    Flush {
-        w: u8,
-        line: u32,
-    },
-
     /// The worker asks that a line, as it is in the caches now, be durable after its next fence.
     Ask {
         w: u8,
@@ -74,7 +68,7 @@ pub enum Mark {
     /// The act before ended recovery.
     Ready,
 
-    /// The flush, fence or eviction before made the success of this call durable.
+    /// The fence or eviction before made the success of this call durable.
     Effect {
         w: u8,
         n: u32,

@@ -1,25 +1,21 @@
 -- The whole of a memory after an act, for the proofs of the crates above: it stays one whose past is one, and from when each word dates.
-use Rattle.std.specs.Prelude.{◌≡◌, ◌==◌, if◌then◌else◌, Bool, true, false, ℕ, ◌+◌, ◌-◌, ◌/◌, ◌*◌, ◌%◌, ◌^◌, ◌<◌, ◌≤◌, List, [], ◌∷◌, length, replicate, slice_index, slice_set, get_or}
-use Rattle.std.proofs.Common.{arith, refl, sym, ap, ◌∙◌, inl, inr}
-use Rattle.std.proofs.lemmas.List.{get_or-replicate, get_or-set_same, get_or-set_other, length-set, length-replicate}
-use Rattle.std.proofs.lemmas.Bool.{cases_eq, cases_lt}
+use Rattle.std.specs.Prelude.{◌≡◌, ◌==◌, if◌then◌else◌, Bool, true, false, ℕ, ◌+◌, ◌-◌, ◌*◌, ◌^◌, ◌<◌, ◌≤◌, List, [], ◌∷◌, length, slice_index, slice_set}
+use Rattle.std.proofs.Common.{arith, refl, sym, ◌∙◌, inl, inr}
+use Rattle.std.proofs.lemmas.List.{get_or-set_same, get_or-set_other, length-set}
+use Rattle.std.proofs.lemmas.Bool.{cases_eq}
 use Rattle.bz_pm.specs.Words.{HoldsWords}
 use Rattle.bz_pm.specs.Acts.{after_cut}
 use Rattle.bz_pm.specs.State.{State, IsState, asks_of}
-use Rattle.bz_pm.specs.After.{with_ask, ask_now, after_flush, after_eviction, after_ask, after_fence, after_power_cut, after_renewal}
+use Rattle.bz_pm.specs.After.{with_ask, ask_now, after_eviction, after_ask, after_fence, after_power_cut}
 use Rattle.bz_pm.specs.declared.asks.Ask.{Ask}
 use Rattle.bz_pm.proofs.Fences.{ask}
 use Rattle.bz_pm.proofs.Asked.{same_test, other_test}
 use Rattle.bz_pm.proofs.Lemmas.{evict, cut}
-use Rattle.bz_pm.proofs.Lemmas.Copies.{word-with_line}
-use Rattle.bz_pm.proofs.States.{state-cached, state-flushed, state-fenced, state-begun}
+use Rattle.bz_pm.proofs.States.{state-cached, state-fenced, state-begun}
 
 -- the words change in the caches alone
 pub state_cached : (m : State) (into : List ℕ) → IsState m → length into ≡ length m.words.cached → IsState (record m { words = record { cached = into; durable = m.words.durable } })
 state_cached = state-cached
-
-pub state_flushed : (m : State) (line : ℕ) → IsState m → line * 8 < length m.words.cached → IsState (after_flush m line)
-state_flushed = state-flushed
 
 most_set : (xs : List ℕ) (a x b most : ℕ) → x ≤ most → ((c : ℕ) → slice_index xs c ≤ most) → a < length xs → slice_index (slice_set xs a x) b ≤ most
 most_set xs a x b most le all within = elim (cases_eq b a) [
@@ -46,21 +42,7 @@ state_fenced m w i lt = state-fenced m w (asks_of m w) _ i lt refl refl
 pub state_cut : (m : State) → IsState m → IsState (after_power_cut m)
 state_cut m i = state-begun (after_cut m.words) (length m.since) (length m.asks) (cut m.words i.memory).stays.memory i.dated
 
-pub state_renewed : (m : State) → IsState m → IsState (after_renewal m)
-state_renewed m i = state-begun m.words (length m.since) (length m.asks) i.memory i.dated
-
 -- from when each word dates
-pub dates_flushed : (m : State) (line b : ℕ) → IsState m → line * 8 < length m.words.cached → slice_index (after_flush m line).since b ≡ (if b / 8 == line then m.count else slice_index m.since b)
-dates_flushed m line b i within =
-    let now : List ℕ = replicate (length m.since) m.count in
-    let long : length now ≡ length m.since = length-replicate (length m.since) m.count in
-    let here : line * 8 < length now = omega (arith, long, i.memory.same, i.dated) in
-    let whole : length m.since % 8 ≡ 0 = rw i.dated i.memory.lines in
-    word-with_line line now m.since b here long whole ∙ elim (cases_lt b (length m.since)) [
-      | inl inside ↦ ap (λ (date : ℕ). if b / 8 == line then date else slice_index m.since b) (get_or-replicate (length m.since) b m.count 0 inside)
-      | inr beyond ↦ (let other : (b / 8 == line) ≡ false = other_test (b / 8) line (omega (arith, beyond, here, whole, long)) in rw other refl)
-    ]
-
 pub dates_evicted : (m : State) (a b : ℕ) → IsState m → a < length m.words.cached → slice_index (after_eviction m a).since b ≡ (if b == a then m.count else slice_index m.since b)
 dates_evicted m a b i within = elim (cases_eq b a) [
   | inl e ↦ rw (same_test b a e, e) (get_or-set_same m.since a m.count 0 (omega (arith, i.memory.same, i.dated)))

@@ -1,13 +1,11 @@
 -- Laws of the acts of a memory, for the proofs of the crates above.
-pub mod Copies
-use Rattle.std.specs.Prelude.{◌≡◌, ◌==◌, ◌&&◌, if◌then◌else◌, Bool, true, false, ℕ, ◌/◌, ◌%◌, ◌*◌, ◌^◌, ◌<◌, List, length, slice_index, slice_set}
+use Rattle.std.specs.Prelude.{◌≡◌, ◌==◌, ◌&&◌, if◌then◌else◌, Bool, true, false, ℕ, ◌<◌, List, length, slice_index, slice_set}
 use Rattle.std.proofs.Common.{arith, refl}
 use Rattle.std.proofs.lemmas.List.{get_or-set_same, get_or-set_other, length-set}
 use Rattle.std.proofs.lemmas.Grind.{common_steps}
-use Rattle.bz_pm.specs.Words.{Words, IsMemory, HoldsWords}
-use Rattle.bz_pm.specs.Acts.{with_line, stored, compared, flushed, evicted, after_cut}
-use Rattle.bz_pm.specs.Changes.{StaysMemory, StoresOnly, ComparesOnly, FlushesOnly, EvictsOnly, CutsOnly, StoredStoresOnly, ComparedComparesOnly, FlushedFlushesOnly, EvictedEvictsOnly, CutCutsOnly}
-use Rattle.bz_pm.proofs.Lemmas.Copies.{length-with_line, word-with_line}
+use Rattle.bz_pm.specs.Words.{Words, IsMemory}
+use Rattle.bz_pm.specs.Acts.{stored, compared, evicted, after_cut}
+use Rattle.bz_pm.specs.Changes.{StoredStoresOnly, ComparedComparesOnly, EvictedEvictsOnly, CutCutsOnly}
 
 -- a list after one write, by address
 word-set : (xs : List ℕ) (a v b : ℕ) → a < length xs → slice_index (slice_set xs a v) b ≡ (if b == a then v else slice_index xs b)
@@ -62,24 +60,6 @@ compare m a expected v i within small =
         fit = λ h. record {
           cached = λ b. rw (word-set_if test m.cached a v b within) (either_below (b == a && test) v _ _ small (h.cached b));
           durable = h.durable;
-        };
-      };
-    }
-
-pub flush : FlushedFlushesOnly
-flush m line i within =
-    let words = λ (b : ℕ). word-with_line line m.cached m.durable b within i.same i.lines in
-    let long = length-with_line line m.cached m.durable within i.same i.lines in
-    record {
-      cached = λ b. refl;
-      durable = words;
-      stays = record {
-        cached = refl;
-        durable = long;
-        memory = IsMemory-same_lengths m (flushed m line) i refl long;
-        fit = λ h. record {
-          cached = h.cached;
-          durable = λ b. rw (words b) (either_below (b / 8 == line) _ _ _ (h.cached b) (h.durable b));
         };
       };
     }

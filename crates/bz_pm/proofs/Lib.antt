@@ -2,7 +2,6 @@ pub mod Lemmas
 pub mod Fences
 mod Asked
 mod Asking
-mod Copying
 pub mod Dates
 mod Settling
 mod States

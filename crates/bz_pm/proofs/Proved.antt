@@ -1,7 +1,7 @@
 -- What this crate proves, as lemmas that other crates cite by these names.
 use Rattle.bz_pm.proofs.Fences.{ask as ask-holds, fence as fence-holds}
-use Rattle.bz_pm.proofs.Lemmas.{compare as compare-holds, cut as cut-holds, evict as evict-holds, flush as flush-holds, store as store-holds}
-use Rattle.bz_pm.specs.Changes.{AskAsksOnly, ComparedComparesOnly, CutCutsOnly, EvictedEvictsOnly, FenceFencesOnly, FlushedFlushesOnly, StoredStoresOnly}
+use Rattle.bz_pm.proofs.Lemmas.{compare as compare-holds, cut as cut-holds, evict as evict-holds, store as store-holds}
+use Rattle.bz_pm.specs.Changes.{AskAsksOnly, ComparedComparesOnly, CutCutsOnly, EvictedEvictsOnly, FenceFencesOnly, StoredStoresOnly}
 
 -- a store changes the cached word of its address alone
 pub store : StoredStoresOnly
@@ -10,10 +10,6 @@ store = store-holds
 -- a compare-and-swap changes the cached word of its address alone, where that is the expected one
 pub compare : ComparedComparesOnly
 compare = compare-holds
-
--- a flush changes the eight durable words of its line alone, into the cached ones
-pub flush : FlushedFlushesOnly
-flush = flush-holds
 
 -- an eviction changes the durable word of its address alone, into the cached one
 pub evict : EvictedEvictsOnly

@@ -1,16 +1,14 @@
 -- A memory stays one whose past is one.
-use Rattle.std.specs.Prelude.{◌≡◌, ◌==◌, if◌then◌else◌, Bool, true, false, ℕ, ◌*◌, ◌+◌, ◌/◌, ◌%◌, ◌^◌, ◌<◌, ◌≤◌, List, [], length, take, drop, replicate, slice_index, slice_set, get_or}
+use Rattle.std.specs.Prelude.{◌≡◌, ℕ, ◌*◌, ◌+◌, ◌^◌, ◌<◌, ◌≤◌, List, [], length, take, drop, replicate, slice_index, slice_set, get_or}
 use Rattle.std.proofs.Common.{arith, refl, sym, ◌∙◌, inl, inr, zero, suc}
 use Rattle.std.proofs.lemmas.List.{get_or-set_same, get_or-set_other, length-take, length-drop, length-replicate, get_or-take, get_or-drop, get_or_past}
 use Rattle.std.proofs.lemmas.Bool.{cases_eq, cases_lt}
 use Rattle.bz_pm.specs.Words.{Words, IsMemory}
-use Rattle.bz_pm.specs.Acts.{with_line, flushed}
 use Rattle.bz_pm.specs.State.{State, IsState, IsAsk, AreAsks, asks_of}
 use Rattle.bz_pm.specs.After.{Dated, with_ask, line_words, settled}
 use Rattle.bz_pm.specs.declared.asks.Ask.{Ask}
 use Rattle.bz_pm.proofs.Asked.{AreAsks-later, AreAsks-with_ask}
 use Rattle.bz_pm.proofs.Lemmas.{IsMemory-same_lengths}
-use Rattle.bz_pm.proofs.Lemmas.Copies.{length-with_line, word-with_line}
 use Rattle.bz_pm.proofs.Settling.{long_asks, past_asks}
 
 -- the words change in the caches alone
@@ -26,28 +24,6 @@ at_most-replicate : (n x a : ℕ) → slice_index (replicate n x) a ≤ x
 at_most-replicate zero x a = omega arith
 at_most-replicate (suc n) x zero = omega arith
 at_most-replicate (suc n) x (suc a) = at_most-replicate n x a
-
-at_most-if : (t : Bool) (x y most : ℕ) → x ≤ most → y ≤ most → (if t then x else y) ≤ most
-at_most-if true x y most p q = p
-at_most-if false x y most p q = q
-
--- a line becomes durable now
-pub state-flushed : (m : State) (line : ℕ) → IsState m → line * 8 < length m.words.cached
-    → IsState (record m { words = flushed m.words line; since = with_line line (replicate (length m.since) m.count) m.since })
-state-flushed m line i within =
-    let now : List ℕ = replicate (length m.since) m.count in
-    let long : length now ≡ length m.since = length-replicate (length m.since) m.count in
-    let here : line * 8 < length now = omega (arith, i.memory.same, i.dated) in
-    let whole : length m.since % 8 ≡ 0 = rw i.dated i.memory.lines in
-    let durable = length-with_line line m.words.cached m.words.durable within i.memory.same i.memory.lines in
-    let since = length-with_line line now m.since here long whole in
-    record {
-      memory = IsMemory-same_lengths m.words _ i.memory refl durable;
-      dated = since ∙ (i.dated ∙ sym durable);
-      past = λ a. rw (word-with_line line now m.since a here long whole)
-          (at_most-if (a / 8 == line) _ _ m.count (at_most-replicate (length m.since) m.count a) (i.past a));
-      asks = λ w. rw durable (i.asks w);
-    }
 
 -- one worker's asks are others
 asks-set : (size acts : ℕ) (asks : List (List Ask)) (w : ℕ) (qs : List Ask) → ((v : ℕ) → AreAsks size acts (get_or asks v [])) → AreAsks size acts qs → w < length asks

@@ -1,14 +1,6 @@
 -- What each act leaves of the words of a memory.
-use Rattle.std.specs.Prelude.{if◌then◌else◌, ◌==◌, ℕ, ◌+◌, ◌*◌, List, ◌++◌, take, drop, slice_index, slice_set}
+use Rattle.std.specs.Prelude.{if◌then◌else◌, ◌==◌, ℕ, slice_index, slice_set}
 use Rattle.bz_pm.specs.Words.{Words}
-
--- the second list, with n words from an address on taken from the first
-unfoldable pub with_range : ℕ → ℕ → List ℕ → List ℕ → List ℕ
-with_range at n from to = take at to ++ take n (drop at from) ++ drop (at + n) to
-
--- the second list, with the eight words of a line taken from the first
-unfoldable pub with_line : ℕ → List ℕ → List ℕ → List ℕ
-with_line line from to = with_range (line * 8) 8 from to
 
 -- a store changes the cached word
 abbrev pub stored : Words → ℕ → ℕ → Words
@@ -20,10 +12,6 @@ compared m a old new = record {
   cached = if slice_index m.cached a == old then slice_set m.cached a new else m.cached;
   durable = m.durable;
 }
-
--- a flush makes the cached words of a line durable
-abbrev pub flushed : Words → ℕ → Words
-flushed m line = record { cached = m.cached; durable = with_line line m.cached m.durable }
 
 -- an eviction makes one cached word durable
 abbrev pub evicted : Words → ℕ → Words

@@ -1,6 +1,6 @@
 -- What each act leaves of a memory and of what it keeps of the past.
 use Rattle.std.specs.Prelude.{◌==◌, if◌then◌else◌, nat_lt, ℕ, ◌+◌, ◌-◌, ◌*◌, ◌^◌, List, [], ◌∷◌, length, take, drop, replicate, min, slice_index, slice_set}
-use Rattle.bz_pm.specs.Acts.{with_line, stored, compared, flushed, evicted, after_cut}
+use Rattle.bz_pm.specs.Acts.{stored, compared, evicted, after_cut}
 use Rattle.bz_pm.specs.State.{State, Counted, asks_of}
 use Rattle.bz_pm.specs.declared.asks.Ask.{Ask}
 
@@ -14,10 +14,6 @@ after_store m a v = record m { words = stored m.words a v }
 
 abbrev pub after_cas : State → ℕ → ℕ → ℕ → State
 after_cas m a old new = record m { words = compared m.words a old new }
-
--- after a flush the durable words of the line date from now
-abbrev pub after_flush : State → ℕ → State
-after_flush m line = record m { words = flushed m.words line; since = with_line line (replicate (length m.since) m.count) m.since }
 
 -- after an eviction the durable word dates from now
 abbrev pub after_eviction : State → ℕ → State
@@ -80,10 +76,6 @@ after_power_cut m = record {
   since = replicate (length m.since) 0;
   asks = replicate (length m.asks) [];
 }
-
--- a renewal leaves the words; it forgets what was asked for, and asks are counted anew from it
-abbrev pub after_renewal : State → State
-after_renewal m = record m { count = 0; since = replicate (length m.since) 0; asks = replicate (length m.asks) [] }
 
 -- a memory as it is opened: no worker from 0 to this one has asked for a line
 abbrev pub opened : List ℕ → ℕ → State

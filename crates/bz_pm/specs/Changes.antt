@@ -3,7 +3,7 @@ use Rattle.std.specs.Prelude.{◌≡◌, ◌==◌, ◌&&◌, if◌then◌else◌
 use Rattle.std.specs.declared.option.Option.{Option}
 use Rattle.std.specs.declared.option.Option.TheVariants.{None, Some}
 use Rattle.bz_pm.specs.Words.{Words, IsMemory, HoldsWords}
-use Rattle.bz_pm.specs.Acts.{stored, compared, flushed, evicted, after_cut}
+use Rattle.bz_pm.specs.Acts.{stored, compared, evicted, after_cut}
 use Rattle.bz_pm.specs.State.{State, IsState, asks_of, ask_for}
 use Rattle.bz_pm.specs.After.{ask_now, after_ask, after_fence}
 use Rattle.bz_pm.specs.declared.asks.Ask.{Ask}
@@ -27,12 +27,6 @@ pub record ComparesOnly (old new : Words) (a expected v : ℕ) : Type 0 where
   pub durable : (b : ℕ) → slice_index new.durable b ≡ slice_index old.durable b
   pub stays : StaysMemory old new
 
--- the durable words of a line are the cached ones, and nothing else changes
-pub record FlushesOnly (old new : Words) (line : ℕ) : Type 0 where
-  pub cached : (b : ℕ) → slice_index new.cached b ≡ slice_index old.cached b
-  pub durable : (b : ℕ) → slice_index new.durable b ≡ (if b / 8 == line then slice_index old.cached b else slice_index old.durable b)
-  pub stays : StaysMemory old new
-
 -- the durable word of an address is the cached one, and nothing else changes
 pub record EvictsOnly (old new : Words) (a : ℕ) : Type 0 where
   pub cached : (b : ℕ) → slice_index new.cached b ≡ slice_index old.cached b
@@ -52,9 +46,6 @@ StoredStoresOnly = (m : Words) (a v : ℕ) → IsMemory m → a < length m.cache
 abbrev pub ComparedComparesOnly : Type 0
 ComparedComparesOnly =
     (m : Words) (a expected v : ℕ) → IsMemory m → a < length m.cached → v < 2 ^ 64 → ComparesOnly m (compared m a expected v) a expected v
-
-abbrev pub FlushedFlushesOnly : Type 0
-FlushedFlushesOnly = (m : Words) (line : ℕ) → IsMemory m → line * 8 < length m.cached → FlushesOnly m (flushed m line) line
 
 abbrev pub EvictedEvictsOnly : Type 0
 EvictedEvictsOnly = (m : Words) (a : ℕ) → IsMemory m → a < length m.cached → EvictsOnly m (evicted m a) a

@@ -1,15 +1,10 @@
 //! Laws of the acts of a memory: each function does nothing, and its contract is the law.
 
-ghost use Rattle.bz_pm.specs.Changes.{ComparedComparesOnly, FlushedFlushesOnly, CutCutsOnly};
+ghost use Rattle.bz_pm.specs.Changes.{ComparedComparesOnly, CutCutsOnly};
 
 /// A compare-and-swap changes the cached word of its address alone, where that is the expected one.
 pub fn compare()
     ensures { ComparedComparesOnly }
-{}
-
-/// A flush changes the eight durable words of its line alone, into the cached ones.
-pub fn flush()
-    ensures { FlushedFlushesOnly }
 {}
 
 /// A power cut changes the cached words alone, into the durable ones.

@@ -3,10 +3,10 @@
 ghost use Rattle.std.specs.Prelude.{◌≡◌, ◌↔◌, ◌*◌, ◌%◌, ◌<◌, ◌^◌, IsTrue, length, slice_index, IfOk};
 ghost use Rattle.bz_pm.specs.Words.{HoldsWords};
 ghost use Rattle.bz_pm.specs.State.{IsState, asks_of};
-ghost use Rattle.bz_pm.specs.After.{opened, acted, unacted, after_store, after_cas, after_ask, after_fence, after_flush, after_eviction, after_power_cut, after_renewal};
+ghost use Rattle.bz_pm.specs.After.{opened, acted, unacted, after_store, after_cas, after_ask, after_fence, after_eviction, after_power_cut};
 
 use crate::asks::{Ask, Asks, LINES_ASKED, forget, no_asks};
-use crate::line::{copy_line, fill_line, words_of};
+use crate::line::words_of;
 use crate::settle::settle;
 use bz_oom::Memory;
 use std::alloc::Global;
@@ -113,7 +113,7 @@ impl Pm {
         (w as usize) < self.asks.len() && self.asks[w as usize].as_slice().len() < LINES_ASKED
     }
 
-    /// How many asks were made since the opening, the last power cut or the last renewal; the count stops at its last value.
+    /// How many asks were made since the opening or the last power cut; the count stops at its last value.
     pub fn asked(&self) -> u64
         ensures { result ≡ self.now.state.count }
     {
@@ -149,16 +149,6 @@ impl Pm {
         self.acts = self.acts.saturating_add(1);
     }
 
-    /// Makes the eight cached words of a line durable, as one step.
-    pub fn flush(&mut self, line: u32)
-        requires { line * 8 < length self.old.state.words.cached }
-        ensures { self.new ≡ acted self.old (after_flush self.old.state line) }
-    {
-        copy_line(&self.cached, &mut self.durable, line as usize);
-        fill_line(&mut self.since, line as usize, self.count);
-        self.acts = self.acts.saturating_add(1);
-    }
-
     /// Makes the cached word at an address durable. This is no act of a worker.
     pub fn evict(&mut self, a: u32)
         requires { a < length self.old.state.words.cached }
@@ -175,18 +165,6 @@ impl Pm {
         self.cached.copy_from_slice(&self.durable);
         self.since.fill(0);
         forget(&mut self.asks);
-        self.acts = 0;
-        self.count = 0;
-    }
-
-    /// Forgets what was asked for, and counts asks anew. The words stay. Where no worker waits for a fence, no act tells the
-    /// difference.
-    pub fn renew(&mut self)
-        ensures { self.new ≡ unacted (after_renewal self.old.state) }
-    {
-        let asks = &mut self.asks;
-        forget(asks);
-        self.since.fill(0);
         self.acts = 0;
         self.count = 0;
     }

@@ -9,7 +9,6 @@ enum Act {
     Store(u32, u64),
     Ask(u8),
     Fence(u8),
-    Flush,
     Evict(u32),
     Cut,
 }
@@ -29,7 +28,6 @@ fn make(rt: &impl Abort, pm: &mut Pm, act: Act) {
             assert!(rt; pm.may_ask(w));
             pm.fence(w);
         }
-        Act::Flush => pm.flush(0),
         Act::Evict(a) => {
             assert!(rt; a < 16);
             pm.evict(a);
@@ -45,7 +43,7 @@ fn has(rt: &impl Abort, pm: &Pm, a: u32, word: (u64, u64)) {
 }
 
 // Acts on a memory whose words are 0, then the cached and the durable value of word 0, and those of word 1.
-const ROWS: [(&[Act], (u64, u64), (u64, u64)); 16] = [
+const ROWS: [(&[Act], (u64, u64), (u64, u64)); 15] = [
     // an ask captures
     (
         &[
@@ -66,18 +64,6 @@ const ROWS: [(&[Act], (u64, u64), (u64, u64)); 16] = [
             Act::Ask(1),
             Act::Store(0, 6),
             Act::Evict(0),
-            Act::Fence(1),
-        ],
-        (6, 6),
-        (0, 0),
-    ),
-    // nor behind a flush
-    (
-        &[
-            Act::Store(0, 5),
-            Act::Ask(1),
-            Act::Store(0, 6),
-            Act::Flush,
             Act::Fence(1),
         ],
         (6, 6),
@@ -111,7 +97,8 @@ const ROWS: [(&[Act], (u64, u64), (u64, u64)); 16] = [
     (
         &[
             Act::Store(0, 5),
-            Act::Flush,
+            Act::Ask(2),
+            Act::Fence(2),
             Act::Cut,
             Act::Store(0, 6),
             Act::Ask(1),

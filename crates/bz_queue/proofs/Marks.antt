@@ -2,7 +2,7 @@
 use Rattle.std.proofs.Common.{◌≡◌, ◌<◌, ℕ, zero, suc, List, ◌∷◌, length, refl, subst, arith}
 use Rattle.bz_swap_acts.specs.Rule.{IsWithin, FoundRightly}
 use Rattle.bz_swap_acts.specs.declared.acted.Act.{Act}
-use Rattle.bz_swap_acts.specs.declared.acted.Act.TheVariants.{Load, Store, Cas, Flush, Ask, Fence}
+use Rattle.bz_swap_acts.specs.declared.acted.Act.TheVariants.{Load, Store, Cas, Ask, Fence}
 use Rattle.bz_swap_cells.specs.FromPm.Words.{Words}
 use Rattle.bz_swap_machine.specs.declared.done.Done.{Done}
 use Rattle.bz_mark.specs.WordsAfter.{state_after_marks, words_after_marks, Found}
@@ -25,7 +25,6 @@ pub act-plain : (w : ℕ) (made : Act) → IsPlain (mark_of w made)
 act-plain w (Load a v) = tt
 act-plain w (Store a v) = tt
 act-plain w (Cas a old new found) = tt
-act-plain w (Flush line) = tt
 act-plain w (Ask line) = tt
 act-plain w Fence = tt
 
@@ -61,7 +60,6 @@ pub act-found : (w : ℕ) (old new : SwapMemory) (start : List ℕ) (marks : Lis
 act-found w old new start marks (Load a v) same act within = subst (λ (z : Words). Found z (mark_of w (Load a v))) same (found-read old.cached a v within act)
 act-found w old new start marks (Store a v) same act within = tt
 act-found w old new start marks (Cas a before after found) same act within = subst (λ (z : Words). Found z (mark_of w (Cas a before after found))) same (found-read old.cached a found within act)
-act-found w old new start marks (Flush line) same act within = tt
 act-found w old new start marks (Ask line) same act within = tt
 act-found w old new start marks Fence same act within = tt
 
@@ -70,6 +68,5 @@ act-follows past zero made some h = absurd (omega arith)
 act-follows past (suc w) (Load a v) some h = h
 act-follows past (suc w) (Store a v) some h = h
 act-follows past (suc w) (Cas a old new found) some h = h
-act-follows past (suc w) (Flush line) some h = h
 act-follows past (suc w) (Ask line) some h = h
 act-follows past (suc w) Fence some h = h

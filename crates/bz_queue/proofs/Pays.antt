@@ -8,7 +8,7 @@ use Rattle.bz_rivals.specs.Rivals.{rivals}
 use Rattle.bz_rivals.specs.Wins.{Stand}
 use Rattle.bz_rivals.proofs.Proved.{rivals_fall}
 use Rattle.bz_swap.specs.Solo.{left_to}
-use Rattle.bz_swap.specs.Starts.{begins_by_flush, started, swapping}
+use Rattle.bz_swap.specs.Starts.{started, swapping}
 use Rattle.bz_swap.specs.SwapMemory.{SwapMemory, Doing, Working, Idle, Reading, Swapping, idle, doing_of}
 use Rattle.bz_swap.proofs.Proved.{solo_steps_are_allowed, solo_steps_are_allowed_by_kind}
 use Rattle.bz_ring.specs.declared.calls.QCall.{QCall}
@@ -40,8 +40,8 @@ place-within p w x b = omega (arith, b.opened.within, b.tabled.places, b.tabled.
 -- a start leaves what the others do
 stays-start : (m : SwapMemory) (w : ℕ) (doing : Doing) → Stays m (started m w doing) w
 stays-start m w doing = record {
-  count = set-length m.workers w (record { doing = doing; flush_next = begins_by_flush doing w });
-  doing = λ v other. ap (λ (it : Working). it.doing) (set-other m.workers w v (record { doing = doing; flush_next = begins_by_flush doing w }) idle other);
+  count = set-length m.workers w (record { doing = doing; flush_next = false });
+  doing = λ v other. ap (λ (it : Working). it.doing) (set-other m.workers w v (record { doing = doing; flush_next = false }) idle other);
   entries = λ v s is. refl;
   effects = λ s none. none;
 }

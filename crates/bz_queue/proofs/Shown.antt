@@ -2,7 +2,7 @@
 use Rattle.std.proofs.Common.{◌≡◌, ◌≢◌, ◌<◌, ◌⊎◌, inl, inr, ◌+◌, ◌==◌, ◌&&◌, ◌||◌, not, ℕ, zero, suc, Bool, true, false, List, ◌∷◌, slice_index, refl, sym, ap, subst, arith, Option}
 use Rattle.std.proofs.lemmas.Bool.{and_parts, cases_eq, eq-eqb, eqb-true, ne_eqb, or_cases}
 use Rattle.bz_swap_acts.specs.declared.acted.Act.{Act}
-use Rattle.bz_swap_acts.specs.declared.acted.Act.TheVariants.{Load, Store, Cas, Flush, Ask, Fence}
+use Rattle.bz_swap_acts.specs.declared.acted.Act.TheVariants.{Load, Store, Cas, Ask, Fence}
 use Rattle.bz_swap_cells.specs.Store.{status_word}
 use Rattle.bz_layout.specs.Addresses.{swap_address}
 use Rattle.bz_swap_machine.specs.declared.done.Done.{Done}
@@ -33,7 +33,6 @@ taken-still : (s w : ℕ) (made : Act) (marks : List Mark) → is_taken s (since
 taken-still s w (Load a v) marks is = is
 taken-still s w (Store a v) marks is = or-right _ _ is
 taken-still s w (Cas a old new found) marks is = is
-taken-still s w (Flush line) marks is = is
 taken-still s w (Ask line) marks is = is
 taken-still s w Fence marks is = is
 
@@ -67,7 +66,6 @@ only-begun old w s (Store a v) marks within before writes is = elim (taken-by w 
   | inr earlier ↦ before earlier
 ]
 only-begun old w s (Cas a was becomes found) marks within before writes is = before is
-only-begun old w s (Flush line) marks within before writes is = before is
 only-begun old w s (Ask line) marks within before writes is = before is
 only-begun old w s Fence marks within before writes is = before is
 

@@ -1,6 +1,6 @@
 -- What callers see of a queue, and what it answers.
 use Rattle.std.specs.Prelude.{◌≡◌, ◌≢◌, ◌<◌, ◌≤◌, ◌⊎◌, ℕ, ◌+◌, ◌*◌, ◌-◌, ◌^◌, Bool, false, ◌==◌, ◌||◌, nat_lt, nat_le, if◌then◌else◌, is_some, is_none, get_or, slice_set, replicate, List, [], ◌∷◌, length, Option, Some, None, option_map, MatchOption}
-use Rattle.bz_swap_acts.specs.Rule.{is_flush_act}
+use Rattle.bz_swap_acts.specs.Rule.{is_fence_act}
 use Rattle.bz_swap_acts.specs.declared.acted.Act.{Act}
 use Rattle.bz_layout.specs.declared.limits.TheConstants.{MIN_CAPACITY, MAX_CAPACITY, MIN_SWAPS, MAX_SWAPS, MIN_WORKERS, MAX_WORKERS, MIN_MARKS, MAX_MARKS, MIN_CALLS, MAX_CALLS}
 use Rattle.bz_swap_machine.specs.Allowed.{for_worker}
@@ -26,7 +26,7 @@ use Rattle.bz_queue.specs.declared.answers.QOpenError.{QOpenError}
 use Rattle.bz_queue.specs.declared.answers.QOpenError.TheVariants as open_error
 use Rattle.bz_queue.specs.declared.open.Numbers.{Numbers}
 
--- the numbers that the queue was made with; its journal; of each worker, from worker 0 on, whether its next act is a flush; and how many marks its open call has left
+-- the numbers that the queue was made with; its journal; of each worker, from worker 0 on, whether its next act is a fence; and how many marks its open call has left
 -- at most while it alone steps
 pub record QueueView : Type 0 where
   pub numbers : Numbers
@@ -82,7 +82,7 @@ new_view n = record {
   left = replicate (n.workers + 1) 0;
 }
 
--- whether the next act of a worker is a flush
+-- whether the next act of a worker is a fence
 abbrev pub flush_of : QueueView → ℕ → Bool
 flush_of q w = get_or q.flushes w false
 
@@ -112,7 +112,7 @@ begin_answer q w =
     else (if nat_le q.numbers.calls (count_begins q.log.past) then begun.Limit limit.Calls
     else begun.Begun (begun_calls w q.log.past + 1))))
 
--- a begin adds its mark where it is no refusal: a call's first act is no flush. So much is left to the calls then
+-- a begin adds its mark where it is no refusal: a call's first act is no fence. So much is left to the calls then
 abbrev pub after_begin : QueueView → ℕ → QCall → List ℕ → QBegun → QueueView
 after_begin q w called left (begun.Begun n) = record q { log = with_mark q.log (Begin w n called); flushes = slice_set q.flushes w false; left = left }
 after_begin q w called left refusal = q
@@ -140,10 +140,10 @@ GoesOn old w applied.Stepped new = new ≡ old
 GoesOn old w (applied.Ended n) new = (reply : QReply) × ((at : ℕ) × (new ≡ End w n reply at ∷ old))
 GoesOn old w other new = ⊥
 
--- a step of a worker: exactly one act of it, a flush exactly where that was said before; at most one effect; at most its call's End
+-- a step of a worker: exactly one act of it, a fence exactly where that was said before; at most one effect; at most its call's End
 pub record Steps (old : QueueView) (w : ℕ) (answer : QApplied) (new : QueueView) : Type 0 where
   pub made : Act
-  pub flush : is_flush_act made ≡ flush_of old w
+  pub flush : is_fence_act made ≡ flush_of old w
   pub struck : List QMark
   pub effect : IsStruck (Memory (mark_of w made) ∷ old.log.past) struck
   pub ends : GoesOn struck w answer new.log.past

@@ -93,7 +93,7 @@ impl QueueWorld {
         self.parts.journal.mark(i)
     }
 
-    /// Whether the next act of a worker is a flush.
+    /// Whether the next act of a worker is a fence.
     pub fn flush_next(&self, w: u8) -> bool
         requires { w ≤ self.now.numbers.workers }
         ensures { result ≡ flush_of self.now w }

@@ -14,7 +14,7 @@ use Rattle.bz_call.specs.declared.replies.Reply.{Reply}
 use Rattle.bz_call.specs.declared.replies.Reply.TheVariants as reply
 use Rattle.bz_call.specs.declared.replies.Spent.TheVariants as spent
 use Rattle.bz_mark.specs.declared.marks.Mark.{Mark}
-use Rattle.bz_mark.specs.declared.marks.Mark.TheVariants.{Begin, End, Load, Store, Cas, Flush, Ask, Fence, Evict, Cut, On, Ready, Effect}
+use Rattle.bz_mark.specs.declared.marks.Mark.TheVariants.{Begin, End, Load, Store, Cas, Ask, Fence, Evict, Cut, On, Ready, Effect}
 use Rattle.bz_lines.specs.Objects.{number_data, call_data, pair_data, next_data, reply_data, data_of}
 use Rattle.bz_lines.specs.Ranges.{IsName, IsCallInRange, IsReplyInRange, IsInRange, IsPair, ArePairs, HasNumber, IsNumbered}
 use Rattle.bz_reading.specs.Reading.{within, both, number_in, call_in, next_in, reply_in, pair_in, pairs_in, mark_in}
@@ -77,7 +77,6 @@ mark_again pages last before number (End w n reply at) h is = rw (name_again w n
 mark_again pages last before number (Load w a v) h is = rw (worker_again w h.0, place_again last a h.1, word_again v h.2)
 mark_again pages last before number (Store w a v) h is = rw (worker_again w h.0, place_again last a h.1, word_again v h.2)
 mark_again pages last before number (Cas w a old new found) h is = rw (word_again old h.2, word_again new h.3, word_again found h.4, worker_again w h.0, place_again last a h.1)
-mark_again pages last before number (Flush w line) h is = rw (worker_again w h.0, line_again last line h.1)
 mark_again pages last before number (Ask w line) h is = rw (worker_again w h.0, line_again last line h.1)
 mark_again pages last before number (Fence w) h is = rw (worker_again w h)
 mark_again pages last before number (Evict a) h is = rw (place_again last a h)

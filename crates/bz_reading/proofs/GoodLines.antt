@@ -13,7 +13,7 @@ use Rattle.bz_call.specs.declared.replies.Reply.{Reply}
 use Rattle.bz_call.specs.declared.replies.Reply.TheVariants as reply
 use Rattle.bz_call.specs.declared.replies.Spent.TheVariants as spent
 use Rattle.bz_mark.specs.declared.marks.Mark.{Mark}
-use Rattle.bz_mark.specs.declared.marks.Mark.TheVariants.{Begin, End, Load, Store, Cas, Flush, Ask, Fence, Evict, Cut, On, Ready, Effect}
+use Rattle.bz_mark.specs.declared.marks.Mark.TheVariants.{Begin, End, Load, Store, Cas, Ask, Fence, Evict, Cut, On, Ready, Effect}
 use Rattle.bz_lines.specs.Objects.{call_data, pair_data, next_data, reply_data, data_of}
 use Rattle.bz_lines.specs.Ranges.{IsCallInRange, IsReplyInRange, IsInRange, IsPair, ArePairs}
 use Rattle.bz_reading.proofs.Good.{IsGood, AreGoodItems, are_plain}
@@ -72,7 +72,6 @@ mark_good pages words before (End w n reply at) few past h p = (omega arith, (re
 mark_good pages words before (Load w a v) few past h p = (omega arith, (refl, omega (arith, h.1), (refl, refl, (refl, h.2, (refl, omega (arith, h.0), tt)))), refl)
 mark_good pages words before (Store w a v) few past h p = (omega arith, (refl, omega (arith, h.1), (refl, refl, (refl, h.2, (refl, omega (arith, h.0), tt)))), refl)
 mark_good pages words before (Cas w a old new found) few past h p = (omega arith, (refl, omega (arith, h.1), (refl, h.4, (refl, refl, (refl, h.3, (refl, h.2, (refl, omega (arith, h.0), tt)))))), refl)
-mark_good pages words before (Flush w line) few past h p = (omega arith, (refl, omega (arith, h.1), (refl, refl, (refl, omega (arith, h.0), tt))), refl)
 mark_good pages words before (Ask w line) few past h p = (omega arith, (refl, omega (arith, h.1), (refl, refl, (refl, omega (arith, h.0), tt))), refl)
 mark_good pages words before (Fence w) few past h p = (omega arith, (refl, refl, (refl, omega (arith, h), tt)), refl)
 mark_good pages words before (Evict a) few past h p = (omega arith, (refl, omega (arith, h), (refl, refl, tt)), refl)

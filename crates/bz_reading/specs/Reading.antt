@@ -14,7 +14,7 @@ use Rattle.bz_call.specs.declared.replies.Spent.TheVariants as spent
 use Rattle.bz_layout.specs.declared.limits.TheConstants.{MAX_WORKERS}
 use Rattle.bz_layout.specs.declared.sizes.TheConstants.{LINE_WORDS}
 use Rattle.bz_mark.specs.declared.marks.Mark.{Mark}
-use Rattle.bz_mark.specs.declared.marks.Mark.TheVariants.{Begin, End, Load, Store, Cas, Flush, Ask, Fence, Evict, Cut, On, Ready, Effect}
+use Rattle.bz_mark.specs.declared.marks.Mark.TheVariants.{Begin, End, Load, Store, Cas, Ask, Fence, Evict, Cut, On, Ready, Effect}
 
 -- a number in a range
 abbrev pub within : ℕ → ℕ → Option ℕ → Option ℕ
@@ -133,7 +133,7 @@ cas_in last d =
     both (λ (swap : ℕ × ℕ × ℕ) (place : ℕ × ℕ). Cas place.0 place.1 swap.0 swap.1 swap.2) (all_three (λ (old new found : ℕ). (old, new, found)) (word_in (codes "old") d) (word_in (codes "new") d) (word_in (codes "found") d))
     (both (λ (w a : ℕ). (w, a)) (worker_in d) (number_at (codes "a") 0 last d))
 
--- the worker and the line of a flush or an ask
+-- the worker and the line of an ask
 abbrev pub line_in : ℕ → Data → Option (ℕ × ℕ)
 line_in last d = both (λ (w line : ℕ). (w, line)) (worker_in d) (number_at (codes "line") 0 (last / LINE_WORDS) d)
 
@@ -146,11 +146,9 @@ act_in kind last d =
     if is_text kind (codes "load") then load_in last d
     else (if is_text kind (codes "store") then store_in last d
     else (if is_text kind (codes "cas") then cas_in last d
-    -- this row goes when no act flushes any more
-    else (if is_text kind (codes "flush") then option_map (λ (place : ℕ × ℕ). Flush place.0 place.1) (line_in last d)
     else (if is_text kind (codes "ask") then option_map (λ (place : ℕ × ℕ). Ask place.0 place.1) (line_in last d)
     else (if is_text kind (codes "fence") then option_map Fence (worker_in d)
-    else None)))))
+    else None))))
 
 -- a mark that is none
 abbrev pub event_in : Option (List ℕ) → ℕ → Data → Option Mark

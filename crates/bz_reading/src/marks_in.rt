@@ -112,11 +112,6 @@ fn act_in(kind: Option<&str>, value: &Value, last: u32) -> Option<Mark>
     if is_text(kind, "cas") {
         return cas_in(value, last);
     }
-    // until no act flushes any more
-    if is_text(kind, "flush") {
-        let (w, line) = line_in(value, last)?;
-        return Some(Mark::Flush { w, line });
-    }
     if is_text(kind, "ask") {
         let (w, line) = line_in(value, last)?;
         return Some(Mark::Ask { w, line });

@@ -1,9 +1,10 @@
 //! The recovery.
 
-ghost use Rattle.std.specs.Prelude.{◌≡◌, ◌+◌, ◌*◌, ◌<◌, ℕ, Option, Some, None};
+ghost use Rattle.std.specs.Prelude.{◌≡◌, ◌+◌, ◌*◌, ◌<◌, ◌≤◌, ℕ, Option, Some, None};
 ghost use Rattle.bz_layout.specs.Addresses.{words_of};
 ghost use Rattle.bz_layout.specs.Config.{IsConfig};
 ghost use Rattle.bz_layout.specs.Slots.{FreeSlots};
+ghost use Rattle.bz_task.specs.Requests.{steps_in};
 ghost use Rattle.bz_task.specs.Scene.{Stage, Waiting, Took};
 ghost use Rattle.bz_task.specs.declared.todo.Outcome.TheVariants.{Recovered};
 ghost use Rattle.bz_task.specs.declared.todo.Todo.{Todo};
@@ -69,9 +70,9 @@ impl Recover {
         ensures ready { IsReady self.new }
         ensures slots { slots.new.nodes ≡ slots.old.nodes }
         ensures asked { asks_of self.new ≡ Some result }
-        ensures nearer { left_of self.new < left_of self.old }
+        ensures nearer { left_of self.new + steps_in (asks_of self.new) ≤ left_of self.old }
         // and over a memory that it knows
-        ensures sooner { (values : ℕ → ℕ) (m : Memory) → Knows self.old values Took m → acts_left self.new m < acts_left self.old m }
+        ensures sooner { (values : ℕ → ℕ) (m : Memory) → Knows self.old values Took m → acts_left self.new m + steps_in (asks_of self.new) ≤ acts_left self.old m }
         ensures config { config_of self.new ≡ config_of self.old }
         // a new one begins with the first word
         ensures first { asks_of self.old ≡ None → result ≡ Load 0 }

@@ -1,5 +1,5 @@
 -- A memory that is opened over an image that breaks no rule is as after a power cut.
-use Rattle.std.proofs.Common.{◌≡◌, ℕ, ◌+◌, ◌^◌, ◌<◌, ◌==◌, true, false, List, length, slice_index, arith, refl, sym, ap, subst}
+use Rattle.std.proofs.Common.{◌≡◌, ℕ, ◌+◌, ◌^◌, ◌<◌, ◌==◌, true, false, List, length, slice_index, arith, refl, sym, ap, subst, []}
 use Rattle.std.specs.Prelude.{None}
 use Rattle.std.proofs.lemmas.Bool.{and_parts}
 use Rattle.std.proofs.lemmas.Bool.Decides.{nat_tests}
@@ -56,6 +56,7 @@ module _ (c : Config) (image : List ℕ) (config : IsConfig c) (size : length im
     };
     phase = not;
     idle = ap (λ (u : Working). u.doing) (all-same (c.workers + 1) 0 idle);
+    clean = λ v. all-same (c.workers + 1) v [];
     powered = record { image = record { lawful = well.lawful; resolved = λ a s. refl }; same = λ a within. refl };
   }
 

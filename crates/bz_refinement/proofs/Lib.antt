@@ -7,6 +7,7 @@ mod Watching
 mod Striking
 mod Openings
 mod Takings
+mod RecoveryAsks
 pub mod Booting
 pub mod Powering
 pub mod Recoveries

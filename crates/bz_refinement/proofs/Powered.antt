@@ -3,7 +3,7 @@ use Rattle.std.proofs.Common.{◌≡◌, ℕ, ◌≤◌, ◌==◌, Bool, true, f
 use Rattle.std.specs.Prelude.{Option, Some, None, option_map, if◌then◌else◌}
 use Rattle.bz_layout.specs.declared.config.Config.{Config}
 use Rattle.bz_mark.specs.declared.marks.Mark.{Mark}
-use Rattle.bz_mark.specs.declared.marks.Mark.TheVariants.{Begin, End, Load, Store, Cas, Flush, Ask, Fence, Evict, Cut, On, Ready, Effect}
+use Rattle.bz_mark.specs.declared.marks.Mark.TheVariants.{Begin, End, Load, Store, Cas, Ask, Fence, Evict, Cut, On, Ready, Effect}
 use Rattle.bz_sound.specs.Calls.{Open, open_call, with_effect}
 use Rattle.bz_sound.specs.Memory.Spent.{is_stored_into}
 use Rattle.bz_mark.specs.Times.{LeavesPower}
@@ -48,7 +48,6 @@ begins-more from past Cut l all w opened h = absurd (cc)
 begins-more from past (Load v a x) l all w opened h = all w opened h
 begins-more from past (Store v a x) l all w opened h = all w opened h
 begins-more from past (Cas v a old new found) l all w opened h = all w opened h
-begins-more from past (Flush v line) l all w opened h = all w opened h
 begins-more from past (Ask v line) l all w opened h = all w opened h
 begins-more from past (Fence v) l all w opened h = all w opened h
 begins-more from past (Evict a) l all w opened h = all w opened h

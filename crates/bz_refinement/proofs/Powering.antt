@@ -1,5 +1,5 @@
 -- A power cut begins a recovery time, and a recovery begins over what it leaves; the acts that it asks for may be started.
-use Rattle.std.proofs.Common.{◌≡◌, ◌≢◌, ℕ, ◌+◌, ◌*◌, ◌%◌, ◌^◌, ◌<◌, length, slice_index, Option, Some, None, arith, refl, sym, ap, subst, ◌∙◌}
+use Rattle.std.proofs.Common.{◌≡◌, ◌≢◌, ℕ, ◌+◌, ◌*◌, ◌%◌, ◌^◌, ◌<◌, length, slice_index, Option, Some, None, arith, refl, sym, ap, subst, ◌∙◌, false}
 use Rattle.std.proofs.lemmas.List.{get_or-set_same, get_or-set_other, length-set, length-replicate}
 use Rattle.bz_content.specs.Content.{image_fault, IsWellFormed}
 use Rattle.bz_content.specs.Resolving.{resolve}
@@ -20,7 +20,7 @@ use Rattle.bz_swap.proofs.Fresh.{all-same}
 use Rattle.bz_swap.specs.Held.{HoldsIn, IsHeld}
 use Rattle.bz_swap.specs.PlainFields.{HavePlainFields}
 use Rattle.bz_swap.specs.Power.{after_cut}
-use Rattle.bz_swap.specs.Starts.{MayRecover, begins_by_flush, started}
+use Rattle.bz_swap.specs.Starts.{MayRecover, started}
 use Rattle.bz_swap.specs.SwapMemory.{SwapMemory, Doing, Idle, Working, idle, memory_words, doing_of}
 use Rattle.bz_swap.specs.declared.phase.Phase.{Phase}
 use Rattle.bz_swap.specs.declared.phase.Phase.TheVariants.{Opened, Running, Recovering}
@@ -31,6 +31,8 @@ use Rattle.bz_task.specs.declared.todo.Todo.{Todo}
 use Rattle.bz_task.specs.declared.todo.Todo.TheVariants as todo
 use Rattle.bz_refinement.specs.Recovering.{IsInRecovery, IsOff, Turn, Asked, Started, IsRecovering, stage_of, doing_for, words_in}
 use Rattle.bz_refinement.specs.RecoveryLaws.{CutsLeaveTheImage, RecoveriesBegin, RecoveriesGoOn, ActsMayStart}
+use Rattle.bz_swap_marks.proofs.Pasts.{cut-clean}
+use Rattle.bz_refinement.proofs.RecoveryAsks.{clean-rightly, start-rightly}
 
 -- a memory of these sizes has whole lines
 pub whole-lines : (c : Config) (m : SwapMemory) → IsConfig c → length m.cached ≡ size_of c → length m.durable ≡ size_of c → IsMemory (memory_words m)
@@ -79,6 +81,7 @@ cut c v m h = record {
   };
   phase = λ e. cc;
   idle = rests m 0;
+  clean = cut-clean m;
   powered = cuts_keep_the_image c v (words_in m) (words_in (after_cut m)) h.image (acts_are_these.cut (memory_words m) (whole-lines c m h.config h.cached h.durable));
 }
 
@@ -127,6 +130,7 @@ begins c v m t off is-new = record {
     phase = off.phase;
     doing = off.idle;
     busy = tt;
+    asks = clean-rightly m off.clean off.idle;
     knows = is-new.knows v (words_in m) off.powered;
   };
   hears = subst (λ q. hears_in q seen.Start) (sym is-new.asks) tt;
@@ -141,6 +145,7 @@ goes-on c v m old new seen r next tells = record {
   phase = r.phase;
   doing = r.doing;
   busy = tt;
+  asks = r.asks;
   knows = next.learns v (words_in m) r.knows tells;
 }
 
@@ -151,8 +156,8 @@ start-memory c m d h = record {
   swaps = h.swaps;
   cached = h.cached;
   durable = h.durable;
-  workers = length-set m.workers 0 (record { doing = d; flush_next = begins_by_flush d 0 }) ∙ h.workers;
-  others = λ w some. ap (λ (u : Working). u.doing) (get_or-set_other m.workers 0 w (record { doing = d; flush_next = begins_by_flush d 0 }) idle (omega (arith, some))) ∙ h.others w some;
+  workers = length-set m.workers 0 (record { doing = d; flush_next = false }) ∙ h.workers;
+  others = λ w some. ap (λ (u : Working). u.doing) (get_or-set_other m.workers 0 w (record { doing = d; flush_next = false }) idle (omega (arith, some))) ∙ h.others w some;
   fields = plain_fields_stay.start m 0 d h.fields;
   form = h.form;
 }
@@ -165,11 +170,12 @@ start c v m t asked busy r e = record {
   phase = refl;
   doing = does ∙ ap doing_for (sym e);
   busy = λ rests. busy (sym does ∙ rests);
+  asks = start-rightly m (doing_for asked) (omega (arith, r.memory.workers)) r.doing r.asks;
   knows = r.knows;
 }
   where
     does : doing_of (started m 0 (doing_for asked)) 0 ≡ doing_for asked
-    does = let some : 0 < length m.workers = omega (arith, r.memory.workers) in ap (λ (u : Working). u.doing) (get_or-set_same m.workers 0 (record { doing = doing_for asked; flush_next = begins_by_flush (doing_for asked) 0 }) idle some)
+    does = let some : 0 < length m.workers = omega (arith, r.memory.workers) in ap (λ (u : Working). u.doing) (get_or-set_same m.workers 0 (record { doing = doing_for asked; flush_next = false }) idle some)
 
 may-recover : (c : Config) (v : ℕ → ℕ) (m : SwapMemory) (t : Recover) → IsRecovering c v m Asked t → MayRecover m
 may-recover c v m t r = record { idle = r.doing; phase = r.phase }

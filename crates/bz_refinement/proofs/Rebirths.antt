@@ -1,6 +1,6 @@
 -- The marks from a power cut to the end of the recovery: memory and journal agree after each of them, and what the durable words
 -- decode to stays; then a new life begins.
-use Rattle.std.proofs.Common.{◌≡◌, ◌↔◌, ℕ, suc, ◌+◌, ◌≤◌, ◌&&◌, Bool, false, List, [], ◌∷◌, Contains, length, slice_index, Option, Some, None, arith, refl, sym, ap, subst, ◌∙◌, inl, inr}
+use Rattle.std.proofs.Common.{◌≡◌, ◌≢◌, ◌⊎◌, ◌↔◌, ℕ, suc, ◌+◌, ◌≤◌, ◌&&◌, if◌then◌else◌, Bool, true, false, List, [], ◌∷◌, Contains, length, slice_index, Option, Some, None, arith, refl, sym, ap, subst, ◌∙◌, inl, inr}
 use Rattle.std.specs.Prelude.{nat_lt, get_or}
 use Rattle.std.specs.FinMap.{get}
 use Rattle.std.proofs.lemmas.Bool.{true≢false}
@@ -32,18 +32,21 @@ use Rattle.bz_mark.specs.Times.{since_on}
 use Rattle.bz_sound.specs.Power.Times.{image_at_on}
 use Rattle.bz_swap.specs.Power.{renewed}
 use Rattle.bz_swap.specs.Steps.{IsRawStep, StepsIn}
-use Rattle.bz_swap.specs.SwapMemory.{SwapMemory, memory_words}
+use Rattle.bz_swap.specs.SwapMemory.{SwapMemory, Working, memory_words, worker_of}
+use Rattle.bz_swap_machine.specs.declared.done.Done.{Done}
+use Rattle.bz_swap_machine.specs.declared.done.Done.TheVariants.{Busy, Read, Swapped, Stored, Flushed}
+use Rattle.bz_task.specs.Requests.{steps_in}
 use Rattle.bz_task.specs.declared.todo.Todo.{Todo}
 use Rattle.bz_task.specs.declared.todo.Todo.TheVariants as todo
 use Rattle.bz_refinement.specs.Living.{IsLiving}
 use Rattle.bz_swap_marks.specs.Marks.{mark_of}
-use Rattle.bz_swap_marks.specs.Past.{SamePast, IsClean}
-use Rattle.bz_swap_marks.proofs.Pasts.{IsPlainAct, act-words, act-past, act-clean, evict-past, evict-clean, cut-past, cut-clean, renewed-past, opened-past, opened-clean}
+use Rattle.bz_swap_marks.specs.Past.{SamePast}
+use Rattle.bz_swap_marks.proofs.Pasts.{act-words, act-past, evict-past, cut-past, renewed-past, opened-past}
 use Rattle.bz_refinement.proofs.Powering.{image-now, begins, cuts-leave}
-use Rattle.bz_refinement.specs.Recovering.{IsRecovering, Turn, Asked, Made, words_in}
-use Rattle.bz_refinement.specs.RecoveryLaws.{IsAsked, Recovers, StaysRecovering, IsRevived}
+use Rattle.bz_refinement.specs.Recovering.{IsRecovering, Turn, Asked, Started, Made, to_come, words_in}
+use Rattle.bz_refinement.specs.RecoveryLaws.{ActsOn, StaysRecovering, IsRevived}
 use Rattle.bz_mark.specs.Counts.{acts_by}
-use Rattle.bz_refinement.specs.Reviving.{to_come, IsRecoveringIn, CutsAreMarked, ImagesOpenJournals, PowerOnIsMarked, TurnsMakeNoMark, StillDecodes, ActsAreMarked, EvictionsAreMarked, renewed_story, RecoveriesGiveLife, WalksEnd}
+use Rattle.bz_refinement.specs.Reviving.{IsRecoveringIn, CutsAreMarked, ImagesOpenJournals, PowerOnIsMarked, TurnsMakeNoMark, StillDecodes, ActsAreMarked, EvictionsAreMarked, renewed_story, RecoveriesGiveLife, WalksEnd}
 use Rattle.bz_refinement.proofs.Booting.{images-off}
 use Rattle.bz_refinement.proofs.Recoveries.{acts-recover, evictions-leave}
 use Rattle.bz_refinement.proofs.Revivals.{revives}
@@ -68,7 +71,6 @@ act-quiet : (start : List ℕ) (past : List Mark) (made : Act) → IsQuietMark s
 act-quiet start past (act.Load a v) = record { calls = λ w. refl; map = λ first. refl; on = refl; taken = λ swap. refl; stored = λ c slot. refl }
 act-quiet start past (act.Store a v) = record { calls = λ w. refl; map = λ first. refl; on = refl; taken = λ swap. refl; stored = λ c slot. refl }
 act-quiet start past (act.Cas a old new found) = record { calls = λ w. refl; map = λ first. refl; on = refl; taken = λ swap. refl; stored = λ c slot. refl }
-act-quiet start past (act.Flush line) = record { calls = λ w. refl; map = λ first. refl; on = refl; taken = λ swap. refl; stored = λ c slot. refl }
 act-quiet start past (act.Ask line) = record { calls = λ w. refl; map = λ first. refl; on = refl; taken = λ swap. refl; stored = λ c slot. refl }
 act-quiet start past act.Fence = record { calls = λ w. refl; map = λ first. refl; on = refl; taken = λ swap. refl; stored = λ c slot. refl }
 
@@ -80,19 +82,37 @@ act-counted : (past : List Mark) (made : Act) → acts_by 0 (since_on (mark_of 0
 act-counted past (act.Load a v) = refl
 act-counted past (act.Store a v) = refl
 act-counted past (act.Cas a old new found) = refl
-act-counted past (act.Flush line) = refl
 act-counted past (act.Ask line) = refl
 act-counted past act.Fence = refl
 
-one-made : (acts left was : ℕ) → left ≡ was → acts + 1 + left ≡ acts + suc was
-one-made acts left was same = omega (arith, same)
+-- an act is at least one step
+some-steps : (asks : Option Todo) → 1 ≤ steps_in asks
+some-steps (Some (todo.Load a)) = omega arith
+some-steps (Some (todo.Store a x)) = omega arith
+some-steps (Some (todo.Flush line)) = omega arith
+some-steps (Some (todo.Read a)) = omega arith
+some-steps (Some (todo.Swap entries)) = omega arith
+some-steps (Some todo.Finish) = omega arith
+some-steps None = omega arith
 
--- a recovery asks for a load, a store or a flush
-plain-act : (asks : Option Todo) (made : Act) → IsAsked asks made → IsPlainAct made
-plain-act (Some (todo.Load a)) made is = rw is.1 tt
-plain-act (Some (todo.Store a x)) made is = rw is tt
-plain-act (Some (todo.Flush line)) made is = rw is tt
-plain-act other made is = absurd is
+some-come : (m : SwapMemory) (asks : Option Todo) → 1 ≤ to_come Started m asks
+some-come m asks = go (worker_of m 0).flush_next
+  where
+    go : (t : Bool) → 1 ≤ (if t then 1 else steps_in asks)
+    go true = omega arith
+    go false = some-steps asks
+
+same-come : (old new : SwapMemory) (turn : Turn) (asks : Option Todo) → worker_of new 0 ≡ worker_of old 0 → to_come turn new asks ≡ to_come turn old asks
+same-come old new Asked asks same = refl
+same-come old new Started asks same = ap (λ (u : Working). if u.flush_next then 1 else steps_in asks) same
+same-come old new Made asks same = refl
+
+busy-or : (d : Done) → (d ≡ Busy) ⊎ (d ≢ Busy)
+busy-or Busy = inl refl
+busy-or (Read v) = inr (λ is. cc)
+busy-or (Swapped won) = inr (λ is. cc)
+busy-or Stored = inr (λ is. cc)
+busy-or Flushed = inr (λ is. cc)
 
 -- the durable words before and after such a mark, which hold the same
 record Keeps (c : Config) (old new : SwapMemory) (log : Log) (mark : Mark) : Type 0 where
@@ -101,7 +121,6 @@ record Keeps (c : Config) (old new : SwapMemory) (log : Log) (mark : Mark) : Typ
   after : memory_words new ≡ words_after_marks log.start (mark ∷ log.past)
   same : SaysTheSame c (slice_index old.durable) (slice_index new.durable)
   past : SamePast new (state_after_marks log.start (mark ∷ log.past))
-  clean : IsClean new.past
 
 still-decodes : (c : Config) (old new : SwapMemory) (log : Log) (mark : Mark) → Keeps c old new log mark → StillDecodes c log mark
 still-decodes c old new log mark k d = record {
@@ -114,12 +133,11 @@ still-decodes c old new log mark k d = record {
 }
 
 marked : (c : Config) (v : ℕ → ℕ) (old new : SwapMemory) (log : Log) (mark : Mark) (turn next : Turn) (t : Recover) → IsRecoveringIn c v old log turn t → Keeps c old new log mark → IsRecovering c v new next t
-    → acts_by 0 (since_on (mark ∷ log.past)) + to_come next (acts_left t (words_in new)) ≡ acts_by 0 (since_on log.past) + to_come turn (acts_left t (words_in old)) → IsRecoveringIn c v new (with_mark log mark) next t
+    → acts_by 0 (since_on (mark ∷ log.past)) + to_come next new (asks_of t) + acts_left t (words_in new) ≤ acts_by 0 (since_on log.past) + to_come turn old (asks_of t) + acts_left t (words_in old) → IsRecoveringIn c v new (with_mark log mark) next t
 marked c v old new log mark turn next t r k recovering spent = record {
   recovering = recovering;
   words = k.after;
   past = k.past;
-  clean = k.clean;
   calls = λ w. k.quiet.calls w ∙ r.calls w;
   same = subst (λ x. SaysTheSame c x (slice_index new.durable)) (sym k.quiet.on) (says-as c (image_at_on log.start log.past) (slice_index old.durable) (slice_index new.durable) r.same k.same);
   untaken = λ swap. k.quiet.taken swap ∙ r.untaken swap;
@@ -133,27 +151,24 @@ cuts-marked = record {
     off = cuts-leave.seen c (story.at (length log.past)) m l.seen workers;
     words = ap words_after_cut l.words;
     past = cut-past m (state_after_marks log.start log.past) l.past;
-    clean = cut-clean m;
     calls = λ w. refl;
   };
   recovering = λ c v m log turn t r. record {
     off = cuts-leave.recovering c v m turn t r.recovering;
     words = ap words_after_cut r.words;
     past = cut-past m (state_after_marks log.start log.past) r.past;
-    clean = cut-clean m;
     calls = λ w. refl;
   };
 }
 
 pub images-open : ImagesOpenJournals
-images-open c m image limits config size none is = record { off = images-off c m image config size none is; words = ap memory_words is.is; past = opened-past m image c.swaps c.workers is config.workers_in_range.at_most; clean = opened-clean m image c.swaps c.workers is; calls = λ w. refl }
+images-open c m image limits config size none is = record { off = images-off c m image config size none is; words = ap memory_words is.is; past = opened-past m image c.swaps c.workers is config.workers_in_range.at_most; calls = λ w. refl }
 
 pub on-marked : PowerOnIsMarked
 on-marked c v m log t off is-new = record {
   recovering = (begins c v m t off.off is-new).recovering;
   words = off.words;
   past = off.past;
-  clean = off.clean;
   calls = off.calls;
   same = subst (λ (w : Words). SaysTheSame c (slice_index w.durable) (slice_index m.durable)) off.words (record { well_formed = off.off.memory.form; inside = λ k. refl; content = λ key. refl });
   untaken = λ swap. refl;
@@ -166,7 +181,6 @@ turns c v m n log turn next t u r words past recovering fewer = record {
   recovering = recovering;
   words = words ∙ r.words;
   past = record { count = ap (λ (p : Past). p.count) past ∙ r.past.count; since = ap (λ (p : Past). p.since) past ∙ r.past.since; asks = λ w. ap (λ (p : Past). get_or p.asks w []) past ∙ r.past.asks w; workers = rw past r.past.workers };
-  clean = rw past r.clean;
   calls = r.calls;
   same = subst (λ (w : Words). SaysTheSame c (image_at_on log.start log.past) (slice_index w.durable)) (sym words) r.same;
   untaken = r.untaken;
@@ -177,19 +191,26 @@ turns c v m n log turn next t u r words past recovering fewer = record {
 pub acts-marked : ActsAreMarked
 acts-marked c v old new log t made answer told r s =
     let raw : IsRawStep old 0 made answer told new = subst (λ p. StepsIn p old 0 made answer told new) r.recovering.phase s in
-    let done : Recovers c v old new t made answer told = acts-recover c v old new t made answer told r.recovering s in
+    let on : ActsOn c v old new t made answer told = acts-recover c v old new t made answer told r.recovering s in
+    let same : SaysTheSame c (slice_index old.durable) (slice_index new.durable) = elim (busy-or answer) [ inl busy ↦ (on.goes_on busy).1.same | inr ends ↦ (on.ends ends).same ] in
     let k : Keeps c old new log (mark_of 0 made) = record {
       quiet = act-quiet log.start log.past made;
       before = r.words;
       after = act-words old new (state_after_marks log.start log.past) 0 made answer raw.one r.words r.past;
-      same = done.same;
+      same = same;
       past = act-past old new (state_after_marks log.start log.past) 0 made answer raw.one r.words r.past;
-      clean = act-clean old new 0 made answer raw.one (plain-act (asks_of t) made done.asked) r.clean;
     } in
     record {
-      recovers = done;
-      marked = marked c v old new log (mark_of 0 made) _ Made t r k done.recovering (ap (λ n. n + acts_left t (words_in new)) (act-counted log.past made) ∙ one-made (acts_by 0 (since_on log.past)) (acts_left t (words_in new)) (acts_left t (words_in old)) done.left);
+      same = same;
       decodes = still-decodes c old new log (mark_of 0 made) k;
+      ends = λ ends. (let done = on.ends ends in record {
+        recovers = done;
+        marked = marked c v old new log (mark_of 0 made) Started Made t r k done.recovering (omega (arith, act-counted log.past made, some-come old (asks_of t), done.left));
+      });
+      goes_on = λ busy. (let asks = on.goes_on busy in record {
+        quiet = asks.1.quiet;
+        marked = marked c v old new log (mark_of 0 made) Started Started t r k asks.1.recovering (omega (arith, act-counted log.past made, asks.0, asks.1.left));
+      });
     }
 
 pub evictions-marked : EvictionsAreMarked
@@ -202,11 +223,10 @@ evictions-marked c v old new log turn t a told r within h =
       after = words ∙ ap (λ w. evicted w a) r.words;
       same = stays.same;
       past = evict-past old new (state_after_marks log.start log.past) a told h r.past;
-      clean = evict-clean old new a told h r.clean;
     } in
     record {
       stays = stays;
-      marked = marked c v old new log (Evict a) turn turn t r k stays.recovering (ap (λ n. acts_by 0 (since_on log.past) + to_come turn n) stays.left);
+      marked = marked c v old new log (Evict a) turn turn t r k stays.recovering (omega (arith, stays.left, same-come old new turn (asks_of t) (ap (λ (m : SwapMemory). worker_of m 0) h.is)));
       decodes = still-decodes c old new log (Evict a) k;
     }
 
@@ -227,7 +247,7 @@ lives c v m log t r seen = record {
   seen = seen;
   history = record { good = λ i from to. seen.good; step = λ i from to. absurd (omega (arith, from, to)) };
   words = r.words;
-  past = renewed-past m (state_after_marks log.start log.past) r.clean r.past;
+  past = renewed-past m (state_after_marks log.start log.past) r.past;
   images = first-image log.start log.past m r.words;
   effects = omega arith;
   reserved = λ w a e. absurd (true≢false (sym e));

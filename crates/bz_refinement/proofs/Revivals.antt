@@ -16,6 +16,7 @@ use Rattle.bz_swap.specs.SwapMemory.{SwapMemory, Idle, doing_of}
 use Rattle.bz_task.specs.Scene.{Waiting}
 use Rattle.bz_refinement.specs.Recovering.{Asked, IsRecovering, words_in}
 use Rattle.bz_refinement.specs.RecoveryLaws.{RecoveriesRevive}
+use Rattle.bz_refinement.proofs.RecoveryAsks.{rightly-clean}
 
 -- nobody does anything
 all-idle : (c : Config) (v : ℕ → ℕ) (m : SwapMemory) (t : Recover) → IsRecovering c v m Asked t → (w : ℕ) → doing_of m w ≡ Idle
@@ -52,6 +53,7 @@ revives c v m t r e =
         swaps = r.memory.swaps;
         size = r.memory.durable;
         may_renew = renewable;
+        asks = rightly-clean m r.asks (inr r.doing);
         fields = r.memory.fields;
         form = r.memory.form;
         holds = holds;

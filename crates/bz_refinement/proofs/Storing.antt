@@ -5,7 +5,7 @@ use Rattle.std.proofs.lemmas.Bool.Decides.{nat_tests}
 use Rattle.bz_layout.specs.Addresses.{node_address, slot_of}
 use Rattle.bz_layout.specs.declared.config.Config.{Config}
 use Rattle.bz_mark.specs.declared.marks.Mark.{Mark}
-use Rattle.bz_mark.specs.declared.marks.Mark.TheVariants.{Begin, End, Load, Store, Cas, Flush, Ask, Fence, Evict, Cut, On, Ready, Effect}
+use Rattle.bz_mark.specs.declared.marks.Mark.TheVariants.{Begin, End, Load, Store, Cas, Ask, Fence, Evict, Cut, On, Ready, Effect}
 use Rattle.bz_sound.specs.Memory.Spent.{is_stored_into}
 use Rattle.bz_refinement.specs.Laws.{fills}
 use Rattle.bz_refinement.specs.Story.{Story}
@@ -21,7 +21,6 @@ stored-on c past (End w n reply at) k h = h
 stored-on c past (Load w a v) k h = h
 stored-on c past (Store w a v) k h = or-right (not (w == 0) && (nat_le (node_address c 0) a && slot_of c a == k)) (is_stored_into c k past) h
 stored-on c past (Cas w a old new found) k h = h
-stored-on c past (Flush w line) k h = h
 stored-on c past (Ask w line) k h = h
 stored-on c past (Fence w) k h = h
 stored-on c past (Evict a) k h = h

@@ -1,8 +1,8 @@
 -- A swap memory whose power has failed, and the recovery that makes it ready again: what holds of both from the power cut to
 -- the renewal.
-use Rattle.std.specs.Prelude.{◌≡◌, ◌≢◌, ℕ, ◌+◌, ◌*◌, ◌<◌, length, slice_index, Option, Some, None}
+use Rattle.std.specs.Prelude.{◌≡◌, ◌≢◌, ℕ, ◌+◌, ◌*◌, ◌<◌, length, slice_index, Option, Some, None, ◌⊎◌, if◌then◌else◌, true, false, [], get_or, ◌≤◌}
 use Rattle.bz_content.specs.Content.{image_fault}
-use Rattle.bz_layout.specs.Addresses.{words_of as size_of}
+use Rattle.bz_layout.specs.Addresses.{words_of as size_of, line_of}
 use Rattle.bz_layout.specs.Config.{IsConfig}
 use Rattle.bz_layout.specs.declared.config.Config.{Config}
 use Rattle.bz_recover.specs.Duties.{config_of, asks_of, acts_left, Knows, Tells, IsReady}
@@ -11,13 +11,17 @@ use Rattle.bz_recover.specs.Places.{MOST_ACTS}
 use Rattle.bz_recover.specs.Sweep.{IsPoweredOn}
 use Rattle.bz_recover.specs.declared.recover.Recover.{Recover}
 use Rattle.bz_swap.specs.PlainFields.{HavePlainFields}
-use Rattle.bz_swap.specs.SwapMemory.{SwapMemory, Doing, Idle, Loading, Storing, Flushing, memory_words, doing_of}
+use Rattle.bz_swap.specs.SwapMemory.{SwapMemory, Doing, Idle, Loading, Storing, Flushing, memory_words, doing_of, worker_of}
 use Rattle.bz_swap.specs.declared.phase.Phase.{Phase}
 use Rattle.bz_swap.specs.declared.phase.Phase.TheVariants.{Running, Recovering}
 use Rattle.bz_task.specs.Scene.{Stage, Waiting, Took}
 use Rattle.bz_task.specs.declared.todo.Seen.{Seen}
 use Rattle.bz_task.specs.declared.todo.Todo.{Todo}
 use Rattle.bz_task.specs.declared.todo.Todo.TheVariants.{Load, Store, Flush}
+use Rattle.bz_swap.specs.SettledWords.{IsAwaited}
+use Rattle.bz_swap_cells.specs.Store.{word_pending}
+use Rattle.bz_swap_marks.specs.Past.{IsClean, IsCleanBut}
+use Rattle.bz_task.specs.Requests.{steps_in}
 
 -- a memory of these sizes whose image breaks no rule, in which every worker but 0 does nothing
 pub record IsInRecovery (c : Config) (m : SwapMemory) : Type 0 where
@@ -34,15 +38,32 @@ pub record IsInRecovery (c : Config) (m : SwapMemory) : Type 0 where
 abbrev pub words_in : SwapMemory → Memory
 words_in m = memory_of (memory_words m)
 
+-- worker 0 has asked for this line alone, and awaits the words there
+pub record HasAsked (m : SwapMemory) (line : ℕ) : Type 0 where
+  pub awaited : (a : ℕ) → line_of a ≡ line → IsAwaited m 0 a
+  pub alone : (a : ℕ) → line_of a ≢ line → (word_pending m.past a).asked 0 ≡ None
+
+-- worker 0 waits for no fence
+abbrev pub IsResting : SwapMemory → Type 0
+IsResting m = ((worker_of m 0).flush_next ≡ false) ⊎ (doing_of m 0 ≡ Idle)
+
+-- nobody has asked for a line, but for worker 0 for the one that it flushes
+pub record AsksRightly (m : SwapMemory) : Type 0 where
+  pub others : IsCleanBut 0 m.past
+  pub own : IsResting m → get_or m.past.asks 0 [] ≡ []
+  pub flushes : (line : ℕ) → doing_of m 0 ≡ Flushing line → (worker_of m 0).flush_next ≡ true → HasAsked m line
+
 -- the power is off, after a cut or where a memory was opened over an image: worker 0 does nothing either, and the caches hold the
 -- durable words, which resolve to these values
 pub record IsOff (c : Config) (values : ℕ → ℕ) (m : SwapMemory) : Type 0 where
   pub memory : IsInRecovery c m
   pub phase : m.phase ≢ Running
   pub idle : doing_of m 0 ≡ Idle
+  pub clean : IsClean m.past
   pub powered : IsPoweredOn c values (words_in m)
 
--- whose turn it is: the recovery has asked for an act; worker 0 has started it; it is made, and the recovery is to be told
+-- whose turn it is: the recovery has asked for an act; worker 0 has started it; it is made, and the recovery is to be told. A
+-- flush, which is an ask and a fence, is started until its fence is made
 pub data Turn : Type 0 where
   Asked : Turn
   Started : Turn
@@ -82,7 +103,14 @@ pub record IsRecovering (c : Config) (values : ℕ → ℕ) (m : SwapMemory) (tu
   pub phase : IsPhaseIn turn m.phase
   pub doing : doing_of m 0 ≡ doing_in turn (asks_of t)
   pub busy : IsBusyIn turn (doing_of m 0)
+  pub asks : AsksRightly m
   pub knows : Knows t values (stage_of turn) (words_in m)
+
+-- the acts still to be made of what is asked for: of a flush the fence alone, where that is next
+abbrev pub to_come : Turn → SwapMemory → Option Todo → ℕ
+to_come Asked m asks = steps_in asks
+to_come Started m asks = if (worker_of m 0).flush_next then 1 else steps_in asks
+to_come Made m asks = 0
 
 -- a recovery that has asked for nothing yet, as `new` makes it
 pub record IsNew (c : Config) (t : Recover) : Type 0 where
@@ -97,4 +125,4 @@ pub record IsNext (old : Recover) (seen : Seen) (new : Recover) : Type 0 where
   pub config : config_of new ≡ config_of old
   pub ready : IsReady new
   pub learns : (values : ℕ → ℕ) (m : Memory) → Knows old values Took m → Tells old seen m → Knows new values Waiting m
-  pub sooner : (values : ℕ → ℕ) (m : Memory) → Knows old values Took m → acts_left new m < acts_left old m
+  pub sooner : (values : ℕ → ℕ) (m : Memory) → Knows old values Took m → acts_left new m + steps_in (asks_of new) ≤ acts_left old m

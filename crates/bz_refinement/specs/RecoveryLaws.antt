@@ -1,5 +1,5 @@
 -- How a recovery goes on: from the power cut through its acts and the evictions between them to the renewal.
-use Rattle.std.specs.Prelude.{◌≡◌, ℕ, ◌+◌, ◌<◌, false, List, length, slice_index, Option, Some, None}
+use Rattle.std.specs.Prelude.{◌≡◌, ℕ, ◌+◌, ◌<◌, false, List, length, slice_index, Option, Some, None, ◌≢◌}
 use Rattle.bz_swap_acts.specs.declared.acted.Act.{Act}
 use Rattle.bz_swap_acts.specs.declared.acted.Act.TheVariants as act
 use Rattle.bz_content.specs.Content.{image_fault}
@@ -27,7 +27,7 @@ use Rattle.bz_task.specs.declared.todo.Seen.{Seen}
 use Rattle.bz_task.specs.declared.todo.Seen.TheVariants as seen
 use Rattle.bz_task.specs.declared.todo.Todo.{Todo}
 use Rattle.bz_task.specs.declared.todo.Todo.TheVariants as todo
-use Rattle.bz_refinement.specs.Recovering.{IsOff, Turn, Asked, Started, Made, IsRecovering, IsNew, IsNext, words_in}
+use Rattle.bz_refinement.specs.Recovering.{IsOff, Turn, Asked, Started, Made, IsRecovering, IsNew, IsNext, words_in, to_come}
 
 -- a power cut, of a memory that tasks see and of one that is being recovered, leaves every word to which the durable words
 -- resolved
@@ -69,11 +69,11 @@ pub record ActsMayStart : Type 0 where
   pub store : (c : Config) (values : ℕ → ℕ) (m : SwapMemory) (t : Recover) (a x : ℕ) → IsRecovering c values m Asked t → asks_of t ≡ Some (todo.Store a x) → Starts (MayStore m 0 a x) c values m (Storing a x) t
   pub flush : (c : Config) (values : ℕ → ℕ) (m : SwapMemory) (t : Recover) (line : ℕ) → IsRecovering c values m Asked t → asks_of t ≡ Some (todo.Flush line) → Starts (MayFlush m 0 line) c values m (Flushing line) t
 
--- the act is the one that was asked for
+-- the act is the one that was asked for, or the last one
 abbrev pub IsAsked : Option Todo → Act → Type 0
 IsAsked (Some (todo.Load a)) made = (x : ℕ) × (made ≡ act.Load a x)
 IsAsked (Some (todo.Store a x)) made = made ≡ act.Store a x
-IsAsked (Some (todo.Flush line)) made = made ≡ act.Flush line
+IsAsked (Some (todo.Flush line)) made = made ≡ act.Fence
 IsAsked asks made = ⊥
 
 -- what the recovery is told of it
@@ -94,17 +94,22 @@ pub record Recovers (c : Config) (values : ℕ → ℕ) (old new : SwapMemory) (
   pub left : acts_left t (words_in new) ≡ acts_left t (words_in old)
   pub same : SaysTheSame c (slice_index old.durable) (slice_index new.durable)
 
-abbrev pub ActsRecover : Type 0
-ActsRecover =
-    (c : Config) (values : ℕ → ℕ) (old new : SwapMemory) (t : Recover) (made : Act) (done : Done) (told : Option ℕ) → IsRecovering c values old Started t → StepsIn old.phase old 0 made done told new →
-    Recovers c values old new t made done told
-
 -- a word is evicted: no swap takes effect, the recovery knows the memory as before, and the durable words hold what they held
 pub record StaysRecovering (c : Config) (values : ℕ → ℕ) (old new : SwapMemory) (turn : Turn) (t : Recover) (told : Option ℕ) : Type 0 where
   pub quiet : told ≡ None
   pub recovering : IsRecovering c values new turn t
   pub left : acts_left t (words_in new) ≡ acts_left t (words_in old)
   pub same : SaysTheSame c (slice_index old.durable) (slice_index new.durable)
+
+-- so it is where worker 0 asks for the line of a flush, which goes on; with any other act it has made what was asked for
+pub record ActsOn (c : Config) (values : ℕ → ℕ) (old new : SwapMemory) (t : Recover) (made : Act) (ended : Done) (told : Option ℕ) : Type 0 where
+  pub ends : ended ≢ done.Busy → Recovers c values old new t made ended told
+  pub goes_on : ended ≡ done.Busy → (to_come Started old (asks_of t) ≡ to_come Started new (asks_of t) + 1) × StaysRecovering c values old new Started t told
+
+abbrev pub ActsRecover : Type 0
+ActsRecover =
+    (c : Config) (values : ℕ → ℕ) (old new : SwapMemory) (t : Recover) (made : Act) (done : Done) (told : Option ℕ) → IsRecovering c values old Started t → StepsIn old.phase old 0 made done told new →
+    ActsOn c values old new t made done told
 
 abbrev pub EvictionsLeaveRecoveries : Type 0
 EvictionsLeaveRecoveries =

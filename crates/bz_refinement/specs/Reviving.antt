@@ -1,5 +1,5 @@
 -- The journal of a memory whose power has failed, from the power cut to the end of its recovery, where a new life begins.
-use Rattle.std.specs.Prelude.{◌≡◌, ℕ, suc, ◌+◌, ◌*◌, ◌<◌, ◌≤◌, false, List, [], ◌∷◌, length, slice_index, Option, Some, None}
+use Rattle.std.specs.Prelude.{◌≡◌, ℕ, suc, ◌+◌, ◌*◌, ◌<◌, ◌≤◌, false, List, [], ◌∷◌, length, slice_index, Option, Some, None, ◌≢◌}
 use Rattle.bz_swap_acts.specs.declared.acted.Act.{Act}
 use Rattle.bz_swap_acts.specs.declared.acted.Act.TheVariants as act
 use Rattle.bz_content.specs.Content.{image_fault}
@@ -13,7 +13,7 @@ use Rattle.bz_mark.specs.Counts.{acts_by}
 use Rattle.bz_mark.specs.Log.{Log, Limits, with_mark}
 use Rattle.bz_mark.specs.WordsAfter.{state_after_marks, words_after_marks}
 use Rattle.bz_mark.specs.declared.marks.Mark.{Mark}
-use Rattle.bz_mark.specs.declared.marks.Mark.TheVariants.{Load, Store, Cas, Flush, Evict, Cut, On, Ready, Ask, Fence}
+use Rattle.bz_mark.specs.declared.marks.Mark.TheVariants.{Load, Store, Cas, Evict, Cut, On, Ready, Ask, Fence}
 use Rattle.bz_recover.specs.Contents.{SaysTheSame}
 use Rattle.bz_recover.specs.Duties.{asks_of, acts_left, WalksIn}
 use Rattle.bz_recover.specs.Places.{MOST_ACTS}
@@ -33,23 +33,18 @@ use Rattle.bz_swap.specs.Steps.{StepsIn}
 use Rattle.bz_swap.specs.SwapMemory.{SwapMemory, memory_words}
 use Rattle.bz_task.specs.declared.todo.Todo.TheVariants.{Finish}
 use Rattle.bz_swap_marks.specs.Marks.{mark_of}
-use Rattle.bz_swap_marks.specs.Past.{SamePast, IsClean}
+use Rattle.bz_swap_marks.specs.Past.{SamePast}
 use Rattle.bz_refinement.specs.Living.{IsLiving}
-use Rattle.bz_refinement.specs.Recovering.{IsOff, Turn, Asked, Started, Made, IsRecovering, IsNew, words_in}
+use Rattle.bz_refinement.specs.Recovering.{IsOff, Turn, Asked, Started, Made, IsRecovering, IsNew, words_in, to_come}
 use Rattle.bz_refinement.specs.RecoveryLaws.{IsRevived, Recovers, StaysRecovering}
 use Rattle.bz_refinement.specs.Story.{Story}
-
--- the acts that are left to a recovery, with the one that it has asked for if that is not made yet
-abbrev pub to_come : Turn → ℕ → ℕ
-to_come Made n = n
-to_come turn n = suc n
+use Rattle.bz_swap_machine.specs.declared.done.Done.TheVariants.{Busy}
 
 -- the power is off: the journal's words are the memory's, and no call is open
 pub record IsOffIn (c : Config) (values : ℕ → ℕ) (m : SwapMemory) (log : Log) : Type 0 where
   pub off : IsOff c values m
   pub words : memory_words m ≡ words_after_marks log.start log.past
   pub past : SamePast m (state_after_marks log.start log.past)
-  pub clean : IsClean m.past
   pub calls : (w : ℕ) → open_call w log.past ≡ None
 
 -- a recovery goes on: so it is too, and the durable words hold what they held when the power came on; since then no descriptor was
@@ -58,12 +53,11 @@ pub record IsRecoveringIn (c : Config) (values : ℕ → ℕ) (m : SwapMemory) (
   pub recovering : IsRecovering c values m turn t
   pub words : memory_words m ≡ words_after_marks log.start log.past
   pub past : SamePast m (state_after_marks log.start log.past)
-  pub clean : IsClean m.past
   pub calls : (w : ℕ) → open_call w log.past ≡ None
   pub same : SaysTheSame c (image_at_on log.start log.past) (slice_index m.durable)
   pub untaken : (swap : ℕ) → is_taken swap (since_on log.past) ≡ false
   pub unstored : (slot : ℕ) → is_stored_into c slot (since_on log.past) ≡ false
-  pub spent : acts_by 0 (since_on log.past) + to_come turn (acts_left t (words_in m)) < MOST_ACTS * size_of c
+  pub spent : acts_by 0 (since_on log.past) + to_come turn m (asks_of t) + acts_left t (words_in m) < MOST_ACTS * size_of c
 
 -- a power cut ends a life, or cuts a recovery short
 pub record CutsAreMarked : Type 0 where
@@ -88,23 +82,34 @@ PowerOnIsMarked = (c : Config) (values : ℕ → ℕ) (m : SwapMemory) (log : Lo
 abbrev pub TurnsMakeNoMark : Type 0
 TurnsMakeNoMark =
     (c : Config) (values : ℕ → ℕ) (m n : SwapMemory) (log : Log) (turn next : Turn) (t u : Recover) → IsRecoveringIn c values m log turn t → memory_words n ≡ memory_words m → n.past ≡ m.past → IsRecovering c values n next u →
-    to_come next (acts_left u (words_in n)) ≤ to_come turn (acts_left t (words_in m)) →
+    to_come next n (asks_of u) + acts_left u (words_in n) ≤ to_come turn m (asks_of t) + acts_left t (words_in m) →
     IsRecoveringIn c values n log next u
 
 -- where the durable words decoded to the map they still do
 abbrev pub StillDecodes : Config → Log → Mark → Type 0
 StillDecodes c log mark = Decodes c log.start log.past → Decodes c log.start (mark ∷ log.past)
 
--- worker 0 makes the act that was asked for
+-- worker 0 makes the act that was asked for, or the last of it
 pub record RecoversIn (c : Config) (values : ℕ → ℕ) (old new : SwapMemory) (log : Log) (t : Recover) (made : Act) (done : Done) (told : Option ℕ) : Type 0 where
   pub recovers : Recovers c values old new t made done told
   pub marked : IsRecoveringIn c values new (with_mark log (mark_of 0 made)) Made t
+
+-- or it asks for the line of a flush, which goes on
+pub record FlushesIn (c : Config) (values : ℕ → ℕ) (new : SwapMemory) (log : Log) (t : Recover) (made : Act) (told : Option ℕ) : Type 0 where
+  pub quiet : told ≡ None
+  pub marked : IsRecoveringIn c values new (with_mark log (mark_of 0 made)) Started t
+
+-- the durable words hold what they held
+pub record ActsIn (c : Config) (values : ℕ → ℕ) (old new : SwapMemory) (log : Log) (t : Recover) (made : Act) (ended : Done) (told : Option ℕ) : Type 0 where
+  pub same : SaysTheSame c (slice_index old.durable) (slice_index new.durable)
   pub decodes : StillDecodes c log (mark_of 0 made)
+  pub ends : ended ≢ Busy → RecoversIn c values old new log t made ended told
+  pub goes_on : ended ≡ Busy → FlushesIn c values new log t made told
 
 abbrev pub ActsAreMarked : Type 0
 ActsAreMarked =
     (c : Config) (values : ℕ → ℕ) (old new : SwapMemory) (log : Log) (t : Recover) (made : Act) (done : Done) (told : Option ℕ) → IsRecoveringIn c values old log Started t → StepsIn old.phase old 0 made done told new →
-    RecoversIn c values old new log t made done told
+    ActsIn c values old new log t made done told
 
 -- a word is evicted
 pub record EvictsIn (c : Config) (values : ℕ → ℕ) (old new : SwapMemory) (log : Log) (turn : Turn) (t : Recover) (a : ℕ) (told : Option ℕ) : Type 0 where

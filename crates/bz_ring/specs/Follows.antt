@@ -29,7 +29,6 @@ abbrev pub IsActOf : ℕ → Mark → Type 0
 IsActOf w (mark.Load v a value) = v ≡ w
 IsActOf w (mark.Store v a value) = v ≡ w
 IsActOf w (mark.Cas v a old new found) = v ≡ w
-IsActOf w (mark.Flush v line) = v ≡ w
 IsActOf w (mark.Ask v line) = v ≡ w
 IsActOf w (mark.Fence v) = v ≡ w
 IsActOf w other = ⊥
@@ -41,7 +40,6 @@ IsAfterRecovering past = ⊥
 
 -- the mark makes words durable while the power is on, as no other does
 abbrev pub MakesDurable : Mark → Type 0
-MakesDurable (mark.Flush w line) = Unit {0}
 MakesDurable (mark.Fence w) = Unit {0}
 MakesDurable (mark.Evict a) = Unit {0}
 MakesDurable other = ⊥
@@ -60,7 +58,6 @@ MayHappen past (mark.Effect w n) = ⊥
 MayHappen past (mark.Load w a v) = MayAct past w
 MayHappen past (mark.Store w a v) = MayAct past w
 MayHappen past (mark.Cas w a old new found) = MayAct past w
-MayHappen past (mark.Flush w line) = MayAct past w
 MayHappen past (mark.Ask w line) = MayAct past w
 MayHappen past (mark.Fence w) = MayAct past w
 MayHappen past (mark.Evict a) = power_after past ≢ power.Off

@@ -4,7 +4,7 @@ use Rattle.bz_mark.specs.declared.marks.Mark.TheVariants as mark
 use Rattle.bz_ring.specs.declared.marks.QMark.{QMark}
 use Rattle.bz_ring.specs.declared.marks.QMark.TheVariants as whole_mark
 use Rattle.bz_ring.specs.declared.flat.FlatMark.{FlatMark}
-use Rattle.bz_ring.specs.declared.flat.FlatMark.TheVariants.{Begin, End, Effect, Load, Store, Cas, Flush, Ask, Fence, Evict, Cut, On, Ready}
+use Rattle.bz_ring.specs.declared.flat.FlatMark.TheVariants.{Begin, End, Effect, Load, Store, Cas, Ask, Fence, Evict, Cut, On, Ready}
 use Rattle.bz_ring.specs.declared.journal.QJournal.TheInside.{Inside}
 
 -- the mark that a flat one stands for
@@ -15,7 +15,6 @@ whole (Effect w n) = whole_mark.Effect w n
 whole (Load w a v) = whole_mark.Memory (mark.Load w a v)
 whole (Store w a v) = whole_mark.Memory (mark.Store w a v)
 whole (Cas w a old new found) = whole_mark.Memory (mark.Cas w a old new found)
-whole (Flush w line) = whole_mark.Memory (mark.Flush w line)
 whole (Ask w line) = whole_mark.Memory (mark.Ask w line)
 whole (Fence w) = whole_mark.Memory (mark.Fence w)
 whole (Evict a) = whole_mark.Memory (mark.Evict a)

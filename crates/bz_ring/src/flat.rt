@@ -43,10 +43,6 @@ pub enum FlatMark {
         new: u64,
         found: u64,
     },
-    Flush {
-        w: u8,
-        line: u32,
-    },
     Ask {
         w: u8,
         line: u32,
@@ -87,7 +83,6 @@ pub fn whole_mark(mark: FlatMark) -> QMark
             new,
             found,
         }),
-        FlatMark::Flush { w, line } => QMark::Memory(Mark::Flush { w, line }),
         FlatMark::Ask { w, line } => QMark::Memory(Mark::Ask { w, line }),
         FlatMark::Fence { w } => QMark::Memory(Mark::Fence { w }),
         FlatMark::Evict { a } => QMark::Memory(Mark::Evict { a }),
@@ -118,7 +113,6 @@ fn flat_memory(mark: Mark) -> FlatMark
             new,
             found,
         },
-        Mark::Flush { w, line } => FlatMark::Flush { w, line },
         Mark::Ask { w, line } => FlatMark::Ask { w, line },
         Mark::Fence { w } => FlatMark::Fence { w },
         Mark::Evict { a } => FlatMark::Evict { a },

@@ -1,5 +1,5 @@
 -- What steps of a worker, its starts and evictions leave of what the others do.
-use Rattle.std.specs.Prelude.{◌≡◌, ◌≢◌, ℕ, length, Option, None, Some, true}
+use Rattle.std.specs.Prelude.{◌≡◌, ◌≢◌, ℕ, length, Option, None, Some, true, false}
 use Rattle.std.proofs.Common.{refl, ap, ◌∙◌, inl, inr}
 use Rattle.std.proofs.lemmas.Bool.{cases_eq}
 use Rattle.std.proofs.lemmas.List.{get_or-set_other, length-set}
@@ -9,7 +9,7 @@ use Rattle.bz_swap.specs.declared.phase.Phase.{Phase}
 use Rattle.bz_swap.specs.declared.phase.Phase.TheVariants.{Opened, Running, Recovering}
 use Rattle.bz_swap.specs.Effects.{EffectIs}
 use Rattle.bz_swap.specs.Evictions.{IsEviction, EvictsIn}
-use Rattle.bz_swap.specs.Starts.{started, begins_by_flush}
+use Rattle.bz_swap.specs.Starts.{started}
 use Rattle.bz_swap.specs.Steps.{IsOneAct}
 use Rattle.bz_swap.specs.SwapMemory.{SwapMemory, Doing, Working, idle, has_effect, doing_of}
 
@@ -32,8 +32,8 @@ frame-eviction old new w a told h = record {
 
 pub frame-start : (m : SwapMemory) (w : ℕ) (doing : Doing) → IsFrame m (started m w doing) w
 frame-start m w doing = record {
-  count = length-set m.workers w (record { doing = doing; flush_next = begins_by_flush doing w });
-  others = λ v other. ap (λ (u : Working). u.doing) (get_or-set_other m.workers w v (record { doing = doing; flush_next = begins_by_flush doing w }) idle other);
+  count = length-set m.workers w (record { doing = doing; flush_next = false });
+  others = λ v other. ap (λ (u : Working). u.doing) (get_or-set_other m.workers w v (record { doing = doing; flush_next = false }) idle other);
 }
 
 -- outside a recovery time an eviction tells its effect

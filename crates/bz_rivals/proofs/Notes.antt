@@ -9,7 +9,7 @@ use Rattle.bz_swap_acts.specs.declared.acted.Act.{Act}
 use Rattle.bz_swap_machine.specs.declared.done.Done.{Done}
 use Rattle.bz_swap.specs.Evictions.{IsEviction}
 use Rattle.bz_swap.specs.Power.{after_cut, opened, renewed}
-use Rattle.bz_swap.specs.Starts.{swapping, begins_by_flush}
+use Rattle.bz_swap.specs.Starts.{swapping}
 use Rattle.bz_swap.specs.Steps.{IsStep, IsRawStep}
 use Rattle.bz_swap.specs.SwapMemory.{SwapMemory, Idle, Swapping, Working, idle, value_at, is_missed, entries_of, doing_of}
 use Rattle.bz_swap.proofs.Fresh.{all-same}
@@ -28,7 +28,7 @@ zero-swaps-nothing = record {
   opening = λ phase start swaps workers. none-doing (workers + 1) (opened phase start swaps workers) 0;
   act = λ old new w made done one none s doing. none s (step-before old new w made done 0 s one doing);
   eviction = λ old new a told h none s doing. none s (ap (λ (m : SwapMemory). doing_of m 0) (sym h.is) ∙ doing);
-  start = λ m w doing another none s is. none s (start-before m w (record { doing = doing; flush_next = begins_by_flush doing w }) 0 s (another s) is);
+  start = λ m w doing another none s is. none s (start-before m w (record { doing = doing; flush_next = false }) 0 s (another s) is);
   swap = begun-elsewhere;
   cut = λ m. none-doing (length m.workers) (after_cut m) 0;
   renewal = λ m may. idle-swaps-nothing (renewed m) 0 (may.idle 0);

@@ -86,7 +86,6 @@ act-marks : (w : ℕ) (act : Mark) (past : List Mark) (v : ℕ) → actor act �
 act-marks w (mark.Load u a x) past v own = (refl, λ z. refl)
 act-marks w (mark.Store u a x) past v own = (refl, λ z. refl)
 act-marks w (mark.Cas u a old new found) past v own = (refl, λ z. refl)
-act-marks w (mark.Flush u line) past v own = (refl, λ z. refl)
 act-marks w (mark.Ask u line) past v own = (refl, λ z. refl)
 act-marks w (mark.Fence u) past v own = (refl, λ z. refl)
 act-marks w other past v own = absurd (cc own)
@@ -144,7 +143,6 @@ closed-act : (w : ℕ) (act : Mark) (past : List Mark) → actor act ≡ Some 0 
 closed-act w (mark.Load u a x) past own closed = record { ended = refl; closed = closed }
 closed-act w (mark.Store u a x) past own closed = record { ended = refl; closed = closed }
 closed-act w (mark.Cas u a old new found) past own closed = record { ended = refl; closed = closed }
-closed-act w (mark.Flush u line) past own closed = record { ended = refl; closed = closed }
 closed-act w (mark.Ask u line) past own closed = record { ended = refl; closed = closed }
 closed-act w (mark.Fence u) past own closed = record { ended = refl; closed = closed }
 closed-act w other past own closed = absurd (cc own)

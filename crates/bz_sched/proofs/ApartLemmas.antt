@@ -50,7 +50,6 @@ act-apart : (act : Mark) (past : List Mark) (v : ℕ) → actor act ≡ Some v �
 act-apart (mark.Load u a x) past v own apart = (tt, apart)
 act-apart (mark.Store u a x) past v own apart = (tt, apart)
 act-apart (mark.Cas u a old new found) past v own apart = (tt, apart)
-act-apart (mark.Flush u line) past v own apart = (tt, apart)
 act-apart (mark.Ask u line) past v own apart = (tt, apart)
 act-apart (mark.Fence u) past v own apart = (tt, apart)
 act-apart other past v own apart = absurd (cc own)

@@ -152,7 +152,6 @@ act-steps : (w : ℕ) (made : Act) (past : List Mark) → stepper (mark_of w mad
 act-steps w (act.Load a v) past = refl
 act-steps w (act.Store a v) past = refl
 act-steps w (act.Cas a old new found) past = refl
-act-steps w (act.Flush line) past = refl
 act-steps w (act.Ask line) past = refl
 act-steps w act.Fence past = refl
 
@@ -165,7 +164,6 @@ act-calls : (v w : ℕ) (past : List Mark) (made : Act) → open_call v (mark_of
 act-calls v w past (act.Load a x) = refl
 act-calls v w past (act.Store a x) = refl
 act-calls v w past (act.Cas a old new found) = refl
-act-calls v w past (act.Flush line) = refl
 act-calls v w past (act.Ask line) = refl
 act-calls v w past act.Fence = refl
 
@@ -183,7 +181,6 @@ act-counts : (w : ℕ) (made : Act) (past : List Mark)
 act-counts w (act.Load a v) past = (refl, refl, refl)
 act-counts w (act.Store a v) past = (refl, refl, refl)
 act-counts w (act.Cas a old new found) past = (refl, refl, refl)
-act-counts w (act.Flush line) past = (refl, refl, refl)
 act-counts w (act.Ask line) past = (refl, refl, refl)
 act-counts w act.Fence past = (refl, refl, refl)
 

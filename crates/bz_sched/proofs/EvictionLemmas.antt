@@ -19,7 +19,7 @@ use Rattle.bz_sched.specs.Turns.{IsEviction}
 use Rattle.bz_sched.specs.TurnsInPart.{StopsEvent}
 use Rattle.bz_sched.specs.declared.turn.Stop.TheVariants.{Limit}
 use Rattle.bz_sched.proofs.BurnLemmas.{burns_none}
-use Rattle.bz_sched.proofs.PowerLemmas.{struck_power, struck_flushes}
+use Rattle.bz_sched.proofs.PowerLemmas.{struck_power, struck_fences}
 use Rattle.bz_sched.proofs.StepLemmas.{struck_is, short_stops}
 
 -- what an eviction of a word of the memory answers
@@ -63,7 +63,7 @@ eviction_made old queued a new ready e =
         start = refl;
         limits = refl;
         room = refl;
-        fuse = burns_none old.log.past e.past queued.fuse (struck_flushes (mark.Evict a) old.log.past e.past e.effect);
+        fuse = burns_none old.log.past e.past queued.fuse (struck_fences (mark.Evict a) old.log.past e.past e.effect);
       },
       record { effect = struck.effect; is = struck.is; one_effect = struck.one_effect; queue = refl },
     )

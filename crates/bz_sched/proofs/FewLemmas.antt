@@ -36,7 +36,6 @@ acts-one : (lab : WorldView) (m : Mark) (past : List Mark) → actor m ≡ Some 
 acts-one lab (mark.Load w a v) past own = counted w (acts_in lab past) own
 acts-one lab (mark.Store w a v) past own = counted w (acts_in lab past) own
 acts-one lab (mark.Cas w a old new found) past own = counted w (acts_in lab past) own
-acts-one lab (mark.Flush w line) past own = counted w (acts_in lab past) own
 acts-one lab (mark.Ask w line) past own = counted w (acts_in lab past) own
 acts-one lab (mark.Fence w) past own = counted w (acts_in lab past) own
 acts-one lab m past own = absurd (cc own)
@@ -94,7 +93,6 @@ act-closed : (m : Mark) (past : List Mark) → actor m ≡ Some 0 → AreClosed 
 act-closed (mark.Load w a v) past own closed = closed
 act-closed (mark.Store w a v) past own closed = closed
 act-closed (mark.Cas w a old new found) past own closed = closed
-act-closed (mark.Flush w line) past own closed = closed
 act-closed (mark.Ask w line) past own closed = closed
 act-closed (mark.Fence w) past own closed = closed
 act-closed m past own closed = absurd (cc own)
@@ -127,7 +125,6 @@ act-same : (m : Mark) (past : List Mark) → actor m ≡ Some 0 → SameCalls pa
 act-same (mark.Load w a v) past own = record { begins = refl; pages = refl; wanting = refl }
 act-same (mark.Store w a v) past own = record { begins = refl; pages = refl; wanting = refl }
 act-same (mark.Cas w a old new found) past own = record { begins = refl; pages = refl; wanting = refl }
-act-same (mark.Flush w line) past own = record { begins = refl; pages = refl; wanting = refl }
 act-same (mark.Ask w line) past own = record { begins = refl; pages = refl; wanting = refl }
 act-same (mark.Fence w) past own = record { begins = refl; pages = refl; wanting = refl }
 act-same m past own = absurd (cc own)

@@ -25,7 +25,6 @@ act-image : (start : List ℕ) (m : Mark) (past : List Mark) → actor m ≡ Som
 act-image start (mark.Load w a v) past own = refl
 act-image start (mark.Store w a v) past own = refl
 act-image start (mark.Cas w a old new found) past own = refl
-act-image start (mark.Flush w line) past own = refl
 act-image start (mark.Ask w line) past own = refl
 act-image start (mark.Fence w) past own = refl
 act-image start m past own = absurd (cc own)

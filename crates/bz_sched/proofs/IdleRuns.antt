@@ -4,7 +4,7 @@ use Rattle.std.specs.Prelude.{if◌then◌else◌, is_some, option_map}
 use Rattle.std.proofs.lemmas.Bool.Decides.{nat_tests}
 use Rattle.bz_call.specs.declared.calls.Call.{Call}
 use Rattle.bz_mark.specs.declared.marks.Mark.{Mark}
-use Rattle.bz_mark.specs.declared.marks.Mark.TheVariants.{Begin, End, Load, Store, Cas, Flush, Ask, Fence, Effect}
+use Rattle.bz_mark.specs.declared.marks.Mark.TheVariants.{Begin, End, Load, Store, Cas, Ask, Fence, Effect}
 use Rattle.bz_sound.specs.Calls.{Open, open_call, with_effect}
 use Rattle.bz_sched.specs.Queued.{calls_of, is_busy_by}
 use Rattle.bz_sched.specs.Points.{Point, ready_by, is_busy, IsTurn}
@@ -47,7 +47,6 @@ open_stays_none w v (Effect u n ∷ added) past other own none = none_effected (
 open_stays_none w v (Load u a x ∷ added) past other own none = open_stays_none w v added past other own.1 none
 open_stays_none w v (Store u a x ∷ added) past other own none = open_stays_none w v added past other own.1 none
 open_stays_none w v (Cas u a old new found ∷ added) past other own none = open_stays_none w v added past other own.1 none
-open_stays_none w v (Flush u line ∷ added) past other own none = open_stays_none w v added past other own.1 none
 open_stays_none w v (Ask u line ∷ added) past other own none = open_stays_none w v added past other own.1 none
 open_stays_none w v (Fence u ∷ added) past other own none = open_stays_none w v added past other own.1 none
 open_stays_none w v (mark ∷ added) past other own none = absurd own.0

@@ -74,7 +74,6 @@ act_opens : (made : Act) (w v : ℕ) (past : List Mark) → open_call v (mark_of
 act_opens (act.Load a x) w v past = refl
 act_opens (act.Store a x) w v past = refl
 act_opens (act.Cas a old new found) w v past = refl
-act_opens (act.Flush line) w v past = refl
 act_opens (act.Ask line) w v past = refl
 act_opens act.Fence w v past = refl
 

@@ -4,7 +4,7 @@ use Rattle.std.specs.Prelude.{if◌then◌else◌, is_some}
 use Rattle.std.proofs.lemmas.Bool.Decides.{nat_tests}
 use Rattle.bz_call.specs.declared.calls.Call.{Call}
 use Rattle.bz_mark.specs.declared.marks.Mark.{Mark}
-use Rattle.bz_mark.specs.declared.marks.Mark.TheVariants.{Begin, End, Load, Store, Cas, Flush, Ask, Fence, Effect}
+use Rattle.bz_mark.specs.declared.marks.Mark.TheVariants.{Begin, End, Load, Store, Cas, Ask, Fence, Effect}
 use Rattle.bz_sound.specs.Calls.{Open, open_call}
 use Rattle.bz_world.specs.declared.answers.LimitKind.TheVariants as which
 use Rattle.bz_sched.specs.Points.{Point, ready, ready_by, is_busy, IsTurn}
@@ -32,7 +32,6 @@ opens_stay w v (Effect u n ∷ added) past other own = changes_no (u == w) _ (op
 opens_stay w v (Load u a x ∷ added) past other own = opens_stay w v added past other own.1
 opens_stay w v (Store u a x ∷ added) past other own = opens_stay w v added past other own.1
 opens_stay w v (Cas u a old new found ∷ added) past other own = opens_stay w v added past other own.1
-opens_stay w v (Flush u line ∷ added) past other own = opens_stay w v added past other own.1
 opens_stay w v (Ask u line ∷ added) past other own = opens_stay w v added past other own.1
 opens_stay w v (Fence u ∷ added) past other own = opens_stay w v added past other own.1
 opens_stay w v (mark ∷ added) past other own = absurd own.0

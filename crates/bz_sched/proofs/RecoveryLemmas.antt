@@ -17,7 +17,7 @@ use Rattle.bz_world.specs.declared.answers.Applied.TheVariants as applied
 use Rattle.bz_world.specs.declared.answers.Event.TheVariants as event
 use Rattle.bz_world.specs.declared.answers.LimitKind.TheVariants as which
 use Rattle.bz_sched.specs.Cutting.{HasNoPlace}
-use Rattle.bz_sched.specs.Points.{actor, flushes_of}
+use Rattle.bz_sched.specs.Points.{actor, fences_of}
 use Rattle.bz_sched.specs.Fuses.{lets, burnt}
 use Rattle.bz_sched.specs.Powering.{IsOff, IsOn, IsStarted, StartStopped, IsGivenBack, GoesOnOrEnds, RecoversOnce, RecoveryStops, RecoversOn, HasRecovered}
 use Rattle.bz_sched.specs.Recoveries.{off_by, Recovers, RecoversTimes, RecoversWhole}
@@ -26,7 +26,7 @@ use Rattle.bz_sched.specs.declared.turn.Stop.TheVariants.{Due, Limit}
 use Rattle.bz_sched.specs.declared.turn.Turned.TheVariants.{Finished, Stopped}
 use Rattle.bz_sched.proofs.BurnLemmas.{burns_act, burns_both, burns_none}
 use Rattle.bz_sched.proofs.CutLemmas.{WasCut, limit_met}
-use Rattle.bz_sched.proofs.PowerLemmas.{act_power, act_flushes, one_flush}
+use Rattle.bz_sched.proofs.PowerLemmas.{act_power, act_fences, one_fence}
 
 pub on_is_not_off : (world : WorldView) → power_in world ≡ power.On → power_in world ≢ power.Off
 on_is_not_off world on off = let opposed : power.On ≡ power.Off = sym on ∙ off in cc opposed
@@ -103,7 +103,6 @@ act_own : (made : Act) → actor (mark_of 0 made) ≡ Some 0
 act_own (act.Load a x) = refl
 act_own (act.Store a x) = refl
 act_own (act.Cas a old new found) = refl
-act_own (act.Flush line) = refl
 act_own (act.Ask line) = refl
 act_own act.Fence = refl
 
@@ -116,7 +115,7 @@ EitherWay other = ⊥
 pub recovered_once : (old new : WorldView) (fuse left : Option ℕ) (answer : Applied) → power_in old ≡ power.Recovering → EitherWay answer → lab.Recovers old answer new → lets fuse (flush_of old 0) ≡ true → left ≡ burnt (flush_of old 0) fuse → RecoversOnce old fuse new left
 recovered_once old new fuse left applied.Stepped recovering way r may is = record {
   stays = record { config = r.config; at_start = r.at_start; start = ap (λ (log : Log). log.start) r.ends; limits = ap (λ (log : Log). log.limits) r.ends };
-  burns = burns_act old.log.past new.log.past fuse left (flush_of old 0) may (ap (λ (log : Log). flushes_of log.past) r.ends ∙ act_flushes r.made 0 old.log.past ∙ ap (λ (flush : Bool). one_flush flush (flushes_of old.log.past)) r.flush) is;
+  burns = burns_act old.log.past new.log.past fuse left (flush_of old 0) may (ap (λ (log : Log). fences_of log.past) r.ends ∙ act_fences r.made 0 old.log.past ∙ ap (λ (flush : Bool). one_fence flush (fences_of old.log.past)) r.flush) is;
   goes = inl (
     record { act = mark_of 0 r.made; own = act_own r.made; is = ap (λ (log : Log). log.past) r.ends },
     ap (λ (p : Power). power_of p new.log.past) r.at_start ∙ (ap (λ (log : Log). power_of old.at_start log.past) r.ends ∙ act_power old.at_start r.made 0 old.log.past ∙ recovering),
@@ -124,7 +123,7 @@ recovered_once old new fuse left applied.Stepped recovering way r may is = recor
 }
 recovered_once old new fuse left applied.Ready recovering way r may is = record {
   stays = record { config = r.config; at_start = r.at_start; start = ap (λ (log : Log). log.start) r.ends; limits = ap (λ (log : Log). log.limits) r.ends };
-  burns = burns_act old.log.past new.log.past fuse left (flush_of old 0) may (ap (λ (log : Log). flushes_of log.past) r.ends ∙ act_flushes r.made 0 old.log.past ∙ ap (λ (flush : Bool). one_flush flush (flushes_of old.log.past)) r.flush) is;
+  burns = burns_act old.log.past new.log.past fuse left (flush_of old 0) may (ap (λ (log : Log). fences_of log.past) r.ends ∙ act_fences r.made 0 old.log.past ∙ ap (λ (flush : Bool). one_fence flush (fences_of old.log.past)) r.flush) is;
   goes = inr (mark_of 0 r.made ∷ old.log.past, record { act = mark_of 0 r.made; own = act_own r.made; is = refl }, ap (λ (log : Log). log.past) r.ends, record { taken = r.supply.0; left = r.supply.1 });
 }
 recovered_once old new fuse left answer recovering way r may is = absurd way

@@ -16,7 +16,7 @@ use Rattle.bz_sched.specs.declared.cut.CutPlan.{CutPlan}
 use Rattle.bz_sched.specs.declared.running.RunEnd.{RunEnd}
 use Rattle.bz_sched.specs.declared.running.RunEnd.TheVariants as end
 use Rattle.bz_sched.specs.declared.turn.Stop.TheVariants.{Due, Limit}
-use Rattle.bz_sched.proofs.BurnLemmas.{before_cut, due_flushes, never_due}
+use Rattle.bz_sched.proofs.BurnLemmas.{before_cut, due_fences, never_due}
 
 pub kept_leaves : (old new : WorldView) (queued left : Queued) (fuse burnt : Option ℕ) → Keeps old (with_fuse queued fuse) new (with_fuse left burnt) → Leaves old queued new left
 kept_leaves old new queued left fuse burnt k = record {
@@ -52,10 +52,10 @@ module _ (cut : CutPlan) (plan : Plan) (old new : WorldView) (queued left : Queu
     met,
   )
 
-  -- the flush is due
+  -- the fence is due
   pub armed_due : (w : ℕ) → Keeps old (with_fuse queued (Some (cut.flush - 1))) new (with_fuse left fuse) × RunsByInPart (Due w) (words_of old.config) plan (point_of old queued) (point_of new left) × IsStopped new fuse (Due w)
       → IsDueInRun (words_of old.config) cut plan w (point_of old queued) (point_of new left)
-  armed_due w (keeps, runs, due) = record { runs = runs; flushes = due_flushes cut old.log.past new.log.past _ fuse some refl due.1 keeps.fuse }
+  armed_due w (keeps, runs, due) = record { runs = runs; flushes = due_fences cut old.log.past new.log.past _ fuse some refl due.1 keeps.fuse }
 
   -- and the power is cut
   pub armed_cut : (w : ℕ) (end : RunEnd) (after : WorldView) (dropped : Queued) → Keeps old (with_fuse queued (Some (cut.flush - 1))) new (with_fuse left fuse) → IsDueInRun (words_of old.config) cut plan w (point_of old queued) (point_of new left) → flush_of new w ≡ true

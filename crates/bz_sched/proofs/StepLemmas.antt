@@ -2,7 +2,7 @@
 use Rattle.std.proofs.Common.{◌≡◌, ◌⊎◌, inl, inr, ℕ, Bool, true, false, List, [], ◌∷◌, ◌++◌, refl, ap, ◌∙◌, arith, Option, Some, None, ◌==◌, nat_lt}
 use Rattle.std.specs.Prelude.{is_none, is_some, if◌then◌else◌, MatchOption}
 use Rattle.std.proofs.lemmas.Bool.Decides.{nat_tests}
-use Rattle.bz_swap_acts.specs.Rule.{is_flush_act}
+use Rattle.bz_swap_acts.specs.Rule.{is_fence_act}
 use Rattle.bz_swap_acts.specs.declared.acted.Act.{Act}
 use Rattle.bz_swap_acts.specs.declared.acted.Act.TheVariants as act
 use Rattle.bz_mark.specs.Log.{Log}
@@ -16,13 +16,13 @@ use Rattle.bz_world.specs.declared.answers.Applied.{Applied}
 use Rattle.bz_world.specs.declared.answers.Applied.TheVariants as applied
 use Rattle.bz_world.specs.declared.answers.Event.TheVariants as event
 use Rattle.bz_world.specs.declared.answers.LimitKind.TheVariants as which
-use Rattle.bz_sched.specs.Points.{actor, flushes_of, IsUpToOneEffect, TakesStep}
+use Rattle.bz_sched.specs.Points.{actor, fences_of, IsUpToOneEffect, TakesStep}
 use Rattle.bz_sched.specs.Fuses.{lets, burnt, Fused}
 use Rattle.bz_sched.specs.Runs.{point_in, IsReady, IsAtLimit, IsStopped, Keeps}
 use Rattle.bz_sched.specs.TurnsInPart.{StopsStep}
 use Rattle.bz_sched.specs.declared.turn.Stop.TheVariants.{Due, Limit}
 use Rattle.bz_sched.proofs.BurnLemmas.{burns_act}
-use Rattle.bz_sched.proofs.PowerLemmas.{act_power, struck_power, act_flushes, struck_flushes, one_flush}
+use Rattle.bz_sched.proofs.PowerLemmas.{act_power, struck_power, act_fences, struck_fences, one_fence}
 use Rattle.bz_sched.proofs.ReadyLemmas.{keeps_none, changes_no}
 
 -- an act, and what follows it at once
@@ -45,7 +45,6 @@ act_own : (made : Act) (w : ℕ) → actor (mark_of w made) ≡ Some w
 act_own (act.Load a x) w = refl
 act_own (act.Store a x) w = refl
 act_own (act.Cas a old new found) w = refl
-act_own (act.Flush line) w = refl
 act_own (act.Ask line) w = refl
 act_own act.Fence w = refl
 
@@ -103,21 +102,21 @@ step_limit old queued w new ready worker is h = elim (stepped old w applied.Limi
   | inr g ↦ absurd g.steps.ends
 ]
 
--- the step is the flush at which the power is cut
+-- the step is the fence at which the power is cut
 pub step_due : (lab : WorldView) (queued : Fused) (w : ℕ) → IsReady lab → (flush_of lab w ≡ true) × (queued.fuse ≡ Some 0)
     → Keeps lab queued lab queued × StopsStep (Due w) w (point_in lab queued) (point_in lab queued) × IsStopped lab queued.fuse (Due w)
 step_due lab queued w ready due = (keeps_none lab queued ready, (refl, refl), due)
 
--- the queue after an act: it has the same calls, and a flush is counted
+-- the queue after an act: it has the same calls, and a fence is counted
 pub record Burnt (flush : Bool) (queued left : Fused) : Type 0 where
   pub calls : left.calls ≡ queued.calls
   pub room : left.room ≡ queued.room
   pub may : lets queued.fuse flush ≡ true
   pub fuse : left.fuse ≡ burnt flush queued.fuse
 
--- how many flushes were made by then
-step_flushes : (old : WorldView) (w : ℕ) (made : Act) (struck : List Mark) → is_flush_act made ≡ flush_of old w → IsStruck (mark_of w made ∷ old.log.past) struck → flushes_of struck ≡ one_flush (flush_of old w) (flushes_of old.log.past)
-step_flushes old w made struck flush effect = struck_flushes (mark_of w made) old.log.past struck effect ∙ act_flushes made w old.log.past ∙ ap (λ (b : Bool). one_flush b (flushes_of old.log.past)) flush
+-- how many fences were made by then
+step_fences : (old : WorldView) (w : ℕ) (made : Act) (struck : List Mark) → is_fence_act made ≡ flush_of old w → IsStruck (mark_of w made ∷ old.log.past) struck → fences_of struck ≡ one_fence (flush_of old w) (fences_of old.log.past)
+step_fences old w made struck flush effect = struck_fences (mark_of w made) old.log.past struck effect ∙ act_fences made w old.log.past ∙ ap (λ (b : Bool). one_fence b (fences_of old.log.past)) flush
 
 -- the call goes on
 on_ready : (old : WorldView) (w : ℕ) (new : WorldView) → IsReady old → Steps old w applied.Stepped new → IsReady new
@@ -138,7 +137,7 @@ step_goes_on old queued left w new ready g b =
         start = ap (λ (log : Log). log.start) s.ends;
         limits = ap (λ (log : Log). log.limits) s.ends;
         room = b.room;
-        fuse = burns_act old.log.past new.log.past queued.fuse left.fuse (flush_of old w) b.may (ap (λ (log : Log). flushes_of log.past) s.ends ∙ step_flushes old w s.made s.struck s.flush s.effect) b.fuse;
+        fuse = burns_act old.log.past new.log.past queued.fuse left.fuse (flush_of old w) b.may (ap (λ (log : Log). fences_of log.past) s.ends ∙ step_fences old w s.made s.struck s.flush s.effect) b.fuse;
       },
       (
         record {
@@ -173,7 +172,7 @@ step_ends old queued left w n new ready g b =
         start = ap (λ (log : Log). log.start) s.ends.is;
         limits = ap (λ (log : Log). log.limits) s.ends.is;
         room = b.room;
-        fuse = burns_act old.log.past new.log.past queued.fuse left.fuse (flush_of old w) b.may (ap (λ (log : Log). flushes_of log.past) s.ends.is ∙ step_flushes old w s.made s.struck s.flush s.effect) b.fuse;
+        fuse = burns_act old.log.past new.log.past queued.fuse left.fuse (flush_of old w) b.may (ap (λ (log : Log). fences_of log.past) s.ends.is ∙ step_fences old w s.made s.struck s.flush s.effect) b.fuse;
       },
       (
         record {

@@ -3,7 +3,7 @@ use Rattle.std.proofs.Common.{◌≡◌, ◌<◌, ℕ, zero, suc, ◌+◌, Bool,
 use Rattle.std.specs.Prelude.{is_some}
 use Rattle.bz_call.specs.declared.calls.Call.{Call}
 use Rattle.bz_mark.specs.declared.marks.Mark.{Mark}
-use Rattle.bz_mark.specs.declared.marks.Mark.TheVariants.{Begin, End, Load, Store, Cas, Flush, Ask, Fence, Effect}
+use Rattle.bz_mark.specs.declared.marks.Mark.TheVariants.{Begin, End, Load, Store, Cas, Ask, Fence, Effect}
 use Rattle.bz_sound.specs.Calls.{open_call}
 use Rattle.bz_sched.specs.Queued.{calls_of}
 use Rattle.bz_sched.specs.Points.{Point, actor, IsUpToOneEffect, IsUpToOneEnd, IsStep, ready_by, is_busy, IsTurn}
@@ -41,7 +41,6 @@ act_adds : (w : ℕ) (past : List Mark) (act : Mark) → actor act ≡ Some w �
 act_adds w past (Load v a x) own = record { added = Load v a x ∷ []; is = refl; own = (cc, tt); acts = refl }
 act_adds w past (Store v a x) own = record { added = Store v a x ∷ []; is = refl; own = (cc, tt); acts = refl }
 act_adds w past (Cas v a old new found) own = record { added = Cas v a old new found ∷ []; is = refl; own = (cc, tt); acts = refl }
-act_adds w past (Flush v line) own = record { added = Flush v line ∷ []; is = refl; own = (cc, tt); acts = refl }
 act_adds w past (Ask v line) own = record { added = Ask v line ∷ []; is = refl; own = (cc, tt); acts = refl }
 act_adds w past (Fence v) own = record { added = Fence v ∷ []; is = refl; own = (cc, tt); acts = refl }
 act_adds w past other own = absurd cc

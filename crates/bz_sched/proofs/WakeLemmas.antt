@@ -13,13 +13,13 @@ use Rattle.bz_sched.specs.Cuts.{CutsOff, CutsOffInPart}
 use Rattle.bz_sched.specs.Cutting.{IsCutOff}
 use Rattle.bz_sched.specs.Plans.{IsBefore}
 use Rattle.bz_sched.specs.Powering.{IsStarted, StartStopped, RecoversOn}
-use Rattle.bz_sched.specs.Points.{flushes_of}
+use Rattle.bz_sched.specs.Points.{fences_of}
 use Rattle.bz_sched.specs.Recoveries.{RecoversTimes, RecoversWhole, IsDueInRecovery}
 use Rattle.bz_sched.specs.Runs.{point_with, IsAtLimit, Stays, HasPower}
 use Rattle.bz_sched.specs.declared.cut.CutPlan.{CutPlan}
 use Rattle.bz_sched.specs.declared.running.RunEnd.{RunEnd}
 use Rattle.bz_sched.specs.declared.running.RunEnd.TheVariants as end
-use Rattle.bz_sched.proofs.BurnLemmas.{due_flushes}
+use Rattle.bz_sched.proofs.BurnLemmas.{due_fences}
 
 pub stays_both : (a b c : WorldView) → Stays a b → Stays b c → Stays a c
 stays_both a b c h k = record { config = k.config ∙ h.config; at_start = k.at_start ∙ h.at_start; start = k.start ∙ h.start; limits = k.limits ∙ h.limits }
@@ -59,7 +59,7 @@ module _ (old mid new : WorldView) (fuse left : Option ℕ) (s : IsStarted old m
   wake_due cut some armed_so (count, times) none calls = record {
     count = count;
     recovers = subst (λ (past : List Mark). RecoversTimes count past new.log.past) s.past times;
-    flushes = subst (λ (past : List Mark). flushes_of new.log.past + 1 ≡ flushes_of past + cut.flush) s.past (due_flushes cut mid.log.past new.log.past fuse left some armed_so none r.burns);
+    flushes = subst (λ (past : List Mark). fences_of new.log.past + 1 ≡ fences_of past + cut.flush) s.past (due_fences cut mid.log.past new.log.past fuse left some armed_so none r.burns);
     queue = refl;
   }
 

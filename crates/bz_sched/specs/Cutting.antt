@@ -13,7 +13,7 @@ use Rattle.bz_sched.specs.Runs.{point_with, marks_left, IsAtLimit, Stays}
 use Rattle.bz_sched.specs.declared.running.RunEnd.{RunEnd}
 use Rattle.bz_sched.specs.declared.running.RunEnd.TheVariants as end
 
--- the world is the same one, and so are what the power is and which of the next acts are flushes
+-- the world is the same one, and so are what the power is and which of the next acts are fences
 pub record Evolves (old new : WorldView) : Type 0 where
   pub stays : Stays old new
   pub power : power_in new ≡ power_in old

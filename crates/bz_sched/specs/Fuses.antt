@@ -1,26 +1,26 @@
--- The fuse of an armed cut: how many flushes are made before the one at which the power is cut. No cut is armed where it is None.
+-- The fuse of an armed cut: how many fences are made before the one at which the power is cut. No cut is armed where it is None.
 use Rattle.std.specs.Prelude.{◌≡◌, ℕ, zero, ◌+◌, ◌-◌, not, Bool, true, false, List, Option, Some, None}
 use Rattle.bz_call.specs.declared.calls.Call.{Call}
 use Rattle.bz_mark.specs.declared.marks.Mark.{Mark}
-use Rattle.bz_sched.specs.Points.{flushes_of}
+use Rattle.bz_sched.specs.Points.{fences_of}
 use Rattle.bz_sched.specs.Queued.{Queued}
 
--- an act may be made: it is no flush, or the power is not cut at the next one
+-- an act may be made: it is no fence, or the power is not cut at the next one
 abbrev pub lets : Option ℕ → Bool → Bool
 lets (Some zero) flush = not flush
 lets fuse flush = true
 
--- after an act one flush fewer is made, if it was one
+-- after an act one fence fewer is made, if it was one
 abbrev pub burnt : Bool → Option ℕ → Option ℕ
 burnt false fuse = fuse
 burnt true None = None
 burnt true (Some left) = Some (left - 1)
 
--- where a cut is armed, the flushes that were made and those that may still be made are as many as before
+-- where a cut is armed, the fences that were made and those that may still be made are as many as before
 abbrev pub Burns : List Mark → Option ℕ → List Mark → Option ℕ → Type 0
 Burns past None new left = left ≡ None
 Burns past (Some some) new None = ⊥
-Burns past (Some some) new (Some fewer) = flushes_of new + fewer ≡ flushes_of past + some
+Burns past (Some some) new (Some fewer) = fences_of new + fewer ≡ fences_of past + some
 
 -- a queue in a run: the calls that wait, how many more may come, and the fuse of the run
 pub record Fused : Type 0 where

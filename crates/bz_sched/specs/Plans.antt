@@ -6,7 +6,7 @@ use Rattle.bz_script.specs.declared.item.Plan.TheVariants.{Alone, List as ByList
 use Rattle.bz_world.specs.declared.answers.LimitKind.{LimitKind}
 use Rattle.bz_world.specs.declared.answers.LimitKind.TheVariants as which
 use Rattle.bz_sched.specs.Cuts.{CutsOff, CutsOffInPart}
-use Rattle.bz_sched.specs.Points.{Point, flushes_of}
+use Rattle.bz_sched.specs.Points.{Point, fences_of}
 use Rattle.bz_sched.specs.Together.{RunsThreads, RunsThreadsInPart}
 use Rattle.bz_sched.specs.Turns.{EndsAlone, RunsList, RunsTurns}
 use Rattle.bz_sched.specs.TurnsInPart.{EndsAloneInPart, RunsListInPart, RunsTurnsInPart}
@@ -28,20 +28,20 @@ RunsByInPart why words (ByList turns) old new = RunsListInPart why turns old new
 RunsByInPart why words (ByTurns seed) old new = RunsTurnsInPart why words seed old new
 RunsByInPart why words Threads old new = RunsThreadsInPart why old new
 
--- where a cut is armed, fewer flushes were made than it waits for
+-- where a cut is armed, fewer fences were made than it waits for
 abbrev pub IsBefore : Option CutPlan → List Mark → List Mark → Type 0
 IsBefore None old new = Unit {0}
-IsBefore (Some cut) old new = flushes_of new < flushes_of old + cut.flush
+IsBefore (Some cut) old new = fences_of new < fences_of old + cut.flush
 
 -- a run that came to its end
 abbrev pub RunsWhole : ℕ → Option CutPlan → Plan → Point → Point → Type 0
 RunsWhole words cut plan old new = RunsBy words plan old new × IsBefore cut old.past new.past
 
--- a run up to where the power is cut: a step of this worker was to come, and all but one of the flushes that the cut waits for
+-- a run up to where the power is cut: a step of this worker was to come, and all but one of the fences that the cut waits for
 -- were made
 pub record IsDueInRun (words : ℕ) (cut : CutPlan) (plan : Plan) (w : ℕ) (old mid : Point) : Type 0 where
   pub runs : RunsByInPart (Due w) words plan old mid
-  pub flushes : flushes_of mid.past + 1 ≡ flushes_of old.past + cut.flush
+  pub flushes : fences_of mid.past + 1 ≡ fences_of old.past + cut.flush
 
 -- a run in which the cut was made before a step of this worker, over a memory with this start and of so many words
 abbrev pub RunsCutBefore : List ℕ → ℕ → Option CutPlan → Plan → ℕ → Point → Point → Type 0

@@ -2,7 +2,7 @@
 use Rattle.std.specs.Prelude.{◌≡◌, ℕ, ◌+◌, is_some, Bool, true, false, List, [], ◌∷◌, ◌++◌, Option, Some, None}
 use Rattle.bz_call.specs.declared.calls.Call.{Call}
 use Rattle.bz_mark.specs.declared.marks.Mark.{Mark}
-use Rattle.bz_mark.specs.declared.marks.Mark.TheVariants.{Begin, End, Load, Store, Cas, Flush, Ask, Fence, Effect}
+use Rattle.bz_mark.specs.declared.marks.Mark.TheVariants.{Begin, End, Load, Store, Cas, Ask, Fence, Effect}
 use Rattle.bz_sound.specs.Calls.{open_call, begun_calls}
 use Rattle.bz_sched.specs.Queued.{calls_of, without_first, is_busy_by}
 
@@ -16,17 +16,15 @@ abbrev pub actor : Mark → Option ℕ
 actor (Load w a v) = Some w
 actor (Store w a v) = Some w
 actor (Cas w a old new found) = Some w
-actor (Flush w line) = Some w
 actor (Ask w line) = Some w
 actor (Fence w) = Some w
 actor mark = None
 
--- how many of these marks are flushes or fences
-abbrev pub flushes_of : List Mark → ℕ
-flushes_of [] = 0
-flushes_of (Flush w line ∷ past) = flushes_of past + 1
-flushes_of (Fence w ∷ past) = flushes_of past + 1
-flushes_of (mark ∷ past) = flushes_of past
+-- how many of these marks are fences
+abbrev pub fences_of : List Mark → ℕ
+fences_of [] = 0
+fences_of (Fence w ∷ past) = fences_of past + 1
+fences_of (mark ∷ past) = fences_of past
 
 -- at most the effect of one call, of whatever worker
 abbrev pub IsUpToOneEffect : List Mark → Type 0

@@ -51,7 +51,7 @@ pub record RecoversOnce (old : WorldView) (fuse : Option ℕ) (new : WorldView) 
   pub burns : Burns old.log.past fuse new.log.past left
   pub goes : GoesOnOrEnds old new
 
--- the limit is one of marks, or the act is the flush
+-- the limit is one of marks, or the act is the fence
 abbrev pub IsRecoveryStop : Stop → Type 0
 IsRecoveryStop (Limit why) = why ≡ which.Marks
 IsRecoveryStop (Due w) = w ≡ 0

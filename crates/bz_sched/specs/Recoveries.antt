@@ -8,7 +8,7 @@ use Rattle.bz_mark.specs.declared.power.Power.TheVariants as power
 use Rattle.bz_world.specs.declared.answers.LimitKind.{LimitKind}
 use Rattle.bz_world.specs.declared.answers.LimitKind.TheVariants as which
 use Rattle.bz_sched.specs.Cuts.{CutsOff, CutsOffInPart}
-use Rattle.bz_sched.specs.Points.{Point, actor, flushes_of}
+use Rattle.bz_sched.specs.Points.{Point, actor, fences_of}
 use Rattle.bz_sched.specs.Plans.{IsBefore}
 use Rattle.bz_sched.specs.declared.cut.CutPlan.{CutPlan}
 
@@ -43,11 +43,11 @@ RecoversWhole old new = (count : ℕ) × (mid : List Mark) × (last : List Mark)
 abbrev pub Powers : Power → Option CutPlan → Point → Point → Type 0
 Powers at_start cut old new = RecoversWhole (turned_on at_start old.past) new.past × IsBefore cut (turned_on at_start old.past) new.past × (new.queue ≡ old.queue)
 
--- up to the flush at which the power is cut
+-- up to the fence at which the power is cut
 pub record IsDueInRecovery (at_start : Power) (cut : CutPlan) (old mid : Point) : Type 0 where
   pub count : ℕ
   pub recovers : RecoversTimes count (turned_on at_start old.past) mid.past
-  pub flushes : flushes_of mid.past + 1 ≡ flushes_of (turned_on at_start old.past) + cut.flush
+  pub flushes : fences_of mid.past + 1 ≡ fences_of (turned_on at_start old.past) + cut.flush
   pub queue : mid.queue ≡ old.queue
 
 -- the cut was made

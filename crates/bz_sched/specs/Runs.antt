@@ -59,7 +59,7 @@ marks_left lab = lab.log.limits.marks - length lab.log.past
 abbrev pub IsAtLimit : WorldView → LimitKind → Type 0
 IsAtLimit lab why = MeetsLimit lab.log.limits lab.log.past why
 
--- why a part of a run stopped is so: the limit is met, or the next act of the worker is a flush and no more may be made
+-- why a part of a run stopped is so: the limit is met, or the next act of the worker is a fence and no more may be made
 abbrev pub IsStopped : WorldView → Option ℕ → Stop → Type 0
 IsStopped lab fuse (stop.Limit why) = IsAtLimit lab why
 IsStopped lab fuse (stop.Due w) = (flush_of lab w ≡ true) × (fuse ≡ Some 0)
@@ -105,13 +105,13 @@ abbrev pub IsOfTurns : Plan → Type 0
 IsOfTurns Threads = ⊥
 IsOfTurns other = Unit {0}
 
--- a cut waits for a flush from 1 on
+-- a cut waits for a fence from 1 on
 abbrev pub IsCutPlan : Option CutPlan → Type 0
 IsCutPlan None = Unit {0}
 IsCutPlan (Some cut) = 1 ≤ cut.flush
 
 -- how a run by a plan ends, with this cut armed or none. A cut comes before a step of a worker, and the act that it left out of it
--- was a flush.
+-- was a fence.
 abbrev pub HasRun : Option CutPlan → Plan → WorldView → Queued → RunEnd → WorldView → Queued → Type 0
 HasRun cut plan old queued end.Finished new left =
     Leaves old queued new left × (power_in new ≡ power.On) × RunsWhole (words_of old.config) cut plan (point_of old queued) (point_of new left)
@@ -128,7 +128,7 @@ HasEndedCalls old queued None new left =
 HasEndedCalls old queued (Some why) new left = Stays old new × EndsCallsInPart (stop.Limit why) (point_of old queued) (point_of new left) × IsAtLimit new why
 
 -- how power on ends, with this cut armed or none, whatever calls wait: they stay, and where the cut was made they are to be
--- dropped. The act of worker 0 that the cut left out was a flush
+-- dropped. The act of worker 0 that the cut left out was a fence
 abbrev pub HasPower : Option CutPlan → WorldView → RunEnd → WorldView → Type 0
 HasPower cut old end.Finished new =
     Stays old new × (power_in new ≡ power.On) × ((calls : List (ℕ × Call)) → Powers old.at_start cut (point_with old calls) (point_with new calls))

@@ -4,7 +4,7 @@
 use Rattle.std.proofs.Common.{◌≡◌, ◌≤◌, ◌<◌, ℕ, ◌+◌, false, List, [], ◌∷◌, ◌++◌, Option, Some, None}
 use Rattle.bz_layout.specs.declared.limits.TheConstants.{MAX_WORKERS}
 use Rattle.bz_mark.specs.declared.marks.Mark.{Mark}
-use Rattle.bz_mark.specs.declared.marks.Mark.TheVariants.{Begin, End, Load, Store, Cas, Flush, Ask, Fence, Effect}
+use Rattle.bz_mark.specs.declared.marks.Mark.TheVariants.{Begin, End, Load, Store, Cas, Ask, Fence, Effect}
 use Rattle.bz_sched.specs.Points.{Point, actor, is_busy}
 use Rattle.bz_sched.specs.Turns.{TakesTurns, EndsAlone, RunsTurns}
 
@@ -25,7 +25,6 @@ IsOwn w (End v n reply at) = v ≡ w
 IsOwn w (Load v a x) = v ≡ w
 IsOwn w (Store v a x) = v ≡ w
 IsOwn w (Cas v a old new found) = v ≡ w
-IsOwn w (Flush v line) = v ≡ w
 IsOwn w (Ask v line) = v ≡ w
 IsOwn w (Fence v) = v ≡ w
 IsOwn w (Effect v n) = Unit {0}

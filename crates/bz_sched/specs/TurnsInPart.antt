@@ -1,4 +1,4 @@
--- Runs that stop: at a limit, where one more was needed, or before the flush at which the power is cut. The newest mark stands
+-- Runs that stop: at a limit, where one more was needed, or before the fence at which the power is cut. The newest mark stands
 -- first.
 use Rattle.std.specs.Prelude.{◌≡◌, ◌≢◌, ℕ, zero, suc, ◌+◌, Bool, true, false, List, [], ◌∷◌, ◌⊎◌, None}
 use Rattle.bz_call.specs.Pages.{is_page}
@@ -24,7 +24,7 @@ abbrev pub StopsEvent : Stop → Point → Point → Type 0
 StopsEvent (Limit why) old new = (why ≡ which.Marks) × (new ≡ old)
 StopsEvent (Due v) old new = ⊥
 
--- a step of a worker was to come: the limit is one of marks, or the step is the flush
+-- a step of a worker was to come: the limit is one of marks, or the step is the fence
 abbrev pub StopsStep : Stop → ℕ → Point → Point → Type 0
 StopsStep (Limit why) w old new = (why ≡ which.Marks) × (new ≡ old)
 StopsStep (Due v) w old new = (v ≡ w) × (new ≡ old)

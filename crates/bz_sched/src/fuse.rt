@@ -1,8 +1,8 @@
-//! How many flushes come before an armed cut.
+//! How many fences come before an armed cut.
 ghost use Rattle.std.specs.Prelude.{◌≡◌, true};
 ghost use Rattle.bz_sched.specs.Fuses.{lets as may_be_made, burnt};
 
-/// Whether an act may be made: it is no flush, or not the one at which the power is cut.
+/// Whether an act may be made: it is no fence, or not the one at which the power is cut.
 pub(crate) fn lets(fuse: Option<u32>, flush: bool) -> bool
     ensures { result ≡ may_be_made fuse flush }
 {
@@ -12,7 +12,7 @@ pub(crate) fn lets(fuse: Option<u32>, flush: bool) -> bool
     }
 }
 
-/// An act was made: where it was a flush, one fewer is made before the cut.
+/// An act was made: where it was a fence, one fewer is made before the cut.
 pub(crate) fn burn(fuse: &mut Option<u32>, flush: bool)
     requires { may_be_made fuse.old flush ≡ true }
     ensures { fuse.new ≡ burnt flush fuse.old }

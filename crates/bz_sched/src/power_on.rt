@@ -150,7 +150,7 @@ fn power_by(world: &mut World, cut: Option<CutPlan>) -> RunEnd
 }
 
 /// Turns the power on and lets worker 0 recover to the end. Where the power is on it is cut before, without evictions, and the
-/// calls that wait stay. Where a cut is armed, the power is cut again before that flush of the recovery is made: the caller
+/// calls that wait stay. Where a cut is armed, the power is cut again before that fence of the recovery is made: the caller
 /// then drops the calls that wait. A recovery that ends before it makes no cut. With no cut armed the power comes on where the
 /// journal has room for the acts of a recovery and `MARKS_PER_POWER_ON` marks more.
 pub fn power(world: &mut World, cut: Option<CutPlan>) -> RunEnd

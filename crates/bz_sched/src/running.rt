@@ -106,7 +106,7 @@ fn run_by(world: &mut World, queue: &mut Queue, plan: &Plan, cut: Option<CutPlan
     }
 }
 
-/// Runs the calls that wait, and those that are open, by a plan. Where a cut is armed, the power is cut before that flush of the
+/// Runs the calls that wait, and those that are open, by a plan. Where a cut is armed, the power is cut before that fence of the
 /// run is made, and the calls that wait are dropped; a run that ends before it makes no cut. A run of one worker after the other
 /// meets no limit, with no cut armed, where no call is open and the journal has room for all that wait: `MARKS_PER_CALL` marks each.
 pub fn run(world: &mut World, queue: &mut Queue, plan: &Plan, cut: Option<CutPlan>) -> RunEnd

@@ -18,7 +18,7 @@ use bz_world::{Applied, Begun, Event, LimitKind, World};
 /// Why the turns of a run stopped before its plan was done.
 #[derive(Clone, Copy, PartialEq, Eq)]
 pub(crate) enum Stop {
-    /// The next act of this worker is the flush at which the power is cut.
+    /// The next act of this worker is the fence at which the power is cut.
     Due(u8),
 
     /// A limit of the journal was met, and one more was needed.

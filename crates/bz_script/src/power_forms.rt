@@ -8,7 +8,7 @@ use crate::item::Item;
 use crate::number::{number_to, read_number};
 use crate::words::word;
 
-const MOST_FLUSHES: u64 = 33_554_432;
+const MOST_FENCES: u64 = 33_554_432;
 
 /// `cut FLUSH SEED`.
 pub(crate) fn read_cut(words: &[&[u8]]) -> Result<Item, ScriptRule>
@@ -17,7 +17,7 @@ pub(crate) fn read_cut(words: &[&[u8]]) -> Result<Item, ScriptRule>
     if words.len() != 3 {
         return Err(ScriptRule::Words);
     }
-    let Some(flush) = number_to(word(words, 1), MOST_FLUSHES) else {
+    let Some(flush) = number_to(word(words, 1), MOST_FENCES) else {
         return Err(ScriptRule::Number);
     };
     let Some(seed) = read_number(word(words, 2)) else {

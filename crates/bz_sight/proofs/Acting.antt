@@ -6,7 +6,7 @@ use Rattle.bz_layout.specs.declared.config.Config.{Config}
 use Rattle.bz_pm.specs.After.{after_store}
 use Rattle.bz_pm.specs.State.{State}
 use Rattle.bz_swap_cells.proofs.Pasts.{past_of}
-use Rattle.bz_swap_acts.specs.Rule.{after_act, is_flush_act}
+use Rattle.bz_swap_acts.specs.Rule.{after_act, is_fence_act}
 use Rattle.bz_swap_acts.specs.declared.acted.Act.{Act}
 use Rattle.bz_swap_acts.specs.declared.acted.Act.TheVariants.{Store, Ask, Fence}
 use Rattle.bz_swap_cells.specs.Store.{IsOutside}
@@ -15,7 +15,7 @@ use Rattle.bz_swap_machine.specs.declared.done.Done.TheVariants.{Busy, Read, Swa
 use Rattle.bz_swap.specs.Effects.{NoneTakesEffect, TakesEffect}
 use Rattle.bz_swap.specs.Evictions.{IsEviction, EvictsIn}
 use Rattle.bz_swap.specs.Held.{Holds, IsHeld}
-use Rattle.bz_swap.specs.Steps.{IsStep, IsAnswer}
+use Rattle.bz_swap.specs.Steps.{IsOneAct, IsStep, IsAnswer}
 use Rattle.bz_swap.specs.SwapMemory.{SwapMemory, Doing, Idle, Reading, Swapping, Loading, Storing, Flushing, doing_of, is_named, memory_state}
 use Rattle.bz_swap.specs.Writes.{StoresPrivate, StoresOwn}
 use Rattle.bz_swap.specs.declared.phase.Phase.{Phase}
@@ -91,21 +91,18 @@ storing c x old new w made done told a v seen step doing within =
     private e (inr p) = absurd (let f : Storing a v ≡ Swapping p.swap = sym doing ∙ p.doing in cc)
 
 pub flushing : FlushingStepsFlush
-flushing c x old new w made done told line seen step doing within = elim (flushing-answer new line (doing_of old w) made done after doing step.one.answer) [
+flushing c x old new w made done told line seen step doing within = elim (flushing-answer new line (doing_of old w) made done doing step.one.answer) [
   | inl ask ↦ record { quiet = asked told refl ask.1; ends = λ busy. absurd (busy ask.0) }
   | inr fence ↦ record {
     quiet = no-effect done told step.later (λ e. absurd (let f : Flushed ≡ Busy = sym fence.0 ∙ e in cc));
     ends = λ busy. record {
       answer = fence.0;
-      settles = λ a is awaits. settled_words_stay.fenced old new w done told a (subst (λ act. IsStep old w act done told new) fence.1 step)
-          (awaits (record { doing = doing ∙ ap Flushing (sym is); fence = sym step.one.flush ∙ ap is_flush_act fence.1 }));
+      settles = λ a is awaits. settled_words_stay.fenced old new w done a (subst (λ act. IsOneAct old w act done new) fence.1 step.one)
+          (awaits (record { doing = doing ∙ ap Flushing (sym is); fence = sym step.one.flush ∙ ap is_fence_act fence.1 }));
     };
   }
 ]
   where
-    after : new.phase ≢ Recovering
-    after is = seen.phase (sym step.one.others.phase ∙ is)
-
     -- an ask makes no effect
     asked : (t : Option ℕ) → told ≡ t → made ≡ Ask line → told ≡ None
     asked None is made = is
@@ -120,7 +117,7 @@ quiet-step c x old new w made done seen step holds hidden =
       fields = plain_fields_stay.step old new w made done None before.memory step seen.fields;
       quiet = step.effect;
       settled = λ a cached settled. settled_words_stay.step old new w made done None a step cached settled;
-      awaits = step-awaits old new w made done None (λ is. seen.phase (sym step.one.others.phase ∙ is)) step;
+      awaits = step-awaits old new w made done None step;
       cached = λ a o private. elim (cases-storing (doing_of old w)) [
         | inl s ↦ elim (cases_eq a s.0) [
           | inl e ↦ inr (subst (λ b. IsHidden c x b) (sym e) (hidden s.0 s.1.0 s.1.1))
@@ -144,7 +141,7 @@ effect-step c x old new w made done s seen step holds =
       durable = (effects_stay_inside.step old new w made done s before.memory step).outside;
       cached = λ a o private. step.untouched a o private (λ v f. not-storing a v f);
       settled = λ a cached settled. settled_words_stay.step old new w made done (Some s) a step cached settled;
-      awaits = step-awaits old new w made done (Some s) (λ is. seen.phase (sym step.one.others.phase ∙ is)) step;
+      awaits = step-awaits old new w made done (Some s) step;
     }
   where
     not-storing : (a v : ℕ) → doing_of old w ≡ Storing a v → ⊥

@@ -10,38 +10,30 @@ use Rattle.bz_swap_machine.specs.declared.done.Done.{Done}
 use Rattle.bz_swap_machine.specs.declared.done.Done.TheVariants.{Busy, Read, Swapped, Stored, Flushed}
 use Rattle.bz_swap.specs.Evictions.{IsEviction}
 use Rattle.bz_swap.specs.SettledWords.{IsAwaited}
-use Rattle.bz_swap.specs.Starts.{begins_by_flush, started, swapping}
-use Rattle.bz_swap.specs.Steps.{IsStep, IsAnswer, IsFlushPart, doing_after}
+use Rattle.bz_swap.specs.Starts.{started, swapping}
+use Rattle.bz_swap.specs.Steps.{IsOneAct, IsStep, IsAnswer, doing_after}
 use Rattle.bz_swap.specs.SwapMemory.{SwapMemory, Doing, Idle, Reading, Swapping, Loading, Storing, Flushing, Working, idle, worker_of, doing_of, is_among, is_target}
-use Rattle.bz_swap.specs.declared.phase.Phase.{Phase}
-use Rattle.bz_swap.specs.declared.phase.Phase.TheVariants.{Opened, Running, Recovering}
 use Rattle.bz_swap.proofs.Proved.{settled_words_stay}
 use Rattle.bz_sight.specs.Awaiting.{IsToFence, Awaits, StartsKeepAwaits}
 
--- outside a recovery time a private flush is an ask, or else a fence
-pub flush-part : (p : Phase) → p ≢ Recovering → (line : ℕ) (made : Act) (done : Done) → IsFlushPart p line made done → ((done ≡ Busy) × (made ≡ Ask line)) ⊎ ((done ≡ Flushed) × (made ≡ Fence))
-flush-part Opened not line made Busy h = inl (refl, h)
-flush-part Opened not line made Flushed h = inr (refl, h)
-flush-part Opened not line made (Read u) h = absurd h
-flush-part Opened not line made (Swapped t) h = absurd h
-flush-part Opened not line made Stored h = absurd h
-flush-part Running not line made Busy h = inl (refl, h)
-flush-part Running not line made Flushed h = inr (refl, h)
-flush-part Running not line made (Read u) h = absurd h
-flush-part Running not line made (Swapped t) h = absurd h
-flush-part Running not line made Stored h = absurd h
-flush-part Recovering not line made done h = absurd (not refl)
+-- a flush is an ask, or else a fence
+pub flush-part : (m : SwapMemory) (line : ℕ) (made : Act) (done : Done) → IsAnswer m (Flushing line) made done → ((done ≡ Busy) × (made ≡ Ask line)) ⊎ ((done ≡ Flushed) × (made ≡ Fence))
+flush-part m line made Busy h = inl (refl, h)
+flush-part m line made Flushed h = inr (refl, h)
+flush-part m line made (Read u) h = absurd h
+flush-part m line made (Swapped t) h = absurd h
+flush-part m line made Stored h = absurd h
 
-pub flushing-answer : (m : SwapMemory) (line : ℕ) (doing : Doing) (made : Act) (done : Done) → m.phase ≢ Recovering → doing ≡ Flushing line → IsAnswer m doing made done → ((done ≡ Busy) × (made ≡ Ask line)) ⊎ ((done ≡ Flushed) × (made ≡ Fence))
-flushing-answer m line doing made done phase is h = flush-part m.phase phase line made done (subst (λ d. IsAnswer m d made done) is h)
+pub flushing-answer : (m : SwapMemory) (line : ℕ) (doing : Doing) (made : Act) (done : Done) → doing ≡ Flushing line → IsAnswer m doing made done → ((done ≡ Busy) × (made ≡ Ask line)) ⊎ ((done ≡ Flushed) × (made ≡ Fence))
+flushing-answer m line doing made done is h = flush-part m line made done (subst (λ d. IsAnswer m d made done) is h)
 
 -- a worker that is to fence a line after its own step has just asked for it
-own-step : (old new : SwapMemory) (w : ℕ) (made : Act) (done : Done) (told : Option ℕ) (a : ℕ) → new.phase ≢ Recovering → IsStep old w made done told new → IsToFence new w a → IsAwaited new w a
-own-step old new w made done told a phase step at = by-done done refl (sym step.one.doing ∙ at.doing)
+own-step : (old new : SwapMemory) (w : ℕ) (made : Act) (done : Done) (told : Option ℕ) (a : ℕ) → IsStep old w made done told new → IsToFence new w a → IsAwaited new w a
+own-step old new w made done told a step at = by-done done refl (sym step.one.doing ∙ at.doing)
   where
     by-done : (d : Done) → done ≡ d → doing_after (doing_of old w) d ≡ Flushing (line_of a) → IsAwaited new w a
-    by-done Busy is doing = elim (flushing-answer new (line_of a) (doing_of old w) made done phase doing step.one.answer) [
-      | inl ask ↦ settled_words_stay.asked old new w (line_of a) done told a (subst (λ act. IsStep old w act done told new) ask.1 step) refl
+    by-done Busy is doing = elim (flushing-answer new (line_of a) (doing_of old w) made done doing step.one.answer) [
+      | inl ask ↦ settled_words_stay.asked old new w (line_of a) done a (subst (λ act. IsOneAct old w act done new) ask.1 step.one) refl
       | inr fence ↦ absurd (cc (is, fence.0))
     ]
     by-done (Read u) is doing = absurd (cc doing)
@@ -49,12 +41,12 @@ own-step old new w made done told a phase step at = by-done done refl (sym step.
     by-done Stored is doing = absurd (cc doing)
     by-done Flushed is doing = absurd (cc doing)
 
-pub step-awaits : (old new : SwapMemory) (w : ℕ) (made : Act) (done : Done) (told : Option ℕ) → new.phase ≢ Recovering → IsStep old w made done told new → (v a : ℕ) → slice_index new.cached a ≡ slice_index old.cached a → Awaits old v a → Awaits new v a
-step-awaits old new w made done told phase step v a cached before at = elim (cases_eq v w) [
-  | inl same ↦ subst (λ u. IsAwaited new u a) (sym same) (own-step old new w made done told a phase step (subst (λ u. IsToFence new u a) same at))
+pub step-awaits : (old new : SwapMemory) (w : ℕ) (made : Act) (done : Done) (told : Option ℕ) → IsStep old w made done told new → (v a : ℕ) → slice_index new.cached a ≡ slice_index old.cached a → Awaits old v a → Awaits new v a
+step-awaits old new w made done told step v a cached before at = elim (cases_eq v w) [
+  | inl same ↦ subst (λ u. IsAwaited new u a) (sym same) (own-step old new w made done told a step (subst (λ u. IsToFence new u a) same at))
   | inr other ↦ (
       let stays : worker_of new v ≡ worker_of old v = step.one.others.workers v other in
-      settled_words_stay.awaited old new w v made done told a step (λ is. other (sym is)) cached
+      settled_words_stay.awaited old new w v made done a step.one (λ is. other (sym is)) cached
       (before (record { doing = ap (λ (u : Working). u.doing) (sym stays) ∙ at.doing; fence = ap (λ (u : Working). u.flush_next) (sym stays) ∙ at.fence })))
 ]
 
@@ -87,18 +79,9 @@ among-front : (begun more : List (List Entry)) (a : ℕ) → is_among (begun ++ 
 among-front [] more a none = refl
 among-front (entries ∷ begun) more a none = both (is_target entries a) (is_among (begun ++ more) a) (is_among begun a) none (among-front begun more a)
 
-asks-first : (doing : Doing) (w : ℕ) → 0 < w → begins_by_flush doing w ≡ false
-asks-first (Flushing line) zero some = absurd (omega (arith, some))
-asks-first (Flushing line) (suc w) some = refl
-asks-first Idle w some = refl
-asks-first (Reading a) w some = refl
-asks-first (Swapping s) w some = refl
-asks-first (Loading a) w some = refl
-asks-first (Storing a v) w some = refl
-
 pub starts-keep : StartsKeepAwaits
 starts-keep = record {
-  start = λ m w doing v a some within before. begins m (started m w doing) w (record { doing = doing; flush_next = begins_by_flush doing w }) refl (asks-first doing w some) within v a
+  start = λ m w doing v a within before. begins m (started m w doing) w (record { doing = doing; flush_next = false }) refl refl within v a
       (λ h. record { saved = h.saved; asked = h.asked; value = h.value; durable = h.durable; others = h.others }) before;
   swap = λ m w entries v a within before private. begins m (swapping m w entries) w (record { doing = Swapping m.taken; flush_next = false }) refl refl within v a
       (λ h. record { saved = h.saved; asked = h.asked; value = h.value; durable = h.durable; others = h.others }) (before (among-front m.begun (entries ∷ []) a private));

@@ -63,13 +63,13 @@ module _ (c : Config) (m : SwapMemory) (h : IsRenewable c m) where
     phase = λ e. cc;
     holds = h.holds;
     fields = plain_fields_stay.renewal m h.fields;
-    fixed = λ a fix. settled_words_stay.renewal m a (h.may_renew.same a (inl (fixed-place a fix).0));
+    fixed = λ a fix. settled_words_stay.renewal m a h.asks (h.may_renew.same a (inl (fixed-place a fix).0));
     image = refl;
     value = refl;
     settled = refl;
     good = good;
     targets = λ a e. absurd (true≢false (sym e));
-    shown = λ a r e. settled_words_stay.renewal m a (h.may_renew.same a (read-outside c m.swaps y a h.swaps r));
+    shown = λ a r e. settled_words_stay.renewal m a h.asks (h.may_renew.same a (read-outside c m.swaps y a h.swaps r));
   }
 
 pub renewed-seen : RenewedMemoriesAreSeen

@@ -17,5 +17,5 @@ Awaits m w a = IsToFence m w a → IsAwaited m w a
 
 -- a start of worker w, which makes no act, leaves it so, for w too; that of a swap, of a word that it does not name
 pub record StartsKeepAwaits : Type 0 where
-  pub start : (m : SwapMemory) (w : ℕ) (doing : Doing) (v a : ℕ) → 0 < w → w < length m.workers → Awaits m v a → Awaits (started m w doing) v a
+  pub start : (m : SwapMemory) (w : ℕ) (doing : Doing) (v a : ℕ) → w < length m.workers → Awaits m v a → Awaits (started m w doing) v a
   pub swap : (m : SwapMemory) (w : ℕ) (entries : List Entry) (v a : ℕ) → w < length m.workers → (is_named m a ≡ false → Awaits m v a) → is_named (swapping m w entries) a ≡ false → Awaits (swapping m w entries) v a

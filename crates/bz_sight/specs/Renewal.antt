@@ -1,5 +1,5 @@
 -- A memory that is renewed when its recovery has ended, as tasks see it.
-use Rattle.std.specs.Prelude.{◌≡◌, None, length, slice_index}
+use Rattle.std.specs.Prelude.{◌≡◌, ℕ, None, [], length, get_or, slice_index}
 use Rattle.bz_layout.specs.Addresses.{words_of as size_of}
 use Rattle.bz_layout.specs.Config.{IsConfig}
 use Rattle.bz_layout.specs.declared.config.Config.{Config}
@@ -12,12 +12,13 @@ use Rattle.bz_task.specs.Instant.{Instant}
 use Rattle.bz_task.specs.Settled.{settled}
 use Rattle.bz_sight.specs.Sight.{IsSeen, next_instant}
 
--- a memory of these sizes that may be renewed, whose image breaks no rule
+-- a memory of these sizes that may be renewed, where nobody waits for a fence, and whose image breaks no rule
 pub record IsRenewable (c : Config) (m : SwapMemory) : Type 0 where
   pub config : IsConfig c
   pub swaps : m.swaps ≡ c.swaps
   pub size : length m.durable ≡ size_of c
   pub may_renew : MayRenew m
+  pub asks : (w : ℕ) → get_or m.past.asks w [] ≡ []
   pub fields : HavePlainFields m
   pub form : image_fault c (slice_index m.durable) ≡ None
   -- as the swap memory says of a renewal

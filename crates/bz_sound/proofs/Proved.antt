@@ -18,7 +18,7 @@ use Rattle.bz_sound.specs.Memory.OpenCallLaws.{EffectsStayOpen}
 use Rattle.bz_sound.specs.Power.CallLaws.{ActsAreAllowed, EffectsComeDirectly, EffectsStandOnce, EndsLieWithinTheirCalls, FullHasACause, OpenCallsAreLast, OpenCallsLeaveRoom, ToldChangesTookEffect}
 use Rattle.bz_sound.specs.Power.CutLaws.{CutsLeave, PowerMarksLeave}
 use Rattle.bz_sound.specs.Power.Example.{WorkedCuts}
-use Rattle.bz_sound.specs.Power.Growth.{BeginsFollow, EffectsFollowActs, EndsFollow, FlushesFollow, FreshJournalsAreSound, LoadsAreSettled, PageEndsFollow, QuietActsFollow}
+use Rattle.bz_sound.specs.Power.Growth.{BeginsFollow, EffectsFollowActs, EndsFollow, FencesFollow, FreshJournalsAreSound, LoadsAreSettled, PageEndsFollow, QuietActsFollow}
 use Rattle.bz_sound.specs.Power.History.{OneHistory}
 use Rattle.bz_sound.specs.Power.ImageLaws.{AnswersComeFromTheImage, ChangesFollow, EffectsAnswer, HeldSlotsAreSpent, HeldSwapsAreSpent, PagesComeFromTheImage, SameContentDecodes, SpentAnswersFull}
 use Rattle.bz_sound.specs.Power.Laws.{CutsFollow, OnsFollow, PowerMarksStand, PowerTellsWhatFollows, ReadysFollow, SoundAsBefore}
@@ -31,11 +31,11 @@ fresh_journals_are_sound = fresh-sound
 pub quiet_acts_follow : QuietActsFollow
 quiet_acts_follow = quiet-acts
 
--- so does a flush, a fence or an eviction after which the durable words decode to the map
-pub flushes_follow : FlushesFollow
-flushes_follow = flushes
+-- so does a fence or an eviction after which the durable words decode to the map
+pub fences_follow : FencesFollow
+fences_follow = flushes
 
--- so does a flush, a fence or an eviction with the Effect that names what it changed
+-- so does a fence or an eviction with the Effect that names what it changed
 pub effects_follow_acts : EffectsFollowActs
 effects_follow_acts = effects
 
@@ -63,7 +63,7 @@ answers_come_from_the_image = image-answers
 pub pages_come_from_the_image : PagesComeFromTheImage
 pages_come_from_the_image = image-pages
 
--- a flush, a fence or an eviction that changes the content as an open call does is followed by its Effect
+-- a fence or an eviction that changes the content as an open call does is followed by its Effect
 pub changes_follow : ChangesFollow
 changes_follow = changes-follow
 
@@ -103,7 +103,7 @@ apart_calls_are_solitary = apart-solitary
 pub acts_are_of_open_calls : ActsAreOfOpenCalls
 acts_are_of_open_calls = acts-of-open-calls
 
--- an Effect stands directly after a flush, a fence or an eviction
+-- an Effect stands directly after a fence or an eviction
 pub effects_come_directly : EffectsComeDirectly
 effects_come_directly = effects-directly
 

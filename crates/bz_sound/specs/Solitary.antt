@@ -1,7 +1,7 @@
 -- A call during which no other call is open, and the acts that its worker has made since it began. The newest mark stands first.
 use Rattle.std.specs.Prelude.{◌≡◌, ◌≢◌, ℕ, ◌+◌, ◌==◌, if◌then◌else◌, List, [], ◌∷◌, None}
 use Rattle.bz_mark.specs.declared.marks.Mark.{Mark}
-use Rattle.bz_mark.specs.declared.marks.Mark.TheVariants.{Begin, Load, Store, Cas, Flush, Ask, Fence}
+use Rattle.bz_mark.specs.declared.marks.Mark.TheVariants.{Begin, Load, Store, Cas, Ask, Fence}
 use Rattle.bz_sound.specs.Calls.{open_call}
 
 -- the newest Begin is this worker's, and no call was open when it came
@@ -17,7 +17,6 @@ acts_since w (Begin v n call ∷ past) = if v == w then 0 else acts_since w past
 acts_since w (Load v a x ∷ past) = if v == w then acts_since w past + 1 else acts_since w past
 acts_since w (Store v a x ∷ past) = if v == w then acts_since w past + 1 else acts_since w past
 acts_since w (Cas v a old new found ∷ past) = if v == w then acts_since w past + 1 else acts_since w past
-acts_since w (Flush v line ∷ past) = if v == w then acts_since w past + 1 else acts_since w past
 acts_since w (Ask v line ∷ past) = if v == w then acts_since w past + 1 else acts_since w past
 acts_since w (Fence v ∷ past) = if v == w then acts_since w past + 1 else acts_since w past
 acts_since w (mark ∷ past) = acts_since w past

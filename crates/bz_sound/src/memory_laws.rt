@@ -1,6 +1,6 @@
 //! Laws over sound journals over a memory. Each function does nothing: its contract is the law.
 ghost use Rattle.bz_sound.specs.Memory.History.{OneHistory};
-ghost use Rattle.bz_sound.specs.Memory.Laws.{FreshJournalsAreSound, QuietActsFollow, FlushesFollow, EffectsFollowActs, BeginsFollow, EndsFollow, PageEndsFollow};
+ghost use Rattle.bz_sound.specs.Memory.Laws.{FreshJournalsAreSound, QuietActsFollow, FencesFollow, EffectsFollowActs, BeginsFollow, EndsFollow, PageEndsFollow};
 ghost use Rattle.bz_sound.specs.Memory.Laws.{LoadsAreSettled};
 ghost use Rattle.bz_sound.specs.Memory.ImageLaws.{AnswersComeFromTheImage, PagesComeFromTheImage, ChangesFollow, SameContentDecodes};
 ghost use Rattle.bz_sound.specs.Memory.ImageLaws.{EffectsAnswer, SpentAnswersFull, HeldSwapsAreSpent, HeldSlotsAreSpent};
@@ -21,12 +21,12 @@ pub fn quiet_acts_follow()
     ensures { QuietActsFollow }
 {}
 
-/// So does a flush, a fence or an eviction after which the durable words decode to the map.
-pub fn flushes_follow()
-    ensures { FlushesFollow }
+/// So does a fence or an eviction after which the durable words decode to the map.
+pub fn fences_follow()
+    ensures { FencesFollow }
 {}
 
-/// So does a flush, a fence or an eviction with the Effect that names what it changed.
+/// So does a fence or an eviction with the Effect that names what it changed.
 pub fn effects_follow_acts()
     ensures { EffectsFollowActs }
 {}

@@ -2,7 +2,7 @@
 //! the laws that it follows from: its contract is the law.
 ghost use Rattle.bz_sound.specs.Solitary.{NoneIsOpenBesideASolitaryCall};
 ghost use Rattle.bz_sound.specs.Power.CallLaws.{OpenCallsAreLast, OpenCallsLeaveRoom};
-ghost use Rattle.bz_sound.specs.Power.Growth.{QuietActsFollow, FlushesFollow, EffectsFollowActs, BeginsFollow, EndsFollow, PageEndsFollow, LoadsAreSettled};
+ghost use Rattle.bz_sound.specs.Power.Growth.{QuietActsFollow, FencesFollow, EffectsFollowActs, BeginsFollow, EndsFollow, PageEndsFollow, LoadsAreSettled};
 ghost use Rattle.bz_sound.specs.Power.History.{OneHistory};
 ghost use Rattle.bz_sound.specs.Power.ImageLaws.{AnswersComeFromTheImage, PagesComeFromTheImage, ChangesFollow, SameContentDecodes, SpentAnswersFull};
 ghost use Rattle.bz_sound.specs.Power.Laws.{SoundAsBefore};
@@ -17,12 +17,12 @@ pub fn quiet_acts_follow()
     ensures { QuietActsFollow }
 {}
 
-/// So does a flush, a fence or an eviction after which the durable words decode to the map.
-pub fn flushes_follow()
-    ensures { FlushesFollow }
+/// So does a fence or an eviction after which the durable words decode to the map.
+pub fn fences_follow()
+    ensures { FencesFollow }
 {}
 
-/// So does a flush, a fence or an eviction with the Effect that names what it changed.
+/// So does a fence or an eviction with the Effect that names what it changed.
 pub fn effects_follow_acts()
     ensures { EffectsFollowActs }
 {}

@@ -11,11 +11,11 @@ use Rattle.bz_swap_cells.proofs.FromPm.Fences as memory
 use Rattle.bz_swap_cells.proofs.Pasts.{past_of, saved-ask, fenced-fence, settled-fence}
 use Rattle.bz_swap_acts.specs.Rule.{IsWithin, after_act}
 use Rattle.bz_swap_acts.specs.declared.acted.Act.{Act}
-use Rattle.bz_swap_acts.specs.declared.acted.Act.TheVariants.{Load, Store, Cas, Flush, Ask, Fence}
+use Rattle.bz_swap_acts.specs.declared.acted.Act.TheVariants.{Load, Store, Cas, Ask, Fence}
 use Rattle.bz_swap.specs.Steps.{MayAct}
 use Rattle.bz_swap.specs.SwapMemory.{SwapMemory, memory_state}
 use Rattle.bz_swap.proofs.Fresh.{all-same}
-use Rattle.bz_swap.proofs.WordActs.{set-keeps, flushed-keeps}
+use Rattle.bz_swap.proofs.WordActs.{set-keeps}
 
 -- it holds in the caches, in the memory itself, and of what each worker asked for
 pub record AllAre (P : ℕ → Type 0) (m : State) (b : ℕ) : Type 0 where
@@ -28,7 +28,6 @@ abbrev pub WritesSo : (ℕ → Type 0) → ℕ → Act → Type 0
 WritesSo P b (Load a v) = Unit {0}
 WritesSo P b (Store a v) = b ≡ a → P v
 WritesSo P b (Cas a before after found) = b ≡ a → P after
-WritesSo P b (Flush line) = Unit {0}
 WritesSo P b (Ask line) = Unit {0}
 WritesSo P b Fence = Unit {0}
 
@@ -67,7 +66,6 @@ all-after P m w b (Cas a before after found) may within writes all = record { ca
     by_test : (t : Bool) → P (slice_index (if t then slice_set m.cached a after else m.cached) b)
     by_test true = set-keeps P m.cached a after b writes all.cached
     by_test false = all.cached
-all-after P m w b (Flush line) may within writes all = record { cached = all.cached; durable = flushed-keeps P (memory_state m).words line b may.state.memory all.cached all.durable; asked = all.asked }
 all-after P m w b (Ask line) may within writes all =
     let a : AsksOnly (memory_state m) (after_act w (memory_state m) (Ask line)) w line = memory.ask (memory_state m) w line may.state may.fit (omega (arith, may.counted)) may.worker within in
     record {

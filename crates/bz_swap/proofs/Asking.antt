@@ -28,7 +28,7 @@ use Rattle.bz_swap_cells.proofs.Pasts.{past_of}
 use Rattle.bz_swap_acts.specs.Rule.{after_act}
 use Rattle.bz_swap_acts.specs.Writes.{StaysOutside, PreparesBy, HelpsBy, WritesAt}
 use Rattle.bz_swap_acts.specs.declared.acted.Act.{Act}
-use Rattle.bz_swap_acts.specs.declared.acted.Act.TheVariants.{Load, Store as StoreAct, Cas, Flush, Ask, Fence}
+use Rattle.bz_swap_acts.specs.declared.acted.Act.TheVariants.{Load, Store as StoreAct, Cas, Ask, Fence}
 use Rattle.bz_swap.specs.Inside.Parts.{Parts, worker_at}
 use Rattle.bz_swap.specs.Inside.Kept.{IsRunning, HasAsked, HelpAsks, PlaceAsks, AsksFew, lines_preparing, lines_helping, lines_at}
 use Rattle.bz_swap.proofs.Stepped.{Acts, MayStep}
@@ -38,12 +38,11 @@ pub others-asked : (m n : State) (w : ℕ) (made : Act) → n ≡ after_act w m 
 others-asked m n w (Load a x) after v ne = ap (λ (k : State). asks_of k v) after
 others-asked m n w (StoreAct a x) after v ne = ap (λ (k : State). asks_of k v) after
 others-asked m n w (Cas a old new found) after v ne = ap (λ (k : State). asks_of k v) after
-others-asked m n w (Flush line) after v ne = ap (λ (k : State). asks_of k v) after
 others-asked m n w (Ask line) after v ne = ap (λ (k : State). asks_of k v) after ∙ get_or-set_other m.asks w v _ [] ne
 others-asked m n w Fence after v ne = ap (λ (k : State). asks_of k v) after ∙ get_or-set_other m.asks w v [] [] ne
 
 -- where nothing is asked for, all is asked for as it may be
-no-asks : {A : Type 0} (qs : List A) → length qs ≤ 0 → qs ≡ []
+pub no-asks : {A : Type 0} (qs : List A) → length qs ≤ 0 → qs ≡ []
 no-asks [] none = refl
 no-asks (q ∷ qs) none = absurd (omega (arith, none))
 
@@ -59,12 +58,15 @@ pub empty-few : (past : Past) (w : ℕ) (l : Worker) → length (get_or past.ask
 empty-few past w l none = record { few = omega (arith, none); alone = empty-place past w l.current l.place none }
 
 -- so it is after a fence, and after an act that asks for nothing where nothing was asked for
-fence-none : (m n : State) (w : ℕ) (made : Act) → n ≡ after_act w m made → w < length m.asks → made ≡ Fence → length (asks_of n w) ≤ 0
+pub fence-none : (m n : State) (w : ℕ) (made : Act) → n ≡ after_act w m made → w < length m.asks → made ≡ Fence → length (asks_of n w) ≤ 0
 fence-none m n w made after within is =
     let none : asks_of n w ≡ [] = ap (λ (k : State). asks_of k w) (after ∙ ap (after_act w m) is) ∙ get_or-set_same m.asks w [] [] within in
     rw none (omega arith)
 
-store-none : (m n : State) (w : ℕ) (made : Act) (a x : ℕ) → n ≡ after_act w m made → made ≡ StoreAct a x → length (asks_of m w) ≤ 0 → length (asks_of n w) ≤ 0
+pub load-none : (m n : State) (w : ℕ) (made : Act) (a x : ℕ) → n ≡ after_act w m made → made ≡ Load a x → length (asks_of m w) ≤ 0 → length (asks_of n w) ≤ 0
+load-none m n w made a x after is none = rw (ap (λ (k : State). asks_of k w) (after ∙ ap (after_act w m) is)) none
+
+pub store-none : (m n : State) (w : ℕ) (made : Act) (a x : ℕ) → n ≡ after_act w m made → made ≡ StoreAct a x → length (asks_of m w) ≤ 0 → length (asks_of n w) ≤ 0
 store-none m n w made a x after is none = rw (ap (λ (k : State). asks_of k w) (after ∙ ap (after_act w m) is)) none
 
 cas-none : (m n : State) (w : ℕ) (made : Act) (a old new found : ℕ) → n ≡ after_act w m made → made ≡ Cas a old new found → length (asks_of m w) ≤ 0 → length (asks_of n w) ≤ 0
@@ -74,7 +76,6 @@ outside-none : (m n : State) (w swaps : ℕ) (made : Act) → n ≡ after_act w 
 outside-none m n w swaps (Load a x) after out none = rw (ap (λ (k : State). asks_of k w) after) none
 outside-none m n w swaps (StoreAct a x) after out none = absurd out
 outside-none m n w swaps (Cas a old new found) after out none = rw (ap (λ (k : State). asks_of k w) after) none
-outside-none m n w swaps (Flush line) after out none = rw (ap (λ (k : State). asks_of k w) after) none
 outside-none m n w swaps (Ask line) after out none = absurd out
 outside-none m n w swaps Fence after out none = absurd out
 
@@ -214,6 +215,5 @@ module _ (p : Parts) (r : IsRunning p) (w : ℕ) (store : Store) (l : Worker) (d
       by_act (Load b x) e = rw (ap (λ (k : State). k.count) e) (omega arith)
       by_act (StoreAct b x) e = rw (ap (λ (k : State). k.count) e) (omega arith)
       by_act (Cas b was new found) e = rw (ap (λ (k : State). k.count) e) (omega arith)
-      by_act (Flush line) e = rw (ap (λ (k : State). k.count) e) (omega arith)
       by_act (Ask line) e = rw (ap (λ (k : State). k.count) e) (omega arith)
       by_act Fence e = rw (ap (λ (k : State). k.count) e) (omega arith)

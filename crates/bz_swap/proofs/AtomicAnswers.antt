@@ -11,11 +11,10 @@ use Rattle.bz_swap_machine.specs.declared.done.Done.TheVariants.{Busy, Read, Swa
 use Rattle.bz_swap.specs.Atomic.{value_of, NotesRightly, Answers}
 use Rattle.bz_swap.specs.Effects.{NotesMisses}
 use Rattle.bz_swap.specs.Held.{IsHeld}
-use Rattle.bz_swap.specs.Steps.{IsAnswer, IsFlushPart}
+use Rattle.bz_swap.specs.Steps.{IsAnswer}
 use Rattle.bz_swap.specs.SettledWords.{IsAwaited}
 use Rattle.bz_swap.specs.SwapMemory.{SwapMemory, Doing, Reading, Swapping, Loading, Storing, Flushing, memory_words, memory_state, value_at, is_named, is_settled_at}
-use Rattle.bz_swap.specs.declared.phase.Phase.TheVariants.{Opened, Running, Recovering}
-use Rattle.bz_swap.specs.declared.phase.Phase.{Phase}
+use Rattle.bz_swap.specs.declared.phase.Phase.TheVariants.{Recovering}
 use Rattle.bz_swap.proofs.SettledWords.{settled-same}
 use Rattle.bz_swap.proofs.AtomicValues.{value-named, value-private, entry-named}
 
@@ -48,15 +47,6 @@ flush-answer new works holds a out settled = by_name (is_named new a) refl
     by_name true named = sym (value-named new a named)
     by_name false private = (holds.private a out private).1 ∙ sym (settled-same new a settled) ∙ sym (value-private new a works private)
 
-flush-answers : (phase : Phase) (old new : SwapMemory) (w : ℕ) (made : Act) (line : ℕ) (done : Done) → new.phase ≡ phase → phase ≢ Recovering → IsHeld new
-    → ((l : ℕ) → made ≡ Ask l → (a : ℕ) → a / 8 ≡ l → IsAwaited new w a) → (made ≡ Fence → (a : ℕ) → IsAwaited old w a → is_settled_at new a ≡ true) → IsFlushPart phase line made done → Answers old w new (Flushing line) done
-flush-answers Opened old new w made line Busy is works holds asks fences part = asks line part
-flush-answers Running old new w made line Busy is works holds asks fences part = asks line part
-flush-answers Opened old new w made line Flushed is works holds asks fences part = λ a out awaited. flush-answer new (λ bad. works (sym is ∙ bad)) holds a out (fences part a awaited)
-flush-answers Running old new w made line Flushed is works holds asks fences part = λ a out awaited. flush-answer new (λ bad. works (sym is ∙ bad)) holds a out (fences part a awaited)
-flush-answers Recovering old new w made line done is works holds asks fences part = absurd (works refl)
-flush-answers phase old new w made line done is works holds asks fences part = absurd part
-
 pub answers : (old new : SwapMemory) (w : ℕ) (made : Act) (doing : Doing) (done : Done) → new.phase ≢ Recovering → IsHeld old → IsHeld new → IsActOf (memory_state old) w made (memory_state new) → ((l : ℕ) → made ≡ Ask l → (a : ℕ) → a / 8 ≡ l → IsAwaited new w a) → (made ≡ Fence → (a : ℕ) → IsAwaited old w a → is_settled_at new a ≡ true)
     → IsAnswer new doing made done → Answers old w new doing done
 answers old new w made (Reading a) Busy works held holds act asks fences answer = tt
@@ -66,9 +56,6 @@ answers old new w made (Swapping s) (Swapped true) works held holds act asks fen
 answers old new w made (Swapping s) (Swapped false) works held holds act asks fences answer = answer
 answers old new w made (Loading a) (Read v) works held holds act asks fences answer = loaded old new w made a v act answer
 answers old new w made (Storing a v) Stored works held holds act asks fences answer = tt
-answers old new w made (Flushing line) Busy works held holds act asks fences answer = flush-answers new.phase old new w made line Busy refl works holds asks fences answer
-answers old new w made (Flushing line) Flushed works held holds act asks fences answer = flush-answers new.phase old new w made line Flushed refl works holds asks fences answer
-answers old new w made (Flushing line) (Read v) works held holds act asks fences answer = flush-answers new.phase old new w made line (Read v) refl works holds asks fences answer
-answers old new w made (Flushing line) (Swapped b) works held holds act asks fences answer = flush-answers new.phase old new w made line (Swapped b) refl works holds asks fences answer
-answers old new w made (Flushing line) Stored works held holds act asks fences answer = flush-answers new.phase old new w made line Stored refl works holds asks fences answer
+answers old new w made (Flushing line) Busy works held holds act asks fences answer = asks line answer
+answers old new w made (Flushing line) Flushed works held holds act asks fences answer = λ a out awaited. flush-answer new works holds a out (fences answer a awaited)
 answers old new w made doing done works held holds act asks fences answer = absurd answer

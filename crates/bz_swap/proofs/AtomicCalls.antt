@@ -13,7 +13,7 @@ use Rattle.bz_swap.specs.AtomicCalls.{AccessIsAtomic}
 use Rattle.bz_swap.specs.Effects.{EffectIs}
 use Rattle.bz_swap.specs.Evictions.{IsEviction, EvictsIn}
 use Rattle.bz_swap.specs.Held.{IsHeld}
-use Rattle.bz_swap.specs.Steps.{IsStep, IsAnswer}
+use Rattle.bz_swap.specs.Steps.{IsOneAct, IsStep, IsAnswer}
 use Rattle.bz_swap.specs.SwapMemory.{SwapMemory, Doing, Idle, Reading, Swapping, Loading, Storing, Flushing, memory_state, doing_of}
 use Rattle.bz_swap.specs.Writes.{StoresPrivate, StoresOwn}
 use Rattle.bz_swap.specs.declared.phase.Phase.{Phase}
@@ -94,8 +94,8 @@ step-atomic old new w made done told working held holds step = record {
   happens = step-happens old new w made done told (doing_of old w) refl working held holds step;
   notes = notes old new step.misses;
   answer = answers old new w made (doing_of old w) done (λ is. working (sym step.one.others.phase ∙ is)) held holds step.one.act
-      (λ l is a here. settled_words_stay.asked old new w l done told a (subst (λ z. IsStep old w z done told new) is step) here)
-      (λ is a awaited. settled_words_stay.fenced old new w done told a (subst (λ z. IsStep old w z done told new) is step) awaited) step.one.answer;
+      (λ l is a here. settled_words_stay.asked old new w l done a (subst (λ z. IsOneAct old w z done new) is step.one) here)
+      (λ is a awaited. settled_words_stay.fenced old new w done a (subst (λ z. IsOneAct old w z done new) is step.one) awaited) step.one.answer;
 }
 
 -- an eviction

@@ -5,22 +5,21 @@ use Rattle.std.proofs.Common.{arith, refl, ap, sym, subst, ◌∙◌, inl, inr}
 use Rattle.std.proofs.lemmas.Bool.{cases_eq, cases_lt}
 use Rattle.std.proofs.lemmas.Grind.{common_steps}
 use Rattle.bz_swap_machine.specs.Pending.{Saved, fenced_value}
-use Rattle.bz_swap_cells.specs.FromPm.Acts.{flushed}
 use Rattle.bz_swap_cells.specs.FromPm.State.{State}
 use Rattle.bz_swap_cells.proofs.FromPm.Fences as memory
 use Rattle.bz_swap_cells.proofs.Pasts.{settled-fence}
 use Rattle.bz_swap_acts.specs.Rule.{after_act}
 use Rattle.bz_swap_acts.specs.declared.acted.Act.{Act}
-use Rattle.bz_swap_acts.specs.declared.acted.Act.TheVariants.{Load, Store, Cas, Flush, Ask, Fence}
+use Rattle.bz_swap_acts.specs.declared.acted.Act.TheVariants.{Load, Store, Cas, Ask, Fence}
 use Rattle.bz_swap_cells.specs.Store.{IsOutside, word_pending}
 use Rattle.bz_swap.specs.Atomic.{value_of, WasAsked, Event, Quiet, Effect, changes, Happens}
 use Rattle.bz_swap.specs.Effects.{NoneTakesEffect, TakesEffect}
 use Rattle.bz_swap.specs.Held.{IsHeld}
 use Rattle.bz_swap.specs.Steps.{MayAct}
-use Rattle.bz_swap.specs.SwapMemory.{SwapMemory, memory_words, memory_state, value_at, is_named}
+use Rattle.bz_swap.specs.SwapMemory.{SwapMemory, memory_state, value_at, is_named}
 use Rattle.bz_swap.specs.declared.phase.Phase.TheVariants.{Recovering}
 use Rattle.bz_swap.proofs.AtomicValues.{value-named, value-private, entry-named}
-use Rattle.bz_swap.proofs.WordActs.{set-keeps, flushed-keeps}
+use Rattle.bz_swap.proofs.WordActs.{set-keeps}
 
 -- a durable word is what it was, what stands in the caches, or what a worker had asked for
 abbrev pub IsLeft : SwapMemory → SwapMemory → ℕ → Type 0
@@ -105,13 +104,6 @@ durable-act old new w (Load b v) a may after = inl (ap (λ (m : State). slice_in
 durable-act old new w (Store b v) a may after = inl (ap (λ (m : State). slice_index m.words.durable a) after)
 durable-act old new w (Cas b before now found) a may after = inl (ap (λ (m : State). slice_index m.words.durable a) after)
 durable-act old new w (Ask line) a may after = inl (ap (λ (m : State). slice_index m.words.durable a) after)
-durable-act old new w (Flush line) a may after =
-    let is : slice_index new.durable a ≡ slice_index (flushed (memory_words old) line).durable a = ap (λ (m : State). slice_index m.words.durable a) after in
-    let cached : slice_index new.cached a ≡ slice_index old.cached a = ap (λ (m : State). slice_index m.words.cached a) after in
-    elim (flushed-keeps (λ x. (x ≡ slice_index old.durable a) ⊎ (x ≡ slice_index old.cached a)) (memory_words old) line a may.state.memory (inr refl) (inl refl)) [
-      | inl same ↦ inl (is ∙ same)
-      | inr saved ↦ inr (inl (is ∙ saved ∙ sym cached))
-    ]
 durable-act old new w Fence a may after =
     let f = memory.fence (memory_state old) w may.state may.worker in
     let is : slice_index new.durable a ≡ fenced_value (slice_index old.durable a) (word_pending old.past a).since ((word_pending old.past a).asked w) =

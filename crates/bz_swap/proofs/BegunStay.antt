@@ -9,7 +9,7 @@ use Rattle.bz_swap_acts.specs.declared.acted.Act.{Act}
 use Rattle.bz_swap_machine.specs.declared.done.Done.{Done}
 use Rattle.bz_swap_machine.specs.declared.done.Done.TheVariants.{Busy, Read, Swapped, Stored, Flushed}
 use Rattle.bz_swap.specs.Held.{IsHeld}
-use Rattle.bz_swap.specs.Starts.{started, swapping, begins_by_flush}
+use Rattle.bz_swap.specs.Starts.{started, swapping}
 use Rattle.bz_swap.specs.Steps.{IsStep, IsAnswer, doing_after}
 use Rattle.bz_swap.specs.SwapMemory.{SwapMemory, Doing, Idle, Swapping, Working, idle, doing_of}
 use Rattle.bz_swap.specs.TakenStatuses.{IsTaken, BegunAreTaken, BegunStayTaken}
@@ -62,7 +62,7 @@ begun-start : (m : SwapMemory) (w : ℕ) (doing : Doing) → doing_of m w ≡ Id
 begun-start m w doing is_idle all s begun = by_old (all s begun)
   where
     by_old : BegunOrTaken m s → BegunOrTaken (started m w doing) s
-    by_old (inl worker) = inl (worker.0, other-doing m w worker.0 s (record { doing = doing; flush_next = begins_by_flush doing w }) is_idle worker.1)
+    by_old (inl worker) = inl (worker.0, other-doing m w worker.0 s (record { doing = doing; flush_next = false }) is_idle worker.1)
     by_old (inr taken) = inr taken
 
 begun-swap : (m : SwapMemory) (w : ℕ) (entries : List Entry) → w < length m.workers → doing_of m w ≡ Idle → BegunAreTaken m → BegunAreTaken (swapping m w entries)

@@ -1,5 +1,5 @@
 -- A power cut, and workers that are all idle.
-use Rattle.std.specs.Prelude.{◌≡◌, ℕ, zero, suc, ◌∷◌, length, map, get_or, replicate}
+use Rattle.std.specs.Prelude.{◌≡◌, ℕ, zero, suc, [], ◌∷◌, length, map, get_or, replicate}
 use Rattle.std.proofs.Common.{arith, refl, ap, sym, ◌∙◌}
 use Rattle.std.proofs.lemmas.List.{length-replicate, length-map}
 use Rattle.bz_swap_machine.specs.declared.place.Place.TheVariants as place
@@ -13,10 +13,11 @@ use Rattle.bz_swap.specs.Inside.Parts.{Parts, idle_worker, working, seen}
 use Rattle.bz_swap.specs.Inside.Kept.{IsKept, RecoversAt}
 use Rattle.bz_swap.proofs.Allowing.{allowed-none}
 use Rattle.bz_swap.proofs.Doings.{working-idle}
+use Rattle.bz_swap.proofs.Fresh.{all-same}
 
 -- the parts after a cut
 abbrev pub cut_parts : Parts → Parts
-cut_parts p = record { store = with_state p.store (after_power_cut (store_state p.store)); workers = replicate (length p.workers) idle_worker; phase = Recovering; steps = p.steps; allowance = record p.allowance { all = 0 } }
+cut_parts p = record { store = with_state p.store (after_power_cut (store_state p.store)); workers = replicate (length p.workers) idle_worker; phase = Recovering; steps = 0; allowance = record p.allowance { all = 0 } }
 
 each-idle : (n w : ℕ) → get_or (replicate n idle_worker) w idle_worker ≡ idle_worker
 each-idle zero w = refl
@@ -51,7 +52,8 @@ cut-kept p k room = record {
     recoverer = rw (each-idle (length p.workers) 0) (recovers-idle (cut_parts p).store);
     others = λ w some. rw (each-idle (length p.workers) w) idle-place;
     rest = λ w. rw (each-idle (length p.workers) w) idle-nothing;
-    enough = λ ne. absurd (ne (rw (each-idle (length p.workers) 0) idle-place));
+    enough = rw (each-idle (length p.workers) 0, idle-place) (omega arith);
+    asked = λ w. (let none : get_or (cut_parts p).store.past.asks w [] ≡ [] = all-same (length p.store.past.asks) w [] in rw none (omega arith));
   };
 }
 

@@ -1,5 +1,5 @@
 -- What callers see of the workers.
-use Rattle.std.specs.Prelude.{◌≡◌, ℕ, zero, suc, List, [], ◌∷◌, map, get_or}
+use Rattle.std.specs.Prelude.{◌≡◌, ℕ, zero, suc, List, [], ◌∷◌, map, get_or, ◌≢◌, true}
 use Rattle.std.proofs.Common.{refl, sym}
 use Rattle.bz_swap_machine.specs.declared.place.Place.{Place}
 use Rattle.bz_swap_machine.specs.declared.place.Place.TheVariants as place
@@ -8,11 +8,12 @@ use Rattle.bz_swap_machine.specs.declared.worker.Operation.TheVariants as operat
 use Rattle.bz_swap_machine.specs.declared.worker.Worker.{Worker}
 use Rattle.bz_swap_machine.specs.declared.done.Done.{Done}
 use Rattle.bz_swap_machine.specs.declared.done.Done.TheVariants.{Busy, Read, Swapped, Stored, Flushed}
-use Rattle.bz_swap.specs.SwapMemory.{Doing, Idle, idle, worker_of}
+use Rattle.bz_swap.specs.SwapMemory.{Doing, Idle, idle, worker_of, Flushing}
 use Rattle.bz_swap.specs.Inside.Parts.{Parts, idle_worker, worker_at, working, doing_at, doing_operation, seen}
 use Rattle.bz_swap.specs.Inside.Kept.{RestsAt, IsBusy}
 use Rattle.bz_swap.specs.Steps.{doing_after}
 use Rattle.bz_swap.proofs.Going.{IsGoing}
+use Rattle.bz_swap_machine.specs.Fences.{is_fence}
 
 pub working-idle : working idle_worker ≡ idle
 unfolding idle_worker
@@ -39,9 +40,29 @@ doing-going (place.FenceRead a v) o g = refl
 doing-going (place.ClearRead a v) o g = refl
 doing-going (place.LoadWord a) o g = absurd g
 doing-going (place.StoreWord a v) o g = absurd g
-doing-going (place.FlushLine line) o g = absurd g
 doing-going (place.AskLine line) o g = absurd g
 doing-going (place.FenceLine line) o g = absurd g
+
+-- no operation is a flush
+no-flush : (o : Operation) (line : ℕ) → doing_operation o ≡ Flushing line → ⊥
+no-flush operation.Nothing line is = absurd cc
+no-flush (operation.Reading a) line is = absurd cc
+no-flush (operation.Swapping s) line is = absurd cc
+
+-- a flush that has asked for its line fences next
+pub fences-next : (x : Place) (o : Operation) (line : ℕ) → ((k : ℕ) → x ≢ place.AskLine k) → doing_at x o ≡ Flushing line → is_fence x ≡ true
+fences-next place.Idle o line asked is = absurd cc
+fences-next (place.Prepare step) o line asked is = absurd (no-flush o line is)
+fences-next (place.Learn k) o line asked is = absurd (no-flush o line is)
+fences-next (place.Help step) o line asked is = absurd (no-flush o line is)
+fences-next (place.ReadWord a) o line asked is = absurd (no-flush o line is)
+fences-next (place.AskRead a v) o line asked is = absurd (no-flush o line is)
+fences-next (place.FenceRead a v) o line asked is = refl
+fences-next (place.ClearRead a v) o line asked is = absurd (no-flush o line is)
+fences-next (place.LoadWord a) o line asked is = absurd cc
+fences-next (place.StoreWord a v) o line asked is = absurd cc
+fences-next (place.AskLine k) o line asked is = absurd (asked k refl)
+fences-next (place.FenceLine k) o line asked is = refl
 
 -- an operation that has answered is no longer done
 pub done-idle : (d : Doing) (done : Done) → (done ≡ Busy → ⊥) → doing_after d done ≡ Idle
@@ -68,7 +89,6 @@ idle-place (place.FenceRead a v) o h is = absurd (busy-not_idle o h is)
 idle-place (place.ClearRead a v) o h is = absurd (busy-not_idle o h is)
 idle-place (place.LoadWord a) o h is = absurd cc
 idle-place (place.StoreWord a v) o h is = absurd cc
-idle-place (place.FlushLine line) o h is = absurd cc
 idle-place (place.AskLine line) o h is = absurd cc
 idle-place (place.FenceLine line) o h is = absurd cc
 

@@ -8,7 +8,7 @@ use Rattle.bz_layout.specs.Addresses.{swap_address}
 use Rattle.bz_swap_cells.specs.FromPm.State.{State}
 use Rattle.bz_swap_cells.specs.FromPm.Words.{IsMemory}
 use Rattle.bz_swap_acts.specs.declared.acted.Act.{Act}
-use Rattle.bz_swap_acts.specs.declared.acted.Act.TheVariants.{Load, Store, Cas, Flush, Ask, Fence}
+use Rattle.bz_swap_acts.specs.declared.acted.Act.TheVariants.{Load, Store, Cas, Ask, Fence}
 use Rattle.bz_swap_cells.specs.Store.{status_at, status_of}
 use Rattle.bz_swap_machine.specs.declared.done.Done.{Done}
 use Rattle.bz_swap_machine.specs.Machine.{is_succeeded}
@@ -45,7 +45,6 @@ frees-so : (swaps s : ℕ) (made : Act) → s < swaps → FreesStatuses swaps ma
 frees-so swaps s (Load a v) below frees = tt
 frees-so swaps s (Store a v) below frees = λ here. subst IsNone (sym (frees s below (sym here))) none-free
 frees-so swaps s (Cas a before after found) below frees = λ here. subst IsNone (sym (frees s below (sym here))) none-free
-frees-so swaps s (Flush line) below frees = tt
 frees-so swaps s (Ask line) below frees = tt
 frees-so swaps s Fence below frees = tt
 

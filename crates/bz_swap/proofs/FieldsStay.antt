@@ -7,7 +7,7 @@ use Rattle.bz_swap_cells.specs.FromPm.State.{State}
 use Rattle.bz_swap_cells.specs.FromPm.Words.{IsMemory}
 use Rattle.bz_swap_acts.specs.Rule.{IsWithin, after_act}
 use Rattle.bz_swap_acts.specs.declared.acted.Act.{Act}
-use Rattle.bz_swap_acts.specs.declared.acted.Act.TheVariants.{Load, Store, Cas, Flush, Ask, Fence}
+use Rattle.bz_swap_acts.specs.declared.acted.Act.TheVariants.{Load, Store, Cas, Ask, Fence}
 use Rattle.bz_swap_cells.specs.Store.{IsOutside, field_address, field_count, status_word}
 use Rattle.bz_swap_machine.specs.declared.done.Done.{Done}
 use Rattle.bz_swap_machine.specs.declared.status.SwapStatus.TheVariants.{Undecided}
@@ -51,7 +51,6 @@ may-write : (old : SwapMemory) (w : ℕ) (made : Act) → WritesLawfully old w m
 may-write old w (Load a v) writes = λ s k lt less. tt
 may-write old w (Store a v) writes = may-store old w a v (writes.stores a v refl)
 may-write old w (Cas a before after found) writes = λ s k lt less here. absurd (may-swap old a before after found (writes.swaps a before after found refl) s k lt less here)
-may-write old w (Flush line) writes = λ s k lt less. tt
 may-write old w (Ask line) writes = λ s k lt less. tt
 may-write old w Fence writes = λ s k lt less. tt
 
@@ -77,7 +76,6 @@ plain-writes : (swaps : ℕ) (made : Act) → WritesPlain made → MayWrite swap
 plain-writes swaps (Load a v) writes = λ s k lt less. tt
 plain-writes swaps (Store a v) writes = λ s k lt less here. writes
 plain-writes swaps (Cas a before after found) writes = λ s k lt less here. writes
-plain-writes swaps (Flush line) writes = λ s k lt less. tt
 plain-writes swaps (Ask line) writes = λ s k lt less. tt
 plain-writes swaps Fence writes = λ s k lt less. tt
 
@@ -102,5 +100,5 @@ plain_fields_stay = record {
   start = λ m w doing plain. record { cached = plain.cached; durable = plain.durable; asked = plain.asked };
   swap = λ m w entries plain. record { cached = plain.cached; durable = plain.durable; asked = plain.asked };
   cut = λ m plain. record { cached = plain.durable; durable = plain.durable; asked = λ s k w q lt less is. absurd (none-asked (length m.past.asks) 0 (replicate (length m.past.since) 0) (field_address s k) w q is) };
-  renewal = λ m plain. record { cached = plain.cached; durable = plain.durable; asked = λ s k w q lt less is. absurd (none-asked (length m.past.asks) 0 (replicate (length m.past.since) 0) (field_address s k) w q is) };
+  renewal = λ m plain. record { cached = plain.cached; durable = plain.durable; asked = plain.asked };
 }

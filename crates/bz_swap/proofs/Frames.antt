@@ -9,7 +9,7 @@ use Rattle.bz_swap_machine.specs.declared.status.SwapStatus.TheVariants.{Free, U
 use Rattle.bz_swap_machine.specs.declared.status.Verdict.{Verdict}
 use Rattle.bz_swap_machine.specs.declared.status.Verdict.TheVariants.{Succeeded, Failed}
 use Rattle.bz_swap_machine.specs.declared.place.Place.{Place}
-use Rattle.bz_swap_machine.specs.declared.place.Place.TheVariants.{Idle, Prepare, Learn, Help, ReadWord, AskRead, FenceRead, ClearRead, LoadWord, StoreWord, FlushLine, AskLine, FenceLine}
+use Rattle.bz_swap_machine.specs.declared.place.Place.TheVariants.{Idle, Prepare, Learn, Help, ReadWord, AskRead, FenceRead, ClearRead, LoadWord, StoreWord, AskLine, FenceLine}
 use Rattle.bz_swap_machine.specs.declared.place.PrepareStep.TheVariants.{WriteWord, WriteStatus, AskHead, AskTail, FenceDescriptor}
 use Rattle.bz_swap_machine.specs.declared.place.HelpStep.{HelpStep}
 use Rattle.bz_swap_machine.specs.declared.place.HelpStep.TheVariants.{Look, InstallTag, LookUnderTag, InstallPointer, RemoveTag, AskDirty, FenceDirty, ClearDirty, AskTarget, FenceTargets, Decide, AskStatus, FenceStatus, ClearStatus, PutFinal, AskFinal, FenceFinal, ClearFinal, SweepTag}
@@ -183,6 +183,5 @@ frame-act m w l (FenceRead a v) = framed m _ (frame-of m _ refl refl refl refl r
 frame-act m w l (ClearRead a v) = framed m _ (frame-cleared m a v (m.cached a))
 frame-act m w l (LoadWord a) = framed m _ (frame-same m)
 frame-act m w l (StoreWord a v) = framed m _ (frame-of m _ refl refl refl refl refl refl)
-frame-act m w l (FlushLine line) = framed m _ (frame-same m)
 frame-act m w l (AskLine line) = framed m _ (frame-of m _ refl refl refl refl refl refl)
 frame-act m w l (FenceLine line) = framed m _ (frame-of m _ refl refl refl refl refl refl)

@@ -13,10 +13,10 @@ use Rattle.bz_swap_machine.specs.Sizes.{most_workers}
 use Rattle.bz_swap_machine.specs.State.{IsRenewable, idle, power_on}
 use Rattle.bz_swap_machine.specs.Workers.{local_of}
 use Rattle.bz_swap_machine.proofs.EventLaws.{begins_as_state, begins_in_range, begins_bounded}
-use Rattle.bz_swap_cells.specs.Store.{Store, Past, Beside, HasRoom, IsOutside, AreAsked, typed, is_outside, status_of, field_address, field_count, saved_word, word_pending, pending_as, kind_pending, status_pending, field_pending}
+use Rattle.bz_swap_cells.specs.Store.{Store, Past, Beside, HasRoom, IsOutside, AreAsked, typed, is_outside, status_of, field_address, field_count, saved_as, saved_word, word_pending, pending_as, kind_pending, status_pending, field_pending}
 use Rattle.bz_word.specs.Kinds.{kind}
 use Rattle.bz_layout.specs.Addresses.{swap_address}
-use Rattle.bz_swap_machine.specs.Pending.{no_asks}
+use Rattle.bz_swap_machine.specs.Pending.{Pending, IsAlone, no_asks}
 use Rattle.bz_swap_cells.specs.FromPm.State.{ask_for}
 use Rattle.bz_swap.specs.Power.{AreRecovered}
 use Rattle.bz_swap.specs.SwapMemory.{idle as seen_idle}
@@ -26,7 +26,7 @@ use Rattle.bz_swap.proofs.Allowing.{allowed-none}
 use Rattle.bz_swap.proofs.StepsLeft.{enough-idle}
 use Rattle.bz_swap.proofs.Recovered.{fitting, fitting-plain, fitting-kind, same-kinds, free-status, recovered-words}
 
--- nothing was asked yet, and nothing is kept of what was asked before
+-- nothing was begun yet, and nobody waits for a fence
 pub record IsFresh (p : Parts) : Type 0 where
   pub room : HasRoom p.store
   pub same : (a : ℕ) → IsOutside p.store.swaps a → slice_index p.store.cached a ≡ slice_index p.store.durable a
@@ -35,8 +35,7 @@ pub record IsFresh (p : Parts) : Type 0 where
   pub tags : (w : ℕ) → slice_index p.store.next_tags w ≡ 0
   pub missed : (s : ℕ) → get_or p.store.missed s false ≡ false
   pub taken : p.store.taken ≡ 0
-  pub count : p.store.past.count ≡ 0
-  pub since : (a : ℕ) → slice_index p.store.past.since a ≡ 0
+  pub since : (a : ℕ) → slice_index p.store.past.since a ≤ p.store.past.count
   pub asks : (w : ℕ) → get_or p.store.past.asks w [] ≡ []
   pub workers : (w : ℕ) → worker_at p w ≡ idle_worker
   pub few : length p.workers ≤ most_workers
@@ -52,31 +51,38 @@ all-same n i x = elim (cases_lt i n) [
 fresh_beside : Beside
 fresh_beside = record { owner = λ s. 0; named = λ a. false; published = λ s. false; answer = λ s. None }
 
--- nothing is kept of what was asked before
-fresh-word : (past : Past) (a : ℕ) → slice_index past.since a ≡ 0 → ((w : ℕ) → get_or past.asks w [] ≡ []) → word_pending past a ≡ no_asks
-fresh-word past a since asks = λ i. record { since = since i; asked = λ w. ap (λ qs. saved_word (ask_for qs (a / 8)) (a % 8)) (asks w) i }
+-- nobody waits for a fence
+fresh-word : (past : Past) (a : ℕ) → slice_index past.since a ≤ past.count → ((w : ℕ) → get_or past.asks w [] ≡ []) → IsAlone past.count (word_pending past a)
+fresh-word past a since asks = record { since = since; none = λ w. ap (λ qs. saved_word (ask_for qs (a / 8)) (a % 8)) (asks w) }
 
-fresh-kind : (swaps : ℕ) (past : Past) → ((a : ℕ) → slice_index past.since a ≡ 0) → ((w : ℕ) → get_or past.asks w [] ≡ []) → (a : ℕ) → kind_pending swaps (word_pending past) a ≡ no_asks
-fresh-kind swaps past since asks a = by_test (is_outside swaps a)
-  where
-    by_test : (t : Bool) → (if t then pending_as kind (word_pending past a) else no_asks) ≡ no_asks
-    by_test true = ap (pending_as kind) (fresh-word past a (since a) asks)
-    by_test false = refl
+as-alone : {A : Type 0} (f : ℕ → A) (now : ℕ) (p : Pending ℕ) → IsAlone now p → IsAlone now (pending_as f p)
+as-alone f now p only = record { since = only.since; none = λ w. (λ i. saved_as f (only.none w i)) }
 
-fresh-status : (swaps : ℕ) (past : Past) → ((a : ℕ) → slice_index past.since a ≡ 0) → ((w : ℕ) → get_or past.asks w [] ≡ []) → (s : ℕ) → status_pending swaps (word_pending past) s ≡ no_asks
-fresh-status swaps past since asks s = by_test (nat_lt s swaps)
-  where
-    by_test : (t : Bool) → (if t then pending_as status_of (word_pending past (swap_address s)) else no_asks) ≡ no_asks
-    by_test true = ap (pending_as status_of) (fresh-word past (swap_address s) (since (swap_address s)) asks)
-    by_test false = refl
+none-alone : {A : Type 0} (now : ℕ) → IsAlone {A = A} now no_asks
+none-alone now = record { since = omega arith; none = λ w. refl }
 
-fresh-field : (swaps : ℕ) (past : Past) → ((a : ℕ) → slice_index past.since a ≡ 0) → ((w : ℕ) → get_or past.asks w [] ≡ []) → (s k : ℕ) → field_pending swaps (word_pending past) s k ≡ no_asks
-fresh-field swaps past since asks s k = by_test (nat_lt s swaps) (nat_lt k field_count)
-  where
-    by_test : (t u : Bool) → (if t then if u then word_pending past (field_address s k) else no_asks else no_asks) ≡ no_asks
-    by_test true true = fresh-word past (field_address s k) (since (field_address s k)) asks
-    by_test true false = refl
-    by_test false u = refl
+module _ (swaps : ℕ) (past : Past) (since : (a : ℕ) → slice_index past.since a ≤ past.count) (asks : (w : ℕ) → get_or past.asks w [] ≡ []) where
+  fresh-kind : (a : ℕ) → IsAlone past.count (kind_pending swaps (word_pending past) a)
+  fresh-kind a = by_test (is_outside swaps a)
+    where
+      by_test : (t : Bool) → IsAlone past.count (if t then pending_as kind (word_pending past a) else no_asks)
+      by_test true = as-alone kind past.count (word_pending past a) (fresh-word past a (since a) asks)
+      by_test false = none-alone past.count
+
+  fresh-status : (s : ℕ) → IsAlone past.count (status_pending swaps (word_pending past) s)
+  fresh-status s = by_test (nat_lt s swaps)
+    where
+      by_test : (t : Bool) → IsAlone past.count (if t then pending_as status_of (word_pending past (swap_address s)) else no_asks)
+      by_test true = as-alone status_of past.count (word_pending past (swap_address s)) (fresh-word past (swap_address s) (since (swap_address s)) asks)
+      by_test false = none-alone past.count
+
+  fresh-field : (s k : ℕ) → IsAlone past.count (field_pending swaps (word_pending past) s k)
+  fresh-field s k = by_test (nat_lt s swaps) (nat_lt k field_count)
+    where
+      by_test : (t u : Bool) → IsAlone past.count (if t then if u then word_pending past (field_address s k) else no_asks else no_asks)
+      by_test true true = fresh-word past (field_address s k) (since (field_address s k)) asks
+      by_test true false = none-alone past.count
+      by_test false u = none-alone past.count
 
 idle-local : local_of idle_worker ≡ idle
 unfolding idle_worker
@@ -87,10 +93,6 @@ unfolding fresh_beside
 fresh-path p f = λ i. record {
   entries = no_entries;
   memory = record (typed p.store fresh_beside) {
-    now = f.count i;
-    pending = λ a. fresh-kind p.store.swaps p.store.past f.since f.asks a i;
-    status_pending = λ s. fresh-status p.store.swaps p.store.past f.since f.asks s i;
-    words_pending = λ s k. fresh-field p.store.swaps p.store.past f.since f.asks s k i;
     next_tag = λ w. f.tags w i;
     missed = λ s. f.missed s i;
     taken = f.taken i;
@@ -104,6 +106,9 @@ fresh-renewable p f = record {
   same = same-kinds p.store.swaps p.store.cached p.store.durable f.same;
   free = λ s. free-status p.store.swaps p.store.cached s f.cached;
   durable_free = λ s. free-status p.store.swaps p.store.durable s f.durable;
+  words = fresh-kind p.store.swaps p.store.past f.since f.asks;
+  statuses = fresh-status p.store.swaps p.store.past f.since f.asks;
+  fields = fresh-field p.store.swaps p.store.past f.since f.asks;
 }
 
 idle-is_worker : (st : Store) → IsWorker st idle_worker
@@ -149,7 +154,7 @@ fresh-running p f =
       beside = fresh_beside;
       words = record { has_room = f.room; cached = recovered-words p.store.swaps p.store.cached f.cached; durable = recovered-words p.store.swaps p.store.durable f.durable; asked = fresh-asked p.store.swaps p.store.past f.asks };
       state = rw path (begins_as_state m (fresh-renewable p f));
-      range = rw path (begins_in_range m (λ a. (fitting-kind _ (fitting p.store.swaps p.store.cached a f.cached), fitting-kind _ (fitting p.store.swaps p.store.durable a f.durable))));
+      range = rw path (begins_in_range m (fresh-renewable p f) (λ a. (fitting-kind _ (fitting p.store.swaps p.store.cached a f.cached), fitting-kind _ (fitting p.store.swaps p.store.durable a f.durable))));
       bounded = bounded;
       enough = enough-idle (state_of p no_entries fresh_beside) p.allowance (length p.workers) bounded (allowed-none p.workers (λ w. fresh-place p w (f.workers w)));
       lies = λ s i below. absurd (omega (arith, below));

@@ -6,7 +6,7 @@ use Rattle.bz_word.specs.declared.kind.WordKind.{WordKind}
 use Rattle.bz_word.specs.declared.kind.WordKind.TheVariants.{Value, Dirty, Swap, Tag}
 use Rattle.bz_swap_machine.specs.declared.status.Verdict.{Verdict}
 use Rattle.bz_swap_machine.specs.declared.place.Place.{Place}
-use Rattle.bz_swap_machine.specs.declared.place.Place.TheVariants.{Idle, Prepare, Learn, Help, ReadWord, AskRead, FenceRead, ClearRead, LoadWord, StoreWord, FlushLine, AskLine, FenceLine}
+use Rattle.bz_swap_machine.specs.declared.place.Place.TheVariants.{Idle, Prepare, Learn, Help, ReadWord, AskRead, FenceRead, ClearRead, LoadWord, StoreWord, AskLine, FenceLine}
 use Rattle.bz_swap_machine.specs.declared.place.PrepareStep.TheVariants.{WriteWord, WriteStatus, AskHead, AskTail, FenceDescriptor}
 use Rattle.bz_swap_machine.specs.declared.place.HelpStep.TheVariants.{Look}
 use Rattle.bz_swap_machine.specs.declared.place.Next.{Next}
@@ -32,7 +32,6 @@ IsGoing (FenceRead a v) = Unit {0}
 IsGoing (ClearRead a v) = Unit {0}
 IsGoing (LoadWord a) = ⊥
 IsGoing (StoreWord a v) = ⊥
-IsGoing (FlushLine line) = ⊥
 IsGoing (AskLine line) = ⊥
 IsGoing (FenceLine line) = ⊥
 
@@ -48,7 +47,6 @@ ReadsAt (FenceRead a v) = ⊥
 ReadsAt (ClearRead a v) = ⊥
 ReadsAt (LoadWord a) = Unit {0}
 ReadsAt (StoreWord a v) = ⊥
-ReadsAt (FlushLine line) = ⊥
 ReadsAt (AskLine line) = ⊥
 ReadsAt (FenceLine line) = ⊥
 
@@ -124,6 +122,5 @@ leads-act m w l (FenceRead a v) some busy = inl (record { from = tt; place = tt;
 leads-act m w l (ClearRead a v) some busy = inl (record { from = tt; place = tt; operation = refl; busy = refl })
 leads-act m w l (LoadWord a) some busy = inr (inl (record { place = refl; operation = refl; done = λ h. absurd cc; told = λ g. absurd g; read = λ v h. tt }))
 leads-act m w l (StoreWord a v) some busy = inr (inl (record { place = refl; operation = refl; done = λ h. absurd cc; told = λ g. absurd g; read = λ v h. absurd cc }))
-leads-act m w l (FlushLine line) some busy = inr (inl (record { place = refl; operation = refl; done = λ h. absurd cc; told = λ g. absurd g; read = λ v h. absurd cc }))
 leads-act m w l (AskLine line) some busy = inr (inr (record { line = line; from = refl; place = refl; operation = refl; busy = refl }))
 leads-act m w l (FenceLine line) some busy = inr (inl (record { place = refl; operation = refl; done = λ h. absurd cc; told = λ g. absurd g; read = λ v h. absurd cc }))

@@ -173,7 +173,6 @@ by-act e m w l (place.FenceRead a v) at none = inl (stays-fenced m w l.current (
 by-act e m w l (place.ClearRead a v) at none = inl (stays-cleared m a v (m.cached a) l.current)
 by-act e m w l (place.LoadWord a) at none = inl refl
 by-act e m w l (place.StoreWord a v) at none = inl refl
-by-act e m w l (place.FlushLine line) at none = inl refl
 by-act e m w l (place.AskLine line) at none = inl refl
 by-act e m w l (place.FenceLine line) at none = inl (stays-fenced m w l.current (none refl))
 

@@ -1,6 +1,6 @@
 -- An opening: the parts after it, and what callers see of them.
-use Rattle.std.specs.Prelude.{◌≡◌, ◌≢◌, ◌↔◌, ℕ, ◌+◌, ◌≤◌, false, List, [], map, length, replicate}
-use Rattle.std.proofs.Common.{arith, refl, ap, sym, ◌∙◌}
+use Rattle.std.specs.Prelude.{◌≡◌, ◌≢◌, ◌↔◌, ℕ, ◌+◌, ◌≤◌, false, List, [], map, length, slice_index, replicate}
+use Rattle.std.proofs.Common.{arith, refl, ap, sym, ◌∙◌, get_or}
 use Rattle.std.proofs.lemmas.List.{length-replicate}
 use Rattle.bz_swap_machine.specs.declared.worker.Worker.{Worker}
 use Rattle.bz_layout.specs.declared.limits.TheConstants.{MAX_WORKERS}
@@ -40,8 +40,7 @@ opened-kept_in Opened start swaps workers few room recovered not = fresh-untouch
   tags = λ w. all-same (workers + 1) w 0;
   missed = λ s. all-same swaps s false;
   taken = refl;
-  count = refl;
-  since = λ a. all-same (length start) a 0;
+  since = λ a. (let none : slice_index (replicate (length start) 0) a ≡ 0 = all-same (length start) a 0 in omega (arith, none));
   asks = λ w. all-same (workers + 1) w [];
   workers = λ w. all-same (workers + 1) w idle_worker;
   few = rw length-replicate (omega (arith, few));
@@ -54,7 +53,8 @@ opened-kept_in Recovering start swaps workers few room recovered not =
       recoverer = rw (fresh-place p 0 (is 0)) tt;
       others = λ w some. fresh-place p w (is w);
       rest = λ w. ap (λ (l : Worker). l.operation) (is w) ∙ idle-operation;
-      enough = λ ne. absurd (ne (fresh-place p 0 (is 0)));
+      enough = rw (fresh-place p 0 (is 0)) (omega arith);
+      asked = λ w. (let none : get_or p.store.past.asks w [] ≡ [] = all-same (workers + 1) w [] in rw none (omega arith));
     }
 
 pub opened-kept : (phase : Phase) (start : List ℕ) (swaps workers : ℕ) → 1 ≤ swaps → workers ≤ MAX_WORKERS → HasRoom (opened_parts phase start swaps workers).store → (phase ≡ Opened → AreRecovered swaps start) → phase ≢ Running

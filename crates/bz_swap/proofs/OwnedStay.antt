@@ -11,7 +11,7 @@ use Rattle.bz_swap_machine.specs.declared.done.Done.TheVariants.{Busy, Read, Swa
 use Rattle.bz_swap.specs.Power.{after_cut, opened, renewed}
 use Rattle.bz_swap.specs.Settled.{IsSettled, AreOwned, OwnedStay}
 use Rattle.bz_swap.specs.declared.phase.Phase.TheVariants.{Running}
-use Rattle.bz_swap.specs.Starts.{started, swapping, begins_by_flush}
+use Rattle.bz_swap.specs.Starts.{started, swapping}
 use Rattle.bz_swap.specs.Steps.{IsOneAct, IsStep, IsAnswer, doing_after}
 use Rattle.bz_swap.specs.SwapMemory.{SwapMemory, Doing, Idle, Swapping, Working, idle, has_effect, doing_of}
 use Rattle.bz_swap.proofs.StillDone.{step-before, start-before, all-rest}
@@ -33,7 +33,7 @@ idle-after old new w made done v one rests = elim (cases_eq v w) [
 -- a start by worker 0 begins a recovery time, in which the others rest
 others-idle : (m : SwapMemory) (w : ℕ) (doing : Doing) → (w ≡ 0 → m.phase ≢ Running) → AreOwned m → (started m w doing).phase ≢ Running → (v : ℕ) → 0 < v → doing_of (started m w doing) v ≡ Idle
 others-idle m zero doing recovers owned not v some =
-    ap (λ (u : Working). u.doing) (get_or-set_other m.workers 0 v (record { doing = doing; flush_next = begins_by_flush doing 0 }) idle (omega (arith, some))) ∙ owned.alone (recovers refl) v some
+    ap (λ (u : Working). u.doing) (get_or-set_other m.workers 0 v (record { doing = doing; flush_next = false }) idle (omega (arith, some))) ∙ owned.alone (recovers refl) v some
 others-idle m (suc w) doing recovers owned not v some = absurd (not refl)
 
 owned-act : (old new : SwapMemory) (w : ℕ) (made : Act) (done : Done) → IsOneAct old w made done new → AreOwned old → AreOwned new
@@ -51,7 +51,7 @@ owned-start m w doing another recovers owned = record {
 }
   where
     before : (v s : ℕ) → doing_of (started m w doing) v ≡ Swapping s → doing_of m v ≡ Swapping s
-    before v s = start-before m w (record { doing = doing; flush_next = begins_by_flush doing w }) v s (another s)
+    before v s = start-before m w (record { doing = doing; flush_next = false }) v s (another s)
 
 -- who does a swap after the next one has begun: worker w the next one, and the others what they did
 abbrev NextOrBefore : SwapMemory → ℕ → ℕ → ℕ → Type 0

@@ -109,7 +109,6 @@ ready-at p r w may same (place.FenceRead a v) is at k lies few = may-fence p w m
 ready-at p r w may same (place.ClearRead a v) is at k lies few = (lies, k)
 ready-at p r w may same (place.LoadWord a) is at k lies few = absurd at
 ready-at p r w may same (place.StoreWord a v) is at k lies few = (lies, k)
-ready-at p r w may same (place.FlushLine line) is at k lies few = absurd at
 ready-at p r w may same (place.AskLine line) is at k lies few = (lies, may-ask p r w 0 may few (omega arith))
 ready-at p r w may same (place.FenceLine line) is at k lies few = may-fence p w may
 

@@ -1,5 +1,5 @@
 -- A renewal: the parts after it, and what callers see of them.
-use Rattle.std.specs.Prelude.{◌≡◌, ℕ, zero, suc, false, [], map, length, replicate}
+use Rattle.std.specs.Prelude.{◌≡◌, ℕ, ◌≤◌, zero, suc, false, [], map, length, replicate, get_or}
 use Rattle.std.proofs.Common.{arith, refl, ap, sym, ◌∙◌}
 use Rattle.std.proofs.lemmas.List.{length-replicate}
 use Rattle.bz_swap_machine.specs.declared.place.Place.{Place}
@@ -12,8 +12,9 @@ use Rattle.bz_swap.specs.declared.phase.Phase.TheVariants.{Opened, Running, Reco
 use Rattle.bz_swap.specs.SwapMemory.{Idle, idle, doing_of}
 use Rattle.bz_swap.specs.Power.{MayRenew, renewed}
 use Rattle.bz_swap.specs.Inside.Parts.{Parts, idle_worker, worker_at, working, doing_at, seen}
-use Rattle.bz_swap.specs.Inside.Kept.{IsKept, KeptIn, RecoversAt}
+use Rattle.bz_swap.specs.Inside.Kept.{IsKept, KeptIn, RecoversAt, lines_at}
 use Rattle.bz_swap.proofs.Allowing.{allowed-none}
+use Rattle.bz_swap.proofs.Asking.{no-asks}
 use Rattle.bz_swap.proofs.Doings.{worker-seen, idle-place}
 use Rattle.bz_swap.proofs.Fresh.{IsFresh, all-same, fresh-running, fresh-place, all-idle}
 
@@ -22,9 +23,8 @@ recoverer-place : (st : Store) (x : Place) (o : Operation) → RecoversAt st x �
 recoverer-place st place.Idle o at is = refl
 recoverer-place st (place.LoadWord a) o at is = absurd cc
 recoverer-place st (place.StoreWord a v) o at is = absurd cc
-recoverer-place st (place.FlushLine line) o at is = absurd cc
-recoverer-place st (place.AskLine line) o at is = absurd at
-recoverer-place st (place.FenceLine line) o at is = absurd at
+recoverer-place st (place.AskLine line) o at is = absurd cc
+recoverer-place st (place.FenceLine line) o at is = absurd cc
 recoverer-place st (place.Prepare step) o at is = absurd at
 recoverer-place st (place.Learn k) o at is = absurd at
 recoverer-place st (place.Help step) o at is = absurd at
@@ -42,9 +42,15 @@ place-in Recovering p (suc w) kept is = kept.others (suc w) (omega arith)
 pub resting-place : (p : Parts) (k : IsKept p) (w : ℕ) → doing_of (seen p) w ≡ Idle → (worker_at p w).place ≡ place.Idle
 resting-place p k w is = place-in p.phase p w k.kept (sym (ap (λ u. u.doing) (worker-seen p w)) ∙ is)
 
+-- a worker has asked for as many lines as its place says
+asked-in : (phase : Phase) (p : Parts) (w : ℕ) → KeptIn phase p → length (get_or p.store.past.asks w []) ≤ lines_at (worker_at p w).place
+asked-in Opened p w kept = (kept.running.asked w).few
+asked-in Running p w kept = (kept.asked w).few
+asked-in Recovering p w kept = kept.asked w
+
 -- the parts after a renewal
 abbrev pub renewed_parts : Parts → Parts
-renewed_parts p = record { store = renewed_store p.store; workers = replicate (length p.workers) idle_worker; phase = Running; steps = 0; allowance = record p.allowance { all = 0 } }
+renewed_parts p = record { store = renewed_store p.store; workers = replicate (length p.workers) idle_worker; phase = Running; steps = p.steps; allowance = record p.allowance { all = 0 } }
 
 pub renewed-fresh : (p : Parts) → IsKept p → MayRenew (seen p) → IsFresh (renewed_parts p)
 renewed-fresh p k may = record {
@@ -55,9 +61,8 @@ renewed-fresh p k may = record {
   tags = λ w. all-same (length p.store.next_tags) w 0;
   missed = λ s. all-same (length p.store.missed) s false;
   taken = refl;
-  count = refl;
-  since = λ a. all-same (length p.store.past.since) a 0;
-  asks = λ w. all-same (length p.store.past.asks) w [];
+  since = k.room.state.past;
+  asks = λ w. no-asks (get_or p.store.past.asks w []) (rw (resting-place p k w (may.idle w)) at (asked-in p.phase p w k.kept));
   workers = λ w. all-same (length p.workers) w idle_worker;
   few = rw length-replicate k.few;
 }
@@ -72,7 +77,7 @@ renewed-kept p k may =
       few = rw count k.few;
       some = rw count k.some;
       allowed = sym (allowed-none (replicate (length p.workers) idle_worker) (λ w. fresh-place (renewed_parts p) w (all-same (length p.workers) w idle_worker)));
-      counted = omega arith;
+      counted = k.counted;
       kept = fresh-running (renewed_parts p) (renewed-fresh p k may);
     }
 

@@ -19,21 +19,20 @@ use Rattle.bz_swap_machine.specs.State.{Act as Acting}
 use Rattle.bz_swap_machine.specs.Steps.{Local, Stepped, act, read_act}
 use Rattle.bz_swap_machine.specs.Workers.{local_of}
 use Rattle.bz_swap_machine.proofs.EventLaws.{acts_atomically}
-use Rattle.bz_swap_cells.specs.Store.{Store, IsOutside, kind_at, typed, store_state}
+use Rattle.bz_swap_cells.specs.Store.{Store, IsOutside, kind_at, typed, store_state, Beside}
 use Rattle.bz_swap_acts.specs.Made.{made}
 use Rattle.bz_swap_acts.specs.Rule.{IsActOf, IsToldAt}
 use Rattle.bz_swap_acts.specs.declared.acted.Act.{Act}
-use Rattle.bz_swap_acts.specs.declared.acted.Act.TheVariants.{Load, Ask, Fence}
-use Rattle.bz_swap.specs.declared.phase.Phase.{Phase}
-use Rattle.bz_swap.specs.declared.phase.Phase.TheVariants.{Opened, Running, Recovering}
-use Rattle.bz_swap.specs.Steps.{IsAnswer, IsFlushPart, IsStep, doing_after}
+use Rattle.bz_swap_acts.specs.declared.acted.Act.TheVariants.{Load}
+use Rattle.bz_swap.specs.declared.phase.Phase.TheVariants.{Recovering}
+use Rattle.bz_swap.specs.Steps.{IsAnswer, IsStep, doing_after}
 use Rattle.bz_swap.specs.SwapMemory.{SwapMemory, Storing, Working, worker_of}
 use Rattle.bz_swap.specs.Inside.Parts.{Parts, worker_at, listed, entry_list, seen, working, doing_at, doing_operation}
 use Rattle.bz_swap.specs.Inside.Kept.{IsRunning, PlaceLies, state_of}
 use Rattle.bz_swap.proofs.Alone.{left-running, left-spent}
 use Rattle.bz_swap.proofs.Frames.{frame-act}
 use Rattle.bz_swap.proofs.Going.{IsGoing, ReadsAt, Leads, leads-act}
-use Rattle.bz_swap.proofs.Doings.{worker-seen, doing-going, done-idle}
+use Rattle.bz_swap.proofs.Doings.{worker-seen, doing-going, done-idle, fences-next}
 use Rattle.bz_swap.proofs.HeldWords.{plain-raw, outside_told}
 use Rattle.bz_swap.proofs.SeenAnswers.{answer-shown}
 use Rattle.bz_swap.proofs.SeenSteps.{after-shows, step-effect, told-path, told_effect}
@@ -69,6 +68,12 @@ doing-made p r w store l done a (inr (inr between)) =
     let busy : done ≡ Busy = a.is_done ∙ between.busy in
     rw busy (ap (λ x. doing_at x l.operation) next ∙ sym (ap (λ x. doing_at x (worker_at p w).operation) between.from))
 
+-- nobody comes to the ask of a flush by an act
+no-ask : (p : Parts) (w : ℕ) (store : Store) (l : Worker) (done : Done) (b : Beside) → Acts p b w store l done → Leads (local_of (worker_at p w)) (worker_at p w).place (made p.store b (worker_at p w) w) → (k : ℕ) → l.place ≢ place.AskLine k
+no-ask p w store l done b a (inl goes) k is = (let going : IsGoing (place.AskLine k) = subst IsGoing (sym (ap (λ (x : Local). x.place) a.local) ∙ is) goes.place in going)
+no-ask p w store l done b a (inr (inl ended)) k is = (let bad : place.Idle ≡ place.AskLine k = sym (ap (λ (x : Local). x.place) a.local ∙ ended.place) ∙ is in absurd cc)
+no-ask p w store l done b a (inr (inr between)) k is = (let bad : place.FenceLine between.line ≡ place.AskLine k = sym (ap (λ (x : Local). x.place) a.local ∙ between.place) ∙ is in absurd cc)
+
 read-found : (m : Memory) (l : Local) (a v : ℕ) (found : WordKind) → (read_act m l a found).done ≡ Read v → found ≡ Value v
 read-found m l a v (Value u) is = cc
 read-found m l a v (Dirty u) is = absurd cc
@@ -95,7 +100,6 @@ read-load p r w store told (place.FenceRead b u) a v reads at lies is rule done 
 read-load p r w store told (place.ClearRead b u) a v reads at lies is rule done o = absurd reads
 read-load p r w store told (place.LoadWord b) a v reads at lies is rule done o = absurd at
 read-load p r w store told (place.StoreWord b u) a v reads at lies is rule done o = absurd reads
-read-load p r w store told (place.FlushLine line) a v reads at lies is rule done o = absurd reads
 read-load p r w store told (place.AskLine line) a v reads at lies is rule done o = absurd reads
 read-load p r w store told (place.FenceLine line) a v reads at lies is rule done o = absurd reads
 
@@ -127,17 +131,6 @@ answer-going p r w store l done told may phase a made_act leads going =
     reads (inr (inr between)) v is = (let bad : Busy ≡ Read v = sym between.busy ∙ is in absurd cc)
 
 -- the answer at any place
--- outside a recovery time a flush is an ask and then a fence
-ask-part : (phase : Phase) (line : ℕ) (told : Act) (done : Done) → phase ≢ Recovering → done ≡ Busy → told ≡ Ask line → IsFlushPart phase line told done
-ask-part Opened line told done works d is = rw d is
-ask-part Running line told done works d is = rw d is
-ask-part Recovering line told done works d is = absurd (works refl)
-
-fence-part : (phase : Phase) (line : ℕ) (told : Act) (done : Done) → phase ≢ Recovering → done ≡ Flushed → told ≡ Fence → IsFlushPart phase line told done
-fence-part Opened line told done works d is = rw d is
-fence-part Running line told done works d is = rw d is
-fence-part Recovering line told done works d is = absurd (works refl)
-
 answer-at : (p : Parts) (r : IsRunning p) (w : ℕ) (n : SwapMemory) (done : Done) (told : Act) (x : Place) → n.phase ≢ Recovering → AtPlace r.entries (typed p.store r.beside) w (local_of (worker_at p w)) x
     → x ≢ place.Idle → (IsGoing x → IsAnswer n (doing_operation (worker_at p w).operation) told done) → IsToldAt x told → done ≡ (act (typed p.store r.beside) w (local_of (worker_at p w)) x).done
     → IsAnswer n (doing_at x (worker_at p w).operation) told done
@@ -151,9 +144,8 @@ answer-at p r w n done told (place.FenceRead a v) works at some going is d = goi
 answer-at p r w n done told (place.ClearRead a v) works at some going is d = going tt
 answer-at p r w n done told (place.LoadWord a) works at some going is d = absurd at
 answer-at p r w n done told (place.StoreWord a v) works at some going is d = rw d is
-answer-at p r w n done told (place.FlushLine line) works at some going is d = absurd at
-answer-at p r w n done told (place.AskLine line) works at some going is d = ask-part n.phase line told done works d is
-answer-at p r w n done told (place.FenceLine line) works at some going is d = fence-part n.phase line told done works d is
+answer-at p r w n done told (place.AskLine line) works at some going is d = rw d is
+answer-at p r w n done told (place.FenceLine line) works at some going is d = rw d is
 
 -- the word of an address that nothing names stays, but for a private store at it
 not-storing : (x : Place) (o : Operation) (a : ℕ) → ((v : ℕ) → doing_at x o ≢ Storing a v) → (v : ℕ) → x ≢ place.StoreWord a v
@@ -202,6 +194,7 @@ step-seen p r w store l done told may phase a made_act =
           workers = λ v ne. worker-seen q v ∙ ap working (other-worker p w v store l ne) ∙ sym (worker-seen p v);
         };
         answer = subst (λ d. IsAnswer (seen q) d told done) (ap (λ (u : Working). u.doing) (sym was)) answer;
+        fences = λ line flushing. ap (λ (u : Working). u.flush_next) is ∙ fences-next l.place l.operation line (no-ask p w store l done r.beside a leads) (ap (λ (u : Working). u.doing) (sym is) ∙ flushing);
         spent = left-spent p w store l (left-running p r may.allowed w) (step-left (state_of p r.entries r.beside) p.allowance w (length p.workers) r.bounded r.enough may.allowed may.within may.busy);
       };
       effect = step-effect p r w store l done may phase a;

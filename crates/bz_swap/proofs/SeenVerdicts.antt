@@ -85,7 +85,6 @@ swap-operation (place.FenceRead a v) o s is = is
 swap-operation (place.ClearRead a v) o s is = is
 swap-operation (place.LoadWord a) o s is = absurd cc
 swap-operation (place.StoreWord a v) o s is = absurd cc
-swap-operation (place.FlushLine line) o s is = absurd cc
 swap-operation (place.AskLine line) o s is = absurd cc
 swap-operation (place.FenceLine line) o s is = absurd cc
 

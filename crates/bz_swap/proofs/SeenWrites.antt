@@ -20,7 +20,7 @@ use Rattle.bz_swap_machine.specs.Workers.{local_of}
 use Rattle.bz_swap_cells.specs.Store.{IsOutside, status_word, typed}
 use Rattle.bz_swap_acts.specs.Writes.{StaysOutside, PreparesBy, HelpsBy, WritesAt}
 use Rattle.bz_swap_acts.specs.declared.acted.Act.{Act}
-use Rattle.bz_swap_acts.specs.declared.acted.Act.TheVariants.{Load, Store, Cas, Flush, Ask, Fence}
+use Rattle.bz_swap_acts.specs.declared.acted.Act.TheVariants.{Load, Store, Cas, Ask, Fence}
 use Rattle.bz_swap.specs.declared.phase.Phase.TheVariants.{Recovering}
 use Rattle.bz_swap.specs.Writes.{StoresPrivate, StoresField, StoresOwn, ChangesStatus, WritesLawfully}
 use Rattle.bz_swap.specs.SwapMemory.{SwapMemory, Working, doing_of}
@@ -39,7 +39,6 @@ outside-writes old w (Cas a before after found) h = record {
   stores = λ b u is. absurd cc;
   swaps = λ b x y z is. (let here : a ≡ b = cc in inl (subst (IsOutside old.swaps) here h));
 }
-outside-writes old w (Flush line) h = record { stores = λ b u is. absurd cc; swaps = λ b x y z is. absurd cc }
 outside-writes old w (Ask line) h = absurd h
 outside-writes old w Fence h = absurd h
 

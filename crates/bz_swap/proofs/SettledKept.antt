@@ -1,5 +1,5 @@
 -- A settled word stays settled.
-use Rattle.std.specs.Prelude.{◌≡◌, ◌≢◌, ◌==◌, if◌then◌else◌, nat_lt, ℕ, ◌+◌, ◌-◌, ◌*◌, ◌/◌, ◌^◌, ◌<◌, ◌≤◌, Bool, true, false, length, replicate, slice_index, slice_set, Some, None}
+use Rattle.std.specs.Prelude.{◌≡◌, ◌≢◌, ◌==◌, if◌then◌else◌, nat_lt, ℕ, ◌+◌, ◌-◌, ◌/◌, ◌%◌, ◌^◌, ◌<◌, ◌≤◌, Bool, true, false, length, replicate, slice_index, slice_set, Some, None, get_or, []}
 use Rattle.std.specs.declared.option.Option.{Option}
 use Rattle.std.proofs.Common.{arith, refl, ap, sym, subst, ◌∙◌, inl, inr}
 use Rattle.std.proofs.lemmas.Bool.{cases_eq, cases_lt}
@@ -7,22 +7,20 @@ use Rattle.std.proofs.lemmas.Grind.{common_steps}
 use Rattle.std.proofs.lemmas.List.{get_or_past, get_or-set_same, length-set}
 use Rattle.bz_swap_machine.specs.declared.done.Done.{Done}
 use Rattle.bz_swap_machine.specs.Pending.{Saved, Pending, with_saved, fenced_value, fenced_since}
-use Rattle.bz_swap_cells.specs.FromPm.After.{after_flush, after_ask, after_fence, after_eviction}
+use Rattle.bz_swap_cells.specs.FromPm.After.{after_ask, after_fence, after_eviction}
 use Rattle.bz_swap_cells.specs.FromPm.Changes.{AsksOnly, FencesOnly}
-use Rattle.bz_swap_cells.specs.FromPm.State.{State, IsState}
-use Rattle.bz_swap_cells.specs.Store.{word_pending}
-use Rattle.bz_swap_cells.proofs.FromPm.Dates.{dates_flushed}
+use Rattle.bz_swap_cells.specs.FromPm.State.{State, IsState, ask_for}
+use Rattle.bz_swap_cells.specs.Store.{word_pending, Past, saved_word}
 use Rattle.bz_swap_cells.proofs.FromPm.Fences as memory
-use Rattle.bz_swap_cells.proofs.FromPm.Lemmas.{flush}
 use Rattle.bz_swap_cells.proofs.Pasts.{past_of, saved-ask, fenced-fence, settled-fence, moment-asked}
 use Rattle.bz_swap_cells.proofs.SettledWords.{settled-saves, saves-settled}
 use Rattle.bz_swap_acts.specs.Rule.{IsWithin, after_act}
 use Rattle.bz_swap_acts.specs.declared.acted.Act.{Act}
-use Rattle.bz_swap_acts.specs.declared.acted.Act.TheVariants.{Load, Store, Cas, Flush, Ask, Fence}
+use Rattle.bz_swap_acts.specs.declared.acted.Act.TheVariants.{Load, Store, Cas, Ask, Fence}
 use Rattle.bz_swap.specs.Evictions.{IsEviction}
 use Rattle.bz_swap.specs.Power.{opened, renewed}
 use Rattle.bz_swap.specs.SettledWords.{IsAwaited, SettledWordsStay}
-use Rattle.bz_swap.specs.Steps.{MayAct, IsStep}
+use Rattle.bz_swap.specs.Steps.{MayAct, IsOneAct, IsStep}
 use Rattle.bz_swap.specs.SwapMemory.{SwapMemory, memory_state, is_settled_at}
 use Rattle.bz_swap.proofs.AllWords.{none-asked}
 use Rattle.bz_swap.proofs.SettledWords.{settled-same}
@@ -46,22 +44,6 @@ later-saves m n a saves cached durable later fewer = record {
   same = cached ∙ sym durable;
   asked = λ v q is after. saves.asked v q (fewer v q is) (omega (arith, later, after)) ∙ sym cached;
 }
-
--- after a flush the words of its line are so, whatever was before
-flush-saves : (m : State) (line a : ℕ) → IsState m → line * 8 < length m.words.cached → a / 8 ≡ line → Saves (after_flush m line) a
-flush-saves m line a i within here =
-    let test : (a / 8 == line) ≡ true = grind (arith, common_steps, here) in
-    let since : slice_index (after_flush m line).since a ≡ m.count = dates_flushed m line a i within ∙ rw test refl in
-    record {
-      same = sym ((flush m.words line i.memory within).durable a ∙ rw test refl);
-      asked = λ v q is after. (let past = moment-asked m i a v q is in absurd (omega (arith, since, after, past)));
-    }
-
-flush-away : (m : State) (line a : ℕ) → IsState m → line * 8 < length m.words.cached → a / 8 ≢ line → Saves m a → Saves (after_flush m line) a
-flush-away m line a i within away saves =
-    let test : (a / 8 == line) ≡ false = grind (arith, common_steps, away) in
-    let since : slice_index (after_flush m line).since a ≡ slice_index m.since a = dates_flushed m line a i within ∙ rw test refl in
-    later-saves m (after_flush m line) a saves refl ((flush m.words line i.memory within).durable a ∙ rw test (sym saves.same)) (omega (arith, since)) (λ v q is. is)
 
 -- an ask saves the word as it stands in the caches
 same-saved : (q r : Saved ℕ) → Some q ≡ Some r → q ≡ r
@@ -103,10 +85,6 @@ act-saves : (m : SwapMemory) (w a : ℕ) (made : Act) → MayAct m w → IsWithi
 act-saves m w a (Load b x) may within cached saves = saves
 act-saves m w a (Store b x) may within cached saves = record { same = cached ∙ saves.same; asked = λ v q is after. saves.asked v q is after ∙ sym cached }
 act-saves m w a (Cas b was new found) may within cached saves = record { same = cached ∙ saves.same; asked = λ v q is after. saves.asked v q is after ∙ sym cached }
-act-saves m w a (Flush line) may within cached saves = elim (cases_eq (a / 8) line) [
-  | inl here ↦ flush-saves (memory_state m) line a may.state within here
-  | inr away ↦ flush-away (memory_state m) line a may.state within away saves
-]
 act-saves m w a (Ask line) may within cached saves =
     let only : AsksOnly (memory_state m) (after_ask (memory_state m) w line) w line = memory.ask (memory_state m) w line may.state may.fit (omega (arith, may.counted)) may.worker within in
     record {
@@ -198,13 +176,6 @@ act-awaits : (m : SwapMemory) (v w a : ℕ) (made : Act) → MayAct m v → IsWi
 act-awaits m v w a (Load b x) may within ne cached h = h
 act-awaits m v w a (Store b x) may within ne cached h = record { saved = h.saved; asked = h.asked; value = h.value ∙ sym cached; durable = λ late. h.durable late ∙ sym cached; others = λ u q e late. h.others u q e late ∙ sym cached }
 act-awaits m v w a (Cas b was new found) may within ne cached h = record { saved = h.saved; asked = h.asked; value = h.value ∙ sym cached; durable = λ late. h.durable late ∙ sym cached; others = λ u q e late. h.others u q e late ∙ sym cached }
-act-awaits m v w a (Flush line) may within ne cached h = elim (cases_eq (a / 8) line) [
-  | inl here ↦ record { saved = h.saved; asked = h.asked; value = h.value; durable = λ late. sym (flush-saves (memory_state m) line a may.state within here).same; others = h.others }
-  | inr away ↦
-      let test : (a / 8 == line) ≡ false = grind (arith, common_steps, away) in
-      let since : slice_index (after_flush (memory_state m) line).since a ≡ slice_index m.past.since a = dates_flushed (memory_state m) line a may.state within ∙ rw test refl in
-      record { saved = h.saved; asked = h.asked; value = h.value; durable = λ late. (flush (memory_state m).words line may.state.memory within).durable a ∙ rw test (h.durable (omega (arith, late, since))); others = h.others }
-]
 act-awaits m v w a (Ask line) may within ne cached h =
     let only : AsksOnly (memory_state m) (after_ask (memory_state m) v line) v line = memory.ask (memory_state m) v line may.state may.fit (omega (arith, may.counted)) may.worker within in
     let is = saved-ask (memory_state m) v line only may.counted a in
@@ -253,20 +224,20 @@ fence-saves m w a may h =
       asked = λ v q e after. h.others v q (left-asked (v == w) ((word_pending m.past a).asked v) q (ap (λ (p : Pending ℕ). p.asked v) (sym is) ∙ e)) (omega (arith, since, late, after));
     }
 
-step-asked : (old new : SwapMemory) (w line : ℕ) (done : Done) (told : Option ℕ) (a : ℕ) → IsStep old w (Ask line) done told new → a / 8 ≡ line → IsAwaited new w a
-step-asked old new w line done told a step here =
-    let may = step.one.may in
-    let only : AsksOnly (memory_state old) (after_ask (memory_state old) w line) w line = memory.ask (memory_state old) w line may.state may.fit (omega (arith, may.counted)) may.worker step.one.within in
-    awaited-of new w a (subst (λ (m : State). Awaits m w a) (sym step.one.act.after) (ask-awaits (memory_state old) w line a may.state may.counted only here))
+step-asked : (old new : SwapMemory) (w line : ℕ) (done : Done) (a : ℕ) → IsOneAct old w (Ask line) done new → a / 8 ≡ line → IsAwaited new w a
+step-asked old new w line done a one here =
+    let may = one.may in
+    let only : AsksOnly (memory_state old) (after_ask (memory_state old) w line) w line = memory.ask (memory_state old) w line may.state may.fit (omega (arith, may.counted)) may.worker one.within in
+    awaited-of new w a (subst (λ (m : State). Awaits m w a) (sym one.act.after) (ask-awaits (memory_state old) w line a may.state may.counted only here))
 
-step-awaited : (old new : SwapMemory) (v w : ℕ) (made : Act) (done : Done) (told : Option ℕ) (a : ℕ) → IsStep old v made done told new → v ≢ w → slice_index new.cached a ≡ slice_index old.cached a → IsAwaited old w a → IsAwaited new w a
-step-awaited old new v w made done told a step ne cached awaited =
-    let after = step.one.act.after in
-    awaited-of new w a (subst (λ (m : State). Awaits m w a) (sym after) (act-awaits old v w a made step.one.may step.one.within ne (ap (λ (m : State). slice_index m.words.cached a) (sym after) ∙ cached) (awaits-of old w a awaited)))
+step-awaited : (old new : SwapMemory) (v w : ℕ) (made : Act) (done : Done) (a : ℕ) → IsOneAct old v made done new → v ≢ w → slice_index new.cached a ≡ slice_index old.cached a → IsAwaited old w a → IsAwaited new w a
+step-awaited old new v w made done a one ne cached awaited =
+    let after = one.act.after in
+    awaited-of new w a (subst (λ (m : State). Awaits m w a) (sym after) (act-awaits old v w a made one.may one.within ne (ap (λ (m : State). slice_index m.words.cached a) (sym after) ∙ cached) (awaits-of old w a awaited)))
 
-step-fenced : (old new : SwapMemory) (w : ℕ) (done : Done) (told : Option ℕ) (a : ℕ) → IsStep old w Fence done told new → IsAwaited old w a → is_settled_at new a ≡ true
-step-fenced old new w done told a step awaited =
-    settled-of new a (subst (λ (m : State). Saves m a) (sym step.one.act.after) (fence-saves old w a step.one.may (awaits-of old w a awaited)))
+step-fenced : (old new : SwapMemory) (w : ℕ) (done : Done) (a : ℕ) → IsOneAct old w Fence done new → IsAwaited old w a → is_settled_at new a ≡ true
+step-fenced old new w done a one awaited =
+    settled-of new a (subst (λ (m : State). Saves m a) (sym one.act.after) (fence-saves old w a one.may (awaits-of old w a awaited)))
 
 evicted-durable : (m : SwapMemory) (e a : ℕ) → IsState (memory_state m) → a ≡ e → slice_index (slice_set m.durable e (slice_index m.cached e)) a ≡ slice_index m.cached a
 evicted-durable m e a state same = elim (cases_lt e (length m.durable)) [
@@ -299,10 +270,14 @@ eviction-awaits old new e told w a h awaited =
     subst (λ (m : SwapMemory). IsAwaited m w a) (sym h.is) (awaited-of (record old { durable = slice_set old.durable e (slice_index old.cached e); past = record old.past { since = slice_set old.past.since e old.past.count } }) w a
     (evicted-awaits old e w a h.state (awaits-of old w a awaited)))
 
+-- who has asked for nothing has saved nothing
+never-saved : (past : Past) (a v : ℕ) (q : Saved ℕ) → get_or past.asks v [] ≡ [] → (word_pending past a).asked v ≡ Some q → ⊥
+never-saved past a v q none is = let bad : None ≡ Some q = sym (ap (λ qs. saved_word (ask_for qs (a / 8)) (a % 8)) none) ∙ is in absurd cc
+
 pub settled_words_stay : SettledWordsStay
 settled_words_stay = record {
   opening = λ phase start swaps workers a. settled-of (opened phase start swaps workers) a (record { same = refl; asked = λ v q is after. absurd (none-asked (workers + 1) 0 (replicate (length start) 0) a v q is) });
-  renewal = λ m a same. settled-of (renewed m) a (record { same = same; asked = λ v q is after. absurd (none-asked (length m.past.asks) 0 (replicate (length m.past.since) 0) a v q is) });
+  renewal = λ m a none same. settled-of (renewed m) a (record { same = same; asked = λ v q is after. absurd (never-saved m.past a v q (none v) is) });
   step = step-settled;
   eviction = eviction-settled;
   asked = step-asked;

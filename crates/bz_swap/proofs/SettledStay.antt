@@ -11,7 +11,7 @@ use Rattle.bz_swap.specs.Effects.{EffectIs}
 use Rattle.bz_swap.specs.Evictions.{IsEviction, EvictsIn}
 use Rattle.bz_swap.specs.Power.{after_cut}
 use Rattle.bz_swap.specs.Settled.{IsSettled, StaysSettled, SettledStay, EffectsStay}
-use Rattle.bz_swap.specs.Starts.{started, swapping, begins_by_flush}
+use Rattle.bz_swap.specs.Starts.{started, swapping}
 use Rattle.bz_swap.specs.Steps.{IsStep}
 use Rattle.bz_swap.specs.SwapMemory.{SwapMemory, Doing, Swapping, has_effect, doing_of}
 use Rattle.bz_swap.proofs.StillDone.{step-before, start-before, none-doing}
@@ -55,7 +55,7 @@ settled-eviction old new a told s not h settled = record {
 pub start-settled : (m : SwapMemory) (w : ℕ) (doing : Doing) (s : ℕ) → doing ≢ Swapping s → IsSettled m s → IsSettled (started m w doing) s
 start-settled m w doing s another settled = record {
   begun = settled.begun;
-  undone = λ v is. settled.undone v (start-before m w (record { doing = doing; flush_next = begins_by_flush doing w }) v s another is);
+  undone = λ v is. settled.undone v (start-before m w (record { doing = doing; flush_next = false }) v s another is);
 }
 
 settled-swap : (m : SwapMemory) (w : ℕ) (entries : List Entry) (s : ℕ) → IsSettled m s → StaysSettled m (swapping m w entries) s

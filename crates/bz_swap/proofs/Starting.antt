@@ -1,6 +1,6 @@
 -- An operation of one act, or a read, is started: the parts after it are the machine's state.
 use Rattle.std.specs.Prelude.{◌≡◌, ◌≢◌, ◌⊎◌, ℕ, zero, suc, ◌+◌, ◌<◌, ◌≤◌, length, map, slice_set}
-use Rattle.std.proofs.Common.{arith, refl, ap, sym, ◌∙◌, inl, inr}
+use Rattle.std.proofs.Common.{arith, refl, ap, sym, ◌∙◌, inl, inr, false}
 use Rattle.std.proofs.lemmas.Bool.{cases_eq}
 use Rattle.std.proofs.lemmas.List.{get_or-set_same, get_or-set_other, length-set, map-set}
 use Rattle.bz_swap_machine.specs.declared.place.Place.TheVariants as place
@@ -16,7 +16,7 @@ use Rattle.bz_swap_machine.proofs.EventLaws.{keeps_state, keeps_range, stays_bou
 use Rattle.bz_swap.specs.declared.phase.Phase.TheVariants.{Running, Recovering}
 use Rattle.bz_swap.specs.Held.{Holds}
 use Rattle.bz_swap.specs.Solo.{allowed_by_kind}
-use Rattle.bz_swap.specs.Starts.{started, phase_of, begins_by_flush}
+use Rattle.bz_swap.specs.Starts.{started, phase_of}
 use Rattle.bz_swap.specs.SwapMemory.{Doing}
 use Rattle.bz_swap.specs.Inside.Parts.{Parts, idle_worker, worker_at, working, listed, entry_list, begun_seen, seen}
 use Rattle.bz_swap.specs.Inside.Allowances.{after_start}
@@ -116,7 +116,7 @@ phase-some zero some = absurd (omega (arith, some))
 phase-some (suc w) some = refl
 
 -- what callers see after a start
-pub start-seen : (p : Parts) (r : IsRunning p) (w : ℕ) (l : Worker) (v : Event) (d : Doing) → p.phase ≢ Recovering → Starts p r w l v (allowed_by_kind d) → working l ≡ record { doing = d; flush_next = begins_by_flush d w }
+pub start-seen : (p : Parts) (r : IsRunning p) (w : ℕ) (l : Worker) (v : Event) (d : Doing) → p.phase ≢ Recovering → Starts p r w l v (allowed_by_kind d) → working l ≡ record { doing = d; flush_next = false }
     → seen (with_worker p w l (allowed_by_kind d)) ≡ started (seen p) w d
 start-seen p r w l v d phase h is =
     let after = start-running p r w l v (allowed_by_kind d) h in
@@ -134,7 +134,7 @@ pub record IsStarted (p : Parts) (w : ℕ) (l : Worker) (d : Doing) : Type 0 whe
   pub holds : Holds (seen (with_worker p w l (allowed_by_kind d)))
 
 pub is-started : (p : Parts) (k : IsKept p) (phase : p.phase ≢ Recovering) (w : ℕ) (l : Worker) (v : Event) (d : Doing) → Starts p (running p.phase p phase k.kept) w l v (allowed_by_kind d)
-    → working l ≡ record { doing = d; flush_next = begins_by_flush d w } → IsStarted p w l d
+    → working l ≡ record { doing = d; flush_next = false } → IsStarted p w l d
 is-started p k phase w l v d h is =
     let r = running p.phase p phase k.kept in
     let after = start-running p r w l v (allowed_by_kind d) h in

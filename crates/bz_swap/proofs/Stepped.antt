@@ -12,10 +12,10 @@ use Rattle.bz_swap_machine.specs.Changes.{put}
 use Rattle.bz_swap_machine.specs.Sizes.{most_workers}
 use Rattle.bz_swap_machine.specs.State.{Act, happens}
 use Rattle.bz_swap_machine.specs.Workers.{local_of}
-use Rattle.bz_swap_machine.specs.Flushes.{is_flush}
+use Rattle.bz_swap_machine.specs.Fences.{is_fence}
 use Rattle.bz_swap_cells.specs.Store.{Store, Beside, IsStore, SameShape, typed, store_state}
 use Rattle.bz_swap_acts.specs.declared.acted.Act.{Act as MemoryAct}
-use Rattle.bz_swap_acts.specs.Rule.{IsActOf, IsToldAt, IsWithin, is_flush_act}
+use Rattle.bz_swap_acts.specs.Rule.{IsActOf, IsToldAt, IsWithin, is_fence_act}
 use Rattle.bz_swap_acts.specs.Writes.{WritesAt}
 use Rattle.bz_swap_acts.specs.Made.{made, beside_in}
 use Rattle.bz_swap.specs.Inside.Allowances.{after_step as allowance_after}
@@ -26,7 +26,7 @@ use Rattle.bz_swap.specs.Inside.Kept.{state_of, allowed_at}
 pub record IsMadeAct (p : Parts) (w : ℕ) (store : Store) (told : MemoryAct) : Type 0 where
   pub rule : IsActOf (store_state p.store) w told (store_state store)
   pub within : IsWithin (length p.store.cached) told
-  pub flush : is_flush_act told ≡ is_flush (worker_at p w).place
+  pub flush : is_fence_act told ≡ is_fence (worker_at p w).place
   pub is_told : IsToldAt (worker_at p w).place told
   pub writes : WritesAt p.store.swaps (worker_at p w) (worker_at p w).place told
 

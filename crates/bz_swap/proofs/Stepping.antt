@@ -7,11 +7,11 @@ use Rattle.bz_swap_machine.specs.declared.place.Place.TheVariants as place
 use Rattle.bz_swap_machine.specs.declared.worker.Worker.{Worker}
 use Rattle.bz_swap_machine.specs.declared.done.Done.{Done}
 use Rattle.bz_swap_acts.specs.declared.acted.Act.{Act}
-use Rattle.bz_swap_machine.specs.Flushes.{is_flush}
+use Rattle.bz_swap_machine.specs.Fences.{is_fence}
 use Rattle.bz_swap_machine.specs.Workers.{local_of}
 use Rattle.bz_swap_acts.specs.Made.{made, beside_in}
 use Rattle.bz_swap_acts.specs.Ready.{IsReady}
-use Rattle.bz_swap_acts.specs.Rule.{IsActOf, IsToldAt, IsWithin, is_flush_act}
+use Rattle.bz_swap_acts.specs.Rule.{IsActOf, IsToldAt, IsWithin, is_fence_act}
 use Rattle.bz_swap_acts.specs.Writes.{WritesAt}
 use Rattle.bz_swap_cells.specs.Store.{Store, Beside, IsStore, SameShape, typed, store_state}
 use Rattle.bz_swap.specs.declared.phase.Phase.{Phase}
@@ -95,12 +95,12 @@ acts-read p b w old store l done is local is_done memory words shape told by = r
 }
 
 pub made-read : (p : Parts) (w : ℕ) (old : Worker) (store : Store) (told : Act) → old ≡ worker_at p w
-    → IsActOf (store_state p.store) w told (store_state store) → IsWithin (length p.store.cached) told → is_flush_act told ≡ is_flush old.place → IsToldAt old.place told → WritesAt p.store.swaps old old.place told
+    → IsActOf (store_state p.store) w told (store_state store) → IsWithin (length p.store.cached) told → is_fence_act told ≡ is_fence old.place → IsToldAt old.place told → WritesAt p.store.swaps old old.place told
     → IsMadeAct p w store told
 made-read p w old store told is rule within flush is_told writes = record {
   rule = rule;
   within = within;
-  flush = subst (λ u. is_flush_act told ≡ is_flush u.place) is flush;
+  flush = subst (λ u. is_fence_act told ≡ is_fence u.place) is flush;
   is_told = subst (λ u. IsToldAt u.place told) is is_told;
   writes = subst (λ u. WritesAt p.store.swaps u u.place told) is writes;
 }

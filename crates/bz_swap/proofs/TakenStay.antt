@@ -8,7 +8,7 @@ use Rattle.bz_layout.specs.Addresses.{swap_address}
 use Rattle.bz_swap_cells.specs.FromPm.State.{State}
 use Rattle.bz_swap_acts.specs.Rule.{after_act}
 use Rattle.bz_swap_acts.specs.declared.acted.Act.{Act}
-use Rattle.bz_swap_acts.specs.declared.acted.Act.TheVariants.{Load, Store, Cas, Flush, Ask, Fence}
+use Rattle.bz_swap_acts.specs.declared.acted.Act.TheVariants.{Load, Store, Cas, Ask, Fence}
 use Rattle.bz_swap_cells.specs.Store.{IsOutside, status_word}
 use Rattle.bz_swap_machine.specs.declared.status.SwapStatus.TheVariants.{Undecided}
 use Rattle.bz_swap.specs.SwapMemory.{SwapMemory, memory_state}
@@ -35,7 +35,6 @@ abbrev MayTake : SwapMemory → ℕ → Act → ℕ → Type 0
 MayTake old w (Load a v) s = Unit {0}
 MayTake old w (Store a v) s = swap_address s ≡ a → (v ≢ 0) × IsTaking old w s (Store a v)
 MayTake old w (Cas a before after found) s = swap_address s ≡ a → (before ≢ 0) × (after ≢ 0)
-MayTake old w (Flush line) s = Unit {0}
 MayTake old w (Ask line) s = Unit {0}
 MayTake old w Fence s = Unit {0}
 
@@ -57,7 +56,6 @@ may-take : (old : SwapMemory) (w : ℕ) (made : Act) (s : ℕ) → s < old.swaps
 may-take old w (Load a v) s lt writes = tt
 may-take old w (Store a v) s lt writes = store-takes old w a v s lt (writes.stores a v refl)
 may-take old w (Cas a before after found) s lt writes = cas-takes old w a before after found s lt (writes.swaps a before after found refl)
-may-take old w (Flush line) s lt writes = tt
 may-take old w (Ask line) s lt writes = tt
 may-take old w Fence s lt writes = tt
 
@@ -70,7 +68,6 @@ stays-after old w (Cas a before after found) s may taken = by_test (slice_index 
     by_test : (t : Bool) → slice_index (if t then slice_set old.cached a after else old.cached) (swap_address s) ≢ 0
     by_test true = set-some old.cached a after (swap_address s) (λ here. (may here).1) taken
     by_test false = taken
-stays-after old w (Flush line) s may taken = taken
 stays-after old w (Ask line) s may taken = taken
 stays-after old w Fence s may taken = taken
 
@@ -97,7 +94,6 @@ begins-by old w (Cas a before after found) s may free now = elim (cases_eq (swap
     elsewhere : (t : Bool) → swap_address s ≢ a → slice_index (if t then slice_set old.cached a after else old.cached) (swap_address s) ≡ 0
     elsewhere true there = set-other old.cached a after (swap_address s) there ∙ free
     elsewhere false there = free
-begins-by old w (Flush line) s may free now = absurd (now free)
 begins-by old w (Ask line) s may free now = absurd (now free)
 begins-by old w Fence s may free now = absurd (now free)
 

@@ -9,7 +9,7 @@ use Rattle.bz_swap_machine.specs.declared.status.SwapStatus.TheVariants.{Free, U
 use Rattle.bz_swap_machine.specs.declared.status.Verdict.{Verdict}
 use Rattle.bz_swap_machine.specs.declared.status.Verdict.TheVariants.{Succeeded, Failed}
 use Rattle.bz_swap_machine.specs.declared.place.Place.{Place}
-use Rattle.bz_swap_machine.specs.declared.place.Place.TheVariants.{Idle, Prepare, Learn, Help, ReadWord, AskRead, FenceRead, ClearRead, LoadWord, StoreWord, FlushLine, AskLine, FenceLine}
+use Rattle.bz_swap_machine.specs.declared.place.Place.TheVariants.{Idle, Prepare, Learn, Help, ReadWord, AskRead, FenceRead, ClearRead, LoadWord, StoreWord, AskLine, FenceLine}
 use Rattle.bz_swap_machine.specs.declared.place.PrepareStep.TheVariants.{WriteWord, WriteStatus, AskHead, AskTail, FenceDescriptor}
 use Rattle.bz_swap_machine.specs.declared.place.HelpStep.{HelpStep}
 use Rattle.bz_swap_machine.specs.declared.place.HelpStep.TheVariants.{Look, InstallTag, LookUnderTag, InstallPointer, RemoveTag, AskDirty, FenceDirty, ClearDirty, AskTarget, FenceTargets, Decide, AskStatus, FenceStatus, ClearStatus, PutFinal, AskFinal, FenceFinal, ClearFinal, SweepTag}
@@ -144,6 +144,5 @@ kept-act e m w l (ClearRead b v) sound known a private other = elim (cases_eq a 
 ]
 kept-act e m w l (LoadWord b) sound known a private other = refl
 kept-act e m w l (StoreWord b v) sound known a private other = put-there m.cached b _ a (λ same. other v (ap (λ c. StoreWord c v) (sym same)))
-kept-act e m w l (FlushLine line) sound known a private other = refl
 kept-act e m w l (AskLine line) sound known a private other = refl
 kept-act e m w l (FenceLine line) sound known a private other = refl

@@ -1,22 +1,18 @@
 -- As many words stand in the caches and in the memory itself after an act.
-use Rattle.std.specs.Prelude.{◌≡◌, ◌==◌, if◌then◌else◌, ℕ, ◌*◌, Bool, true, false, List, length, slice_index, slice_set}
+use Rattle.std.specs.Prelude.{◌≡◌, ◌==◌, if◌then◌else◌, ℕ, Bool, true, false, List, length, slice_index, slice_set}
 use Rattle.std.specs.declared.option.Option.{Option}
-use Rattle.std.proofs.Common.{arith, refl, ap, sym, subst, inl, inr}
-use Rattle.std.proofs.lemmas.Bool.{cases_lt}
+use Rattle.std.proofs.Common.{arith, refl, sym, subst}
 use Rattle.std.proofs.lemmas.List.{length-set}
-use Rattle.bz_swap_cells.specs.FromPm.Acts.{flushed}
-use Rattle.bz_swap_cells.proofs.FromPm.Lemmas.{flush}
 use Rattle.bz_swap_cells.specs.FromPm.State.{State}
 use Rattle.bz_swap_cells.specs.FromPm.Words.{Words, IsMemory}
 use Rattle.bz_swap_cells.proofs.FromPm.Fences as memory
 use Rattle.bz_swap_acts.specs.Rule.{after_act}
 use Rattle.bz_swap_acts.specs.declared.acted.Act.{Act}
-use Rattle.bz_swap_acts.specs.declared.acted.Act.TheVariants.{Load, Store, Cas, Flush, Ask, Fence}
+use Rattle.bz_swap_acts.specs.declared.acted.Act.TheVariants.{Load, Store, Cas, Ask, Fence}
 use Rattle.bz_swap.specs.Evictions.{IsEviction}
 use Rattle.bz_swap.specs.Sizes.{SizesStay}
 use Rattle.bz_swap.specs.Steps.{MayAct}
 use Rattle.bz_swap.specs.SwapMemory.{SwapMemory, memory_words, memory_state}
-use Rattle.bz_swap.proofs.WordActs.{past-line}
 
 resized : (m : Words) (cached durable : List ℕ) → IsMemory m → length cached ≡ length m.cached → length durable ≡ length m.durable → IsMemory (record { cached = cached; durable = durable })
 resized m cached durable i first second = record { same = omega (arith, i.same, first, second); lines = rw second i.lines; size = rw second i.size }
@@ -25,17 +21,10 @@ set-size : (t : Bool) (words : List ℕ) (a v : ℕ) → length (if t then slice
 set-size true words a v = length-set words a v
 set-size false words a v = refl
 
-flush-size : (m : Words) (line : ℕ) → IsMemory m → length (flushed m line).durable ≡ length m.durable
-flush-size m line i = elim (cases_lt (line * 8) (length m.cached)) [
-  | inl within ↦ (flush m line i within).stays.durable
-  | inr past ↦ ap (λ (words : List ℕ). length words) (past-line line m.cached m.durable past (omega (arith, past, i.same)))
-]
-
 act-size : (m : SwapMemory) (w : ℕ) (made : Act) → MayAct m w → IsMemory (after_act w (memory_state m) made).words
 act-size m w (Load a v) may = may.state.memory
 act-size m w (Store a v) may = resized (memory_words m) (slice_set m.cached a v) m.durable may.state.memory (length-set m.cached a v) refl
 act-size m w (Cas a before after found) may = resized (memory_words m) _ m.durable may.state.memory (set-size (slice_index m.cached a == before) m.cached a after) refl
-act-size m w (Flush line) may = resized (memory_words m) m.cached (flushed (memory_words m) line).durable may.state.memory refl (flush-size (memory_words m) line may.state.memory)
 act-size m w (Ask line) may = may.state.memory
 act-size m w Fence may = (memory.fence (memory_state m) w may.state may.worker).state.memory
 

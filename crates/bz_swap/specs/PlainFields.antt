@@ -4,7 +4,7 @@ use Rattle.std.specs.declared.option.Option.{Option}
 use Rattle.bz_word.specs.declared.entry.Entry.{Entry}
 use Rattle.bz_swap_cells.specs.FromPm.Words.{IsMemory}
 use Rattle.bz_swap_acts.specs.declared.acted.Act.{Act}
-use Rattle.bz_swap_acts.specs.declared.acted.Act.TheVariants.{Load, Store, Cas, Flush, Ask, Fence}
+use Rattle.bz_swap_acts.specs.declared.acted.Act.TheVariants.{Load, Store, Cas, Ask, Fence}
 use Rattle.bz_swap_cells.specs.Store.{field_address, field_count, word_pending}
 use Rattle.bz_swap_machine.specs.Pending.{Saved}
 use Rattle.bz_swap_machine.specs.declared.done.Done.{Done}
@@ -30,7 +30,6 @@ abbrev pub WritesPlain : Act → Type 0
 WritesPlain (Load a v) = Unit {0}
 WritesPlain (Store a v) = v < 2 ^ 61
 WritesPlain (Cas a before after found) = after < 2 ^ 61
-WritesPlain (Flush line) = Unit {0}
 WritesPlain (Ask line) = Unit {0}
 WritesPlain Fence = Unit {0}
 

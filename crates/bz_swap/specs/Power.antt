@@ -43,23 +43,23 @@ pub record IsOpened (m : SwapMemory) (start : List ℕ) (swaps workers : ℕ) : 
   pub needs_none : (phase ≡ Opened) ↔ AreRecovered swaps start
   pub otherwise : (phase ≡ Running) → ⊥
 
--- a power cut: the durable words are all that is left, nothing goes on, and a recovery time begins
+-- a power cut: the durable words are all that is left, nothing goes on, and a recovery time begins; steps and asks are counted
+-- anew
 abbrev pub after_cut : SwapMemory → SwapMemory
 after_cut m = record m {
   cached = m.durable;
   past = record { count = 0; since = replicate (length m.past.since) 0; asks = replicate (length m.past.asks) [] };
   phase = Recovering;
   begun = [];
+  steps = 0;
   workers = replicate (length m.workers) idle;
 }
 
--- a renewal: all descriptors are given back, and asks are counted anew, since no worker waits for a fence
+-- a renewal: all descriptors are given back
 abbrev pub renewed : SwapMemory → SwapMemory
 renewed m = record m {
-  past = record { count = 0; since = replicate (length m.past.since) 0; asks = replicate (length m.past.asks) [] };
   phase = Running;
   begun = [];
   missed = replicate (length m.missed) false;
   taken = 0;
-  steps = 0;
 }

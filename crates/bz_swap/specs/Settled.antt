@@ -5,7 +5,7 @@ use Rattle.bz_word.specs.declared.entry.Entry.{Entry}
 use Rattle.bz_layout.specs.Addresses.{swap_address}
 use Rattle.bz_swap_cells.specs.FromPm.Words.{IsMemory}
 use Rattle.bz_swap_acts.specs.declared.acted.Act.{Act}
-use Rattle.bz_swap_acts.specs.declared.acted.Act.TheVariants.{Load, Store, Cas, Flush, Ask, Fence}
+use Rattle.bz_swap_acts.specs.declared.acted.Act.TheVariants.{Load, Store, Cas, Ask, Fence}
 use Rattle.bz_swap_cells.specs.Store.{status_of, status_at, status_word, word_pending}
 use Rattle.bz_swap_machine.specs.declared.done.Done.{Done}
 use Rattle.bz_swap_machine.specs.declared.done.Done.TheVariants.{Swapped}
@@ -56,7 +56,6 @@ abbrev pub FreesStatuses : ℕ → Act → Type 0
 FreesStatuses swaps (Load a v) = Unit {0}
 FreesStatuses swaps (Store a v) = (s : ℕ) → s < swaps → a ≡ swap_address s → v ≡ status_word Free
 FreesStatuses swaps (Cas a before after found) = (s : ℕ) → s < swaps → a ≡ swap_address s → after ≡ status_word Free
-FreesStatuses swaps (Flush line) = Unit {0}
 FreesStatuses swaps (Ask line) = Unit {0}
 FreesStatuses swaps Fence = Unit {0}
 

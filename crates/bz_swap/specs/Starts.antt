@@ -1,11 +1,11 @@
 -- When an operation may start, and what its start changes.
-use Rattle.std.specs.Prelude.{◌≡◌, ◌≢◌, ℕ, zero, suc, ◌+◌, ◌*◌, ◌^◌, ◌<◌, Bool, true, false, List, [], ◌∷◌, ◌++◌, length, All, slice_set}
+use Rattle.std.specs.Prelude.{◌≡◌, ◌≢◌, ℕ, zero, suc, ◌+◌, ◌*◌, ◌^◌, ◌<◌, true, false, List, [], ◌∷◌, ◌++◌, length, All, slice_set}
 use Rattle.bz_word.specs.declared.entry.Entry.{Entry}
 use Rattle.bz_swap_cells.specs.Store.{IsOutside}
 use Rattle.bz_swap.specs.declared.phase.Phase.{Phase}
 use Rattle.bz_swap.specs.declared.phase.Phase.TheVariants.{Running, Recovering}
 use Rattle.bz_swap.specs.Solo.{allowed_by_kind, left_to}
-use Rattle.bz_swap.specs.SwapMemory.{SwapMemory, Doing, Idle, Swapping, Storing, Flushing, is_named, is_settled_at, doing_of}
+use Rattle.bz_swap.specs.SwapMemory.{SwapMemory, Doing, Idle, Swapping, Storing, is_named, is_settled_at, doing_of}
 
 -- an address of the memory outside the descriptors
 pub record IsAddress (m : SwapMemory) (a : ℕ) : Type 0 where
@@ -73,12 +73,6 @@ pub record MaySwap (m : SwapMemory) (w : ℕ) (entries : List Entry) : Type 0 wh
   pub work : MayWork m w
   pub each : All (IsEntry m) entries
 
--- whether worker w, which has started this, flushes next: in a recovery time worker 0 does so by one act, and any other worker
--- asks first
-abbrev pub begins_by_flush : Doing → ℕ → Bool
-begins_by_flush (Flushing line) zero = true
-begins_by_flush doing w = false
-
 -- the phase that a start of worker w leads to
 abbrev pub phase_of : ℕ → Phase
 phase_of zero = Recovering
@@ -88,7 +82,7 @@ phase_of (suc w) = Running
 abbrev pub started : SwapMemory → ℕ → Doing → SwapMemory
 started m w doing = record m {
   phase = phase_of w;
-  workers = slice_set m.workers w (record { doing = doing; flush_next = begins_by_flush doing w });
+  workers = slice_set m.workers w (record { doing = doing; flush_next = false });
   runner = w;
   left = left_to m w + allowed_by_kind doing;
 }

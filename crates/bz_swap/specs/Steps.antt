@@ -1,9 +1,9 @@
 -- What one step of a worker does.
 use Rattle.std.specs.Prelude.{◌≡◌, ◌≢◌, ◌⊎◌, ℕ, ◌+◌, ◌-◌, ◌^◌, ◌<◌, Bool, true, false, length, slice_index, Option, None, Some}
 use Rattle.bz_layout.specs.Addresses.{swap_address}
-use Rattle.bz_swap_acts.specs.Rule.{IsActOf, IsWithin, is_flush_act}
+use Rattle.bz_swap_acts.specs.Rule.{IsActOf, IsWithin, is_fence_act}
 use Rattle.bz_swap_acts.specs.declared.acted.Act.{Act}
-use Rattle.bz_swap_acts.specs.declared.acted.Act.TheVariants.{Load, Store, Flush, Ask, Fence}
+use Rattle.bz_swap_acts.specs.declared.acted.Act.TheVariants.{Load, Store, Ask, Fence}
 use Rattle.bz_swap_cells.specs.FromPm.State.{IsState}
 use Rattle.bz_swap_cells.specs.FromPm.Words.{HoldsWords}
 use Rattle.bz_swap_cells.specs.Store.{IsOutside}
@@ -22,14 +22,6 @@ pub record AnswersRead (m : SwapMemory) (a : ℕ) (act : Act) (v : ℕ) : Type 0
   pub plain : v < 2 ^ 61
   pub value : is_named m a ≡ true → value_at m a ≡ v
 
--- a private flush is an ask and then a fence; in a recovery time it is one act
-abbrev pub IsFlushPart : Phase → ℕ → Act → Done → Type 0
-IsFlushPart Recovering line act Flushed = act ≡ Flush line
-IsFlushPart Recovering line act done = ⊥
-IsFlushPart phase line act Busy = act ≡ Ask line
-IsFlushPart phase line act Flushed = act ≡ Fence
-IsFlushPart phase line act done = ⊥
-
 -- what an operation may answer, with this act, in the memory after it
 abbrev pub IsAnswer : SwapMemory → Doing → Act → Done → Type 0
 IsAnswer m (Reading a) act Busy = Unit {0}
@@ -39,7 +31,9 @@ IsAnswer m (Swapping s) act (Swapped true) = has_effect m s ≡ true
 IsAnswer m (Swapping s) act (Swapped false) = (has_effect m s ≡ false) × (is_missed m s ≡ true)
 IsAnswer m (Loading a) act (Read v) = act ≡ Load a v
 IsAnswer m (Storing a v) act Stored = act ≡ Store a v
-IsAnswer m (Flushing line) act done = IsFlushPart m.phase line act done
+-- a flush is an ask and then a fence
+IsAnswer m (Flushing line) act Busy = act ≡ Ask line
+IsAnswer m (Flushing line) act Flushed = act ≡ Fence
 IsAnswer m doing act done = ⊥
 
 -- what is done afterwards: the same, or nothing where the operation has answered
@@ -70,11 +64,13 @@ pub record IsOneAct (old : SwapMemory) (w : ℕ) (made : Act) (done : Done) (new
   pub may : MayAct old w
   pub act : IsActOf (memory_state old) w made (memory_state new)
   pub within : IsWithin (length old.cached) made
-  pub flush : is_flush_act made ≡ (worker_of old w).flush_next
+  pub flush : is_fence_act made ≡ (worker_of old w).flush_next
   pub doing : doing_of new w ≡ doing_after (doing_of old w) done
   pub steps : new.steps ≡ old.steps + 1
   pub others : KeepsOthers old new w
   pub answer : IsAnswer new (doing_of old w) made done
+  -- a flush that goes on has asked for its line, and fences next
+  pub fences : (line : ℕ) → doing_of new w ≡ Flushing line → (worker_of new w).flush_next ≡ true
   -- of the steps that are left to it alone
   pub spent : left_to new w < left_to old w
 

@@ -18,7 +18,7 @@ pub data Doing : Type 0 where
   Storing : (a v : ℕ) → Doing
   Flushing : (line : ℕ) → Doing
 
--- a worker's operation, and whether its next act is a flush or a fence
+-- a worker's operation, and whether its next act is a fence
 pub record Working : Type 0 where
   pub doing : Doing
   pub flush_next : Bool
@@ -33,9 +33,10 @@ pub record SwapMemory : Type 0 where
   pub phase : Phase
   -- the entries of each swap begun since the last renewal or cut, by its number
   pub begun : List (List Entry)
-  -- since the last renewal: which swaps are noted as missed, how many descriptors were taken, and how many steps made
+  -- since the last renewal: which swaps are noted as missed, and how many descriptors were taken
   pub missed : List Bool
   pub taken : ℕ
+  -- how many steps were made since the last cut
   pub steps : ℕ
   -- each worker, from worker 0 on
   pub workers : List Working

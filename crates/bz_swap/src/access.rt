@@ -55,7 +55,7 @@ impl Access {
         self.cells.taken()
     }
 
-    /// How many steps were made since the last renewal.
+    /// How many steps were made since the last power cut, or since the opening.
     pub fn steps(&self) -> u64
         ensures { result ≡ self.now.steps }
     {
@@ -107,6 +107,6 @@ impl Access {
         ensures told { result ≡ (worker_of self.now w).flush_next }
         ensures idle { doing_of self.now w ≡ Idle → result ≡ false }
     {
-        self.workers[w as usize].place.is_flush()
+        self.workers[w as usize].place.is_fence()
     }
 }

@@ -16,6 +16,7 @@ impl Access {
         self.cells.cut();
         self.workers.fill(idle_worker());
         self.phase = Phase::Recovering;
+        self.steps = 0;
         self.allowance.all = 0;
     }
 }

@@ -1,6 +1,6 @@
 //! Openings and renewals.
 
-ghost use Rattle.std.specs.Prelude.{◌≡◌, ◌<◌, ◌≤◌, ◌^◌, ◌≢◌, ◌↔◌, ℕ, IsTrue, length};
+ghost use Rattle.std.specs.Prelude.{◌≡◌, ◌<◌, ◌≤◌, ◌^◌, ◌≢◌, ◌↔◌, ℕ, IsTrue, [], get_or, length};
 ghost use Rattle.bz_layout.specs.Addresses.{swap_address};
 ghost use Rattle.bz_swap_cells.specs.Store.{IsOutside};
 ghost use Rattle.bz_swap.specs.Power.{AreRecovered};
@@ -94,12 +94,12 @@ impl Access {
     pub fn renew(&mut self)
         requires { MayRenew self.old }
         ensures renewed { self.new ≡ renewed self.old }
+        ensures asks { (w : ℕ) → get_or self.old.past.asks w [] ≡ [] }
         ensures held { Holds self.new }
     {
         self.cells.renew();
         self.workers.fill(idle_worker());
         self.phase = Phase::Running;
-        self.steps = 0;
         self.allowance.all = 0;
     }
 }

@@ -1,7 +1,6 @@
 //! Starts of operations. A start makes no act.
 
 ghost use Rattle.std.specs.Prelude.{◌≡◌};
-ghost use Rattle.bz_swap.specs.Inside.Parts.{flush_begins};
 ghost use Rattle.bz_swap.specs.Starts.{phase_of};
 
 use crate::access::Access;
@@ -17,17 +16,6 @@ fn phase_after(w: u8) -> Phase
         Phase::Recovering
     } else {
         Phase::Running
-    }
-}
-
-// Where a flush begins: worker 0 makes it by one act, and any other worker asks first.
-fn flush_place(w: u8, line: u32) -> Place
-    ensures { result ≡ flush_begins w line }
-{
-    if w == 0 {
-        Place::FlushLine(line)
-    } else {
-        Place::AskLine(line)
     }
 }
 
@@ -88,7 +76,7 @@ impl Access {
         ensures held { Holds self.new }
     {
         let mut worker = self.workers[w as usize];
-        worker.place = flush_place(w, line);
+        worker.place = Place::AskLine(line);
         self.workers[w as usize] = worker;
         self.phase = phase_after(w);
         self.allowance = self.allowance.started(w, FLUSH_STEPS);

@@ -5,9 +5,8 @@ ghost use Rattle.std.specs.Prelude.{◌≡◌, if◌then◌else◌, ◌&&◌, no
 use crate::access::Access;
 use crate::phase::Phase;
 use crate::progress::Progress;
-use crate::raw::raw_act;
+use crate::raw::{place_after, raw_act};
 use bz_swap_acts::act;
-use bz_swap_machine::Place;
 
 // The swap that took effect between two looks at its status, if it did.
 pub(crate) fn told_effect(swap: u16, had_effect: bool, has_effect: bool) -> Option<u16>
@@ -60,11 +59,11 @@ impl Access {
         ensures { IsRawStep self.old w result.act result.done result.effect self.new }
     {
         let mut worker = self.workers[w as usize];
-        let acted = raw_act(&mut self.cells, worker.place);
-        worker.place = Place::Idle;
+        let acted = raw_act(&mut self.cells, w, worker.place);
+        worker.place = place_after(worker.place);
         self.workers[w as usize] = worker;
         self.steps += 1;
-        self.allowance = self.allowance.stepped(w, Place::Idle);
+        self.allowance = self.allowance.stepped(w, worker.place);
         Progress {
             act: acted.act,
             done: acted.done,

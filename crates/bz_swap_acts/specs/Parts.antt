@@ -9,7 +9,7 @@ use Rattle.bz_swap_machine.specs.Machine.{Entries}
 use Rattle.bz_swap_machine.specs.HelpActs.{help_act}
 use Rattle.bz_swap_machine.specs.Steps.{Stepped, act}
 use Rattle.bz_swap_machine.specs.Workers.{local_of}
-use Rattle.bz_swap_machine.specs.Flushes.{helps_by_flush, is_flush}
+use Rattle.bz_swap_machine.specs.Fences.{helps_by_fence, is_fence}
 use Rattle.bz_swap_cells.specs.Store.{Store, Beside, IsStore, SameShape, typed, store_state}
 use Rattle.bz_swap_acts.specs.declared.acted.Act.{Act}
 use Rattle.bz_swap_acts.specs.declared.acted.Acted.{Acted}
@@ -17,7 +17,7 @@ use Rattle.bz_swap_acts.specs.declared.entry.Aim.{Aim}
 use Rattle.bz_swap_acts.specs.declared.help.Helped.{Helped}
 use Rattle.bz_swap_acts.specs.Made.{beside_in}
 use Rattle.bz_swap_acts.specs.Ready.{LiesOutside}
-use Rattle.bz_swap_acts.specs.Rule.{IsActOf, IsToldAt, IsWithin, is_flush_act}
+use Rattle.bz_swap_acts.specs.Rule.{IsActOf, IsToldAt, IsWithin, is_fence_act}
 use Rattle.bz_swap_acts.specs.Writes.{HelpsBy, WritesAt}
 
 -- this act, on a word or line of the memory, leads from the one store to the other, whose words can be read too; whoever
@@ -58,7 +58,7 @@ pub record IsAim (st : Store) (x : Entries) (i : ℕ) (aim : Aim) : Type 0 where
 pub record IsHelp (x : Entries) (old : Store) (w s : ℕ) (step : HelpStep) (helped : Helped) (new : Store) : Type 0 where
   pub memory : (b : Beside) → typed new b ≡ (help_act x (typed old b) w s step).memory
   pub next : (b : Beside) → helped.next ≡ (help_act x (typed old b) w s step).next
-  pub flush : is_flush_act helped.act ≡ helps_by_flush step
+  pub flush : is_fence_act helped.act ≡ helps_by_fence step
   pub writes : HelpsBy old.swaps s step helped.act
   pub made : IsMadeBy old w helped.act new
 
@@ -71,7 +71,7 @@ pub record IsStep (old : Store) (from : Worker) (w : ℕ) (place : Place) (acted
   pub local : (b : Beside) → local_of to ≡ (made_at old b from w place).local
   pub done : (b : Beside) → acted.done ≡ (made_at old b from w place).done
   pub memory : (b : Beside) → typed new (beside_in (made_at old b from w place).memory) ≡ (made_at old b from w place).memory
-  pub flush : is_flush_act acted.act ≡ is_flush place
+  pub flush : is_fence_act acted.act ≡ is_fence place
   pub told : IsToldAt place acted.act
   pub writes : WritesAt old.swaps from place acted.act
   pub made : IsMadeBy old w acted.act new

@@ -1,7 +1,7 @@
 -- What the act at a worker's place needs: its addresses lie in the memory, and its numbers fit its words.
 use Rattle.std.specs.Prelude.{ℕ, ◌*◌, ◌^◌, ◌<◌, ◌≤◌, length, slice_index}
 use Rattle.bz_swap_machine.specs.declared.place.Place.{Place}
-use Rattle.bz_swap_machine.specs.declared.place.Place.TheVariants.{Idle, Prepare, Learn, Help, ReadWord, AskRead, FenceRead, ClearRead, LoadWord, FlushLine, StoreWord, AskLine, FenceLine}
+use Rattle.bz_swap_machine.specs.declared.place.Place.TheVariants.{Idle, Prepare, Learn, Help, ReadWord, AskRead, FenceRead, ClearRead, LoadWord, StoreWord, AskLine, FenceLine}
 use Rattle.bz_swap_machine.specs.declared.place.PrepareStep.{PrepareStep}
 use Rattle.bz_swap_machine.specs.declared.place.PrepareStep.TheVariants.{WriteWord, WriteStatus, AskHead, AskTail, FenceDescriptor}
 use Rattle.bz_swap_machine.specs.declared.place.HelpStep.{HelpStep}
@@ -72,7 +72,6 @@ IsReadyAt st l w (AskRead a v) = LiesOutside st a × MayAsk st w
 IsReadyAt st l w (FenceRead a v) = w < length st.next_tags
 IsReadyAt st l w (ClearRead a v) = LiesOutside st a × (v < 2 ^ 61)
 IsReadyAt st l w (LoadWord a) = ⊥
-IsReadyAt st l w (FlushLine line) = ⊥
 IsReadyAt st l w (StoreWord a v) = LiesOutside st a × (v < 2 ^ 61)
 IsReadyAt st l w (AskLine line) = LiesOutside st (line * 8) × MayAsk st w
 IsReadyAt st l w (FenceLine line) = w < length st.next_tags

@@ -12,14 +12,13 @@ use Rattle.bz_swap_machine.specs.declared.status.SwapStatus.TheVariants.{Undecid
 use Rattle.bz_swap_machine.specs.declared.worker.Worker.{Worker}
 use Rattle.bz_swap_cells.specs.Store.{IsOutside, field_address, status_word}
 use Rattle.bz_swap_acts.specs.declared.acted.Act.{Act}
-use Rattle.bz_swap_acts.specs.declared.acted.Act.TheVariants.{Load, Store, Cas, Flush, Ask, Fence}
+use Rattle.bz_swap_acts.specs.declared.acted.Act.TheVariants.{Load, Store, Cas, Ask, Fence}
 
 -- the act stores nothing and is no ask and no fence, and compares and swaps outside the descriptors alone, where there are so many
 abbrev pub StaysOutside : ℕ → Act → Type 0
 StaysOutside swaps (Load a v) = Unit {0}
 StaysOutside swaps (Store a v) = ⊥
 StaysOutside swaps (Cas a old new found) = IsOutside swaps a
-StaysOutside swaps (Flush line) = Unit {0}
 StaysOutside swaps (Ask line) = ⊥
 StaysOutside swaps Fence = ⊥
 

@@ -22,9 +22,6 @@ pub enum Act {
         new: u64,
         found: u64,
     },
-    Flush {
-        line: u32,
-    },
     /// The line is to be durable after the worker's next fence, as it is in the caches now.
     Ask {
         line: u32,

@@ -5,7 +5,7 @@ ghost use Rattle.bz_layout.specs.Addresses.{swap_address};
 ghost use Rattle.bz_swap_machine.specs.Changes.{with_status, with_field, head_of, tail_of, with_ask};
 ghost use Rattle.bz_swap_cells.specs.Store.{Beside, IsStore, MayAsk, descriptor_word_at, field_address, status_at, status_word, typed};
 ghost use Rattle.bz_swap_acts.specs.Parts.{IsMade, IsMadeBy};
-ghost use Rattle.bz_swap_acts.specs.Rule.{is_flush_act};
+ghost use Rattle.bz_swap_acts.specs.Rule.{is_fence_act};
 ghost use Rattle.bz_swap_acts.specs.Writes.{StaysOutside};
 ghost use Rattle.bz_swap_acts.specs.declared.acted.Act.TheVariants.{Store, Cas, Ask};
 
@@ -27,7 +27,7 @@ pub(crate) fn load_status(cells: &Cells, swap: u16) -> FoundStatus
     requires descriptor { swap < cells.now.swaps }
     ensures found { result.status ≡ status_at cells.now.swaps cells.now.cached swap }
     ensures made { IsMade cells.now result.act cells.now }
-    ensures flush { is_flush_act result.act ≡ false }
+    ensures flush { is_fence_act result.act ≡ false }
     ensures writes { StaysOutside cells.now.swaps result.act }
 {
     let status = cells.load_status(swap);
@@ -53,7 +53,7 @@ pub(crate) fn cas_status(
     ensures changed { result.status ≡ old → (b : Beside) → typed cells.new b ≡ with_status (typed cells.old b) swap new }
     ensures unchanged { result.status ≢ old → cells.new ≡ cells.old }
     ensures made { IsMade cells.old result.act cells.new }
-    ensures flush { is_flush_act result.act ≡ false }
+    ensures flush { is_fence_act result.act ≡ false }
     ensures told { result.act ≡ Cas (swap_address swap) (status_word old) (status_word new) (status_word result.status) }
 {
     let status = cells.cas_status(swap, old, new);
@@ -74,7 +74,7 @@ pub(crate) fn store_status(cells: &mut Cells, swap: u16, new: SwapStatus) -> Act
     requires descriptor { swap < cells.old.swaps }
     ensures changed { (b : Beside) → typed cells.new b ≡ with_status (typed cells.old b) swap new }
     ensures made { IsMade cells.old result cells.new }
-    ensures flush { is_flush_act result ≡ false }
+    ensures flush { is_fence_act result ≡ false }
     ensures told { result ≡ Store (swap_address swap) (status_word new) }
 {
     cells.store_status(swap, new);
@@ -91,7 +91,7 @@ pub(crate) fn ask_head(cells: &mut Cells, w: u8, swap: u16) -> Act
     requires descriptor { swap < cells.old.swaps }
     ensures changed { (b : Beside) → typed cells.new b ≡ with_ask (typed cells.old b) w (head_of swap) }
     ensures made { IsMadeBy cells.old w result cells.new }
-    ensures flush { is_flush_act result ≡ false }
+    ensures flush { is_fence_act result ≡ false }
     ensures told { result ≡ Ask (swap_address swap / 8) }
 {
     cells.ask_head(w, swap);
@@ -107,7 +107,7 @@ pub(crate) fn ask_tail(cells: &mut Cells, w: u8, swap: u16) -> Act
     requires descriptor { swap < cells.old.swaps }
     ensures changed { (b : Beside) → typed cells.new b ≡ with_ask (typed cells.old b) w (tail_of swap) }
     ensures made { IsMadeBy cells.old w result cells.new }
-    ensures flush { is_flush_act result ≡ false }
+    ensures flush { is_fence_act result ≡ false }
     ensures told { result ≡ Ask (swap_address swap / 8 + 1) }
 {
     cells.ask_tail(w, swap);
@@ -123,7 +123,7 @@ pub(crate) fn store_field(cells: &mut Cells, swap: u16, number: u8, value: u64) 
     requires number { number ≤ 12 }
     ensures changed { (b : Beside) → typed cells.new b ≡ with_field (typed cells.old b) swap number value }
     ensures made { IsMade cells.old result cells.new }
-    ensures flush { is_flush_act result ≡ false }
+    ensures flush { is_fence_act result ≡ false }
     ensures told { result ≡ Store (field_address swap number) value }
 {
     cells.store_field(swap, number, value);
@@ -140,7 +140,7 @@ pub(crate) fn load_field(cells: &Cells, swap: u16, number: u8) -> (u64, Act)
     requires number { number ≤ 12 }
     ensures found { result.0 ≡ descriptor_word_at cells.now.swaps cells.now.cached swap number }
     ensures made { IsMade cells.now result.1 cells.now }
-    ensures flush { is_flush_act result.1 ≡ false }
+    ensures flush { is_fence_act result.1 ≡ false }
     ensures writes { StaysOutside cells.now.swaps result.1 }
 {
     let word = cells.load_field(swap, number);

@@ -1,13 +1,13 @@
 //! The act at a worker's place.
 
 ghost use Rattle.std.specs.Prelude.{◌≡◌, length};
-ghost use Rattle.bz_swap_machine.specs.Flushes.{is_flush};
+ghost use Rattle.bz_swap_machine.specs.Fences.{is_fence};
 ghost use Rattle.bz_swap_machine.specs.Workers.{local_of};
 ghost use Rattle.bz_swap_cells.specs.Store.{Beside, IsStore, SameShape, typed, store_state};
 ghost use Rattle.bz_swap_acts.specs.Made.{made, beside_in};
 ghost use Rattle.bz_swap_acts.specs.Parts.{IsStep};
 ghost use Rattle.bz_swap_acts.specs.Ready.{IsReady, IsReadyAt};
-ghost use Rattle.bz_swap_acts.specs.Rule.{IsActOf, IsToldAt, IsWithin, is_flush_act};
+ghost use Rattle.bz_swap_acts.specs.Rule.{IsActOf, IsToldAt, IsWithin, is_fence_act};
 ghost use Rattle.bz_swap_acts.specs.Writes.{WritesAt};
 
 use crate::acted::Acted;
@@ -36,7 +36,7 @@ fn act_at(cells: &mut Cells, worker: &mut Worker, w: u8, place: Place) -> Acted
         Place::StoreWord { address, value } => store_word(cells, worker, address, value),
         Place::AskLine(line) => ask_line(cells, worker, w, line),
         Place::FenceLine(line) => fence_line(cells, worker, w, line),
-        Place::Idle | Place::LoadWord(_) | Place::FlushLine(_) => unreachable!(),
+        Place::Idle | Place::LoadWord(_) => unreachable!(),
     }
 }
 
@@ -49,7 +49,7 @@ pub fn act(cells: &mut Cells, worker: &mut Worker, w: u8) -> Acted
     ensures memory { (b : Beside) → typed cells.new (beside_in (made cells.old b worker.old w).memory) ≡ (made cells.old b worker.old w).memory }
     ensures words { IsActOf (store_state cells.old) w result.act (store_state cells.new) }
     ensures within { IsWithin (length cells.old.cached) result.act }
-    ensures flush { is_flush_act result.act ≡ is_flush worker.old.place }
+    ensures flush { is_fence_act result.act ≡ is_fence worker.old.place }
     ensures told { IsToldAt worker.old.place result.act }
     ensures writes { WritesAt cells.old.swaps worker.old worker.old.place result.act }
     ensures typed { IsStore cells.new }

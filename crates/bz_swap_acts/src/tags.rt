@@ -9,7 +9,7 @@ ghost use Rattle.bz_swap_machine.specs.declared.place.HelpStep.TheVariants.{Inst
 ghost use Rattle.bz_swap_cells.specs.Store.{Beside, IsStore, MayTag, kind_at, typed};
 ghost use Rattle.bz_swap_acts.specs.Parts.{IsHelp, IsMade, is_other_value};
 ghost use Rattle.bz_swap_acts.specs.Ready.{IsUsable, LiesOutside};
-ghost use Rattle.bz_swap_acts.specs.Rule.{is_flush_act};
+ghost use Rattle.bz_swap_acts.specs.Rule.{is_fence_act};
 ghost use Rattle.bz_swap_acts.specs.Writes.{StaysOutside};
 
 use crate::descriptor::load_status;
@@ -69,7 +69,7 @@ fn put_tag(cells: &mut Cells, a: u32, expected: u64, swap: u16, entry: u8, worke
     ensures memory { (x : Entries) (b : Beside) → x.target entry ≡ a → x.expected entry ≡ expected →
         typed cells.new b ≡ (after_install_by x (typed cells.old b) worker swap entry result.kind).memory }
     ensures made { IsMade cells.old result.act cells.new }
-    ensures flush { is_flush_act result.act ≡ false }
+    ensures flush { is_fence_act result.act ≡ false }
     ensures writes { StaysOutside cells.old.swaps result.act }
 {
     let found = cas_tag(cells, a, expected, swap, entry, worker);
@@ -142,7 +142,7 @@ fn untag(
     ensures next { (x : Entries) (m : Memory) →
         result.next ≡ (after_untag x m tag.swap tag.entry tag.worker tag.seq new changed unchanged (kind_at cells.old.swaps cells.old.cached a)).next }
     ensures made { IsMade cells.old result.act cells.new }
-    ensures flush { is_flush_act result.act ≡ false }
+    ensures flush { is_fence_act result.act ≡ false }
     ensures writes { StaysOutside cells.old.swaps result.act }
 {
     let word = WordKind::Tag {

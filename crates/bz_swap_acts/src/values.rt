@@ -9,7 +9,7 @@ ghost use Rattle.bz_swap_machine.specs.declared.place.Next.TheVariants.{Step};
 ghost use Rattle.bz_swap_cells.specs.Store.{Beside, IsStore, MayAsk, kind_at, typed};
 ghost use Rattle.bz_swap_acts.specs.Parts.{IsHelp, IsMade, IsMadeBy};
 ghost use Rattle.bz_swap_acts.specs.Ready.{IsUsable, LiesOutside};
-ghost use Rattle.bz_swap_acts.specs.Rule.{is_flush_act};
+ghost use Rattle.bz_swap_acts.specs.Rule.{is_fence_act};
 ghost use Rattle.bz_swap_acts.specs.Writes.{StaysOutside};
 ghost use Rattle.bz_swap_acts.specs.declared.acted.Act.TheVariants.{Fence};
 
@@ -28,7 +28,7 @@ pub(crate) fn clear_value(cells: &mut Cells, a: u32, value: u64) -> Act
     requires value { value < 2 ^ 61 }
     ensures memory { (b : Beside) → typed cells.new b ≡ cleared_word (typed cells.old b) a value (kind_at cells.old.swaps cells.old.cached a) }
     ensures made { IsMade cells.old result cells.new }
-    ensures flush { is_flush_act result ≡ false }
+    ensures flush { is_fence_act result ≡ false }
     ensures writes { StaysOutside cells.old.swaps result }
 {
     cas_word(cells, a, WordKind::Dirty(value), WordKind::Value(value)).act
@@ -54,7 +54,7 @@ pub(crate) fn fence_then(cells: &mut Cells, w: u8, step: HelpStep) -> Helped
     ensures memory { (b : Beside) → typed cells.new b ≡ fenced (typed cells.old b) w }
     ensures next { result.next ≡ Step step }
     ensures made { IsMadeBy cells.old w result.act cells.new }
-    ensures flush { is_flush_act result.act ≡ true }
+    ensures flush { is_fence_act result.act ≡ true }
     ensures told { result.act ≡ Fence }
 {
     Helped {

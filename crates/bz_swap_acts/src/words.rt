@@ -7,7 +7,7 @@ ghost use Rattle.bz_swap_machine.specs.Changes.{with_word, with_tag, with_copies
 ghost use Rattle.bz_swap_cells.specs.Store.{Beside, IsStore, MayTag, MayAsk, kind_at, typed};
 ghost use Rattle.bz_swap_acts.specs.Parts.{IsMade, IsMadeBy};
 ghost use Rattle.bz_swap_acts.specs.Ready.{LiesOutside};
-ghost use Rattle.bz_swap_acts.specs.Rule.{is_flush_act};
+ghost use Rattle.bz_swap_acts.specs.Rule.{is_fence_act};
 ghost use Rattle.bz_swap_acts.specs.Writes.{StaysOutside};
 ghost use Rattle.bz_swap_acts.specs.declared.acted.Act.TheVariants.{Load, Store, Ask, Fence};
 
@@ -29,7 +29,7 @@ pub(crate) fn load_word(cells: &Cells, a: u32) -> FoundKind
     requires lies { LiesOutside cells.now a }
     ensures found { result.kind ≡ kind_at cells.now.swaps cells.now.cached a }
     ensures made { IsMade cells.now result.act cells.now }
-    ensures flush { is_flush_act result.act ≡ false }
+    ensures flush { is_fence_act result.act ≡ false }
     ensures writes { StaysOutside cells.now.swaps result.act }
     ensures told { result.act ≡ Load a (word result.kind) }
 {
@@ -53,7 +53,7 @@ pub(crate) fn cas_word(cells: &mut Cells, a: u32, old: WordKind, new: WordKind) 
     ensures changed { result.kind ≡ old → (b : Beside) → typed cells.new b ≡ with_word (typed cells.old b) a new }
     ensures unchanged { result.kind ≢ old → cells.new ≡ cells.old }
     ensures made { IsMade cells.old result.act cells.new }
-    ensures flush { is_flush_act result.act ≡ false }
+    ensures flush { is_fence_act result.act ≡ false }
     ensures writes { StaysOutside cells.old.swaps result.act }
 {
     let kind = cells.cas_word(a, old, new);
@@ -87,7 +87,7 @@ pub(crate) fn cas_tag(
     ensures changed { result.kind ≡ Value expected → (b : Beside) → typed cells.new b ≡ with_tag (typed cells.old b) a swap entry worker }
     ensures unchanged { result.kind ≢ Value expected → cells.new ≡ cells.old }
     ensures made { IsMade cells.old result.act cells.new }
-    ensures flush { is_flush_act result.act ≡ false }
+    ensures flush { is_fence_act result.act ≡ false }
     ensures writes { StaysOutside cells.old.swaps result.act }
 {
     let tag = WordKind::Tag {
@@ -115,7 +115,7 @@ pub(crate) fn store_value(cells: &mut Cells, a: u32, value: u64) -> Act
     requires value { value < 2 ^ 61 }
     ensures changed { (b : Beside) → typed cells.new b ≡ with_word (typed cells.old b) a (Value value) }
     ensures made { IsMade cells.old result cells.new }
-    ensures flush { is_flush_act result ≡ false }
+    ensures flush { is_fence_act result ≡ false }
     ensures told { result ≡ Store a value }
 {
     cells.store_word(a, WordKind::Value(value));
@@ -129,7 +129,7 @@ pub(crate) fn ask_word(cells: &mut Cells, w: u8, a: u32) -> Act
     requires lies { LiesOutside cells.old a }
     ensures changed { (b : Beside) → typed cells.new b ≡ with_ask (typed cells.old b) w (line_of a) }
     ensures made { IsMadeBy cells.old w result cells.new }
-    ensures flush { is_flush_act result ≡ false }
+    ensures flush { is_fence_act result ≡ false }
     ensures told { result ≡ Ask (a / 8) }
 {
     cells.ask_word(w, a);
@@ -144,7 +144,7 @@ pub(crate) fn fence(cells: &mut Cells, w: u8) -> Act
     requires worker { w < length cells.old.next_tags }
     ensures changed { (b : Beside) → typed cells.new b ≡ fenced (typed cells.old b) w }
     ensures made { IsMadeBy cells.old w result cells.new }
-    ensures flush { is_flush_act result ≡ true }
+    ensures flush { is_fence_act result ≡ true }
     ensures told { result ≡ Fence }
 {
     cells.fence(w);

@@ -3,9 +3,9 @@ use Rattle.std.specs.Prelude.{false, ℕ, ◌*◌, ◌^◌, ◌<◌, [], length}
 use Rattle.std.proofs.Common.{arith, refl, sym, ◌∙◌}
 use Rattle.std.proofs.lemmas.List.{length-set, length-replicate}
 use Rattle.bz_pm.specs.Acts.{stored}
-use Rattle.bz_pm.specs.After.{after_flush, after_ask, after_fence, after_eviction, after_power_cut}
-use Rattle.bz_pm.proofs.Dates.{state_cached, state_flushed, state_asked, state_evicted, state_cut, state_renewed}
-use Rattle.bz_pm.proofs.Lemmas.{store, flush, evict, cut}
+use Rattle.bz_pm.specs.After.{after_ask, after_fence, after_eviction, after_power_cut}
+use Rattle.bz_pm.proofs.Dates.{state_cached, state_asked, state_evicted, state_cut}
+use Rattle.bz_pm.proofs.Lemmas.{store, evict, cut}
 use Rattle.bz_pm.proofs.Fences.{fence}
 use Rattle.bz_swap_cells.specs.Store.{Store, HasRoom, MayAsk, store_words, store_state, with_words, with_state, renewed_store}
 use Rattle.bz_swap_cells.proofs.Stores.{room_of}
@@ -29,9 +29,6 @@ room-fence st w h worker =
     let f = fence (store_state st) w h.state (asker st w h worker) in
     room_of st (after_fence (store_state st) w) f.stays f.state (length-set st.past.asks w []) h
 
-pub room-flush : (st : Store) (line : ℕ) → HasRoom st → line * 8 < length st.cached → HasRoom (with_state st (after_flush (store_state st) line))
-room-flush st line h within = room_of st (after_flush (store_state st) line) (flush (store_words st) line h.memory within).stays (state_flushed (store_state st) line h.state within) refl h
-
 pub room-evict : (st : Store) (a : ℕ) → HasRoom st → a < length st.cached → HasRoom (with_state st (after_eviction (store_state st) a))
 room-evict st a h within = room_of st (after_eviction (store_state st) a) (evict (store_words st) a h.memory within).stays (state_evicted (store_state st) a h.state within) refl h
 
@@ -41,9 +38,9 @@ room-cut st h = room_of st (after_power_cut (store_state st)) (cut (store_words 
 pub room-renew : (st : Store) → HasRoom st → HasRoom (renewed_store st)
 room-renew st h = record {
   memory = h.memory;
-  state = state_renewed (store_state st) h.state;
+  state = h.state;
   fit = h.fit;
-  workers = length-replicate (length st.past.asks) [] ∙ h.workers ∙ sym (length-replicate (length st.next_tags) 0);
+  workers = h.workers ∙ sym (length-replicate (length st.next_tags) 0);
   room = h.room;
   numbered = h.numbered;
   noted = length-replicate (length st.missed) false ∙ h.noted;

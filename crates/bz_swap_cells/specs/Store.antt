@@ -8,7 +8,6 @@ use Rattle.bz_layout.specs.Addresses.{swap_address}
 use Rattle.bz_layout.specs.declared.sizes.TheConstants.{SUPERBLOCK_WORDS, SWAP_COUNT_AT}
 use Rattle.bz_pm.specs.Words.{Words, IsMemory, HoldsWords}
 use Rattle.bz_pm.specs.State.{State, IsState, ask_for}
-use Rattle.bz_pm.specs.After.{after_renewal}
 use Rattle.bz_pm.specs.declared.asks.Ask.{Ask}
 use Rattle.bz_swap_machine.specs.declared.status.SwapStatus.{SwapStatus}
 use Rattle.bz_swap_machine.specs.declared.status.SwapStatus.TheVariants.{Free, Undecided, Deciding, Decided}
@@ -52,9 +51,9 @@ store_state st = record { words = store_words st; count = st.past.count; since =
 abbrev pub with_state : Store → State → Store
 with_state st m = record st { cached = m.words.cached; durable = m.words.durable; past = record { count = m.count; since = m.since; asks = m.asks } }
 
--- all descriptors are given back, and nothing is kept of the past: the words stay
+-- all descriptors are given back: the words stay, and what was asked for
 abbrev pub renewed_store : Store → Store
-renewed_store st = record (with_state st (after_renewal (store_state st))) { next_tags = replicate (length st.next_tags) 0; missed = replicate (length st.missed) false; taken = 0 }
+renewed_store st = record st { next_tags = replicate (length st.next_tags) 0; missed = replicate (length st.missed) false; taken = 0 }
 
 -- the word of a status: a verdict that may not be durable yet has bit 63
 abbrev pub status_word : SwapStatus → ℕ

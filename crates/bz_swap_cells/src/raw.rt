@@ -5,7 +5,7 @@ use crate::cells::Cells;
 impl Cells {
     ghost use Rattle.std.specs.Prelude.{◌≡◌, ◌*◌, ◌<◌, length, slice_index};
     ghost use Rattle.bz_pm.specs.Acts.{stored};
-    ghost use Rattle.bz_pm.specs.After.{after_ask, after_fence, after_flush, after_eviction, after_power_cut};
+    ghost use Rattle.bz_pm.specs.After.{after_ask, after_fence, after_eviction, after_power_cut};
     ghost use Rattle.bz_swap_cells.specs.Store.{HasRoom, MayAsk, store_words, with_words, store_state, with_state};
 
     /// The cached word at an address.
@@ -50,15 +50,6 @@ impl Cells {
         ensures room { HasRoom self.new }
     {
         self.pm.fence(w);
-    }
-
-    /// Flushes a line.
-    pub fn flush(&mut self, line: u32)
-        requires { line * 8 < length self.old.cached }
-        ensures words { self.new ≡ with_state self.old (after_flush (store_state self.old) line) }
-        ensures room { HasRoom self.new }
-    {
-        self.pm.flush(line);
     }
 
     /// Makes a word durable.

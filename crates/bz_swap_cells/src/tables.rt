@@ -130,11 +130,10 @@ impl Cells {
         self.pm.may_ask(w) && self.pm.asked() < u64::MAX
     }
 
-    /// Gives all descriptors back, and clears the notes, the tag numbers and what is kept of asks. The words stay.
+    /// Gives all descriptors back, and clears the notes and the tag numbers. The words stay, and what was asked for.
     pub fn renew(&mut self)
         ensures { self.new ≡ renewed_store self.old }
     {
-        self.pm.renew();
         self.next_tags.fill(0);
         self.missed.fill(false);
         self.taken = 0;

@@ -10,7 +10,7 @@ use Rattle.bz_swap_machine.specs.Facts.{Fact}
 use Rattle.bz_swap_machine.specs.declared.place.HelpStep.{HelpStep}
 use Rattle.bz_swap_machine.specs.HelpActs.{cleared_word, help_act}
 use Rattle.bz_swap_machine.specs.declared.place.Place.{Place}
-use Rattle.bz_swap_machine.specs.declared.place.Place.TheVariants.{Idle, Prepare, Learn, Help, ReadWord, AskRead, FenceRead, ClearRead, LoadWord, FlushLine, StoreWord, AskLine, FenceLine}
+use Rattle.bz_swap_machine.specs.declared.place.Place.TheVariants.{Idle, Prepare, Learn, Help, ReadWord, AskRead, FenceRead, ClearRead, LoadWord, StoreWord, AskLine, FenceLine}
 use Rattle.bz_swap_machine.specs.declared.place.PrepareStep.{PrepareStep}
 use Rattle.bz_swap_machine.specs.declared.worker.Operation.{Operation}
 use Rattle.bz_swap_machine.specs.declared.worker.Operation.TheVariants.{Reading, Swapping}
@@ -95,7 +95,6 @@ good-act e m w l (AskRead b v) home only a few g f owns back = good-reading e m 
 good-act e m w l (FenceRead b v) home only a few g f owns back = good-reading e m (fenced m w) w l (ClearRead b v) (change-fence e m w l.current only a g) owns back f
 good-act e m w l (ClearRead b v) home only a few g f owns back = good-reading e m (cleared_word m b v (m.cached b)) w l (ReadWord b) (change-cleared e m l.current b v (m.cached b) refl g) owns back f
 good-act e m w l (LoadWord b) home only a few g f owns back = absurd f
-good-act e m w l (FlushLine line) home only a few g f owns back = absurd f
 good-act e m w l (StoreWord b v) home only a few g f owns back = good-single e m (with_word m b (Value v)) w l Stored (change-store e m b v l.current f g) back tt refl
 good-act e m w l (AskLine line) home only a few g f owns back = good-reading e m (with_ask m w (line_of (line * 8))) w l (FenceLine line) (change-ask e m w (line_of (line * 8)) l.current g) owns back tt
 good-act e m w l (FenceLine line) home only a few g f owns back = good-fenced e m w l (home refl) (change-fence e m w l.current only a g) back

@@ -5,7 +5,7 @@ use Rattle.bz_word.specs.declared.kind.WordKind.TheVariants.{Dirty}
 use Rattle.bz_swap_machine.specs.declared.place.HelpStep.{HelpStep}
 use Rattle.bz_swap_machine.specs.declared.place.HelpStep.TheVariants.{Look, InstallTag, LookUnderTag, InstallPointer, RemoveTag, AskDirty, FenceDirty, ClearDirty, AskTarget, FenceTargets, Decide, AskStatus, FenceStatus, ClearStatus, PutFinal, AskFinal, FenceFinal, ClearFinal, SweepTag}
 use Rattle.bz_swap_machine.specs.declared.place.Place.{Place}
-use Rattle.bz_swap_machine.specs.declared.place.Place.TheVariants.{Idle, Prepare, Learn, Help, ReadWord, AskRead, FenceRead, ClearRead, LoadWord, FlushLine, StoreWord, AskLine, FenceLine}
+use Rattle.bz_swap_machine.specs.declared.place.Place.TheVariants.{Idle, Prepare, Learn, Help, ReadWord, AskRead, FenceRead, ClearRead, LoadWord, StoreWord, AskLine, FenceLine}
 use Rattle.bz_swap_machine.specs.declared.place.PrepareStep.{PrepareStep}
 use Rattle.bz_swap_machine.specs.declared.place.PrepareStep.TheVariants.{WriteWord, WriteStatus, AskHead, AskTail, FenceDescriptor}
 use Rattle.bz_swap_machine.specs.declared.status.SwapStatus.{SwapStatus}
@@ -147,7 +147,6 @@ acts x w n (AskRead a v) bounded at busy known rests = spends-ask_read x.entries
 acts x w n (FenceRead a v) bounded at busy known rests = spends-fence_read x.entries x.local x.memory w n (x.local w) a v
 acts x w n (ClearRead a v) bounded at busy known rests = spends-clear_read x.entries x.local x.memory w n (x.local w) a v bounded.few bounded.short
 acts x w n (LoadWord a) bounded at busy known rests = absurd known
-acts x w n (FlushLine line) bounded at busy known rests = absurd known
 acts x w n (StoreWord a v) bounded at busy known rests = spends-store x.entries x.local x.memory w n (x.local w) a v (bounded.state.sound.private a known) rests
 acts x w n (AskLine line) bounded at busy known rests = spends-ask_line x.entries x.local x.memory w n (x.local w) line
 acts x w n (FenceLine line) bounded at busy known rests = spends-fence_line x.entries x.local x.memory w n (x.local w) line rests

@@ -13,7 +13,7 @@ use Rattle.bz_swap_machine.specs.declared.place.HelpStep.TheVariants.{Look, Inst
 use Rattle.bz_swap_machine.specs.declared.place.Next.{Next}
 use Rattle.bz_swap_machine.specs.declared.place.Next.TheVariants.{Step, Meet, Complete}
 use Rattle.bz_swap_machine.specs.declared.place.Place.{Place}
-use Rattle.bz_swap_machine.specs.declared.place.Place.TheVariants.{Idle, Prepare, Learn, Help, ReadWord, AskRead, FenceRead, ClearRead, LoadWord, FlushLine, StoreWord, AskLine, FenceLine}
+use Rattle.bz_swap_machine.specs.declared.place.Place.TheVariants.{Idle, Prepare, Learn, Help, ReadWord, AskRead, FenceRead, ClearRead, LoadWord, StoreWord, AskLine, FenceLine}
 use Rattle.bz_swap_machine.specs.declared.place.PrepareStep.{PrepareStep}
 use Rattle.bz_swap_machine.specs.declared.place.PrepareStep.TheVariants.{WriteWord, WriteStatus, AskHead, AskTail, FenceDescriptor}
 use Rattle.bz_swap_machine.specs.Machine.{Entries, Memory, entries_in}
@@ -168,7 +168,6 @@ none-act m w l v t (AskRead a y) away = λ h. h
 none-act m w l v t (FenceRead a y) away = λ h. none-fenced (v == w) ((m.status_pending t).asked v) h
 none-act m w l v t (ClearRead a y) away = none-cleared m a y v t (m.cached a)
 none-act m w l v t (LoadWord a) away = λ h. h
-none-act m w l v t (FlushLine line) away = λ h. h
 none-act m w l v t (StoreWord a y) away = λ h. h
 none-act m w l v t (AskLine line) away = λ h. h
 none-act m w l v t (FenceLine line) away = λ h. none-fenced (v == w) ((m.status_pending t).asked v) h

@@ -3,7 +3,7 @@ use Rattle.std.proofs.Common.{◌≡◌, ◌==◌, ◌&&◌, ◌||◌, not, nat_
 use Rattle.std.proofs.lemmas.Grind.{common_steps}
 use Rattle.std.specs.declared.option.Option.{Option}
 use Rattle.bz_swap_machine.specs.declared.place.Place.{Place}
-use Rattle.bz_swap_machine.specs.declared.place.Place.TheVariants.{Idle, Prepare, Learn, Help, ReadWord, AskRead, FenceRead, ClearRead, LoadWord, FlushLine, StoreWord, AskLine, FenceLine}
+use Rattle.bz_swap_machine.specs.declared.place.Place.TheVariants.{Idle, Prepare, Learn, Help, ReadWord, AskRead, FenceRead, ClearRead, LoadWord, StoreWord, AskLine, FenceLine}
 use Rattle.bz_swap_machine.specs.declared.place.PrepareStep.TheVariants.{WriteWord, WriteStatus, AskHead, AskTail, FenceDescriptor}
 use Rattle.bz_swap_machine.specs.declared.place.HelpStep.{HelpStep}
 use Rattle.bz_swap_machine.specs.declared.place.HelpStep.TheVariants.{Look, InstallTag, LookUnderTag, InstallPointer, RemoveTag, AskDirty, FenceDirty, ClearDirty, AskTarget, FenceTargets, Decide, AskStatus, FenceStatus, ClearStatus, PutFinal, AskFinal, FenceFinal, ClearFinal, SweepTag}
@@ -104,7 +104,6 @@ open-busy x (AskRead a v) o k = counted-le (is_open_by x o) k
 open-busy x (FenceRead a v) o k = counted-le (is_open_by x o) k
 open-busy x (ClearRead a v) o k = counted-le (is_open_by x o) k
 open-busy x (LoadWord a) o k = counted-le (is_open_by x o) k
-open-busy x (FlushLine line) o k = counted-le (is_open_by x o) k
 open-busy x (StoreWord a v) o k = counted-le (is_open_by x o) k
 open-busy x (AskLine line) o k = counted-le (is_open_by x o) k
 open-busy x (FenceLine line) o k = counted-le (is_open_by x o) k
@@ -149,7 +148,6 @@ left_by_place-le x over l place v k (AskRead a u) = omega arith
 left_by_place-le x over l place v k (FenceRead a u) = omega arith
 left_by_place-le x over l place v k (ClearRead a u) = omega arith
 left_by_place-le x over l place v k (LoadWord a) = omega arith
-left_by_place-le x over l place v k (FlushLine line) = omega arith
 left_by_place-le x over l place v k (StoreWord a u) = omega arith
 left_by_place-le x over l place v k (AskLine line) = omega arith
 left_by_place-le x over l place v k (FenceLine line) = omega arith
@@ -191,7 +189,6 @@ place-le x u above l (AskRead a v) le short = omega (arith, if_any-le (u), reser
 place-le x u above l (FenceRead a v) le short = omega (arith, if_any-le (u), reserve_by-le l.operation (if_any (u)), own_missing_by-le x l.operation short)
 place-le x u above l (ClearRead a v) le short = omega (arith, if_any-le (u), reserve_by-le l.operation (if_any (u)), own_missing_by-le x l.operation short)
 place-le x u above l (LoadWord a) le short = omega (arith, if_any-le (u), reserve_by-le l.operation (if_any (u)), own_missing_by-le x l.operation short)
-place-le x u above l (FlushLine line) le short = omega (arith, if_any-le (u), reserve_by-le l.operation (if_any (u)), own_missing_by-le x l.operation short)
 place-le x u above l (StoreWord a v) le short = omega (arith, if_any-le (u), reserve_by-le l.operation (if_any (u)), own_missing_by-le x l.operation short)
 place-le x u above l (AskLine line) le short = omega (arith, if_any-le (u), reserve_by-le l.operation (if_any (u)), own_missing_by-le x l.operation short)
 place-le x u above l (FenceLine line) le short = omega (arith, if_any-le (u), reserve_by-le l.operation (if_any (u)), own_missing_by-le x l.operation short)
@@ -241,7 +238,6 @@ stale-le x s (AskRead a v) stale = omega arith
 stale-le x s (FenceRead a v) stale = omega arith
 stale-le x s (ClearRead a v) stale = omega arith
 stale-le x s (LoadWord a) stale = absurd cc
-stale-le x s (FlushLine line) stale = absurd cc
 stale-le x s (StoreWord a v) stale = absurd cc
 stale-le x s (AskLine line) stale = absurd cc
 stale-le x s (FenceLine line) stale = absurd cc

@@ -11,7 +11,7 @@ use Rattle.bz_swap_machine.specs.declared.status.Verdict.TheVariants.{Succeeded,
 use Rattle.bz_swap_machine.specs.declared.place.HelpStep.{HelpStep}
 use Rattle.bz_swap_machine.specs.declared.place.HelpStep.TheVariants.{Look, InstallTag, LookUnderTag, InstallPointer, RemoveTag, AskDirty, FenceDirty, ClearDirty, AskTarget, FenceTargets, Decide, AskStatus, FenceStatus, ClearStatus, PutFinal, AskFinal, FenceFinal, ClearFinal, SweepTag}
 use Rattle.bz_swap_machine.specs.declared.place.Place.{Place}
-use Rattle.bz_swap_machine.specs.declared.place.Place.TheVariants.{Idle, Prepare, Learn, Help, ReadWord, AskRead, FenceRead, ClearRead, LoadWord, FlushLine, StoreWord, AskLine, FenceLine}
+use Rattle.bz_swap_machine.specs.declared.place.Place.TheVariants.{Idle, Prepare, Learn, Help, ReadWord, AskRead, FenceRead, ClearRead, LoadWord, StoreWord, AskLine, FenceLine}
 use Rattle.bz_swap_machine.specs.declared.place.PrepareStep.TheVariants.{WriteWord, WriteStatus, AskHead, AskTail, FenceDescriptor}
 use Rattle.bz_swap_machine.specs.declared.place.Next.{Next}
 use Rattle.bz_swap_machine.specs.declared.place.Next.TheVariants.{Step, Meet, Complete}
@@ -140,7 +140,6 @@ clean-act e m w l (AskRead a v) s sound at clean = clean
 clean-act e m w l (FenceRead a v) s sound at clean = clean
 clean-act e m w l (ClearRead a v) s sound at clean = clean-same _ _ (same-cleared m a v (m.cached a) s) clean
 clean-act e m w l (LoadWord a) s sound at clean = clean
-clean-act e m w l (FlushLine line) s sound at clean = clean
 clean-act e m w l (StoreWord a v) s sound at clean = clean
 clean-act e m w l (AskLine line) s sound at clean = clean
 clean-act e m w l (FenceLine line) s sound at clean = clean
@@ -271,7 +270,6 @@ act-points m w l (AskRead a u) i v q at = absurd at
 act-points m w l (FenceRead a u) i v q at = absurd at
 act-points m w l (ClearRead a u) i v q at = absurd at
 act-points m w l (LoadWord a) i v q at = absurd at
-act-points m w l (FlushLine line) i v q at = absurd at
 act-points m w l (StoreWord a u) i v q at = absurd at
 act-points m w l (AskLine line) i v q at = absurd at
 act-points m w l (FenceLine line) i v q at = absurd at

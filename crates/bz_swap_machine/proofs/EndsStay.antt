@@ -11,7 +11,7 @@ use Rattle.bz_swap_machine.specs.declared.status.Verdict.TheVariants.{Succeeded,
 use Rattle.bz_swap_machine.specs.declared.place.HelpStep.{HelpStep}
 use Rattle.bz_swap_machine.specs.declared.place.HelpStep.TheVariants.{Look, InstallTag, LookUnderTag, InstallPointer, RemoveTag, AskDirty, FenceDirty, ClearDirty, AskTarget, FenceTargets, Decide, AskStatus, FenceStatus, ClearStatus, PutFinal, AskFinal, FenceFinal, ClearFinal, SweepTag}
 use Rattle.bz_swap_machine.specs.declared.place.Place.{Place}
-use Rattle.bz_swap_machine.specs.declared.place.Place.TheVariants.{Idle, Prepare, Learn, Help, ReadWord, AskRead, FenceRead, ClearRead, LoadWord, FlushLine, StoreWord, AskLine, FenceLine}
+use Rattle.bz_swap_machine.specs.declared.place.Place.TheVariants.{Idle, Prepare, Learn, Help, ReadWord, AskRead, FenceRead, ClearRead, LoadWord, StoreWord, AskLine, FenceLine}
 use Rattle.bz_swap_machine.specs.declared.place.PrepareStep.{PrepareStep}
 use Rattle.bz_swap_machine.specs.declared.place.PrepareStep.TheVariants.{WriteWord, WriteStatus, AskHead, AskTail, FenceDescriptor}
 use Rattle.bz_swap_machine.specs.declared.place.Next.{Next}
@@ -222,7 +222,6 @@ own-ends e m w l local new (FenceRead a v) sound at last = none-ends e _ _ new m
 own-ends e m w l local new (ClearRead a v) sound at last =
     subst (λ (f : ℕ → Option Verdict). OwnEnds e (cleared_word m a v (m.cached a)).cached (cleared_word m a v (m.cached a)).status new m.answer f (record l { place = ReadWord a })) (sym (answer-cleared m a v (m.cached a))) (none-ends e _ _ new m.answer _ (λ k. k))
 own-ends e m w l local new (LoadWord a) sound at last = none-ends e _ _ new m.answer _ (λ k. k)
-own-ends e m w l local new (FlushLine line) sound at last = none-ends e _ _ new m.answer _ (λ k. k)
 own-ends e m w l local new (StoreWord a v) sound at last = none-ends e _ _ new m.answer _ (λ k. k)
 own-ends e m w l local new (AskLine line) sound at last = none-ends e _ _ new m.answer _ (λ k. k)
 own-ends e m w l local new (FenceLine line) sound at last = none-ends e _ _ new m.answer _ (λ k. k)

@@ -11,7 +11,7 @@ use Rattle.bz_swap_machine.specs.declared.place.HelpStep.TheVariants.{Look, Inst
 use Rattle.bz_swap_machine.specs.declared.place.Next.{Next}
 use Rattle.bz_swap_machine.specs.declared.place.Next.TheVariants.{Step, Meet, Complete}
 use Rattle.bz_swap_machine.specs.declared.place.Place.{Place}
-use Rattle.bz_swap_machine.specs.declared.place.Place.TheVariants.{Idle, Prepare, Learn, Help, ReadWord, AskRead, FenceRead, ClearRead, LoadWord, FlushLine, StoreWord, AskLine, FenceLine}
+use Rattle.bz_swap_machine.specs.declared.place.Place.TheVariants.{Idle, Prepare, Learn, Help, ReadWord, AskRead, FenceRead, ClearRead, LoadWord, StoreWord, AskLine, FenceLine}
 use Rattle.bz_swap_machine.specs.declared.place.PrepareStep.{PrepareStep}
 use Rattle.bz_swap_machine.specs.declared.place.PrepareStep.TheVariants.{WriteWord, WriteStatus, AskHead, AskTail, FenceDescriptor}
 use Rattle.bz_swap_machine.specs.Machine.{Entries, Memory, entries_in}
@@ -134,7 +134,6 @@ for-act e m w l v (AskRead a y) other g = for-ask m w (line_of a) v other
 for-act e m w l v (FenceRead a y) other g = for-fence e m w v other g
 for-act e m w l v (ClearRead a y) other g = for-cleared m a y v (m.cached a)
 for-act e m w l v (LoadWord a) other g = for-same m m v
-for-act e m w l v (FlushLine line) other g = for-same m m v
 for-act e m w l v (StoreWord a y) other g = for-same m (with_word m a (Value y)) v
 for-act e m w l v (AskLine line) other g = for-ask m w (line_of (line * 8)) v other
 for-act e m w l v (FenceLine line) other g = for-fence e m w v other g

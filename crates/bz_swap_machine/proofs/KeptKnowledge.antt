@@ -5,7 +5,7 @@ use Rattle.bz_swap_machine.specs.Changes.{fenced}
 use Rattle.bz_swap_machine.specs.Keeps.{Keeps, KeepsDescriptor}
 use Rattle.std.specs.declared.option.Option.{Option}
 use Rattle.bz_swap_machine.specs.declared.place.Place.{Place}
-use Rattle.bz_swap_machine.specs.declared.place.Place.TheVariants.{Idle, Prepare, Learn, Help, ReadWord, AskRead, FenceRead, ClearRead, LoadWord, FlushLine, StoreWord, AskLine, FenceLine}
+use Rattle.bz_swap_machine.specs.declared.place.Place.TheVariants.{Idle, Prepare, Learn, Help, ReadWord, AskRead, FenceRead, ClearRead, LoadWord, StoreWord, AskLine, FenceLine}
 use Rattle.bz_swap_machine.specs.declared.place.PrepareStep.{PrepareStep}
 use Rattle.bz_swap_machine.specs.declared.place.PrepareStep.TheVariants.{WriteWord, WriteStatus, AskHead, AskTail, FenceDescriptor}
 use Rattle.bz_swap_machine.specs.declared.worker.Operation.{Operation}
@@ -65,7 +65,6 @@ place-keeps e m n w l (AskRead a v) k o f = f
 place-keeps e m n w l (FenceRead a v) k o f = f
 place-keeps e m n w l (ClearRead a v) k o f = f
 place-keeps e m n w l (LoadWord a) k o f = f
-place-keeps e m n w l (FlushLine line) k o f = f
 place-keeps e m n w l (StoreWord a v) k o f = k.now.named a ∙ f
 place-keeps e m n w l (AskLine line) k o f = tt
 place-keeps e m n w l (FenceLine line) k o f = tt

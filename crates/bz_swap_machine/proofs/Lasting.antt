@@ -2,7 +2,7 @@
 use Rattle.std.proofs.Common.{◌⊎◌, ◌≡◌, ℕ, ◌+◌, ◌==◌, if◌then◌else◌, nat_lt, ◌<◌, ◌≤◌, Bool, true, false, arith, refl, sym, ap, ◌∙◌, inl, inr, Some, None}
 use Rattle.std.proofs.lemmas.Grind.{common_steps}
 use Rattle.std.specs.declared.option.Option.{Option}
-use Rattle.bz_swap_machine.specs.Pending.{Saved, Pending, no_asks, Lasts, IsLast, IsDurable, IsAsked, IsPast, with_saved, fenced_value, fenced_since, with_fence}
+use Rattle.bz_swap_machine.specs.Pending.{Saved, Pending, IsAlone, Lasts, IsLast, IsDurable, IsAsked, IsPast, with_saved, fenced_value, fenced_since, with_fence}
 
 -- what may last, opened and closed
 pub lasts-cases : {A : Type 0} (d : A) (p : Pending A) (x : A) → Lasts d p x → IsLast d p x
@@ -131,12 +131,19 @@ past-fenced p w now past = record {
 }
 
 -- where nobody has asked the durable value alone may last
-alone : {A : Type 0} (d x : A) → IsLast d no_asks x → x ≡ d
-alone d x (IsDurable is) = is
-alone d x (IsAsked w q asked after is) = absurd (cc)
+pub never-asked : {A : Type 0} (o : Option (Saved A)) (q : Saved A) → o ≡ None → o ≡ Some q → ⊥
+never-asked o q none some = let bad : None ≡ Some q = sym none ∙ some in cc
 
-pub lasts-alone : {A : Type 0} (d x : A) → Lasts d no_asks x → x ≡ d
-lasts-alone d x l = alone d x (lasts-cases _ _ _ l)
+alone : {A : Type 0} (now : ℕ) (d x : A) (p : Pending A) → IsAlone now p → IsLast d p x → x ≡ d
+alone now d x p only (IsDurable is) = is
+alone now d x p only (IsAsked w q asked after is) = absurd (never-asked (p.asked w) q (only.none w) asked)
 
-pub past-alone : {A : Type 0} (now : ℕ) → IsPast {A = A} now no_asks
-past-alone now = record { since = omega arith; asked = λ w q asked. absurd cc; one = λ v w q r asked asked' same. absurd cc }
+pub lasts-alone : {A : Type 0} (now : ℕ) (d x : A) (p : Pending A) → IsAlone now p → Lasts d p x → x ≡ d
+lasts-alone now d x p only l = alone now d x p only (lasts-cases _ _ _ l)
+
+pub past-alone : {A : Type 0} (now : ℕ) (p : Pending A) → IsAlone now p → IsPast now p
+past-alone now p only = record {
+  since = only.since;
+  asked = λ w q asked. absurd (never-asked (p.asked w) q (only.none w) asked);
+  one = λ v w q r asked asked' same. absurd (never-asked (p.asked v) q (only.none v) asked);
+}

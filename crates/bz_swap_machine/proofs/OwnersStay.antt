@@ -5,7 +5,7 @@ use Rattle.std.specs.declared.option.Option.{Option}
 use Rattle.bz_word.specs.declared.kind.WordKind.{WordKind}
 use Rattle.bz_word.specs.declared.kind.WordKind.TheVariants.{Value, Dirty, Swap, Tag}
 use Rattle.bz_swap_machine.specs.declared.place.Place.{Place}
-use Rattle.bz_swap_machine.specs.declared.place.Place.TheVariants.{Idle, Prepare, Learn, Help, ReadWord, AskRead, FenceRead, ClearRead, LoadWord, FlushLine, StoreWord, AskLine, FenceLine}
+use Rattle.bz_swap_machine.specs.declared.place.Place.TheVariants.{Idle, Prepare, Learn, Help, ReadWord, AskRead, FenceRead, ClearRead, LoadWord, StoreWord, AskLine, FenceLine}
 use Rattle.bz_swap_machine.specs.declared.place.PrepareStep.TheVariants.{WriteWord, WriteStatus, AskHead, AskTail, FenceDescriptor}
 use Rattle.bz_swap_machine.specs.declared.place.HelpStep.TheVariants.{Look}
 use Rattle.bz_swap_machine.specs.declared.place.Next.{Next}
@@ -115,7 +115,6 @@ own-act e m w l (FenceRead a v) at rests = goes-own m.answer l _ refl rests
 own-act e m w l (ClearRead a v) at rests =
     subst (λ (f : ℕ → Option Verdict). OwnStays m.answer f l (record l { place = ReadWord a })) (sym (answer-cleared m a v (m.cached a))) (goes-own m.answer l (record l { place = ReadWord a }) refl rests)
 own-act e m w l (LoadWord a) at rests = absurd at
-own-act e m w l (FlushLine line) at rests = absurd at
 own-act e m w l (StoreWord a v) at rests = ends-own m.answer l _ (λ s is. absurd cc) refl
 own-act e m w l (AskLine line) at rests = goes-own m.answer l _ refl rests
 own-act e m w l (FenceLine line) at rests = ends-own m.answer l _ (λ s is. absurd cc) refl

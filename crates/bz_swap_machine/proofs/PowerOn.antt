@@ -4,7 +4,9 @@ use Rattle.std.proofs.lemmas.Grind.{common_steps}
 use Rattle.bz_swap_machine.specs.declared.status.SwapStatus.{SwapStatus}
 use Rattle.bz_swap_machine.specs.declared.status.SwapStatus.TheVariants.{Free}
 use Rattle.bz_swap_machine.specs.declared.status.Verdict.TheVariants.{Succeeded, Failed}
+use Rattle.bz_word.specs.declared.kind.WordKind.{WordKind}
 use Rattle.bz_swap_machine.specs.Machine.{Entries, Memory, is_verdict}
+use Rattle.bz_swap_machine.specs.Pending.{IsPast, Lasts}
 use Rattle.bz_swap_machine.specs.Sound.{Follows, Sound}
 use Rattle.std.proofs.Common.{List}
 use Rattle.bz_swap_machine.specs.State.{Event, IsState, AllMayHappen, after_all, IsRenewable, power_on}
@@ -13,13 +15,32 @@ use Rattle.bz_swap_machine.specs.Changes.{after_cut, no_entries, renewed}
 use Rattle.bz_swap_machine.specs.Promise.{since, EffectsLast, FailuresLast, PlainIsHeld, CutsKeep}
 use Rattle.bz_swap_machine.specs.Recovery.{IsReadable, IsRecoverable}
 use Rattle.bz_swap_machine.proofs.Events.{state-after_all}
-use Rattle.bz_swap_machine.proofs.Lasting.{lasts-durable, lasts-alone}
+use Rattle.bz_swap_machine.proofs.Lasting.{lasts-durable, lasts-alone, past-alone}
 use Rattle.bz_swap_machine.proofs.Published.{one_verdict}
 use Rattle.bz_swap_machine.proofs.Runs.{atomic-happens, verdict-after_all}
 
+-- nothing but the durable values may last
+words-last : (m : Memory) → IsRenewable m → (a : ℕ) (x : WordKind) → Lasts (m.durable a) (m.pending a) x → x ≡ m.durable a
+words-last m r a x = lasts-alone m.now (m.durable a) x (m.pending a) (r.words a)
+
+statuses-last : (m : Memory) → IsRenewable m → (s : ℕ) (x : SwapStatus) → Lasts (m.durable_status s) (m.status_pending s) x → x ≡ m.durable_status s
+statuses-last m r s x = lasts-alone m.now (m.durable_status s) x (m.status_pending s) (r.statuses s)
+
+fields-last : (m : Memory) → IsRenewable m → (s k x : ℕ) → Lasts (m.durable_words s k) (m.words_pending s k) x → x ≡ m.durable_words s k
+fields-last m r s k x = lasts-alone m.now (m.durable_words s k) x (m.words_pending s k) (r.fields s k)
+
+words-past : (m : Memory) → IsRenewable m → (a : ℕ) → IsPast m.now (m.pending a)
+words-past m r a = past-alone m.now (m.pending a) (r.words a)
+
+statuses-past : (m : Memory) → IsRenewable m → (s : ℕ) → IsPast m.now (m.status_pending s)
+statuses-past m r s = past-alone m.now (m.status_pending s) (r.statuses s)
+
+fields-past : (m : Memory) → IsRenewable m → (s k : ℕ) → IsPast m.now (m.words_pending s k)
+fields-past m r s k = past-alone m.now (m.words_pending s k) (r.fields s k)
+
 -- plain words, the same in cache and in durable memory, and free descriptors are a sound start
 sound-renewed : (m : Memory) → IsRenewable m → Sound no_entries (renewed m)
-sound-renewed m r = grind (arith, common_steps, lasts-alone, r)
+sound-renewed m r = grind (arith, common_steps, words-last m r, statuses-last m r, fields-last m r, words-past m r, statuses-past m r, fields-past m r, r)
 
 pub state-power_on : (m : Memory) → IsRenewable m → IsState (power_on m)
 state-power_on m r = record {
@@ -27,7 +48,7 @@ state-power_on m r = record {
   short = λ s. omega arith;
   sound = sound-renewed m r;
   knows = λ w. record { place = tt; owns = tt; back = tt };
-  home = λ w t away. refl;
+  home = λ w t away. (r.statuses t).none w;
 }
 
 state-since : (m : Memory) (before : List Event) → IsRenewable m → AllMayHappen (power_on m) before → IsState (since m before)

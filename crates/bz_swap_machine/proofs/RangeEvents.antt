@@ -11,7 +11,7 @@ use Rattle.bz_swap_machine.specs.declared.place.Next.TheVariants.{Step, Meet, Co
 use Rattle.bz_swap_machine.specs.HelpActs.{help_act}
 use Rattle.std.specs.declared.option.Option.{Option}
 use Rattle.bz_swap_machine.specs.declared.place.Place.{Place}
-use Rattle.bz_swap_machine.specs.declared.place.Place.TheVariants.{Idle, Prepare, Learn, Help, ReadWord, AskRead, FenceRead, ClearRead, LoadWord, FlushLine, StoreWord, AskLine, FenceLine}
+use Rattle.bz_swap_machine.specs.declared.place.Place.TheVariants.{Idle, Prepare, Learn, Help, ReadWord, AskRead, FenceRead, ClearRead, LoadWord, StoreWord, AskLine, FenceLine}
 use Rattle.bz_swap_machine.specs.declared.place.PrepareStep.{PrepareStep}
 use Rattle.bz_swap_machine.specs.declared.place.PrepareStep.TheVariants.{WriteWord, WriteStatus, AskHead, AskTail, FenceDescriptor}
 use Rattle.bz_swap_machine.specs.declared.worker.Operation.{Operation}
@@ -20,7 +20,7 @@ use Rattle.bz_swap_machine.specs.Machine.{entries_in}
 use Rattle.bz_swap_machine.specs.Steps.{Local, Stepped, is_own, resumed, after_help, prepare_act, read_act, act}
 use Rattle.bz_swap_machine.specs.Knows.{AtPlace}
 use Rattle.std.proofs.Common.{List, [], ◌∷◌}
-use Rattle.bz_swap_machine.specs.State.{State, Event, StartRead, StartStore, StartFlush, StartSwap, Act, Evict, EvictStatus, EvictField, stepped, swapping, happens, IsState, AllMayHappen, after_all, power_on}
+use Rattle.bz_swap_machine.specs.State.{State, Event, StartRead, StartStore, StartFlush, StartSwap, Act, Evict, EvictStatus, EvictField, stepped, swapping, happens, IsState, AllMayHappen, after_all, power_on, IsRenewable}
 use Rattle.std.proofs.Common.{◌^◌}
 use Rattle.bz_word.specs.Kinds.{IsKind}
 use Rattle.bz_swap_machine.specs.Ranges.{IsTagger, AreValues, HoldsKinds, NextInRange, PlaceInRange}
@@ -30,6 +30,7 @@ use Rattle.bz_swap_machine.specs.Agrees.{agree-spell}
 use Rattle.bz_swap_machine.proofs.AgreeActs.{help_act-agrees}
 use Rattle.bz_swap_machine.proofs.Events.{state-happens}
 use Rattle.bz_swap_machine.proofs.PowerOn.{state-power_on}
+use Rattle.bz_swap_machine.proofs.Lasting.{never-asked}
 
 -- what a step of a worker leaves
 record SteppedInRange (a : Stepped) : Type 0 where
@@ -84,7 +85,6 @@ range-act e m w l (AskRead b v) f r sm a t h = record { memory = holds-ask m w (
 range-act e m w l (FenceRead b v) f r sm a t h = record { memory = holds-fenced m w h; place = r }
 range-act e m w l (ClearRead b v) f r sm a t h = record { memory = holds-cleared m b v (m.cached b) r h; place = tt }
 range-act e m w l (LoadWord b) f r sm a t h = record { memory = h; place = tt }
-range-act e m w l (FlushLine line) f r sm a t h = record { memory = h; place = tt }
 range-act e m w l (StoreWord b v) f r sm a t h = record { memory = holds-word m b (Value v) r h; place = tt }
 range-act e m w l (AskLine line) f r sm a t h = record { memory = holds-ask m w (line_of (line * 8)) h; place = tt }
 range-act e m w l (FenceLine line) f r sm a t h = record { memory = holds-fenced m w h; place = tt }
@@ -121,12 +121,12 @@ range-after_all : (x : State) (vs : List Event) → AllMayHappen x vs → AllMay
 range-after_all x [] may hold i r = r
 range-after_all x (v ∷ vs) may hold i r = range-after_all (happens x v) vs may.1 hold.1 (state-happens x v may.0 i) (range-happens x v hold.0 i r)
 
-pub range-power_on : (m : Memory) → ((a : ℕ) → IsKind (m.cached a) × IsKind (m.durable a)) → AreInRange (power_on m)
-range-power_on m kinds = record {
-  kinds = record { cached = λ a. (kinds a).0; durable = λ a. (kinds a).1; asked = λ a w q asked. absurd cc; taken = omega arith };
+pub range-power_on : (m : Memory) → IsRenewable m → ((a : ℕ) → IsKind (m.cached a) × IsKind (m.durable a)) → AreInRange (power_on m)
+range-power_on m renewable kinds = record {
+  kinds = record { cached = λ a. (kinds a).0; durable = λ a. (kinds a).1; asked = λ a w q asked. absurd (never-asked ((m.pending a).asked w) q ((renewable.words a).none w) asked); taken = omega arith };
   values = λ s. record { count = omega arith; expected = λ i lt. absurd (omega arith); value = λ i lt. absurd (omega arith) };
   places = λ w. tt;
 }
 
 pub stay_in_range : StayInRange
-stay_in_range m renewable kinds before may hold = range-after_all (power_on m) before may hold (state-power_on m renewable) (range-power_on m kinds)
+stay_in_range m renewable kinds before may hold = range-after_all (power_on m) before may hold (state-power_on m renewable) (range-power_on m renewable kinds)

@@ -7,7 +7,7 @@ use Rattle.bz_swap_machine.specs.declared.status.SwapStatus.{SwapStatus}
 use Rattle.bz_swap_machine.specs.declared.status.SwapStatus.TheVariants.{Free, Undecided, Deciding, Decided}
 use Rattle.bz_swap_machine.specs.declared.place.HelpStep.TheVariants.{Look, InstallTag, LookUnderTag, InstallPointer, RemoveTag, Decide}
 use Rattle.bz_swap_machine.specs.declared.place.Place.{Place}
-use Rattle.bz_swap_machine.specs.declared.place.Place.TheVariants.{Idle, Prepare, Learn, Help, ReadWord, AskRead, FenceRead, ClearRead, LoadWord, FlushLine, StoreWord, AskLine, FenceLine}
+use Rattle.bz_swap_machine.specs.declared.place.Place.TheVariants.{Idle, Prepare, Learn, Help, ReadWord, AskRead, FenceRead, ClearRead, LoadWord, StoreWord, AskLine, FenceLine}
 use Rattle.bz_swap_machine.specs.declared.place.PrepareStep.TheVariants.{WriteWord, WriteStatus, AskHead, AskTail, FenceDescriptor}
 use Rattle.bz_swap_machine.specs.declared.place.Next.{Next}
 use Rattle.bz_swap_machine.specs.declared.place.Next.TheVariants.{Step, Meet}
@@ -78,7 +78,6 @@ come-act m w l (AskRead a v) = λ b s i u q is. inl is
 come-act m w l (FenceRead a v) = λ b s i u q is. inl is
 come-act m w l (ClearRead a v) = λ b s i u q is. inl (comes-cleared m a v (m.cached a) b s i u q is)
 come-act m w l (LoadWord a) = λ b s i u q is. inl is
-come-act m w l (FlushLine line) = λ b s i u q is. inl is
 come-act m w l (StoreWord a v) = λ b s i u q is. inl (comes-word m a (Value v) tt b s i u q is)
 come-act m w l (AskLine line) = λ b s i u q is. inl is
 come-act m w l (FenceLine line) = λ b s i u q is. inl is

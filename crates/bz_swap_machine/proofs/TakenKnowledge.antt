@@ -6,7 +6,7 @@ use Rattle.bz_swap_machine.specs.Changes.{put}
 use Rattle.bz_swap_machine.specs.Sound.{Sound}
 use Rattle.std.specs.declared.option.Option.{Option}
 use Rattle.bz_swap_machine.specs.declared.place.Place.{Place}
-use Rattle.bz_swap_machine.specs.declared.place.Place.TheVariants.{Idle, Prepare, Learn, Help, ReadWord, AskRead, FenceRead, ClearRead, LoadWord, FlushLine, StoreWord, AskLine, FenceLine}
+use Rattle.bz_swap_machine.specs.declared.place.Place.TheVariants.{Idle, Prepare, Learn, Help, ReadWord, AskRead, FenceRead, ClearRead, LoadWord, StoreWord, AskLine, FenceLine}
 use Rattle.bz_swap_machine.specs.declared.worker.Operation.{Operation}
 use Rattle.bz_swap_machine.specs.declared.worker.Operation.TheVariants.{Nothing, Reading, Swapping}
 use Rattle.bz_swap_machine.specs.Steps.{Local}
@@ -49,7 +49,6 @@ place-taken e m v w new targets l (AskRead a u) g out o f = f
 place-taken e m v w new targets l (FenceRead a u) g out o f = f
 place-taken e m v w new targets l (ClearRead a u) g out o f = f
 place-taken e m v w new targets l (LoadWord a) g out o f = f
-place-taken e m v w new targets l (FlushLine line) g out o f = f
 place-taken e m v w new targets l (StoreWord a u) g out o f = grind (arith, common_steps, f, out a u refl)
 place-taken e m v w new targets l (AskLine line) g out o f = tt
 place-taken e m v w new targets l (FenceLine line) g out o f = tt

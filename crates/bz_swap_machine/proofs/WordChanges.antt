@@ -10,7 +10,7 @@ use Rattle.bz_swap_machine.specs.declared.status.Verdict.TheVariants.{Succeeded,
 use Rattle.bz_swap_machine.specs.declared.place.HelpStep.{HelpStep}
 use Rattle.bz_swap_machine.specs.declared.place.HelpStep.TheVariants.{Look, InstallTag, LookUnderTag, InstallPointer, RemoveTag, AskDirty, FenceDirty, ClearDirty, AskTarget, FenceTargets, Decide, AskStatus, FenceStatus, ClearStatus, PutFinal, AskFinal, FenceFinal, ClearFinal, SweepTag}
 use Rattle.bz_swap_machine.specs.declared.place.Place.{Place}
-use Rattle.bz_swap_machine.specs.declared.place.Place.TheVariants.{Idle, Prepare, Learn, Help, ReadWord, AskRead, FenceRead, ClearRead, LoadWord, FlushLine, StoreWord, AskLine, FenceLine}
+use Rattle.bz_swap_machine.specs.declared.place.Place.TheVariants.{Idle, Prepare, Learn, Help, ReadWord, AskRead, FenceRead, ClearRead, LoadWord, StoreWord, AskLine, FenceLine}
 use Rattle.bz_swap_machine.specs.declared.place.PrepareStep.TheVariants.{WriteWord, WriteStatus, AskHead, AskTail, FenceDescriptor}
 use Rattle.bz_swap_machine.specs.declared.place.Next.{Next}
 use Rattle.bz_swap_machine.specs.declared.place.Next.TheVariants.{Step, Meet}
@@ -166,7 +166,6 @@ written m w l (AskRead a v) = Stays (λ b. refl)
 written m w l (FenceRead a v) = Stays (λ b. refl)
 written m w l (ClearRead a v) = cleared-cases m a v (m.cached a) (λ n. Written m w l (ClearRead a v) (record { memory = n; local = record l { place = ReadWord a }; done = Busy })) (PutsPlain a v (λ b. refl)) (Stays (λ b. refl))
 written m w l (LoadWord a) = Stays (λ b. refl)
-written m w l (FlushLine line) = Stays (λ b. refl)
 written m w l (StoreWord a v) = PutsPlain a v (λ b. refl)
 written m w l (AskLine line) = Stays (λ b. refl)
 written m w l (FenceLine line) = Stays (λ b. refl)

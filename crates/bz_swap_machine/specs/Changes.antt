@@ -128,13 +128,9 @@ after_cut m = record m {
 abbrev pub no_entries : ℕ → Entries
 no_entries s = record { count = 0; target = λ i. 0; expected = λ i. 0; value = λ i. 0; index = λ a. 0 }
 
--- power on, after recovery: no swap was begun, nothing was asked for, and nothing is noted
+-- power on, after recovery: no swap was begun, and nothing is noted
 abbrev pub renewed : Memory → Memory
 renewed m = record m {
-  now = 0;
-  pending = λ a. no_asks;
-  status_pending = λ s. no_asks;
-  words_pending = λ s k. no_asks;
   next_tag = λ w. 0;
   missed = λ s. false;
   taken = 0;

@@ -25,7 +25,7 @@ abbrev pub KeepsRange : Type 0
 KeepsRange = (x : State) (v : Event) → MayHold x v → IsState x → AreInRange x → AreInRange (happens x v)
 
 abbrev pub BeginsInRange : Type 0
-BeginsInRange = (m : Memory) → ((a : ℕ) → IsKind (m.cached a) × IsKind (m.durable a)) → AreInRange (power_on m)
+BeginsInRange = (m : Memory) → IsRenewable m → ((a : ℕ) → IsKind (m.cached a) × IsKind (m.durable a)) → AreInRange (power_on m)
 
 -- a cut leaves what is needed to recover
 abbrev pub CutRecovers : Type 0

@@ -4,7 +4,7 @@ use Rattle.std.specs.declared.option.Option.{Option}
 use Rattle.bz_swap_machine.specs.declared.status.SwapStatus.{SwapStatus}
 use Rattle.bz_swap_machine.specs.declared.status.SwapStatus.TheVariants.{Undecided}
 use Rattle.bz_swap_machine.specs.declared.place.Place.{Place}
-use Rattle.bz_swap_machine.specs.declared.place.Place.TheVariants.{Idle, Prepare, Learn, Help, ReadWord, AskRead, FenceRead, ClearRead, LoadWord, FlushLine, StoreWord, AskLine, FenceLine}
+use Rattle.bz_swap_machine.specs.declared.place.Place.TheVariants.{Idle, Prepare, Learn, Help, ReadWord, AskRead, FenceRead, ClearRead, LoadWord, StoreWord, AskLine, FenceLine}
 use Rattle.bz_swap_machine.specs.declared.place.PrepareStep.{PrepareStep}
 use Rattle.bz_swap_machine.specs.declared.place.PrepareStep.TheVariants.{WriteWord, WriteStatus, AskHead, AskTail, FenceDescriptor}
 use Rattle.bz_swap_machine.specs.declared.place.HelpStep.{HelpStep}
@@ -71,7 +71,6 @@ AtPlace e m w l (AskRead a v) = l.operation ≡ Reading a
 AtPlace e m w l (FenceRead a v) = l.operation ≡ Reading a
 AtPlace e m w l (ClearRead a v) = l.operation ≡ Reading a
 AtPlace e m w l (LoadWord a) = ⊥
-AtPlace e m w l (FlushLine line) = ⊥
 AtPlace e m w l (StoreWord a v) = m.named a ≡ false
 AtPlace e m w l (AskLine line) = Unit {0}
 AtPlace e m w l (FenceLine line) = Unit {0}

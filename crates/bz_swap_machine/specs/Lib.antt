@@ -10,7 +10,7 @@ pub mod DirtyHomes
 pub mod Ends
 pub mod Examples
 pub mod Facts
-pub mod Flushes
+pub mod Fences
 pub mod Fronts
 pub mod HelpActs
 pub mod Invariance

@@ -1,7 +1,7 @@
 -- A swap without an answer is the operation of the worker that began it, and a worker has an operation where its place says so.
 use Rattle.std.specs.Prelude.{◌≡◌, ℕ, ◌<◌, None}
 use Rattle.bz_swap_machine.specs.declared.place.Place.{Place}
-use Rattle.bz_swap_machine.specs.declared.place.Place.TheVariants.{Idle, LoadWord, FlushLine, StoreWord, AskLine, FenceLine}
+use Rattle.bz_swap_machine.specs.declared.place.Place.TheVariants.{Idle, LoadWord, StoreWord, AskLine, FenceLine}
 use Rattle.bz_swap_machine.specs.declared.worker.Operation.{Operation}
 use Rattle.bz_swap_machine.specs.declared.worker.Operation.TheVariants.{Nothing, Reading, Swapping}
 use Rattle.bz_swap_machine.specs.State.{State, Event, happens, MayHappen, IsState}
@@ -19,7 +19,6 @@ RestsAt (StoreWord a v) o = o ≡ Nothing
 RestsAt (AskLine line) o = o ≡ Nothing
 RestsAt (FenceLine line) o = o ≡ Nothing
 RestsAt (LoadWord a) o = o ≡ Nothing
-RestsAt (FlushLine line) o = o ≡ Nothing
 RestsAt place o = IsBusy o
 
 pub record AreOwned (x : State) : Type 0 where

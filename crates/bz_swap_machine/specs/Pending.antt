@@ -16,6 +16,11 @@ pub record Pending (A : Type 0) : Type 0 where
 abbrev pub no_asks : {A : Type 0} → Pending A
 no_asks = record { since = 0; asked = λ w. None }
 
+-- nobody has asked, and the durable value dates from no later than now
+pub record IsAlone {A : Type 0} (now : ℕ) (p : Pending A) : Type 0 where
+  pub since : p.since ≤ now
+  pub none : (w : ℕ) → p.asked w ≡ None
+
 -- a value that can be the durable one with no further act but fences: the durable one, or one that an ask saved after it
 pub data IsLast {A : Type 0} (durable : A) (p : Pending A) (x : A) : Type 0 where
   IsDurable : x ≡ durable → IsLast durable p x

@@ -3,7 +3,7 @@ use Rattle.std.specs.Prelude.{◌≡◌, ℕ, Some, ◌^◌, ◌<◌, ◌≤◌}
 use Rattle.bz_word.specs.Kinds.{IsKind}
 use Rattle.bz_word.specs.declared.kind.WordKind.{WordKind}
 use Rattle.bz_swap_machine.specs.declared.place.Place.{Place}
-use Rattle.bz_swap_machine.specs.declared.place.Place.TheVariants.{Idle, Prepare, Learn, Help, ReadWord, AskRead, FenceRead, ClearRead, LoadWord, FlushLine, StoreWord, AskLine, FenceLine}
+use Rattle.bz_swap_machine.specs.declared.place.Place.TheVariants.{Idle, Prepare, Learn, Help, ReadWord, AskRead, FenceRead, ClearRead, LoadWord, StoreWord, AskLine, FenceLine}
 use Rattle.bz_swap_machine.specs.declared.place.HelpStep.{HelpStep}
 use Rattle.bz_swap_machine.specs.declared.place.HelpStep.TheVariants.{Look, InstallTag, LookUnderTag, InstallPointer, RemoveTag, AskDirty, FenceDirty, ClearDirty, AskTarget, FenceTargets, Decide, AskStatus, FenceStatus, ClearStatus, PutFinal, AskFinal, FenceFinal, ClearFinal, SweepTag}
 use Rattle.bz_swap_machine.specs.declared.place.Next.{Next}
@@ -65,7 +65,6 @@ PlaceInRange (AskRead a v) = v < 2 ^ 61
 PlaceInRange (FenceRead a v) = v < 2 ^ 61
 PlaceInRange (ClearRead a v) = v < 2 ^ 61
 PlaceInRange (LoadWord a) = Unit {0}
-PlaceInRange (FlushLine line) = Unit {0}
 PlaceInRange (StoreWord a v) = v < 2 ^ 61
 PlaceInRange (AskLine line) = Unit {0}
 PlaceInRange (FenceLine line) = Unit {0}

@@ -6,6 +6,7 @@ use Rattle.bz_swap_machine.specs.declared.place.PrepareStep.TheVariants.{WriteWo
 use Rattle.bz_swap_machine.specs.declared.worker.Operation.TheVariants.{Nothing, Reading, Swapping}
 use Rattle.bz_word.specs.declared.kind.WordKind.{WordKind}
 use Rattle.bz_swap_machine.specs.Machine.{Entries, Memory, MayLast, spelled}
+use Rattle.bz_swap_machine.specs.Pending.{IsAlone}
 use Rattle.bz_swap_machine.specs.Changes.{put, with_copies, with_durable_status, with_durable_fields, with_taken, no_entries, renewed}
 use Rattle.bz_swap_machine.specs.Sizes.{most_entries}
 use Rattle.bz_swap_machine.specs.Sound.{AreApart, AreShort, IsPlain, Sound}
@@ -95,12 +96,16 @@ abbrev pub after_all : State → List Event → State
 after_all x [] = x
 after_all x (v ∷ vs) = after_all (happens x v) vs
 
--- what a renewal needs: plain words, the same in cache and in durable memory, and free descriptors
+-- what a renewal needs: plain words, the same in cache and in durable memory, free descriptors, and nobody who waits for a
+-- fence
 pub record IsRenewable (m : Memory) : Type 0 where
   pub plain : (a : ℕ) → IsPlain (m.cached a)
   pub same : (a : ℕ) → m.cached a ≡ m.durable a
   pub free : (s : ℕ) → m.status s ≡ Free
   pub durable_free : (s : ℕ) → m.durable_status s ≡ Free
+  pub words : (a : ℕ) → IsAlone m.now (m.pending a)
+  pub statuses : (s : ℕ) → IsAlone m.now (m.status_pending s)
+  pub fields : (s k : ℕ) → IsAlone m.now (m.words_pending s k)
 
 -- a worker at power on
 abbrev pub idle : Local

@@ -8,7 +8,7 @@ use Rattle.bz_swap_machine.specs.declared.status.SwapStatus.TheVariants.{Undecid
 use Rattle.bz_swap_machine.specs.declared.status.Verdict.{Verdict}
 use Rattle.bz_swap_machine.specs.declared.status.Verdict.TheVariants.{Succeeded, Failed}
 use Rattle.bz_swap_machine.specs.declared.place.Place.{Place}
-use Rattle.bz_swap_machine.specs.declared.place.Place.TheVariants.{Idle, Prepare, Learn, Help, ReadWord, AskRead, FenceRead, ClearRead, LoadWord, FlushLine, StoreWord, AskLine, FenceLine}
+use Rattle.bz_swap_machine.specs.declared.place.Place.TheVariants.{Idle, Prepare, Learn, Help, ReadWord, AskRead, FenceRead, ClearRead, LoadWord, StoreWord, AskLine, FenceLine}
 use Rattle.bz_swap_machine.specs.declared.place.PrepareStep.{PrepareStep}
 use Rattle.bz_swap_machine.specs.declared.place.PrepareStep.TheVariants.{WriteWord, WriteStatus, AskHead, AskTail, FenceDescriptor}
 use Rattle.bz_swap_machine.specs.declared.place.HelpStep.TheVariants.{Look, InstallTag}
@@ -117,7 +117,6 @@ act m w l (AskRead a v) = goes_on (with_ask m w (line_of a)) l (FenceRead a v)
 act m w l (FenceRead a v) = goes_on (fenced m w) l (ClearRead a v)
 act m w l (ClearRead a v) = goes_on (cleared_word m a v (m.cached a)) l (ReadWord a)
 act m w l (LoadWord a) = answers m l (Read (word (m.cached a)))
-act m w l (FlushLine line) = answers m l Flushed
 act m w l (StoreWord a v) = answers (with_word m a (Value v)) l Stored
 act m w l (AskLine line) = goes_on (with_ask m w (line_of (line * 8))) l (FenceLine line)
 act m w l (FenceLine line) = answers (fenced m w) l Flushed

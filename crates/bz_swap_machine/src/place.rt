@@ -1,7 +1,7 @@
 //! Where a worker's next memory act is due.
 
 ghost use Rattle.std.specs.Prelude.{◌≡◌};
-ghost use Rattle.bz_swap_machine.specs.Flushes.{is_flush as flushes, helps_by_flush, prepares_by_flush};
+ghost use Rattle.bz_swap_machine.specs.Fences.{is_fence as fences, helps_by_fence, prepares_by_fence};
 
 use crate::status::Verdict;
 
@@ -27,11 +27,9 @@ pub enum Place {
     LoadWord(u32),
     /// Store a word: a private one, or in a recovery time any.
     StoreWord { address: u32, value: u64 },
-    /// Flush a line as it is: worker 0, in a recovery time.
-    FlushLine(u32),
-    /// Ask for a line.
+    /// Ask for the line that is flushed: one outside the descriptors, or in a recovery time any.
     AskLine(u32),
-    /// Fence, so that it is durable.
+    /// Fence, so that the line is durable.
     FenceLine(u32),
 }
 
@@ -144,9 +142,9 @@ pub enum Next {
 }
 
 impl PrepareStep {
-    /// Whether the act is a flush.
-    pub fn is_flush(&self) -> bool
-        ensures { result ≡ prepares_by_flush self.now }
+    /// Whether the act is a fence.
+    pub fn is_fence(&self) -> bool
+        ensures { result ≡ prepares_by_fence self.now }
     {
         matches!(self, PrepareStep::FenceDescriptor)
     }
@@ -154,8 +152,8 @@ impl PrepareStep {
 
 impl HelpStep {
     /// Whether the act is a fence.
-    pub fn is_flush(&self) -> bool
-        ensures { result ≡ helps_by_flush self.now }
+    pub fn is_fence(&self) -> bool
+        ensures { result ≡ helps_by_fence self.now }
     {
         matches!(
             self,
@@ -168,14 +166,14 @@ impl HelpStep {
 }
 
 impl Place {
-    /// Whether the act that is due is a fence, or a flush.
-    pub fn is_flush(&self) -> bool
-        ensures { result ≡ flushes self.now }
+    /// Whether the act that is due is a fence.
+    pub fn is_fence(&self) -> bool
+        ensures { result ≡ fences self.now }
     {
         match self {
-            Place::Prepare(step) => step.is_flush(),
-            Place::Help(step) => step.is_flush(),
-            Place::FenceRead { .. } | Place::FenceLine(_) | Place::FlushLine(_) => true,
+            Place::Prepare(step) => step.is_fence(),
+            Place::Help(step) => step.is_fence(),
+            Place::FenceRead { .. } | Place::FenceLine(_) => true,
             _ => false,
         }
     }

@@ -10,12 +10,11 @@ use Rattle.bz_swap_acts.specs.declared.acted.Act.TheVariants as act
 use Rattle.bz_layout.specs.declared.limits.TheConstants.{MAX_WORKERS}
 use Rattle.bz_mark.specs.WordsAfter.{state_after}
 use Rattle.bz_mark.specs.declared.marks.Mark.TheVariants.{Evict, Cut}
-use Rattle.bz_pm.specs.Acts.{with_line, stored, flushed}
+use Rattle.bz_pm.specs.Acts.{stored}
 use Rattle.bz_pm.specs.After.{next_moment, line_words, with_ask, settled, opened as memory_opened}
 use Rattle.bz_pm.specs.State.{State, asks_of}
 use Rattle.bz_pm.specs.Words.{Words}
 use Rattle.bz_pm.specs.declared.asks.Ask.{Ask}
-use Rattle.bz_pm.proofs.Dates.{dates_flushed}
 use Rattle.bz_swap.specs.Evictions.{IsEviction}
 use Rattle.bz_swap.specs.Power.{IsOpened, opened, after_cut as swap_cut, renewed}
 use Rattle.bz_swap.specs.Steps.{IsOneAct}
@@ -24,7 +23,7 @@ use Rattle.bz_swap.specs.SwapMemory.{SwapMemory, memory_words, memory_state}
 use Rattle.bz_swap.proofs.Fresh.{all-same}
 use Rattle.bz_swap.proofs.WordActs.{set-keeps}
 use Rattle.bz_swap_machine.specs.declared.done.Done.{Done}
-use Rattle.bz_swap_marks.specs.Past.{SamePast, IsClean}
+use Rattle.bz_swap_marks.specs.Past.{SamePast, IsClean, IsCleanBut}
 use Rattle.bz_swap_marks.specs.Marks.{mark_of}
 
 -- two memories that differ at most in for how many workers they are
@@ -63,13 +62,6 @@ alike-act o s w (act.Cas a old new found_word) h within found = record {
   words = ap (λ (x : ℕ). swapped x old new a o.words) (sym found) ∙ ap (swapped found_word old new a) h.words;
   count = h.count;
   since = h.since;
-  asks = h.asks;
-  workers = h.workers;
-}
-alike-act o s w (act.Flush line) h within found = record {
-  words = ap (λ ws. flushed ws line) h.words;
-  count = h.count;
-  since = λ i. with_line line (replicate (length (h.since i)) (h.count i)) (h.since i);
   asks = h.asks;
   workers = h.workers;
 }
@@ -120,54 +112,37 @@ cut-past m s h = record {
   workers = omega (arith, h.workers, length-replicate {A = List Ask} (length m.past.asks) [], length-replicate {A = List Ask} (length s.asks) []);
 }
 
--- from it on nothing is asked for
+-- after it nobody waits for a fence
 pub cut-clean : (m : SwapMemory) → IsClean (swap_cut m).past
-cut-clean m = record { count = refl; since = λ a. all-same (length m.past.since) a 0; asks = λ w. all-same (length m.past.asks) w [] }
+cut-clean m = λ v. all-same (length m.past.asks) v []
 
--- loads, stores and flushes leave it so
+-- loads and stores leave it so
 abbrev pub IsPlainAct : Act → Type 0
 IsPlainAct (act.Load a v) = Unit {0}
 IsPlainAct (act.Store a v) = Unit {0}
-IsPlainAct (act.Cas a old new found) = ⊥
-IsPlainAct (act.Flush line) = Unit {0}
-IsPlainAct (act.Ask line) = ⊥
-IsPlainAct act.Fence = ⊥
-
-if-zero : (t : Bool) (x y : ℕ) → x ≡ 0 → y ≡ 0 → (if t then x else y) ≡ 0
-if-zero true x y e f = e
-if-zero false x y e f = f
+IsPlainAct other = ⊥
 
 pub act-clean : (old new : SwapMemory) (w : ℕ) (made : Act) (done : Done) → IsOneAct old w made done new → IsPlainAct made → IsClean old.past → IsClean new.past
-act-clean old new w (act.Load a v) done one plain c = subst IsClean (ap (λ (s : State). record { count = s.count; since = s.since; asks = s.asks }) (sym one.act.after)) c
-act-clean old new w (act.Store a v) done one plain c = subst IsClean (ap (λ (s : State). record { count = s.count; since = s.since; asks = s.asks }) (sym one.act.after)) c
-act-clean old new w (act.Cas a was now found) done one plain c = absurd plain
-act-clean old new w (act.Ask line) done one plain c = absurd plain
-act-clean old new w act.Fence done one plain c = absurd plain
-act-clean old new w (act.Flush line) done one plain c = subst IsClean (ap (λ (s : State). record { count = s.count; since = s.since; asks = s.asks }) (sym one.act.after)) (record {
-  count = c.count;
-  since = λ a. dates_flushed (memory_state old) line a one.may.state one.within ∙ if-zero (a / 8 == line) old.past.count (slice_index old.past.since a) c.count (c.since a);
-  asks = c.asks;
-})
+act-clean old new w (act.Load a v) done one plain c = λ u. ap (λ (s : State). asks_of s u) one.act.after ∙ c u
+act-clean old new w (act.Store a v) done one plain c = λ u. ap (λ (s : State). asks_of s u) one.act.after ∙ c u
+act-clean old new w other done one plain c = absurd plain
 
-pub evict-clean : (old new : SwapMemory) (a : ℕ) (told : Option ℕ) → IsEviction old a told new → IsClean old.past → IsClean new.past
-evict-clean old new a told e c = subst (λ (m : SwapMemory). IsClean m.past) (sym e.is) (record {
-  count = c.count;
-  since = λ b. set-keeps (λ x. x ≡ 0) old.past.since a old.past.count b (λ here. c.count) (c.since b);
-  asks = c.asks;
-})
+-- an ask is the worker's own, and is fenced by its fence
+pub ask-clean : (old new : SwapMemory) (w line : ℕ) (done : Done) → IsOneAct old w (act.Ask line) done new → IsClean old.past → IsCleanBut w new.past
+ask-clean old new w line done one c = λ v ne. ap (λ (s : State). asks_of s v) one.act.after ∙ (get_or-set_other old.past.asks w v _ [] ne ∙ c v)
 
--- so a renewal changes nothing that the journal says
-zeros : (xs : List ℕ) → ((a : ℕ) → slice_index xs a ≡ 0) → xs ≡ replicate (length xs) 0
-zeros [] all = refl
-zeros (x ∷ xs) all = λ i. all 0 i ∷ zeros xs (λ a. all (suc a)) i
+pub fence-clean : (old new : SwapMemory) (w : ℕ) (done : Done) → IsOneAct old w act.Fence done new → IsCleanBut w old.past → IsClean new.past
+fence-clean old new w done one c = λ v. ap (λ (s : State). asks_of s v) one.act.after ∙ elim (cases_eq v w) [
+  | inl is ↦ rw is (get_or-set_same old.past.asks w [] [] one.may.worker)
+  | inr ne ↦ get_or-set_other old.past.asks w v [] [] ne ∙ c v ne
+]
 
-pub renewed-past : (m : SwapMemory) (s : State) → IsClean m.past → SamePast m s → SamePast (renewed m) s
-renewed-past m s c h = record {
-  count = sym c.count ∙ h.count;
-  since = sym (zeros m.past.since c.since) ∙ h.since;
-  asks = λ w. all-same (length m.past.asks) w [] ∙ (sym (c.asks w) ∙ h.asks w);
-  workers = omega (arith, h.workers, length-replicate {A = List Ask} (length m.past.asks) []);
-}
+pub evict-asks : (old new : SwapMemory) (a : ℕ) (told : Option ℕ) → IsEviction old a told new → (v : ℕ) → get_or new.past.asks v [] ≡ get_or old.past.asks v []
+evict-asks old new a told e v = ap (λ (m : SwapMemory). get_or m.past.asks v []) e.is
+
+-- a renewal changes nothing that the journal says
+pub renewed-past : (m : SwapMemory) (s : State) → SamePast m s → SamePast (renewed m) s
+renewed-past m s h = record { count = h.count; since = h.since; asks = h.asks; workers = h.workers }
 
 -- a memory as it is opened keeps what a journal without marks says
 pub fresh-past : (phase : Phase) (start : List ℕ) (swaps workers : ℕ) → workers ≤ MAX_WORKERS → SamePast (opened phase start swaps workers) (memory_opened start MAX_WORKERS)
@@ -181,6 +156,6 @@ fresh-past phase start swaps workers few = record {
 pub opened-past : (m : SwapMemory) (start : List ℕ) (swaps workers : ℕ) → IsOpened m start swaps workers → workers ≤ MAX_WORKERS → SamePast m (memory_opened start MAX_WORKERS)
 opened-past m start swaps workers o few = subst (λ (n : SwapMemory). SamePast n (memory_opened start MAX_WORKERS)) (sym o.is) (fresh-past o.phase start swaps workers few)
 
--- and nothing is asked for
+-- and nobody waits for a fence
 pub opened-clean : (m : SwapMemory) (start : List ℕ) (swaps workers : ℕ) → IsOpened m start swaps workers → IsClean m.past
-opened-clean m start swaps workers o = subst (λ (n : SwapMemory). IsClean n.past) (sym o.is) (record { count = refl; since = λ a. all-same (length start) a 0; asks = λ w. all-same (workers + 1) w [] })
+opened-clean m start swaps workers o = subst (λ (n : SwapMemory). IsClean n.past) (sym o.is) (λ v. all-same (workers + 1) v [])

@@ -1,5 +1,5 @@
 -- What the swap memory keeps of the past, and what the journal says of it.
-use Rattle.std.specs.Prelude.{◌≡◌, ℕ, ◌≤◌, [], length, get_or, slice_index}
+use Rattle.std.specs.Prelude.{◌≡◌, ◌≢◌, ℕ, ◌≤◌, [], length, get_or}
 use Rattle.bz_swap_cells.specs.Store.{Past}
 use Rattle.bz_pm.specs.State.{State, asks_of}
 use Rattle.bz_swap.specs.SwapMemory.{SwapMemory}
@@ -11,8 +11,9 @@ pub record SamePast (m : SwapMemory) (s : State) : Type 0 where
   pub asks : (w : ℕ) → get_or m.past.asks w [] ≡ asks_of s w
   pub workers : length m.past.asks ≤ length s.asks
 
--- from a power cut to a renewal nothing is asked for
-pub record IsClean (p : Past) : Type 0 where
-  pub count : p.count ≡ 0
-  pub since : (a : ℕ) → slice_index p.since a ≡ 0
-  pub asks : (w : ℕ) → get_or p.asks w [] ≡ []
+-- nobody waits for a fence, or at most worker w does
+abbrev pub IsClean : Past → Type 0
+IsClean p = (v : ℕ) → get_or p.asks v [] ≡ []
+
+abbrev pub IsCleanBut : ℕ → Past → Type 0
+IsCleanBut w p = (v : ℕ) → v ≢ w → get_or p.asks v [] ≡ []

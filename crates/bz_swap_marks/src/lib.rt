@@ -21,7 +21,6 @@ pub fn mark_of(w: u8, act: Act) -> Mark
             new,
             found,
         },
-        Act::Flush { line } => Mark::Flush { w, line },
         Act::Ask { line } => Mark::Ask { w, line },
         Act::Fence => Mark::Fence { w },
     }

@@ -1,6 +1,7 @@
 pub mod Ahead
 pub mod Entries
 pub mod Finding
+pub mod Flushing
 pub mod Freeings
 pub mod Images
 pub mod Lawful

@@ -1,7 +1,8 @@
 -- What this crate proves, as lemmas that other crates cite by these names.
 use Rattle.std.proofs.Common.{arith, sym, ◌∙◌}
-use Rattle.bz_pm.proofs.Proved.{cut, evict, flush, store}
+use Rattle.bz_pm.proofs.Proved.{cut, evict, store}
 use Rattle.bz_sweep.proofs.Ahead.{copied-left, stored-left}
+use Rattle.bz_sweep.proofs.Flushing.{ask-flushes}
 use Rattle.bz_sweep.proofs.Images.{keeps}
 use Rattle.bz_sweep.proofs.Lawful.{same}
 use Rattle.bz_sweep.proofs.Nearness.{cached-word, copies-resolve, near}
@@ -30,7 +31,7 @@ cuts_keep_the_image = λ r v old new image cuts. record {
 pub acts_are_these : ActsAreThese
 acts_are_these = record {
   store = λ m a x is within small. (let h = store m a x is within small in record { cached = h.cached; durable = h.durable });
-  flush = λ m line is within. (let h = flush m line is within in record { cached = h.cached; durable = h.durable });
+  flush = ask-flushes;
   evict = λ m a is within. (let h = evict m a is within in record { cached = h.cached; durable = h.durable });
   cut = λ m is. (let h = cut m is in record { cached = h.cached; durable = h.durable });
 }

@@ -34,6 +34,11 @@ asks_in (Free s) = Some (Store (swap_address s) 0)
 asks_in (FlushFree s) = Some (FlushLine (line_of (swap_address s)))
 asks_in Done = Some Finish
 
+-- how many acts an ask takes: a flush is an ask for its line and a fence
+abbrev pub acts_in : Option Ask → ℕ
+acts_in (Some (FlushLine line)) = 2
+acts_in asks = 1
+
 -- what is known of a pointer whose descriptor's status was read, where the first so many entries have other targets
 pub record IsSought (m : Memory) (a : ℕ) (q : Pointer) (i : ℕ) : Type 0 where
   pub pointer : kind (m.durable a) ≡ Swap q.swap

@@ -1,10 +1,12 @@
 -- The laws of a sweep's acts, whatever its phase.
-use Rattle.std.specs.Prelude.{◌≡◌, ℕ, ◌*◌, ◌^◌, ◌<◌, length}
+use Rattle.std.specs.Prelude.{◌≡◌, ℕ, ◌-◌, ◌*◌, ◌^◌, ◌<◌, [], length}
 use Rattle.bz_layout.specs.Config.{IsConfig}
 use Rattle.bz_layout.specs.declared.config.Config.{Config}
 use Rattle.bz_layout.specs.declared.sizes.TheConstants.{LINE_WORDS}
-use Rattle.bz_pm.specs.Acts.{stored, flushed, evicted, after_cut}
-use Rattle.bz_pm.specs.Words.{Words, IsMemory}
+use Rattle.bz_pm.specs.Acts.{stored, evicted, after_cut}
+use Rattle.bz_pm.specs.After.{after_ask, after_fence}
+use Rattle.bz_pm.specs.State.{State, IsState, asks_of}
+use Rattle.bz_pm.specs.Words.{Words, IsMemory, HoldsWords}
 use Rattle.bz_swap.specs.Power.{MayRenew}
 use Rattle.bz_swap.specs.SwapMemory.{SwapMemory, Idle, doing_of, memory_words as words_in}
 use Rattle.bz_sweep.specs.Areas.{area_of, size_of, IsArea}
@@ -32,7 +34,9 @@ CutsKeepTheImage = (r : Area) (values : ℕ → ℕ) (old new : Memory) → IsIm
 -- what the acts of a simulated memory leave
 pub record ActsAreThese : Type 0 where
   pub store : (m : Words) (a x : ℕ) → IsMemory m → a < length m.cached → x < 2 ^ 64 → StoresWord (memory_of m) (memory_of (stored m a x)) a x
-  pub flush : (m : Words) (line : ℕ) → IsMemory m → line * LINE_WORDS < length m.cached → Flushes (memory_of m) (memory_of (flushed m line)) line
+  -- an ask for a line, and then the fence of this worker, which has asked for nothing else
+  pub flush : (m : State) (w line : ℕ) → IsState m → HoldsWords m.words → m.count < 2 ^ 64 - 1 → w < length m.asks → asks_of m w ≡ [] → line * LINE_WORDS < length m.words.cached
+      → Flushes (memory_of m.words) (memory_of (after_fence (after_ask m w line) w).words) line
   pub evict : (m : Words) (a : ℕ) → IsMemory m → a < length m.cached → Evicts (memory_of m) (memory_of (evicted m a)) a
   pub cut : (m : Words) → IsMemory m → Cuts (memory_of m) (memory_of (after_cut m))
 

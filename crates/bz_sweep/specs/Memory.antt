@@ -22,7 +22,7 @@ pub record Copies (old new : Memory) (copied : ℕ → Bool) : Type 0 where
   pub cached : (b : ℕ) → new.cached b ≡ old.cached b
   pub durable : (b : ℕ) → new.durable b ≡ (if copied b then old.cached b else old.durable b)
 
--- a flush makes a line durable, an eviction one word
+-- a flush, which is an ask and its fence, makes a line durable, an eviction one word
 abbrev pub Flushes : Memory → Memory → ℕ → Type 0
 Flushes old new line = Copies old new (λ b. line_of b == line)
 

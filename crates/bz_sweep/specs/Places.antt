@@ -56,7 +56,7 @@ abbrev pub lines_ahead : Area → ℕ → ℕ
 lines_ahead r a = line_of (size_of r) - line_of a
 
 -- the most acts for a word: two loads and a store; five loads more for a pointer; and the most for a descriptor. Beside them
--- each line is flushed at most once.
+-- each line is flushed at most once, by an ask and a fence.
 abbrev pub WORD_ACTS : ℕ
 WORD_ACTS = 3
 
@@ -64,11 +64,14 @@ abbrev pub POINTER_ACTS : ℕ
 POINTER_ACTS = 5
 
 abbrev pub SWAP_ACTS : ℕ
-SWAP_ACTS = 3
+SWAP_ACTS = 4
+
+abbrev pub FLUSH_ACTS : ℕ
+FLUSH_ACTS = 2
 
 -- acts that are left once so many were made for a word, where so many pointers may still come
 abbrev pub left_at : Area → ℕ → ℕ → ℕ → ℕ
-left_at r pointers a made = SWAP_ACTS * r.swaps + 1 + WORD_ACTS * words_ahead r a + lines_ahead r a + POINTER_ACTS * pointers - made
+left_at r pointers a made = SWAP_ACTS * r.swaps + 1 + WORD_ACTS * words_ahead r a + FLUSH_ACTS * lines_ahead r a + POINTER_ACTS * pointers - made
 
 -- and for a descriptor
 abbrev pub swaps_left : Area → ℕ → ℕ → ℕ
@@ -83,10 +86,10 @@ left_in r pointers (Status p s) = left_at r (pointers p.at) p.at 1
 left_in r pointers (Target p q i) = left_at r (pointers p.at) p.at (2 + i)
 left_in r pointers (Value p a) = left_at r (pointers (p.at + 1)) p.at 1
 left_in r pointers (Resolve p x) = left_at r (pointers (p.at + 1)) p.at 2
-left_in r pointers (Flush p) = left_at r (pointers (p.at + 1)) p.at 3
+left_in r pointers (Flush p) = left_at r (pointers (p.at + 1)) p.at 4
 left_in r pointers (SwapStatus s) = swaps_left r s 0
 left_in r pointers (Free s) = swaps_left r s 1
-left_in r pointers (FlushFree s) = swaps_left r s 2
+left_in r pointers (FlushFree s) = swaps_left r s 3
 left_in r pointers Done = 0
 
 -- each descriptor has so many entries, and so many pointers at most: the most acts of a whole sweep

@@ -3,7 +3,7 @@
 ghost use Rattle.std.specs.Prelude.{◌≡◌, ◌≢◌, ◌+◌, ◌*◌, ◌<◌, ◌≤◌, ◌↔◌, ℕ, Some, None, IsTrue};
 ghost use Rattle.bz_layout.specs.Addresses.{swap_address};
 ghost use Rattle.bz_sweep.specs.Areas.{size_of, IsArea};
-ghost use Rattle.bz_sweep.specs.Duties.{Stage, Asked, Made, knows_before, area_in, asks_in, asks_of, changed_in, changed_after, changed_line, left_with, left_of, acts_left, HasEnded, Knows, Hears, Tells, IsReady};
+ghost use Rattle.bz_sweep.specs.Duties.{Stage, Asked, Made, knows_before, area_in, asks_in, asks_of, acts_in, changed_in, changed_after, changed_line, left_with, left_of, acts_left, HasEnded, Knows, Hears, Tells, IsReady};
 ghost use Rattle.bz_sweep.specs.Laws.{IsAskable};
 ghost use Rattle.bz_sweep.specs.Memory.{Memory, StoresWord, Flushes, Evicts};
 ghost use Rattle.bz_sweep.specs.Places.{IsPlaced, left_in, swaps_left, sweep_acts, MOST_ACTS, IsFalling, IsCounted};
@@ -66,9 +66,9 @@ impl Sweep {
         requires hears { Hears self.old answer }
         ensures ready { IsReady self.new }
         ensures asked { asks_of self.new ≡ Some result }
-        ensures nearer { left_of self.new < left_of self.old }
+        ensures nearer { left_of self.new + acts_in (asks_of self.new) ≤ left_of self.old }
         // and over a memory that it knows
-        ensures sooner { (values : ℕ → ℕ) (m : Memory) → Knows self.old values Made m → acts_left self.new m < acts_left self.old m }
+        ensures sooner { (values : ℕ → ℕ) (m : Memory) → Knows self.old values Made m → acts_left self.new m + acts_in (asks_of self.new) ≤ acts_left self.old m }
         ensures area { area_in self.new ≡ area_in self.old }
         // it flushes no line but the one that it has changed since that was flushed last
         ensures changed { changed_line self.new ≡ changed_after (asks_of self.old) answer (changed_line self.old) }
@@ -113,7 +113,7 @@ impl Sweep {
         ensures begun { result ≢ SweepPhase.Fresh }
         ensures first { asks_of self.now ≡ None → asks_in result ≡ Some (Load 0) }
         ensures changed { changed_in result ≡ changed_after (asks_of self.now) answer (changed_in self.now.phase) }
-        ensures nearer { (pointers : ℕ → ℕ) → IsFalling pointers → IsCounted pointers self.now.phase → left_in self.now.area pointers result < left_with pointers self.now }
+        ensures nearer { (pointers : ℕ → ℕ) → IsFalling pointers → IsCounted pointers self.now.phase → left_in self.now.area pointers result + acts_in (asks_in result) ≤ left_with pointers self.now }
         ensures learns { (v : ℕ → ℕ) (m : Memory) → Knows self.now v Made m → Tells self.now answer m → knows_before self.now.area v m result }
     {
         let area = &self.area;
@@ -180,7 +180,7 @@ fn freed(area: &Area, swap: u32) -> SweepPhase
     ensures place { IsPlaced area.now result }
     ensures begun { result ≢ SweepPhase.Fresh }
     ensures changed { changed_in result ≡ None }
-    ensures nearer { (pointers : ℕ → ℕ) → left_in area.now pointers result < swaps_left area.now swap 2 }
+    ensures nearer { (pointers : ℕ → ℕ) → left_in area.now pointers result + acts_in (asks_in result) ≤ swaps_left area.now swap 3 }
     ensures learns { (v : ℕ → ℕ) (m : Memory) → IsFreeing area.now v m (swap + 1) (swap + 1) → knows_before area.now v m result }
 {
     let next = swap + 1;

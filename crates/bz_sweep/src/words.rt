@@ -3,7 +3,7 @@
 ghost use Rattle.std.specs.Prelude.{◌≡◌, ◌≢◌, ◌+◌, ◌%◌, ◌^◌, ◌<◌, ◌≤◌, if◌then◌else◌, ℕ, Some, None, true, false};
 ghost use Rattle.bz_layout.specs.Addresses.{swap_address, line_of};
 ghost use Rattle.bz_sweep.specs.Areas.{IsArea};
-ghost use Rattle.bz_sweep.specs.Duties.{IsSought, knows_before, changed_at, changed_in};
+ghost use Rattle.bz_sweep.specs.Duties.{IsSought, asks_in, acts_in, knows_before, changed_at, changed_in};
 ghost use Rattle.bz_sweep.specs.Memory.{Memory};
 ghost use Rattle.bz_sweep.specs.Places.{IsSpot, IsPlaced, IsNextShared, entry_address, left_in, left_at, IsFalling};
 ghost use Rattle.bz_sweep.specs.Words.{IsShared, IsSwept};
@@ -59,8 +59,8 @@ fn onward(area: &Area, spot: Spot, changed: bool) -> SweepPhase
     requires line { changed ≡ true → (spot.at + 1) % LINE_WORDS ≢ 0 }
     ensures place { IsPlaced area.now result }
     ensures begun { result ≢ SweepPhase.Fresh }
-    ensures nearer { (pointers : ℕ → ℕ) → IsFalling pointers → left_in area.now pointers result < left_at area.now (pointers (spot.at + 1)) spot.at 2 }
-    ensures past_line { (pointers : ℕ → ℕ) → IsFalling pointers → (spot.at + 1) % LINE_WORDS ≡ 0 → left_in area.now pointers result < left_at area.now (pointers (spot.at + 1)) spot.at 3 }
+    ensures nearer { (pointers : ℕ → ℕ) → IsFalling pointers → left_in area.now pointers result + acts_in (asks_in result) ≤ left_at area.now (pointers (spot.at + 1)) spot.at 2 }
+    ensures past_line { (pointers : ℕ → ℕ) → IsFalling pointers → (spot.at + 1) % LINE_WORDS ≡ 0 → left_in area.now pointers result + acts_in (asks_in result) ≤ left_at area.now (pointers (spot.at + 1)) spot.at 4 }
     ensures line { changed_in result ≡ (if changed then Some (line_of spot.at) else None) }
     ensures learns { (v : ℕ → ℕ) (m : Memory) → IsSwept area.now v m (if changed then spot.unflushed else spot.at + 1) (spot.at + 1) → knows_before area.now v m result }
 {
@@ -79,7 +79,7 @@ pub(crate) fn flushed(area: &Area, spot: Spot) -> SweepPhase
     requires line { (spot.at + 1) % LINE_WORDS ≡ 0 }
     ensures place { IsPlaced area.now result }
     ensures begun { result ≢ SweepPhase.Fresh }
-    ensures nearer { (pointers : ℕ → ℕ) → IsFalling pointers → left_in area.now pointers result < left_at area.now (pointers (spot.at + 1)) spot.at 3 }
+    ensures nearer { (pointers : ℕ → ℕ) → IsFalling pointers → left_in area.now pointers result + acts_in (asks_in result) ≤ left_at area.now (pointers (spot.at + 1)) spot.at 4 }
     ensures line { changed_in result ≡ None }
     ensures learns { (v : ℕ → ℕ) (m : Memory) → IsSwept area.now v m (spot.at + 1) (spot.at + 1) → knows_before area.now v m result }
 {
@@ -92,7 +92,7 @@ pub(crate) fn resolved(area: &Area, spot: Spot, stored: bool) -> SweepPhase
     requires spot { IsSpot area.now spot }
     ensures place { IsPlaced area.now result }
     ensures begun { result ≢ SweepPhase.Fresh }
-    ensures nearer { (pointers : ℕ → ℕ) → IsFalling pointers → left_in area.now pointers result < left_at area.now (pointers (spot.at + 1)) spot.at 2 }
+    ensures nearer { (pointers : ℕ → ℕ) → IsFalling pointers → left_in area.now pointers result + acts_in (asks_in result) ≤ left_at area.now (pointers (spot.at + 1)) spot.at 2 }
     ensures line { changed_in result ≡ (if stored then Some (line_of spot.at) else changed_at spot) }
     ensures learns { (v : ℕ → ℕ) (m : Memory) → IsSwept area.now v m spot.unflushed (spot.at + 1) → (stored ≡ false → m.durable spot.at ≡ v spot.at) → knows_before area.now v m result }
 {
@@ -109,7 +109,7 @@ pub(crate) fn found(area: &Area, spot: Spot, word: u64) -> SweepPhase
     requires spot { IsSpot area.now spot }
     ensures place { IsPlaced area.now result }
     ensures begun { result ≢ SweepPhase.Fresh }
-    ensures nearer { (pointers : ℕ → ℕ) → IsFalling pointers → left_in area.now pointers result < left_at area.now (pointers spot.at) spot.at 0 }
+    ensures nearer { (pointers : ℕ → ℕ) → IsFalling pointers → left_in area.now pointers result + acts_in (asks_in result) ≤ left_at area.now (pointers spot.at) spot.at 0 }
     ensures line { changed_in result ≡ changed_at spot }
     ensures learns { (v : ℕ → ℕ) (m : Memory) → IsSwept area.now v m spot.unflushed spot.at → m.cached spot.at ≡ word → knows_before area.now v m result }
 {
@@ -131,7 +131,7 @@ pub(crate) fn sought(spot: Spot, pointer: Pointer, entry: u32, target: u64) -> S
     requires { entry < MAX_ENTRIES }
     ensures place { (r : Area) → IsArea r → IsSpot r spot → IsPlaced r result }
     ensures begun { result ≢ SweepPhase.Fresh }
-    ensures nearer { (r : Area) (pointers : ℕ → ℕ) → IsSpot r spot → pointers (spot.at + 1) < pointers spot.at → left_in r pointers result < left_at r (pointers spot.at) spot.at (2 + entry) }
+    ensures nearer { (r : Area) (pointers : ℕ → ℕ) → IsSpot r spot → pointers (spot.at + 1) < pointers spot.at → left_in r pointers result + acts_in (asks_in result) ≤ left_at r (pointers spot.at) spot.at (2 + entry) }
     ensures line { changed_in result ≡ changed_at spot }
     ensures learns { (r : Area) (v : ℕ → ℕ) (m : Memory) → IsSpot r spot → IsSwept r v m spot.unflushed spot.at → IsSought m spot.at pointer entry → m.cached (entry_address pointer.swap entry TARGET) ≡ target → knows_before r v m result }
 {

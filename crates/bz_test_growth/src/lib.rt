@@ -1,5 +1,5 @@
 //! Tests of worlds whose trees grow: leaves copied, and nodes of each level split, alone, at once and cut; and calls cut before each
-//! of their flushes.
+//! of their fences.
 #![tactic(auto)]
 
 #[cfg(test)]

@@ -4,7 +4,7 @@ mod below;
 mod bench;
 mod cuts;
 mod decode;
-mod flushes;
+mod fences;
 mod inner;
 mod levels;
 mod merging;

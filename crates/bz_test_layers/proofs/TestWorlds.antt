@@ -329,9 +329,9 @@ cut-world m words descriptors workers marks new stored long none t = record {
 }
 
 -- after a renewal every word is settled
-pub renewed-world : (m : SwapMemory) (words descriptors workers : ℕ) (marks new stored after : List Bool) → MayRenew m → length new ≡ length marks → ((a : ℕ) → get_or new a false ≡ false) → length after ≡ length stored
+pub renewed-world : (m : SwapMemory) (words descriptors workers : ℕ) (marks new stored after : List Bool) → MayRenew m → ((w : ℕ) → get_or m.past.asks w [] ≡ []) → length new ≡ length marks → ((a : ℕ) → get_or new a false ≡ false) → length after ≡ length stored
     → IsTestWorld m words descriptors workers marks stored → IsTestWorld (renewed m) words descriptors workers new after
-renewed-world m words descriptors workers marks new stored after may long none same t = record {
+renewed-world m words descriptors workers marks new stored after may asks long none same t = record {
   sized = record {
     cached = t.sized.cached;
     durable = t.sized.durable;
@@ -344,7 +344,7 @@ renewed-world m words descriptors workers marks new stored after may long none s
   };
   calm = t.calm;
   noted = same ∙ t.noted;
-  settled = λ a out ne private fresh. settled_words_stay.renewal m a (may.same a out);
+  settled = λ a out ne private fresh. settled_words_stay.renewal m a asks (may.same a out);
 }
 
 -- as it is opened

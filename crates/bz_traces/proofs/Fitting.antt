@@ -6,7 +6,7 @@ use Rattle.bz_layout.specs.Addresses.{words_of}
 use Rattle.bz_layout.specs.declared.config.Config.{Config}
 use Rattle.bz_layout.specs.declared.limits.TheConstants.{MAX_CALLS, MAX_PAGES}
 use Rattle.bz_mark.specs.declared.marks.Mark.{Mark}
-use Rattle.bz_mark.specs.declared.marks.Mark.TheVariants.{Begin, End, Load, Store, Cas, Flush, Ask, Fence, Evict, Cut, On, Ready, Effect}
+use Rattle.bz_mark.specs.declared.marks.Mark.TheVariants.{Begin, End, Load, Store, Cas, Ask, Fence, Evict, Cut, On, Ready, Effect}
 use Rattle.bz_mark.specs.Log.{Log, count_begins, count_ends, count_page_ends}
 use Rattle.bz_lines.specs.Ranges.{IsInRange, IsNumbered, ArePairs, tells_page}
 use Rattle.bz_traces.specs.Fitting.{AreInRange, AreNumbered, AreFew, Fits}
@@ -20,7 +20,6 @@ pages_count (End w n reply at) past = refl
 pages_count (Load w a v) past = refl
 pages_count (Store w a v) past = refl
 pages_count (Cas w a old new found) past = refl
-pages_count (Flush w line) past = refl
 pages_count (Ask w line) past = refl
 pages_count (Fence w) past = refl
 pages_count (Evict a) past = refl
@@ -41,7 +40,6 @@ calls_more past (End w n reply at) = record { begins = omega arith; ends = omega
 calls_more past (Load w a v) = record { begins = omega arith; ends = omega arith; room = λ b e. tt }
 calls_more past (Store w a v) = record { begins = omega arith; ends = omega arith; room = λ b e. tt }
 calls_more past (Cas w a old new found) = record { begins = omega arith; ends = omega arith; room = λ b e. tt }
-calls_more past (Flush w line) = record { begins = omega arith; ends = omega arith; room = λ b e. tt }
 calls_more past (Ask w line) = record { begins = omega arith; ends = omega arith; room = λ b e. tt }
 calls_more past (Fence w) = record { begins = omega arith; ends = omega arith; room = λ b e. tt }
 calls_more past (Evict a) = record { begins = omega arith; ends = omega arith; room = λ b e. tt }
@@ -129,7 +127,6 @@ calls_few past (End w n reply at) room b e = (b, omega (arith, room))
 calls_few past (Load w a v) room b e = (b, e)
 calls_few past (Store w a v) room b e = (b, e)
 calls_few past (Cas w a old new found) room b e = (b, e)
-calls_few past (Flush w line) room b e = (b, e)
 calls_few past (Ask w line) room b e = (b, e)
 calls_few past (Fence w) room b e = (b, e)
 calls_few past (Evict a) room b e = (b, e)

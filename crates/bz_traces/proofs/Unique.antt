@@ -6,7 +6,7 @@ use Rattle.serde_json.specs.Data.{Data}
 use Rattle.serde_json.specs.Read.{read}
 use Rattle.bz_call.specs.declared.replies.Reply.TheVariants as reply
 use Rattle.bz_mark.specs.declared.marks.Mark.{Mark}
-use Rattle.bz_mark.specs.declared.marks.Mark.TheVariants.{Begin, End, Load, Store, Cas, Flush, Ask, Fence, Evict, Cut, On, Ready, Effect}
+use Rattle.bz_mark.specs.declared.marks.Mark.TheVariants.{Begin, End, Load, Store, Cas, Ask, Fence, Evict, Cut, On, Ready, Effect}
 use Rattle.bz_traces.specs.Journals.{pages_with, IsNext, AreTold, none, more}
 use Rattle.bz_lines.specs.Lines.{line_of, with_end}
 use Rattle.bz_lines.specs.Objects.{pair_data, data_of}
@@ -43,7 +43,6 @@ has_page pages (Begin w n call) pairs is h = tt
 has_page pages (Load w a v) pairs is h = tt
 has_page pages (Store w a v) pairs is h = tt
 has_page pages (Cas w a old new found) pairs is h = tt
-has_page pages (Flush w line) pairs is h = tt
 has_page pages (Ask w line) pairs is h = tt
 has_page pages (Fence w) pairs is h = tt
 has_page pages (Evict a) pairs is h = tt
@@ -69,7 +68,6 @@ page_again pages (Begin w n call) pairs is h tells = absurd (cc)
 page_again pages (Load w a v) pairs is h tells = absurd (cc)
 page_again pages (Store w a v) pairs is h tells = absurd (cc)
 page_again pages (Cas w a old new found) pairs is h tells = absurd (cc)
-page_again pages (Flush w line) pairs is h tells = absurd (cc)
 page_again pages (Ask w line) pairs is h tells = absurd (cc)
 page_again pages (Fence w) pairs is h tells = absurd (cc)
 page_again pages (Evict a) pairs is h tells = absurd (cc)
@@ -172,7 +170,6 @@ line_stays pages (Begin w n call) pairs later is = refl
 line_stays pages (Load w a v) pairs later is = refl
 line_stays pages (Store w a v) pairs later is = refl
 line_stays pages (Cas w a old new found) pairs later is = refl
-line_stays pages (Flush w line) pairs later is = refl
 line_stays pages (Ask w line) pairs later is = refl
 line_stays pages (Fence w) pairs later is = refl
 line_stays pages (Evict a) pairs later is = refl

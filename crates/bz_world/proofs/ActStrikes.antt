@@ -9,7 +9,7 @@ use Rattle.bz_swap_machine.specs.declared.done.Done.TheVariants.{Busy}
 use Rattle.bz_layout.specs.Addresses.{swap_address}
 use Rattle.bz_rivals.specs.Wins.{OwnSwapsWin}
 use Rattle.bz_sight.specs.Acts.{EffectStepsTakePlace}
-use Rattle.bz_sound.specs.Memory.Moments.{IsAfterFlush, map_at_start}
+use Rattle.bz_sound.specs.Memory.Moments.{IsAfterFence, map_at_start}
 use Rattle.bz_swap.specs.EffectPlaces.{EffectsByFlush, EffectsStayInside}
 use Rattle.bz_swap.specs.Steps.{doing_after}
 use Rattle.bz_swap.specs.SwapMemory.{doing_of}
@@ -44,7 +44,7 @@ act-strikes place inside taken begun wins rivals old new w s x made done k is-wo
   taken = act-taken taken begun old new w made done (Some s) k.taken (held old.access k.living.seen.phase k.living.seen.holds) k.living.seen.swaps a (some-worker old k w x is-worker) (pending-begun old k) (λ d v is from. absurd (let never : Store d v ≡ Fence = sym is ∙ flushed.act in cc never));
   marked = act-marked w old.access new.access old.journal made done k.living.words k.living.past a.step.one;
   past = act-kept w old.access new.access old.journal made done k.living.words k.living.past a.step.one;
-  flush = subst (λ (z : Act). IsAfterFlush (mark_of w z ∷ old.journal.past)) (sym flushed.act) tt;
+  flush = subst (λ (z : Act). IsAfterFence (mark_of w z ∷ old.journal.past)) (sym flushed.act) tt;
   decided = flushed.taken;
   follows = act-follows _ (map_at_start old.config old.journal.start) old.journal.past w made (may-act old.at_start old.journal.past w (some-worker old k w x is-worker) (call-is-open old k w x is-worker));
   unnoted = λ t well. wins.unnoted old.access new.access w made done (Some s) t a.step well;

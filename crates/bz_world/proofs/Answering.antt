@@ -13,7 +13,7 @@ use Rattle.bz_solo.specs.Prices.{coming}
 use Rattle.bz_mark.specs.Moments.{at_moment, mark_at}
 use Rattle.bz_mark.proofs.MomentLaws.{at_moment-next}
 use Rattle.bz_mark.specs.declared.marks.Mark.{Mark}
-use Rattle.bz_mark.specs.declared.marks.Mark.TheVariants.{Begin, End, Load, Store, Cas, Flush, Ask, Fence, Evict, Cut, On, Ready, Effect}
+use Rattle.bz_mark.specs.declared.marks.Mark.TheVariants.{Begin, End, Load, Store, Cas, Ask, Fence, Evict, Cut, On, Ready, Effect}
 use Rattle.bz_page.specs.Pages.{IsPageOf}
 use Rattle.bz_any_task.specs.Kinds as kinds
 use Rattle.bz_tree.specs.Order as order
@@ -81,7 +81,6 @@ load-by w (Some (Begin v n c)) past is one e = absurd (true≢false (sym is))
 load-by w (Some (End v n r at)) past is one e = absurd (true≢false (sym is))
 load-by w (Some (Store v a x)) past is one e = absurd (true≢false (sym is))
 load-by w (Some (Cas v a old new found)) past is one e = absurd (true≢false (sym is))
-load-by w (Some (Flush v line)) past is one e = absurd (true≢false (sym is))
 load-by w (Some (Ask v line)) past is one e = absurd (true≢false (sym is))
 load-by w (Some (Fence v)) past is one e = absurd (true≢false (sym is))
 load-by w (Some (Evict a)) past is one e = absurd (true≢false (sym is))

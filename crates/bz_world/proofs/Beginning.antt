@@ -17,7 +17,7 @@ use Rattle.bz_solo.specs.Rounds.{IsBegunAt}
 use Rattle.bz_solo.specs.Sum.{PaysForRound}
 use Rattle.bz_mark.specs.Log.{HasRoom, Limits, with_mark, count_begins, count_page_calls}
 use Rattle.bz_mark.specs.declared.marks.Mark.{Mark}
-use Rattle.bz_mark.specs.declared.marks.Mark.TheVariants.{Begin, End, Load, Store, Cas, Flush, Ask, Fence, Evict, Cut, On, Ready, Effect}
+use Rattle.bz_mark.specs.declared.marks.Mark.TheVariants.{Begin, End, Load, Store, Cas, Ask, Fence, Evict, Cut, On, Ready, Effect}
 use Rattle.bz_any_task.specs.Duties.{config_of, asks_of, swaps_of, needs_of, wants_of, facts_of, makes_no_change}
 use Rattle.bz_any_task.specs.Hearing.{IsLookup}
 use Rattle.bz_any_task.specs.Kinds as kinds
@@ -74,7 +74,6 @@ few-calls w (End v n reply at ∷ past) = few-calls w past
 few-calls w (Load v a x ∷ past) = few-calls w past
 few-calls w (Store v a x ∷ past) = few-calls w past
 few-calls w (Cas v a old new found ∷ past) = few-calls w past
-few-calls w (Flush v line ∷ past) = few-calls w past
 few-calls w (Ask v line ∷ past) = few-calls w past
 few-calls w (Fence v ∷ past) = few-calls w past
 few-calls w (Evict a ∷ past) = few-calls w past

@@ -14,13 +14,13 @@ use Rattle.bz_solo.specs.Errands.{is_freeze, is_read}
 use Rattle.bz_mark.specs.Log.{Log, with_mark}
 use Rattle.bz_mark.specs.Moments.{at_moment}
 use Rattle.bz_mark.specs.declared.marks.Mark.{Mark}
-use Rattle.bz_mark.specs.declared.marks.Mark.TheVariants.{Begin, End, Load, Store, Cas, Flush, Ask, Fence, Evict, Cut, On, Ready, Effect}
+use Rattle.bz_mark.specs.declared.marks.Mark.TheVariants.{Begin, End, Load, Store, Cas, Ask, Fence, Evict, Cut, On, Ready, Effect}
 use Rattle.bz_mark.proofs.MomentLaws.{at_moment-now, at_moment-earlier}
 use Rattle.bz_any_task.specs.Kinds as kinds
 use Rattle.bz_any_task.specs.Kinds.{Kind, is_look}
 use Rattle.bz_sound.specs.Calls.{Open, open_call, with_effect, map_after, map_at, map_with}
 use Rattle.bz_sound.specs.Solitary.{IsSolitary, NoneIsOpenBesideASolitaryCall}
-use Rattle.bz_sound.specs.Memory.Moments.{IsAfterFlush, map_at_start}
+use Rattle.bz_sound.specs.Memory.Moments.{IsAfterFence, map_at_start}
 use Rattle.bz_world.specs.Inside.Due.{TakesRightly, only_looks}
 use Rattle.bz_world.specs.Inside.Paid.{Stock}
 use Rattle.bz_world.specs.WorldView.{mark_of}
@@ -50,20 +50,17 @@ pub act-map : (w : ℕ) (made : Act) (past : List Mark) (start : Map) → map_af
 act-map w (act.Load a v) past start = refl
 act-map w (act.Store a v) past start = refl
 act-map w (act.Cas a old new found) past start = refl
-act-map w (act.Flush line) past start = refl
 act-map w (act.Ask line) past start = refl
 act-map w act.Fence past start = refl
 
-pub flush-map : (mark : Mark) (past : List Mark) → IsAfterFlush (mark ∷ past) → (start : Map) → map_after start (mark ∷ past) ≡ map_after start past
-flush-map (Flush w line) past flush start = refl
+pub flush-map : (mark : Mark) (past : List Mark) → IsAfterFence (mark ∷ past) → (start : Map) → map_after start (mark ∷ past) ≡ map_after start past
 flush-map (Ask w line) past flush start = refl
 flush-map (Fence w) past flush start = refl
 flush-map (Evict a) past flush start = refl
 flush-map mark past flush start = absurd flush
 
 -- nor begins a call
-pub flush-solitary : (w : ℕ) (mark : Mark) (past : List Mark) → IsAfterFlush (mark ∷ past) → IsSolitary w (mark ∷ past) → IsSolitary w past
-flush-solitary w (Flush v line) past flush solitary = solitary
+pub flush-solitary : (w : ℕ) (mark : Mark) (past : List Mark) → IsAfterFence (mark ∷ past) → IsSolitary w (mark ∷ past) → IsSolitary w past
 flush-solitary w (Ask v line) past flush solitary = solitary
 flush-solitary w (Fence v) past flush solitary = solitary
 flush-solitary w (Evict a) past flush solitary = solitary
@@ -114,7 +111,6 @@ still-by alone start w at past opened Cut quiet after earlier was was-open l = a
 still-by alone start w at past opened (Load v a value) quiet after earlier was was-open l = earlier was was-open l
 still-by alone start w at past opened (Store v a value) quiet after earlier was was-open l = earlier was was-open l
 still-by alone start w at past opened (Cas v a old new found) quiet after earlier was was-open l = earlier was was-open l
-still-by alone start w at past opened (Flush v line) quiet after earlier was was-open l = earlier was was-open l
 still-by alone start w at past opened (Ask v line) quiet after earlier was was-open l = earlier was was-open l
 still-by alone start w at past opened (Fence v) quiet after earlier was was-open l = earlier was was-open l
 still-by alone start w at past opened (Evict a) quiet after earlier was was-open l = earlier was was-open l

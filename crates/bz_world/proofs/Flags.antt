@@ -1,4 +1,4 @@
--- Whether the workers' next acts are flushes: the flags are copied worker by worker.
+-- Whether the workers' next acts are fences: the flags are copied worker by worker.
 use Rattle.std.proofs.Common.{◌≡◌, ◌≤◌, ◌<◌, ℕ, ◌+◌, Bool, false, List, [], ◌∷◌, ◌++◌, length, take, sym, ap, ◌∙◌, arith}
 use Rattle.std.specs.Prelude.{map}
 use Rattle.std.proofs.Math.ListN.{get_or-map}

@@ -3,7 +3,7 @@ use Rattle.std.proofs.Common.{◌≡◌, ◌≢◌, ℕ, List, ◌∷◌, length
 use Rattle.std.specs.Prelude.{slice_set, ◌==◌, if◌then◌else◌}
 use Rattle.bz_swap_acts.specs.Rule.{IsWithin, FoundRightly}
 use Rattle.bz_swap_acts.specs.declared.acted.Act.{Act}
-use Rattle.bz_swap_acts.specs.declared.acted.Act.TheVariants.{Load, Store, Cas, Flush, Ask, Fence}
+use Rattle.bz_swap_acts.specs.declared.acted.Act.TheVariants.{Load, Store, Cas, Ask, Fence}
 use Rattle.bz_mark.specs.Log.{Log}
 use Rattle.bz_mark.proofs.WordLaws.{found-read}
 use Rattle.bz_mark.specs.WordsAfter.{state_after, state_after_marks, words_after_marks, Found}
@@ -37,7 +37,6 @@ pub act-found : (w : ℕ) (old new : SwapMemory) (log : Log) (made : Act) → me
 act-found w old new log (Load a v) same act within = subst (λ (z : Words). Found z (mark_of w (Load a v))) same (found-read old.cached a v within act)
 act-found w old new log (Store a v) same act within = tt
 act-found w old new log (Cas a before after found) same act within = subst (λ (z : Words). Found z (mark_of w (Cas a before after found))) same (found-read old.cached a found within act)
-act-found w old new log (Flush line) same act within = tt
 act-found w old new log (Ask line) same act within = tt
 act-found w old new log Fence same act within = tt
 
@@ -46,7 +45,6 @@ pub act-follows : (at_start : Power) (start : Map) (past : List Mark) (w : ℕ) 
 act-follows at_start start past w (Load a v) h = h
 act-follows at_start start past w (Store a v) h = h
 act-follows at_start start past w (Cas a old new found) h = h
-act-follows at_start start past w (Flush line) h = h
 act-follows at_start start past w (Ask line) h = h
 act-follows at_start start past w Fence h = h
 
@@ -54,6 +52,5 @@ pub act-calls : (v w : ℕ) (past : List Mark) (made : Act) → open_call v (mar
 act-calls v w past (Load a x) = refl
 act-calls v w past (Store a x) = refl
 act-calls v w past (Cas a old new found) = refl
-act-calls v w past (Flush line) = refl
 act-calls v w past (Ask line) = refl
 act-calls v w past Fence = refl

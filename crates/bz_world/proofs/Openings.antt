@@ -176,7 +176,7 @@ pub opened-journal : (j : Log) (start : List ℕ) (at_start : Power) (c : Config
     → j ≡ (view_over c start at_start).log
 opened-journal j start at_start c same past pages limits = λ t. record { start = same t; past = past t; pages = pages t; limits = limits t }
 
--- no worker's next act is a flush
+-- no worker's next act is a fence
 pub map-replicate : {A : Type 0} {B : Type 0} (f : A → B) (n : ℕ) (x : A) → map f (replicate n x) ≡ replicate n (f x)
 map-replicate f zero x = refl
 map-replicate f (suc n) x = ap (λ xs. f x ∷ xs) (map-replicate f n x)

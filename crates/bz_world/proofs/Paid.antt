@@ -3,7 +3,7 @@ use Rattle.std.proofs.Common.{◌≡◌, ◌≢◌, ◌⊎◌, ℕ, zero, suc, �
 use Rattle.std.proofs.lemmas.Bool.{cases_eq, true≢false}
 use Rattle.std.proofs.lemmas.Bool.Decides.{nat_tests}
 use Rattle.bz_swap_acts.specs.declared.acted.Act.{Act}
-use Rattle.bz_swap_acts.specs.declared.acted.Act.TheVariants.{Load, Store, Cas, Flush, Ask, Fence}
+use Rattle.bz_swap_acts.specs.declared.acted.Act.TheVariants.{Load, Store, Cas, Ask, Fence}
 use Rattle.bz_below.specs.Facts.{below_acts}
 use Rattle.bz_solo.specs.FromCosts.Laws.{AskedSwapsAreCounted}
 use Rattle.bz_solo.specs.FromCosts.Solo.{one_mark}
@@ -26,7 +26,7 @@ use Rattle.bz_any_task.specs.Kinds.{Kind, is_look, kind_of}
 use Rattle.bz_any_task.specs.declared.running.AnyTask.{AnyTask}
 use Rattle.bz_any_task.specs.declared.running.AnyTask.TheVariants.{Seeking, Finding, Reading, Inserting, Updating, Deleting, Freezing, Consolidating, Splitting, SplittingBelow, SplittingInner, SplittingInnerRoot, Merging}
 use Rattle.bz_sound.specs.Calls.{Open, open_call}
-use Rattle.bz_sound.specs.Memory.Moments.{IsAfterFlush}
+use Rattle.bz_sound.specs.Memory.Moments.{IsAfterFence}
 use Rattle.bz_refinement.specs.Story.{Story, scene, and_then}
 use Rattle.bz_swap.specs.SwapMemory.{SwapMemory, doing_of}
 use Rattle.bz_task.specs.Instant.{Instant}
@@ -51,7 +51,6 @@ pub act-steps : (w : ℕ) (made : Act) (past : List Mark) → stepper (mark_of w
 act-steps w (Load a v) past = refl
 act-steps w (Store a v) past = refl
 act-steps w (Cas a old new found) past = refl
-act-steps w (Flush line) past = refl
 act-steps w (Ask line) past = refl
 act-steps w Fence past = refl
 
@@ -103,8 +102,7 @@ pub act-runs : (c : Config) (w : ℕ) (made : Act) (past : List Mark) → runner
 act-runs c w made past = steps-run c w (mark_of w made ∷ past) (act-steps w made past)
 
 -- after a flush, or an eviction, it is the one that steps
-pub flush-runs : (c : Config) (w : ℕ) (past : List Mark) → IsAfterFlush past → runner c past ≡ Some w → stepper past ≡ Some w
-flush-runs c w (mark.Flush v line ∷ past) flush is = is
+pub flush-runs : (c : Config) (w : ℕ) (past : List Mark) → IsAfterFence past → runner c past ≡ Some w → stepper past ≡ Some w
 flush-runs c w (mark.Ask v line ∷ past) flush is = is
 flush-runs c w (mark.Fence v ∷ past) flush is = is
 flush-runs c w (mark.Evict a ∷ past) flush is = is

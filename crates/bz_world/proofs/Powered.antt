@@ -7,12 +7,12 @@ use Rattle.bz_layout.specs.Slots.{FreeSlots}
 use Rattle.bz_layout.specs.declared.config.Config.{Config}
 use Rattle.bz_mark.specs.Log.{Log}
 use Rattle.bz_mark.specs.declared.marks.Mark.{Mark}
-use Rattle.bz_mark.specs.declared.marks.Mark.TheVariants.{Begin, End, Load, Store, Cas, Flush, Ask, Fence, Evict, Cut, On, Ready, Effect}
+use Rattle.bz_mark.specs.declared.marks.Mark.TheVariants.{Begin, End, Load, Store, Cas, Ask, Fence, Evict, Cut, On, Ready, Effect}
 use Rattle.bz_mark.specs.declared.power.Power.{Power}
 use Rattle.bz_mark.specs.declared.power.Power.TheVariants as power
 use Rattle.bz_sound.specs.Calls.{Open}
 use Rattle.bz_sound.specs.Memory.Calls.{HasOpenCall}
-use Rattle.bz_sound.specs.Memory.Moments.{IsAfterFlush}
+use Rattle.bz_sound.specs.Memory.Moments.{IsAfterFence}
 use Rattle.bz_sound.specs.Power.Calls.{MayAct}
 use Rattle.bz_mark.specs.Times.{LeavesPower}
 use Rattle.bz_mark.specs.Times.{power_of, since_on}
@@ -35,12 +35,10 @@ pub leaves-power : (w : ℕ) (past : List Mark) (made : Act) → LeavesPower pas
 leaves-power w past (act.Load a v) = tt
 leaves-power w past (act.Store a v) = tt
 leaves-power w past (act.Cas a old new found) = tt
-leaves-power w past (act.Flush line) = tt
 leaves-power w past (act.Ask line) = tt
 leaves-power w past act.Fence = tt
 
-pub flush-leaves : (mark : Mark) (past : List Mark) → IsAfterFlush (mark ∷ past) → LeavesPower past mark
-flush-leaves (Flush w line) past f = tt
+pub flush-leaves : (mark : Mark) (past : List Mark) → IsAfterFence (mark ∷ past) → LeavesPower past mark
 flush-leaves (Ask w line) past f = tt
 flush-leaves (Fence w) past f = tt
 flush-leaves (Evict a) past f = tt

@@ -10,7 +10,7 @@ use Rattle.bz_solo.specs.FromAlone.Counts.{HasOthers}
 use Rattle.bz_solo.specs.FromRounds.Stands.{SameStage, StagesStand}
 use Rattle.bz_mark.specs.Log.{Log}
 use Rattle.bz_mark.specs.declared.marks.Mark.{Mark}
-use Rattle.bz_mark.specs.declared.marks.Mark.TheVariants.{Begin, End, Load, Store, Cas, Flush, Ask, Fence, Evict, Cut, On, Ready, Effect}
+use Rattle.bz_mark.specs.declared.marks.Mark.TheVariants.{Begin, End, Load, Store, Cas, Ask, Fence, Evict, Cut, On, Ready, Effect}
 use Rattle.bz_mark.proofs.MomentLaws.{at_moment-now, at_moment-before, at_moment-earlier}
 use Rattle.bz_sound.specs.Calls.{Open, open_call, with_effect}
 use Rattle.bz_sound.specs.Memory.Moments.{image_after, image_at}
@@ -68,7 +68,6 @@ begun-image start w (Cut ∷ past) opened e = absurd (cc e)
 begun-image start w (Load v a value ∷ past) opened e = one-later start (Load v a value) past opened (begun-image start w past opened e)
 begun-image start w (Store v a value ∷ past) opened e = one-later start (Store v a value) past opened (begun-image start w past opened e)
 begun-image start w (Cas v a old new found ∷ past) opened e = one-later start (Cas v a old new found) past opened (begun-image start w past opened e)
-begun-image start w (Flush v line ∷ past) opened e = one-later start (Flush v line) past opened (begun-image start w past opened e)
 begun-image start w (Ask v line ∷ past) opened e = one-later start (Ask v line) past opened (begun-image start w past opened e)
 begun-image start w (Fence v ∷ past) opened e = one-later start (Fence v) past opened (begun-image start w past opened e)
 begun-image start w (Evict a ∷ past) opened e = one-later start (Evict a) past opened (begun-image start w past opened e)

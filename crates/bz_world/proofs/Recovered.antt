@@ -20,7 +20,7 @@ use Rattle.bz_task.specs.declared.todo.Todo.{Todo}
 use Rattle.bz_world.specs.Inside.Beginning.{world_view}
 use Rattle.bz_world.specs.Inside.Kept.{IsRecovering, IsStarted, IsKept}
 use Rattle.bz_world.specs.Inside.Paid.{begun_with}
-use Rattle.bz_world.specs.Inside.Powering.{HasAsked, Wakes}
+use Rattle.bz_world.specs.Inside.Powering.{HasAsked, HasGoneOn, Wakes}
 use Rattle.bz_mark.specs.declared.power.Power.TheVariants as power
 use Rattle.bz_world.specs.WorldView.{Supply, Recovers, count_reached, mark_of, recovery_most}
 use Rattle.bz_world.specs.declared.answers.Applied.TheVariants as applied
@@ -118,6 +118,29 @@ module _ (old asked new : Parts) (todo : Todo) (a : HasAsked old todo asked) whe
 
       as-it-was : (v : ℕ) → v ≢ 0 → worker_of new.access v ≡ worker_of old.access v
       as-it-was v ne = ap (λ (p : Parts). worker_of p.access v) rest ∙ (ap (λ (p : Parts). worker_of p.access v) a.rest ∙ a.act.step.one.others.workers v ne)
+
+-- a flush goes on
+module _ (old new : Parts) (a : HasGoneOn old new) where
+  same-power : new.power ≡ old.power
+  same-power = ap (λ (p : Parts). p.power) a.act.rest
+
+  pub seen-going-on : old.power ≡ power.Recovering → Recovers (world_view old) applied.Stepped (world_view new)
+  seen-going-on recovering = record {
+    made = a.made;
+    few = omega (arith, a.started.memory.spent, ap (λ (p : Parts). acts_by 0 (since_on p.journal.past)) a.act.rest, ap (λ (p : Parts). recovery_most p.config) a.act.rest);
+    flush = a.act.step.one.flush ∙ sym (flush-is old 0);
+    ends = ap (λ (p : Parts). p.journal) a.act.rest;
+    supply = shown-recovering new (same-power ∙ recovering) ∙ sym (shown-recovering old recovering);
+    at_begin = ap begun_with a.act.rest;
+    config = ap (λ (p : Parts). p.config) a.act.rest;
+    at_start = ap (λ (p : Parts). p.at_start) a.act.rest;
+    left_out = ap (λ (p : Parts). p.left_out.items) a.act.rest;
+    others = λ v ne. flush-same old new v (a.act.step.one.others.workers v ne);
+    apart = λ v ne. swap-same old new v (a.act.step.one.others.workers v ne);
+  }
+
+  pub kept-going-on : old.power ≡ power.Recovering → IsKept new
+  kept-going-on recovering = kept-started new (same-power ∙ recovering) a.started
 
 -- one mark was added
 pub more-room : (old asked : Parts) (todo : Todo) → HasAsked old todo asked → length old.journal.past + 3 ≤ old.config.marks → length asked.journal.past < asked.config.marks

@@ -1,31 +1,33 @@
 -- Acts of a recovery, and evictions between them: what a world keeps.
-use Rattle.std.proofs.Common.{◌≡◌, ◌≢◌, ℕ, ◌+◌, ◌<◌, ◌≤◌, List, ◌∷◌, length, slice_index, arith, refl, sym, ap, subst, ◌∙◌, Option, None}
-use Rattle.std.proofs.lemmas.List.{length-set}
+use Rattle.std.proofs.Common.{◌≡◌, ◌≢◌, ℕ, ◌+◌, ◌<◌, ◌≤◌, false, List, ◌∷◌, length, slice_index, arith, refl, sym, ap, subst, ◌∙◌, Option, None}
+use Rattle.std.proofs.lemmas.List.{get_or-set_same, length-set}
 use Rattle.bz_swap_acts.specs.declared.acted.Act.{Act}
 use Rattle.bz_swap_acts.specs.declared.acted.Act.TheVariants as act
 use Rattle.bz_content.specs.Content.{image_fault, content_in}
 use Rattle.bz_swap_machine.specs.declared.done.Done.{Done}
+use Rattle.bz_swap_machine.specs.declared.done.Done.TheVariants.{Busy}
 use Rattle.bz_mark.specs.Log.{with_mark}
 use Rattle.bz_mark.specs.WordsAfter.{words_after_marks}
 use Rattle.bz_mark.specs.declared.marks.Mark.{Mark}
 use Rattle.bz_mark.specs.declared.marks.Mark.TheVariants.{Evict}
 use Rattle.bz_mark.specs.declared.power.Power.TheVariants as power
 use Rattle.bz_sound.specs.Memory.Laws.{IsQuietAct}
-use Rattle.bz_sound.specs.Memory.Moments.{image_after, IsAfterFlush, map_at_start}
+use Rattle.bz_sound.specs.Memory.Moments.{image_after, IsAfterFence, map_at_start}
 use Rattle.bz_sound.specs.Power.Calls.{MayFollow, IsAfterRecovering}
-use Rattle.bz_sound.specs.Power.Growth.{QuietActsFollow, FlushesFollow}
+use Rattle.bz_sound.specs.Power.Growth.{QuietActsFollow, FencesFollow}
 use Rattle.bz_sound.specs.Power.ImageLaws.{SameContentDecodes}
 use Rattle.bz_sound.specs.Power.Sound.{IsSound}
 use Rattle.bz_mark.specs.Times.{power_of}
 use Rattle.bz_refinement.specs.Recovering as recovery
-use Rattle.bz_recover.specs.Duties.{acts_left, Hears, Tells}
-use Rattle.bz_refinement.specs.RecoveryLaws.{Recovers, StaysRecovering, seen_of}
+use Rattle.bz_recover.specs.Duties.{acts_left, asks_of, Hears, Tells}
+use Rattle.bz_task.specs.Requests.{steps_in}
+use Rattle.bz_refinement.specs.RecoveryLaws.{StaysRecovering, seen_of}
 use Rattle.bz_task.specs.declared.todo.Seen.{Seen}
 use Rattle.bz_refinement.specs.Reviving as reviving
-use Rattle.bz_refinement.specs.Reviving.{ActsAreMarked, EvictionsAreMarked, TurnsMakeNoMark, RecoversIn, EvictsIn}
+use Rattle.bz_refinement.specs.Reviving.{ActsAreMarked, ActsIn, EvictionsAreMarked, TurnsMakeNoMark, EvictsIn}
 use Rattle.bz_swap.specs.Steps.{StepsIn}
-use Rattle.bz_swap.specs.SwapMemory.{Doing, memory_words}
-use Rattle.bz_swap.specs.Starts.{started, begins_by_flush}
+use Rattle.bz_swap.specs.SwapMemory.{Doing, Working, idle, memory_words, worker_of}
+use Rattle.bz_swap.specs.Starts.{started}
 use Rattle.bz_world.specs.Inside.Acted.{IsEvicted}
 use Rattle.bz_world.specs.Inside.Kept.{IsTabled, IsDark, IsRecovering, IsStarted, IsKept}
 use Rattle.bz_world.specs.Inside.Powering.{IsRawAct}
@@ -38,7 +40,7 @@ use Rattle.bz_world.proofs.Tabled.{tabled-beside, tabled-acted, tabled-evicted}
 -- the laws that these proofs stand on
 pub record Laws : Type 0 where
   pub quiet : QuietActsFollow
-  pub flush : FlushesFollow
+  pub flush : FencesFollow
   pub same : SameContentDecodes
 
 -- worker 0 may make any act, and its mark is one of recovery
@@ -46,7 +48,6 @@ raw-follows : (p : Parts) (made : Act) → power_of p.at_start p.journal.past �
 raw-follows p (act.Load a v) h = h
 raw-follows p (act.Store a v) h = h
 raw-follows p (act.Cas a old new found) h = h
-raw-follows p (act.Flush line) h = h
 raw-follows p (act.Ask line) h = h
 raw-follows p act.Fence h = h
 
@@ -54,7 +55,6 @@ raw-after : (past : List Mark) (made : Act) → IsAfterRecovering (mark_of 0 mad
 raw-after past (act.Load a v) = refl
 raw-after past (act.Store a v) = refl
 raw-after past (act.Cas a old new found) = refl
-raw-after past (act.Flush line) = refl
 raw-after past (act.Ask line) = refl
 raw-after past act.Fence = refl
 
@@ -65,12 +65,9 @@ module _ (b : Laws) (recovers : ActsAreMarked) (old new : Parts) (made : Act) (d
   abbrev log-power : power_of old.at_start old.journal.past ≡ power.Recovering
   log-power = k.dark.tabled.power ∙ is
 
-  pub marked-raw : RecoversIn old.config k.dark.values old.access new.access old.journal old.recovery made done told
+  pub marked-raw : ActsIn old.config k.dark.values old.access new.access old.journal old.recovery made done told
   marked-raw = recovers old.config k.dark.values old.access new.access old.journal old.recovery made done told k.memory
       (subst (λ phase. StepsIn phase old.access 0 made done told new.access) (sym k.memory.recovering.phase) a.step)
-
-  abbrev raw : Recovers old.config k.dark.values old.access new.access old.recovery made done told
-  raw = marked-raw.recovers
 
   words : memory_words new.access ≡ words_after_marks old.journal.start (mark_of 0 made ∷ old.journal.past)
   words = act-marked 0 old.access new.access old.journal made done k.memory.words k.memory.past a.step.one
@@ -87,47 +84,48 @@ module _ (b : Laws) (recovers : ActsAreMarked) (old new : Parts) (made : Act) (d
       found-quietly : IsQuietAct (mark_of 0 made) → IsSound old.config old.at_start (with_mark old.journal (mark_of 0 made))
       found-quietly q = b.quiet old.config old.at_start old.journal (mark_of 0 made) k.dark.sound q (raw-follows old made log-power) (act-found 0 old.access new.access old.journal made k.memory.words a.step.one.act.found a.step.one.within)
 
-      flushed-so : IsAfterFlush (mark_of 0 made ∷ old.journal.past) → IsSound old.config old.at_start (with_mark old.journal (mark_of 0 made))
+      flushed-so : IsAfterFence (mark_of 0 made ∷ old.journal.past) → IsSound old.config old.at_start (with_mark old.journal (mark_of 0 made))
       flushed-so flushes =
           b.flush old.config old.at_start old.journal (mark_of 0 made) k.dark.sound flushes (raw-follows old made log-power)
-          (b.same old.config old.at_start old.journal (mark_of 0 made) k.dark.sound flushes (subst (λ i. image_fault old.config i ≡ None) (sym becomes) raw.same.well_formed)
-          (λ key. ap (λ i. content_in old.config i key) becomes ∙ (raw.same.content key ∙ ap (λ i. content_in old.config i key) (sym was))))
+          (b.same old.config old.at_start old.journal (mark_of 0 made) k.dark.sound flushes (subst (λ i. image_fault old.config i ≡ None) (sym becomes) marked-raw.same.well_formed)
+          (λ key. ap (λ i. content_in old.config i key) becomes ∙ (marked-raw.same.content key ∙ ap (λ i. content_in old.config i key) (sym was))))
 
       by-act : (x : Act) → made ≡ x → IsSound old.config old.at_start (with_mark old.journal (mark_of 0 made))
       by-act (act.Load d v) e = found-quietly (subst (λ (z : Act). IsQuietAct (mark_of 0 z)) (sym e) tt)
       by-act (act.Store d v) e = found-quietly (subst (λ (z : Act). IsQuietAct (mark_of 0 z)) (sym e) tt)
       by-act (act.Cas d o n f) e = found-quietly (subst (λ (z : Act). IsQuietAct (mark_of 0 z)) (sym e) tt)
       by-act (act.Ask line) e = found-quietly (subst (λ (z : Act). IsQuietAct (mark_of 0 z)) (sym e) tt)
-      by-act act.Fence e = flushed-so (subst (λ (z : Act). IsAfterFlush (mark_of 0 z ∷ old.journal.past)) (sym e) tt)
-      by-act (act.Flush line) e = flushed-so (subst (λ (z : Act). IsAfterFlush (mark_of 0 z ∷ old.journal.past)) (sym e) tt)
+      by-act act.Fence e = flushed-so (subst (λ (z : Act). IsAfterFence (mark_of 0 z ∷ old.journal.past)) (sym e) tt)
 
   tabled : IsTabled (record old { access = new.access; journal = with_mark old.journal (mark_of 0 made) })
   tabled = tabled-acted old 0 made done new.access a.step.one (omega (arith, room)) k.dark.tabled
 
-  -- the act is made, and the recovery is to be told
-  pub raw-made : IsRecovering (record old { access = new.access; journal = with_mark old.journal (mark_of 0 made) }) recovery.Made
-  raw-made = record {
-    dark = record {
-      tabled = tabled;
-      sound = sound;
-      leaves = (λ on. absurd (let says : power.On ≡ power.Recovering = sym on ∙ log-power in cc says), k.dark.leaves);
-      none = k.dark.none;
-      slots = k.dark.slots;
-      values = k.dark.values;
-    };
-    walks = k.walks;
-    memory = marked-raw.marked;
+  -- what does not tell the turn
+  dark-on : IsDark (record old { access = new.access; journal = with_mark old.journal (mark_of 0 made) })
+  dark-on = record {
+    tabled = tabled;
+    sound = sound;
+    leaves = (λ on. absurd (let says : power.On ≡ power.Recovering = sym on ∙ log-power in cc says), k.dark.leaves);
+    none = k.dark.none;
+    slots = k.dark.slots;
+    values = k.dark.values;
   }
 
-  -- the same of the world with the act made
-  pub made-on : IsRecovering new recovery.Made
-  made-on = subst (λ (p : Parts). IsRecovering p recovery.Made) (sym a.rest) raw-made
+  -- the act is made, and the recovery is to be told
+  pub made-on : done ≢ Busy → IsRecovering new recovery.Made
+  unfolding dark-on
+  made-on ends = subst (λ (p : Parts). IsRecovering p recovery.Made) (sym a.rest) (record { dark = dark-on; walks = k.walks; memory = (marked-raw.ends ends).marked })
 
-  pub hears-on : (seen : Seen) → seen ≡ seen_of done → Hears new.recovery seen
-  hears-on seen e = subst (λ t. Hears t seen) (sym (ap (λ (p : Parts). p.recovery) a.rest)) (subst (Hears old.recovery) (sym e) marked-raw.recovers.hears)
+  pub hears-on : done ≢ Busy → (seen : Seen) → seen ≡ seen_of done → Hears new.recovery seen
+  hears-on ends seen e = subst (λ t. Hears t seen) (sym (ap (λ (p : Parts). p.recovery) a.rest)) (subst (Hears old.recovery) (sym e) (marked-raw.ends ends).recovers.hears)
 
-  pub told-on : (seen : Seen) → seen ≡ seen_of done → Tells new.recovery seen (recovery.words_in new.access)
-  told-on seen e = subst (λ t. Tells t seen (recovery.words_in new.access)) (sym (ap (λ (p : Parts). p.recovery) a.rest)) (subst (λ z. Tells old.recovery z (recovery.words_in new.access)) (sym e) marked-raw.recovers.tells)
+  pub told-on : done ≢ Busy → (seen : Seen) → seen ≡ seen_of done → Tells new.recovery seen (recovery.words_in new.access)
+  told-on ends seen e = subst (λ t. Tells t seen (recovery.words_in new.access)) (sym (ap (λ (p : Parts). p.recovery) a.rest)) (subst (λ z. Tells old.recovery z (recovery.words_in new.access)) (sym e) (marked-raw.ends ends).recovers.tells)
+
+  -- or a flush goes on
+  pub flush-on : done ≡ Busy → IsStarted new
+  unfolding dark-on
+  flush-on busy = subst IsStarted (sym a.rest) (record { dark = dark-on; walks = k.walks; memory = (marked-raw.goes_on busy).marked })
 
   pub after-on : IsAfterRecovering new.journal.past
   after-on = subst (λ (p : Parts). IsAfterRecovering p.journal.past) (sym a.rest) (raw-after old.journal.past made)
@@ -174,7 +172,7 @@ module _ (turns : TurnsMakeNoMark) (p : Parts) (k : IsRecovering p recovery.Aske
   pub started-recovering : IsStarted (record p { access = started p.access 0 doing })
   started-recovering = record {
     dark = record {
-      tabled = tabled-beside (record { workers = refl; owners = refl; crew = length-set p.access.workers 0 (record { doing = doing; flush_next = begins_by_flush doing 0 }); steps = refl; rest = refl }) k.dark.tabled;
+      tabled = tabled-beside (record { workers = refl; owners = refl; crew = length-set p.access.workers 0 (record { doing = doing; flush_next = false }); steps = refl; rest = refl }) k.dark.tabled;
       sound = k.dark.sound;
       leaves = k.dark.leaves;
       none = k.dark.none;
@@ -183,5 +181,9 @@ module _ (turns : TurnsMakeNoMark) (p : Parts) (k : IsRecovering p recovery.Aske
     };
     walks = k.walks;
     memory = turns p.config k.dark.values p.access (started p.access 0 doing) p.journal recovery.Asked recovery.Started p.recovery p.recovery k.memory refl refl memory
-        (let same : acts_left p.recovery (recovery.words_in (started p.access 0 doing)) ≡ acts_left p.recovery (recovery.words_in p.access) = refl in omega (arith, same));
+        (let same : acts_left p.recovery (recovery.words_in (started p.access 0 doing)) ≡ acts_left p.recovery (recovery.words_in p.access) = refl in
+        let some : 0 < length p.access.workers = omega (arith, k.memory.recovering.memory.workers) in
+        let asks_first : (worker_of (started p.access 0 doing) 0).flush_next ≡ false = ap (λ (u : Working). u.flush_next) (get_or-set_same p.access.workers 0 (record { doing = doing; flush_next = false }) idle some) in
+        let come : recovery.to_come recovery.Started (started p.access 0 doing) (asks_of p.recovery) ≡ steps_in (asks_of p.recovery) = rw asks_first refl in
+        omega (arith, same, come));
   }

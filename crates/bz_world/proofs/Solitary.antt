@@ -15,7 +15,7 @@ use Rattle.bz_any_task.specs.LookingUp.{ForWay, ForKey, NoLook, look_of, IsReadO
 use Rattle.bz_any_task.specs.declared.running.AnyTask.{AnyTask}
 use Rattle.bz_sound.specs.Calls.{Open, open_call}
 use Rattle.bz_sound.specs.Solitary.{IsSolitary, acts_since, NoneIsOpenBesideASolitaryCall}
-use Rattle.bz_sound.specs.Memory.Moments.{IsAfterFlush}
+use Rattle.bz_sound.specs.Memory.Moments.{IsAfterFence}
 use Rattle.bz_refinement.specs.Story.{Story, and_then}
 use Rattle.bz_swap.specs.Starts.{started}
 use Rattle.bz_swap.specs.SwapMemory.{SwapMemory, Doing, Idle, Reading, doing_of}
@@ -37,7 +37,6 @@ pub solitary-act : (v w : ℕ) (past : List Mark) (made : Act) → IsSolitary v 
 solitary-act v w past (act.Load a x) l = l
 solitary-act v w past (act.Store a x) l = l
 solitary-act v w past (act.Cas a old new found) l = l
-solitary-act v w past (act.Flush line) l = l
 solitary-act v w past (act.Ask line) l = l
 solitary-act v w past act.Fence l = l
 
@@ -46,7 +45,6 @@ pub acts-act : (w : ℕ) (past : List Mark) (made : Act) → acts_since w (mark_
 acts-act w past (act.Load a x) = let t : (w == w) ≡ true = grind (arith, nat_tests) in rw t refl
 acts-act w past (act.Store a x) = let t : (w == w) ≡ true = grind (arith, nat_tests) in rw t refl
 acts-act w past (act.Cas a old new found) = let t : (w == w) ≡ true = grind (arith, nat_tests) in rw t refl
-acts-act w past (act.Flush line) = let t : (w == w) ≡ true = grind (arith, nat_tests) in rw t refl
 acts-act w past (act.Ask line) = let t : (w == w) ≡ true = grind (arith, nat_tests) in rw t refl
 acts-act w past act.Fence = let t : (w == w) ≡ true = grind (arith, nat_tests) in rw t refl
 
@@ -55,8 +53,7 @@ pub acts-begin : (w n : ℕ) (past : List Mark) (called : _) → acts_since w (m
 acts-begin w n past called = let t : (w == w) ≡ true = grind (arith, nat_tests) in rw t refl
 
 -- a flush or an eviction begins no call either
-pub solitary-flush : (v : ℕ) (m : Mark) (past : List Mark) → IsAfterFlush (m ∷ past) → IsSolitary v (m ∷ past) → IsSolitary v past
-solitary-flush v (mark.Flush u line) past f l = l
+pub solitary-flush : (v : ℕ) (m : Mark) (past : List Mark) → IsAfterFence (m ∷ past) → IsSolitary v (m ∷ past) → IsSolitary v past
 solitary-flush v (mark.Ask u line) past f l = l
 solitary-flush v (mark.Fence u) past f l = l
 solitary-flush v (mark.Evict a) past f l = l

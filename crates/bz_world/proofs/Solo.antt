@@ -37,7 +37,6 @@ act-power : (at_start : Power) (made : Act) (w : ℕ) (past : List Mark) → pow
 act-power at_start (act.Load a v) w past = refl
 act-power at_start (act.Store a v) w past = refl
 act-power at_start (act.Cas a old new found) w past = refl
-act-power at_start (act.Flush line) w past = refl
 act-power at_start (act.Ask line) w past = refl
 act-power at_start act.Fence w past = refl
 

@@ -5,7 +5,7 @@ use Rattle.std.specs.Vec.{with_item}
 use Rattle.bz_refinement.specs.Story.{scene}
 use Rattle.bz_swap.specs.EntryLists.{IsEntryList}
 use Rattle.bz_swap.specs.Held.{Holds}
-use Rattle.bz_swap.specs.Starts.{MayRead, MayStore, MayFlush, MaySwap, begins_by_flush, started, swapping}
+use Rattle.bz_swap.specs.Starts.{MayRead, MayStore, MayFlush, MaySwap, started, swapping}
 use Rattle.bz_swap.specs.SwapMemory.{SwapMemory, Doing, Reading, Swapping, Storing, Flushing, idle, worker_of}
 use Rattle.bz_task.specs.Scene.{Scene}
 use Rattle.bz_task.specs.declared.todo.Todo.{Todo}
@@ -35,7 +35,7 @@ pub record StartsOne (old new : SwapMemory) (w : ℕ) : Type 0 where
 pub starts-one : (old new : SwapMemory) (w : ℕ) (doing : Doing) → new ≡ started old w doing → StartsOne old new w
 starts-one old new w doing is = record {
   taken = ap (λ (m : SwapMemory). m.taken) is;
-  others = λ v ne. ap (λ (m : SwapMemory). worker_of m v) is ∙ get_or-set_other old.workers w v (record { doing = doing; flush_next = begins_by_flush doing w }) idle ne;
+  others = λ v ne. ap (λ (m : SwapMemory). worker_of m v) is ∙ get_or-set_other old.workers w v (record { doing = doing; flush_next = false }) idle ne;
 }
 
 -- and so does a swap's start, which takes one

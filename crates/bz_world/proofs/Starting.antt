@@ -12,7 +12,7 @@ use Rattle.bz_refinement.specs.Living.{IsLiving, IsHeldBy}
 use Rattle.bz_refinement.specs.Story.{Story, scene}
 use Rattle.bz_task.specs.Requests.{IsAskable}
 use Rattle.bz_swap.specs.Held.{Holds}
-use Rattle.bz_swap.specs.Starts.{MayWork, started, begins_by_flush}
+use Rattle.bz_swap.specs.Starts.{MayWork, started}
 use Rattle.bz_swap.specs.SwapMemory.{SwapMemory, Doing, Working, Swapping, idle, doing_of, is_named}
 use Rattle.bz_task.specs.Scene.{Scene, Waiting, IsScene}
 use Rattle.bz_task.specs.declared.todo.Todo.{Todo}
@@ -41,10 +41,10 @@ use Rattle.bz_sight.proofs.Proved.{starts_keep_awaits}
 
 -- what a worker does that has started something, and what the others do
 pub starts-it : (m : SwapMemory) (w : ℕ) (doing : Doing) → w < length m.workers → doing_of (started m w doing) w ≡ doing
-starts-it m w doing l = ap (λ (z : Working). z.doing) (get_or-set_same m.workers w (record { doing = doing; flush_next = begins_by_flush doing w }) idle l)
+starts-it m w doing l = ap (λ (z : Working). z.doing) (get_or-set_same m.workers w (record { doing = doing; flush_next = false }) idle l)
 
 pub starts-others : (m : SwapMemory) (w v : ℕ) (doing : Doing) → v ≢ w → doing_of (started m w doing) v ≡ doing_of m v
-starts-others m w v doing ne = ap (λ (z : Working). z.doing) (get_or-set_other m.workers w v (record { doing = doing; flush_next = begins_by_flush doing w }) idle ne)
+starts-others m w v doing ne = ap (λ (z : Working). z.doing) (get_or-set_other m.workers w v (record { doing = doing; flush_next = false }) idle ne)
 
 -- the worker may start something
 pub may-work : (p : Parts) (w : ℕ) (todo : Todo) → (m : MustStart p w todo) → MayWork p.access w
@@ -81,7 +81,7 @@ module _ (solo : UndisturbedLaws) (starts : StartsAreSeen) (begun : BegunLaws) (
   living =
       let seen : IsSeen p.config (started p.access w doing) (between.story.at (length p.journal.past)) = starts.start p.config (between.story.at (length p.journal.past)) p.access w doing between.living.seen work.some holds in
       let awaits : (v a : ℕ) → IsHeldBy p.config (between.story.at (length p.journal.past)) between.story v a → is_named (started p.access w doing) a ≡ false → Awaits (started p.access w doing) v a =
-      λ v a held private. starts_keep_awaits.start p.access w doing v a work.some work.within (between.living.awaits v a held private) in
+      λ v a held private. starts_keep_awaits.start p.access w doing v a work.within (between.living.awaits v a held private) in
       assumption (between.living, seen, awaits)
 
   abbrev its-scene : Scene
@@ -154,7 +154,7 @@ module _ (solo : UndisturbedLaws) (starts : StartsAreSeen) (begun : BegunLaws) (
   started-kept = record {
     on = between.on;
     story = between.story;
-    tabled = tabled-beside (record { workers = refl; owners = refl; crew = length-set p.access.workers w (record { doing = doing; flush_next = begins_by_flush doing w }); steps = refl; rest = refl }) between.tabled;
+    tabled = tabled-beside (record { workers = refl; owners = refl; crew = length-set p.access.workers w (record { doing = doing; flush_next = false }); steps = refl; rest = refl }) between.tabled;
     taken = let t = between.taken in record { shown = t.shown; held = begun.taken.start p.access w doing between.idle t.held; few = t.few; notes = notes; unused = t.unused; only = t.only; unstored = t.unstored };
     living = living;
     sound = between.sound;

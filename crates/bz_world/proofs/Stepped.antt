@@ -3,7 +3,7 @@ use Rattle.std.proofs.Common.{◌≡◌, ◌≢◌, ℕ, ◌+◌, ◌<◌, ◌�
 use Rattle.std.proofs.lemmas.Bool.{cases_eq}
 use Rattle.std.proofs.lemmas.Bool.Decides.{nat_tests}
 use Rattle.bz_swap_acts.specs.declared.acted.Act.{Act}
-use Rattle.bz_swap_acts.specs.declared.acted.Act.TheVariants.{Load, Store, Cas, Flush, Ask, Fence}
+use Rattle.bz_swap_acts.specs.declared.acted.Act.TheVariants.{Load, Store, Cas, Ask, Fence}
 use Rattle.bz_swap_machine.specs.declared.done.Done.{Done}
 use Rattle.bz_layout.specs.Addresses.{swap_address}
 use Rattle.bz_mark.specs.Log.{with_mark}
@@ -12,7 +12,7 @@ use Rattle.bz_mark.specs.declared.marks.Mark.{Mark}
 use Rattle.bz_sight.specs.Passing.{Passed}
 use Rattle.bz_sight.specs.Sight.{next_instant}
 use Rattle.bz_sound.specs.Memory.Laws.{IsQuietAct}
-use Rattle.bz_sound.specs.Memory.Moments.{image_after, IsAfterFlush}
+use Rattle.bz_sound.specs.Memory.Moments.{image_after, IsAfterFence}
 use Rattle.bz_sound.specs.Power.Calls.{MayAct}
 use Rattle.bz_sound.specs.Power.Sound.{IsSound}
 use Rattle.bz_mark.specs.Times.{since_on}
@@ -51,7 +51,6 @@ shown-stays : (s w : ℕ) (past : List Mark) (made : Act) → is_taken s past �
 shown-stays s w past (Load a v) h = h
 shown-stays s w past (Store a v) h = or-right (not (w == 0) && (a == swap_address s + 0 && v == 1)) (is_taken s past) h
 shown-stays s w past (Cas a old new found) h = h
-shown-stays s w past (Flush line) h = h
 shown-stays s w past (Ask line) h = h
 shown-stays s w past Fence h = h
 
@@ -120,7 +119,7 @@ act-sound b old new story w made done told living sound a opened passed = by-act
     quietly : IsQuietAct (mark_of w made) → IsSound old.config old.at_start (with_mark old.journal (mark_of w made))
     quietly q = b.quiet old.config old.at_start old.journal (mark_of w made) sound q (act-follows _ _ old.journal.past w made opened) (act-found w old.access new.access old.journal made living.words a.step.one.act.found a.step.one.within)
 
-    flushing : IsAfterFlush (mark_of w made ∷ old.journal.past) → IsSound old.config old.at_start (with_mark old.journal (mark_of w made))
+    flushing : IsAfterFence (mark_of w made ∷ old.journal.past) → IsSound old.config old.at_start (with_mark old.journal (mark_of w made))
     flushing flushes =
         b.flush old.config old.at_start old.journal (mark_of w made) sound flushes (act-follows _ _ old.journal.past w made opened)
         (b.same old.config old.at_start old.journal (mark_of w made) sound flushes (subst (λ i. image_fault old.config i ≡ None) (sym is) passed.same.good.form)
@@ -131,5 +130,4 @@ act-sound b old new story w made done told living sound a opened passed = by-act
     by-act (Store d v) e = quietly (subst (λ (z : Act). IsQuietAct (mark_of w z)) (sym e) tt)
     by-act (Cas d o n f) e = quietly (subst (λ (z : Act). IsQuietAct (mark_of w z)) (sym e) tt)
     by-act (Ask line) e = quietly (subst (λ (z : Act). IsQuietAct (mark_of w z)) (sym e) tt)
-    by-act (Flush line) e = flushing (subst (λ (z : Act). IsAfterFlush (mark_of w z ∷ old.journal.past)) (sym e) tt)
-    by-act Fence e = flushing (subst (λ (z : Act). IsAfterFlush (mark_of w z ∷ old.journal.past)) (sym e) tt)
+    by-act Fence e = flushing (subst (λ (z : Act). IsAfterFence (mark_of w z ∷ old.journal.past)) (sym e) tt)

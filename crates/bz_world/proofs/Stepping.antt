@@ -30,7 +30,7 @@ use Rattle.bz_world.proofs.PaidSteps.{kept-supply}
 use Rattle.bz_world.proofs.Quiet.{serves}
 use Rattle.bz_world.proofs.Supplies.{shown-on, not-longer}
 
--- what callers see of whether the next act is a flush
+-- what callers see of whether the next act is a fence
 pub flush-is : (p : Parts) (v : ℕ) → flush_of (world_view p) v ≡ (worker_of p.access v).flush_next
 flush-is p v = get_or-map (λ (z : Working). z.flush_next) p.access.workers v idle
 

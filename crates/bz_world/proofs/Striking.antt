@@ -13,7 +13,7 @@ use Rattle.bz_sight.specs.Effects.{TookPlace, effect_instant}
 use Rattle.bz_sight.specs.Starts.{Sees}
 use Rattle.bz_sound.specs.Calls.{Open, open_call}
 use Rattle.bz_sound.specs.Solitary.{IsSolitary}
-use Rattle.bz_sound.specs.Memory.Moments.{IsAfterFlush, image_after}
+use Rattle.bz_sound.specs.Memory.Moments.{IsAfterFence, image_after}
 use Rattle.bz_refinement.specs.Laws.{HasBegun, Strikes, strikes, opened_after}
 use Rattle.bz_refinement.specs.Living.{IsLiving}
 use Rattle.bz_refinement.specs.Story.{Story, scene}
@@ -48,8 +48,7 @@ use Rattle.bz_world.proofs.Staying.{SameFor, Leaves, none-takes-well, slot-stays
 use Rattle.bz_world.specs.Inside.Laws.{StrikeLaws}
 
 -- a flush or an eviction opens and ends no call
-pub flush-calls : (v : ℕ) (m : Mark) (past : List Mark) → IsAfterFlush (m ∷ past) → open_call v (m ∷ past) ≡ open_call v past
-flush-calls v (mark.Flush u line) past f = refl
+pub flush-calls : (v : ℕ) (m : Mark) (past : List Mark) → IsAfterFence (m ∷ past) → open_call v (m ∷ past) ≡ open_call v past
 flush-calls v (mark.Ask u line) past f = refl
 flush-calls v (mark.Fence u) past f = refl
 flush-calls v (mark.Evict a) past f = refl

@@ -18,7 +18,7 @@ use Rattle.bz_refinement.specs.Living.{IsLiving, IsHeldBy}
 use Rattle.bz_refinement.specs.Story.{scene}
 use Rattle.bz_swap.specs.EntryLists.{IsEntryList}
 use Rattle.bz_swap.specs.Held.{Holds}
-use Rattle.bz_swap.specs.Starts.{MayWork, MaySwap, swapping, begins_by_flush}
+use Rattle.bz_swap.specs.Starts.{MayWork, MaySwap, swapping}
 use Rattle.bz_swap.specs.SwapMemory.{SwapMemory, Doing, Idle, Reading, Swapping, Loading, Storing, Flushing, doing_of, entries_of, is_named}
 use Rattle.bz_task.specs.Requests.{IsEntryToAsk, IsOwnStore}
 use Rattle.bz_task.specs.Scene.{Scene, Waiting, Took, IsScene}
@@ -247,7 +247,7 @@ module _ (solo : UndisturbedLaws) (starts : StartsAreSeen) (scenes : ScenesAreSe
   swapping-kept = record {
     on = was.on;
     story = was.story;
-    tabled = let t = was.tabled in tabled-beside (record { workers = refl; owners = size ∙ sym t.owner_places; crew = length-set p.access.workers w (record { doing = Swapping p.access.taken; flush_next = begins_by_flush (Swapping p.access.taken) w }); steps = refl; rest = refl }) t;
+    tabled = let t = was.tabled in tabled-beside (record { workers = refl; owners = size ∙ sym t.owner_places; crew = length-set p.access.workers w (record { doing = Swapping p.access.taken; flush_next = false }); steps = refl; rest = refl }) t;
     taken = let t = was.taken in record {
       shown = t.shown;
       held = begun.taken.swap p.access w entries work.within was.idle t.held;

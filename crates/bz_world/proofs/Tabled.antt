@@ -55,7 +55,6 @@ act-plain : (w : ℕ) (made : Act) → IsPlain (mark_of w made)
 act-plain w (act.Load a v) = tt
 act-plain w (act.Store a v) = tt
 act-plain w (act.Cas a old new found) = tt
-act-plain w (act.Flush line) = tt
 act-plain w (act.Ask line) = tt
 act-plain w act.Fence = tt
 

@@ -41,7 +41,6 @@ begun-there old w a v s few at (inr own) = elim own.word [
 pub only-acts : (old : SwapMemory) (w : ℕ) (made : Act) (past : List Mark) → WritesLawfully old w made → ((s : ℕ) → s < old.swaps → is_taken s past ≡ true → s < old.taken) → (s : ℕ) → s < old.swaps → is_taken s (mark_of w made ∷ past) ≡ true → s < old.taken
 only-acts old w (act.Load a v) past lawful was s few seen = was s few seen
 only-acts old w (act.Cas a before after found) past lawful was s few seen = was s few seen
-only-acts old w (act.Flush line) past lawful was s few seen = was s few seen
 only-acts old w (act.Ask line) past lawful was s few seen = was s few seen
 only-acts old w act.Fence past lawful was s few seen = was s few seen
 only-acts old w (act.Store a v) past lawful was s few seen = by (not (w == 0) && (a == swap_address s + 0 && v == 1)) refl seen
@@ -61,7 +60,6 @@ Avoids c free made = (a v : ℕ) → made ≡ act.Store a v → node_address c 0
 pub unstored-acts : (c : Config) (w : ℕ) (made : Act) (past : List Mark) (free : List ℕ) → Avoids c free made → ((k : ℕ) → is_among free k ≡ true → is_stored_into c k past ≡ false) → (k : ℕ) → is_among free k ≡ true → is_stored_into c k (mark_of w made ∷ past) ≡ false
 unstored-acts c w (act.Load a v) past free avoids was k among = was k among
 unstored-acts c w (act.Cas a before after found) past free avoids was k among = was k among
-unstored-acts c w (act.Flush line) past free avoids was k among = was k among
 unstored-acts c w (act.Ask line) past free avoids was k among = was k among
 unstored-acts c w act.Fence past free avoids was k among = was k among
 unstored-acts c w (act.Store a v) past free avoids was k among = by (not (w == 0) && (nat_le (node_address c 0) a && slot_of c a == k)) refl

@@ -12,7 +12,7 @@ use Rattle.bz_mark.specs.Log.{Log, with_mark}
 use Rattle.bz_mark.specs.Moments.{at_moment}
 use Rattle.bz_mark.proofs.MomentLaws.{at_moment-earlier, at_moment-before}
 use Rattle.bz_mark.specs.declared.marks.Mark.{Mark}
-use Rattle.bz_mark.specs.declared.marks.Mark.TheVariants.{Begin, End, Load, Store, Cas, Flush, Ask, Fence, Evict, Cut, On, Ready, Effect}
+use Rattle.bz_mark.specs.declared.marks.Mark.TheVariants.{Begin, End, Load, Store, Cas, Ask, Fence, Evict, Cut, On, Ready, Effect}
 use Rattle.bz_sound.specs.Calls.{Open, open_call, with_effect}
 use Rattle.bz_sound.specs.Solitary.{IsSolitary, NoneIsOpenBesideASolitaryCall}
 use Rattle.bz_mark.specs.Times.{power_of}
@@ -60,7 +60,6 @@ act-plain : (w : ℕ) (made : Act) → IsPlain (mark_of w made)
 act-plain w (act.Load a v) = tt
 act-plain w (act.Store a v) = tt
 act-plain w (act.Cas a old new found) = tt
-act-plain w (act.Flush line) = tt
 act-plain w (act.Ask line) = tt
 act-plain w act.Fence = tt
 
@@ -94,7 +93,6 @@ was-open w past Cut opened none is = absurd (cc is)
 was-open w past (Load v a x) opened none is = still-open w past opened is
 was-open w past (Store v a x) opened none is = still-open w past opened is
 was-open w past (Cas v a old new found) opened none is = still-open w past opened is
-was-open w past (Flush v line) opened none is = still-open w past opened is
 was-open w past (Ask v line) opened none is = still-open w past opened is
 was-open w past (Fence v) opened none is = still-open w past opened is
 was-open w past (Evict a) opened none is = still-open w past opened is

@@ -3,7 +3,7 @@ use Rattle.std.proofs.Common.{◌≡◌, ℕ, zero, suc, false, List, [], ◌∷
 use Rattle.bz_call.specs.Map.{Map}
 use Rattle.bz_layout.specs.declared.config.Config.{Config}
 use Rattle.bz_mark.specs.declared.marks.Mark.{Mark}
-use Rattle.bz_mark.specs.declared.marks.Mark.TheVariants.{Begin, End, Load, Store, Cas, Flush, Ask, Fence, Evict, Cut, On, Ready, Effect}
+use Rattle.bz_mark.specs.declared.marks.Mark.TheVariants.{Begin, End, Load, Store, Cas, Ask, Fence, Evict, Cut, On, Ready, Effect}
 use Rattle.bz_mark.specs.Counts.{is_taken}
 use Rattle.bz_sound.specs.Memory.Spent.{is_stored_into}
 use Rattle.bz_sound.specs.Power.Calls.{CallsOnce}
@@ -41,7 +41,6 @@ shows-nothing tells at_start start (Store (suc w) a v ∷ past) once is =
     absurd (never-on (sym on ∙ is))
 shows-nothing tells at_start start (Load w a v ∷ past) once is = same-shown (since_on past) (Load w a v) (λ s. refl) (λ c k. refl) (shows-nothing tells at_start start past once.1 is)
 shows-nothing tells at_start start (Cas w a old new found ∷ past) once is = same-shown (since_on past) (Cas w a old new found) (λ s. refl) (λ c k. refl) (shows-nothing tells at_start start past once.1 is)
-shows-nothing tells at_start start (Flush w line ∷ past) once is = same-shown (since_on past) (Flush w line) (λ s. refl) (λ c k. refl) (shows-nothing tells at_start start past once.1 is)
 shows-nothing tells at_start start (Ask w line ∷ past) once is = same-shown (since_on past) (Ask w line) (λ s. refl) (λ c k. refl) (shows-nothing tells at_start start past once.1 is)
 shows-nothing tells at_start start (Fence w ∷ past) once is = same-shown (since_on past) (Fence w) (λ s. refl) (λ c k. refl) (shows-nothing tells at_start start past once.1 is)
 shows-nothing tells at_start start (Evict a ∷ past) once is = same-shown (since_on past) (Evict a) (λ s. refl) (λ c k. refl) (shows-nothing tells at_start start past once.1 is)

@@ -180,7 +180,7 @@ wakes b p k order room access journal is holds marked = subst (λ (j : Log). Wak
     (subst (λ (m : SwapMemory). Wakes p (record p { access = m; journal = with_mark p.journal Ready; power = power.On })) (sym is)
     (record { awake = woken b p k order (subst Holds is holds) room; left = all-left b p k order (subst Holds is holds) room; rest = refl }))
 
--- power on as it is seen: worker 0's first act is no flush
+-- power on as it is seen: worker 0's first act is no fence
 pub seen-on : (p q : Parts) (journal : Log) (next : Recover) (slots : FreeSlots) → p.power ≡ power.Off → journal ≡ with_mark p.journal On → q ≡ record p { access = q.access; journal = journal; power = power.Recovering; recovery = next; slots = slots } → q.access ≡ started p.access 0 (Loading 0) → world_view q ≡ lab.after_on (world_view p)
 seen-on p q journal next slots off marked rest is = ap world_view rest
     ∙ (ap (λ (m : SwapMemory). record { config = p.config; at_start = p.at_start; log = journal; flushes = map (λ (v : Working). v.flush_next) m.workers; swapping = map (λ (v : Working). is_swap v.doing) m.workers; left_out = p.left_out.items; supply = record { taken = 0; left = 0 }; at_begin = begun_with p }) is

@@ -1,12 +1,10 @@
 -- What an act of a worker at which no swap took effect leads to, whatever its task asked for.
-use Rattle.std.proofs.Common.{◌≡◌, ℕ, ◌*◌, ◌<◌, Bool, true, false, length, refl, subst, Some, None}
+use Rattle.std.proofs.Common.{◌≡◌, ℕ, ◌*◌, ◌<◌, true, false, length, refl, subst, Some, None}
 use Rattle.std.specs.Prelude.{get_or}
 use Rattle.bz_swap_acts.specs.declared.acted.Act.{Act}
 use Rattle.bz_swap_machine.specs.declared.done.Done.{Done}
 use Rattle.bz_swap_machine.specs.declared.done.Done.TheVariants as done
-use Rattle.bz_swap.specs.Steps.{IsAnswer, IsFlushPart}
-use Rattle.bz_swap.specs.declared.phase.Phase.{Phase}
-use Rattle.bz_swap.specs.declared.phase.Phase.TheVariants.{Opened, Running, Recovering}
+use Rattle.bz_swap.specs.Steps.{IsAnswer}
 use Rattle.bz_swap.specs.SwapMemory.{Doing, Reading, Swapping, Storing, Flushing, doing_of}
 use Rattle.bz_task.specs.declared.todo.Seen.TheVariants as seen
 use Rattle.bz_task.specs.declared.todo.Todo.{Todo}
@@ -30,22 +28,6 @@ Went p w x (done.Swapped won) = IsTold p w x (seen.Swapped won)
 Went p w x done.Stored = IsTold p w x seen.Stored
 Went p w x done.Flushed = IsTold p w x seen.Flushed
 
--- a private flush answers nothing else
-no-read : (p : Phase) (line : ℕ) (made : Act) (v : ℕ) → IsFlushPart p line made (done.Read v) → ⊥
-no-read Opened line made v h = h
-no-read Running line made v h = h
-no-read Recovering line made v h = h
-
-no-swap : (p : Phase) (line : ℕ) (made : Act) (won : Bool) → IsFlushPart p line made (done.Swapped won) → ⊥
-no-swap Opened line made won h = h
-no-swap Running line made won h = h
-no-swap Recovering line made won h = h
-
-no-store : (p : Phase) (line : ℕ) (made : Act) → IsFlushPart p line made done.Stored → ⊥
-no-store Opened line made h = h
-no-store Running line made h = h
-no-store Recovering line made h = h
-
 module _ (b : StepLaws) (old new : Parts) (w : ℕ) (x : OpenCall) (made : Act) (answer : Done) (k : IsAwake old) (is-worker : get_or old.workers.items w None ≡ Some x) (a : IsActed old w made answer None new) (room : length old.journal.past < old.config.marks) where
   abbrev its : IsServing old.config old.access old.journal k.story old.owners.items (stock_of old) w x
   its = serves old k w x is-worker
@@ -67,9 +49,9 @@ module _ (b : StepLaws) (old new : Parts) (w : ℕ) (x : OpenCall) (made : Act) 
 
   flushes : (line : ℕ) → its.asked ≡ todo.Flush line → doing_of old.access w ≡ Flushing line → line * 8 < length old.access.cached → (z : Done) → answer ≡ z → IsAnswer new.access (Flushing line) made z → Went new w x z
   flushes line asked doing within done.Busy e h = busy-on b old new w x made answer k is-worker a room (λ d u f. absurd (cc (doing, f))) e
-  flushes line asked doing within (done.Read v) e h = absurd (no-read new.access.phase line made v h)
-  flushes line asked doing within (done.Swapped won) e h = absurd (no-swap new.access.phase line made won h)
-  flushes line asked doing within done.Stored e h = absurd (no-store new.access.phase line made h)
+  flushes line asked doing within (done.Read v) e h = absurd h
+  flushes line asked doing within (done.Swapped won) e h = absurd h
+  flushes line asked doing within done.Stored e h = absurd h
   flushes line asked doing within done.Flushed e h = told-flush b old new w x made answer k is-worker a room (λ d u f. absurd (cc (doing, f))) line asked doing within (λ f. absurd (cc (e, f)))
 
   stores : (d u : ℕ) → its.asked ≡ todo.Store d u → doing_of old.access w ≡ Storing d u → d < length old.access.cached → (z : Done) → answer ≡ z → IsAnswer new.access (Storing d u) made z → Went new w x z

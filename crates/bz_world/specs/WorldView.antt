@@ -2,7 +2,7 @@
 use Rattle.std.specs.Prelude.{◌≡◌, ◌≢◌, ◌<◌, ◌≤◌, ◌⊎◌, ℕ, zero, suc, ◌+◌, ◌-◌, ◌*◌, Bool, true, false, ◌==◌, ◌||◌, ◌&&◌, nat_lt, nat_le, if◌then◌else◌, is_some, is_none, get_or, slice_set, slice_index, replicate, count_by, List, [], ◌∷◌, ◌++◌, length, Option, Some, None, option_map, MatchOption}
 use Rattle.std.specs.FinMap.{len}
 use Rattle.std.specs.List.{range_with_len}
-use Rattle.bz_swap_acts.specs.Rule.{is_flush_act}
+use Rattle.bz_swap_acts.specs.Rule.{is_fence_act}
 use Rattle.bz_swap_acts.specs.declared.acted.Act.{Act}
 use Rattle.bz_solo.specs.FromAlone.Reads.{get_reads}
 use Rattle.bz_call.specs.Pages.{is_page}
@@ -21,7 +21,7 @@ use Rattle.bz_layout.specs.declared.config.Config.{Config}
 use Rattle.bz_layout.specs.declared.thresholds.TheConstants.{MARKS_PER_CALL, SLOTS_PER_CALL, SPLIT_SLOTS, SWAPS_PER_CALL}
 use Rattle.bz_mark.specs.Log.{Log, with_mark, count_begins, count_page_calls, count_page_ends}
 use Rattle.bz_mark.specs.declared.marks.Mark.{Mark}
-use Rattle.bz_mark.specs.declared.marks.Mark.TheVariants.{Begin, End, Load, Store, Cas, Flush, Ask, Fence, Evict, Cut, On, Ready, Effect}
+use Rattle.bz_mark.specs.declared.marks.Mark.TheVariants.{Begin, End, Load, Store, Cas, Ask, Fence, Evict, Cut, On, Ready, Effect}
 use Rattle.bz_recover.specs.Places.{MOST_ACTS}
 use Rattle.bz_mark.specs.declared.power.Power.{Power}
 use Rattle.bz_mark.specs.declared.power.Power.TheVariants as power
@@ -58,8 +58,8 @@ abbrev pub supply_by : Power → Supply → Supply
 supply_by power.On supply = supply
 supply_by other supply = record { taken = 0; left = 0 }
 
--- the numbers that the world was made with, what the power was at first, its journal, and of each worker, from worker 0 on, whether its next act is a flush,
--- whether it has a swap under way, and whether its next act was a flush when the power was cut last; before the first cut nobody has a flag of that last kind;
+-- the numbers that the world was made with, what the power was at first, its journal, and of each worker, from worker 0 on, whether its next act is a fence,
+-- whether it has a swap under way, and whether its next act was a fence when the power was cut last; before the first cut nobody has a flag of that last kind;
 -- what is taken and left; and what was when the newest call began
 pub record WorldView : Type 0 where
   pub config : Config
@@ -71,7 +71,7 @@ pub record WorldView : Type 0 where
   pub supply : Supply
   pub at_begin : Supply
 
--- whether the next act of a worker is a flush
+-- whether the next act of a worker is a fence
 abbrev pub flush_of : WorldView → ℕ → Bool
 flush_of lab w = get_or lab.flushes w false
 
@@ -79,7 +79,7 @@ flush_of lab w = get_or lab.flushes w false
 abbrev pub is_swapping : WorldView → ℕ → Bool
 is_swapping lab w = get_or lab.swapping w false
 
--- whether the act of a worker that the last power cut left out was a flush
+-- whether the act of a worker that the last power cut left out was a fence
 abbrev pub flush_left_out : WorldView → ℕ → Bool
 flush_left_out lab w = get_or lab.left_out w false
 
@@ -187,7 +187,7 @@ begin_answer lab w called =
     else (if is_short lab.log then begun.Limit which.Marks
     else answer_by (power_in lab) lab w called)
 
--- a begin adds its mark where it is no refusal, and changes nothing else: a call's first act is no flush
+-- a begin adds its mark where it is no refusal, and changes nothing else: a call's first act is no fence
 abbrev pub after_begin : WorldView → ℕ → Call → Begun → WorldView
 after_begin lab w called (begun.Begun n) = record lab { log = with_mark lab.log (Begin w n called); flushes = slice_set lab.flushes w false; swapping = slice_set lab.swapping w false; at_begin = lab.supply }
 after_begin lab w called refusal = lab
@@ -244,7 +244,6 @@ stepper [] = None
 stepper (Load w a v ∷ past) = Some w
 stepper (Store w a v ∷ past) = Some w
 stepper (Cas w a old new found ∷ past) = Some w
-stepper (Flush w line ∷ past) = Some w
 stepper (Ask w line ∷ past) = Some w
 stepper (Fence w ∷ past) = Some w
 stepper (Effect w n ∷ past) = stepper past
@@ -385,13 +384,13 @@ EndsAsTold c old w new begun supply = (n at : ℕ) (reply : Reply) (opened : Ope
 abbrev pub EndsMerged : Config → Log → ℕ → Log → Type 0
 EndsMerged c old w new = (n at : ℕ) (reply : Reply) → new.past ≡ End w n reply at ∷ old.past → MergesFor c old.start old.past w reply
 
--- a step of a worker: exactly one act of it, a flush exactly where that was said before; at most one effect; at most its
+-- a step of a worker: exactly one act of it, a fence exactly where that was said before; at most one effect; at most its
 -- call's End, which is a Full only where what that names has run out, and that of a solitary get only after few acts. At most as many
 -- slots are taken as a split takes: a task that this act ends takes none, and where it goes on no other task comes. What the next acts of
 -- the others are stays, and which of them have a swap under way.
 pub record Steps (old : WorldView) (w : ℕ) (answer : Applied) (new : WorldView) : Type 0 where
   pub made : Act
-  pub flush : is_flush_act made ≡ flush_of old w
+  pub flush : is_fence_act made ≡ flush_of old w
   pub struck : List Mark
   pub effect : IsStruck (mark_of w made ∷ old.log.past) struck
   pub ends : GoesOn (record old.log { past = struck }) w answer new.log
@@ -442,7 +441,7 @@ GivesBack config log other old new = new ≡ old
 -- a step of the recovery: exactly one act of worker 0, a flush exactly where that was said before; and with it fewer have been made than so many a word
 pub record Recovers (old : WorldView) (answer : Applied) (new : WorldView) : Type 0 where
   pub made : Act
-  pub flush : is_flush_act made ≡ flush_of old 0
+  pub flush : is_fence_act made ≡ flush_of old 0
   pub few : acts_by 0 (since_on (mark_of 0 made ∷ old.log.past)) < recovery_most old.config
   pub ends : EndsRecovery (with_mark old.log (mark_of 0 made)) answer new.log
   pub supply : GivesBack new.config new.log answer old.supply new.supply
@@ -468,7 +467,7 @@ pub record Evicts (old : WorldView) (a : ℕ) (answer : Applied) (new : WorldVie
 abbrev pub after_cut : WorldView → WorldView
 after_cut lab = record lab { log = with_mark lab.log Cut; flushes = replicate (lab.config.workers + 1) false; swapping = replicate (lab.config.workers + 1) false; left_out = lab.flushes; supply = supply_by power.Off lab.supply }
 
--- power on adds its mark: the first act of a recovery is no flush
+-- power on adds its mark: the first act of a recovery is no fence
 abbrev pub after_on : WorldView → WorldView
 after_on lab = record lab { log = with_mark lab.log On; flushes = slice_set lab.flushes 0 false; swapping = slice_set lab.swapping 0 false }
 

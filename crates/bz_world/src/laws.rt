@@ -128,7 +128,7 @@ pub(crate) fn step_laws()
     story::stores_are_told();
     story::flushes_are_told();
     sound::quiet_acts_follow();
-    sound::flushes_follow();
+    sound::fences_follow();
     sound::same_content_decodes();
     swap::taken_statuses_stay();
     begun_laws();
@@ -159,7 +159,7 @@ pub(crate) fn strike_laws()
     story::quiet_marks_are_lawful();
     story::effects_are_told();
     sound::same_content_decodes();
-    sound::flushes_follow();
+    sound::fences_follow();
     sound::changes_follow();
     sound::effects_follow_acts();
     calls::open_calls_are_kept();

@@ -27,7 +27,7 @@ pub(crate) struct Parts {
     pub numbers: Vec<u32>,
     /// Where the pairs of a page are put together.
     pub page: PageBuf,
-    /// Of each worker, whether its next act was a flush when the power was cut last.
+    /// Of each worker, whether its next act was a fence when the power was cut last.
     pub left_out: ArrayVec<bool, 65>,
     /// How many pairs the map has.
     pub pairs: u64,

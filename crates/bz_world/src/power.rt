@@ -40,7 +40,7 @@ fn drop_calls(workers: &mut Vec<Option<OpenCall>>)
     }
 }
 
-// Of each worker, from worker 0 on, whether its next act is a flush.
+// Of each worker, from worker 0 on, whether its next act is a fence.
 fn flags_of(access: &Access, workers: u32) -> ArrayVec<bool, 65>
     requires few { workers ≤ 64 }
     requires crew { length access.now.workers ≡ workers + 1 }

@@ -10,7 +10,7 @@ ghost use Rattle.bz_swap.specs.SwapMemory.{Loading, worker_of};
 ghost use Rattle.bz_task.specs.declared.todo.Todo.TheVariants.{Load, Finish};
 ghost use Rattle.bz_world.specs.Inside.Beginning.{world_view};
 ghost use Rattle.bz_world.specs.Inside.Kept.{IsAwake, IsRecovering, IsStarted, IsKept};
-ghost use Rattle.bz_world.specs.Inside.Powering.{IsRawAct, HasAsked, MustWake, Wakes};
+ghost use Rattle.bz_world.specs.Inside.Powering.{IsRawAct, HasAsked, HasGoneOn, MustWake, Wakes};
 ghost use Rattle.bz_world.specs.WorldView.{step_by, StepsBy, Recovers, Evicts};
 
 use crate::answers::Applied;
@@ -78,17 +78,23 @@ fn wake(parts: &mut Parts)
     parts.power = Power::On;
 }
 
-// Makes the next act of worker 0, and tells the recovery. Answers what it asks for then.
-fn ask_next(parts: &mut Parts) -> Todo
+// Makes the next act of worker 0, and tells the recovery. Answers what it asks for then; none where a flush goes on, whose line
+// was asked for.
+fn ask_next(parts: &mut Parts) -> Option<Todo>
     requires started { IsStarted parts.old }
     requires power { parts.old.power ≡ power.Recovering }
     requires room { length parts.old.journal.past + 3 ≤ parts.old.config.marks }
-    ensures { HasAsked parts.old result parts.new }
+    ensures { MatchOption result (HasGoneOn parts.old parts.new) (λ todo. HasAsked parts.old todo parts.new) }
 {
     let progress = make_raw_act(parts);
-    parts
-        .recovery
-        .next(seen_of(progress.done), &mut parts.slots)
+    match progress.done {
+        Done::Busy => None,
+        _ => Some(
+            parts
+                .recovery
+                .next(seen_of(progress.done), &mut parts.slots),
+        ),
+    }
 }
 
 // Goes on with the recovery by one act.
@@ -99,7 +105,10 @@ fn recover(parts: &mut Parts) -> Applied
     ensures kept { IsKept parts.new }
     ensures recovers { Recovers (world_view parts.old) result (world_view parts.new) }
 {
-    match ask_next(parts) {
+    let Some(todo) = ask_next(parts) else {
+        return Applied::Stepped;
+    };
+    match todo {
         Todo::Finish => {
             wake(parts);
             Applied::Ready

@@ -187,7 +187,7 @@ impl World {
         self.parts.config
     }
 
-    /// Whether the next act of a worker is a flush.
+    /// Whether the next act of a worker is a fence.
     pub fn flush_next(&self, w: u8) -> bool
         requires { w ≤ self.now.config.workers }
         ensures told { result ≡ flush_of self.now w }

@@ -71,8 +71,8 @@ module _ (c : Config) (P : Plan) (free : FreeSlots) where
       choose true e todo asked = goes c P P Stored free free (same-plan P) (Store j) (Store (j + 1)) todo asked refl (omega (arith, l)) (omega arith) none-taken (λ z. absurd (cc)) (λ z. absurd (cc)) refl
       choose false e todo asked = goes c P P Stored free free (same-plan P) (Store j) (Flush 0) todo asked refl (omega (arith, l)) (omega arith) none-taken (λ z. absurd (cc)) (λ z. absurd (cc)) refl
 
-  after-flush : (j : ℕ) → j < NODE_LINES * P.nodes.count → (todo : Todo) → write_asks c P (flush_after P.nodes.count j) ≡ Some todo → GoesOn (write_view c P (Flush j)) (write_view c P (flush_after P.nodes.count j)) Flushed free free todo
-  after-flush j l = choose (nat_lt (j + 1) (NODE_LINES * P.nodes.count)) refl
+  after-fence : (j : ℕ) → j < NODE_LINES * P.nodes.count → (todo : Todo) → write_asks c P (flush_after P.nodes.count j) ≡ Some todo → GoesOn (write_view c P (Flush j)) (write_view c P (flush_after P.nodes.count j)) Flushed free free todo
+  after-fence j l = choose (nat_lt (j + 1) (NODE_LINES * P.nodes.count)) refl
     where
       choose : (b : Bool) → nat_lt (j + 1) (NODE_LINES * P.nodes.count) ≡ b → (todo : Todo) → write_asks c P (if b then Flush (j + 1) else Swap) ≡ Some todo → GoesOn (write_view c P (Flush j)) (write_view c P (if b then Flush (j + 1) else Swap)) Flushed free free todo
       choose true e todo asked =
@@ -152,7 +152,7 @@ module _ (c : Config) (P : Plan) (free : FreeSlots) where
   pub goes-after : (o : WritePhase) (seen : Seen) → o ≢ Fresh → o ≢ Guard → IsWithin P.nodes.count o → Hears (write_asks c P o) seen → (todo : Todo) → write_asks c P (write_next P.nodes.count o seen) ≡ Some todo
       → GoesOn (write_view c P o) (write_view c P (write_next P.nodes.count o seen)) seen free free todo
   goes-after (Store j) Stored begun looked l h todo asked = after-store j l todo asked
-  goes-after (Flush j) Flushed begun looked l h todo asked = after-flush j l todo asked
+  goes-after (Flush j) Flushed begun looked l h todo asked = after-fence j l todo asked
   goes-after Swap (Swapped true) begun looked l h todo asked = won todo asked
   goes-after Swap (Swapped false) begun looked l h todo asked = lost todo asked
   goes-after Swap NoneLeft begun looked l h todo asked = no-descriptor todo asked

@@ -33,8 +33,8 @@ after-store P some j s f = choose (nat_lt (j + 1) (NODE_WORDS * P.nodes.count)) 
         let last : j + 1 ≡ NODE_WORDS * P.nodes.count = omega (arith, f.1.0, all) in
         (all-begun P.nodes (j + 1) s f.0 (omega (arith, last)), (omega (arith, some), subst (λ z. IsWriting P z 0 s) last f.1.1))
 
-after-flush : (P : Plan) (j : ℕ) (s : Scene) → write_facts P (Flush j) Took s → write_facts P (flush_after P.nodes.count j) Waiting s
-after-flush P j s f = choose (nat_lt (j + 1) (NODE_LINES * P.nodes.count)) refl
+after-fence : (P : Plan) (j : ℕ) (s : Scene) → write_facts P (Flush j) Took s → write_facts P (flush_after P.nodes.count j) Waiting s
+after-fence P j s f = choose (nat_lt (j + 1) (NODE_LINES * P.nodes.count)) refl
   where
     choose : (b : Bool) → nat_lt (j + 1) (NODE_LINES * P.nodes.count) ≡ b → write_facts P (if b then Flush (j + 1) else Swap) Waiting s
     choose true e = let more : j + 1 < NODE_LINES * P.nodes.count = grind (arith, nat_tests) in (f.0, (more, f.1.1))
@@ -46,7 +46,7 @@ after-flush P j s f = choose (nat_lt (j + 1) (NODE_LINES * P.nodes.count)) refl
 -- in a phase after the slots were taken
 told : (c : Config) (P : Plan) → 0 < P.nodes.count → (o : WritePhase) (seen : Seen) (stage : Stage) (s : Scene) → o ≢ Fresh → o ≢ Guard → write_facts P o stage s → Tells (write_asks c P o) stage seen s → write_facts P (write_next P.nodes.count o seen) Waiting s
 told c P some (Store j) Stored Took s begun looked f t = after-store P some j s f
-told c P some (Flush j) Flushed Took s begun looked f t = after-flush P j s f
+told c P some (Flush j) Flushed Took s begun looked f t = after-fence P j s f
 told c P some Swap (Swapped true) Took s begun looked f t = f
 told c P some Swap (Swapped false) Took s begun looked f t = absurd (cc)
 told c P some Swap (Swapped true) Waiting s begun looked f t = absurd (cc)

@@ -47,13 +47,13 @@ const INSERTED: &str =
     "w1.1 insert a 1 = inserted\npower cut\npower on 1 pairs\nw1.2 get a = value 1\n";
 
 #[test]
-fn an_insert_is_cut_before_each_of_its_flushes(rt: HostRuntime) -> Result<(), Fail> {
+fn an_insert_is_cut_before_each_of_its_fences(rt: HostRuntime) -> Result<(), Fail> {
     let alloc = rt.alloc();
     let first = "memory 16 64\nw 1 insert a 1\ncut 1 0\nrun alone\npower\nw 1 get a\nrun alone\n";
     expect_one_of(&rt, alloc, first, &[LOST])?;
-    for flush in 2..61u32 {
+    for fence in 2..61u32 {
         let script = format!(in alloc;
-            "memory 16 64\nw 1 insert a 1\ncut {flush} 0\nrun alone\npower\nw 1 get a\nrun alone\n"
+            "memory 16 64\nw 1 insert a 1\ncut {fence} 0\nrun alone\npower\nw 1 get a\nrun alone\n"
         )?;
         expect_one_of(&rt, alloc, &script, &[LOST, KEPT, INSERTED])?;
     }
@@ -71,12 +71,12 @@ const INSERTED_TWICE: &str =
     "w1.1 insert a 1 = inserted\npower cut\npower on 1 pairs\npower cut\npower on 1 pairs\nw1.2 get a = value 1\n";
 
 #[test]
-fn its_recovery_is_cut_before_each_of_its_flushes(rt: HostRuntime) -> Result<(), Fail> {
+fn its_recovery_is_cut_before_each_of_its_fences(rt: HostRuntime) -> Result<(), Fail> {
     let alloc = rt.alloc();
-    for flush in 1..20u32 {
+    for fence in 1..20u32 {
         for again in 1..21u32 {
             let script = format!(in alloc;
-                "memory 16 64\nw 1 insert a 1\ncut {flush} 0\nrun alone\ncut {again} 0\npower\npower\nw 1 get a\nrun alone\n"
+                "memory 16 64\nw 1 insert a 1\ncut {fence} 0\nrun alone\ncut {again} 0\npower\npower\nw 1 get a\nrun alone\n"
             )?;
             expect_one_of(
                 &rt,
@@ -124,12 +124,12 @@ fn an_armed_cut_alone_drops_the_calls_that_wait(rt: HostRuntime) -> Result<(), F
             "memory 16 64\nw 1 insert a 1\npower\nrun alone\n",
             "power cut\npower on 0 pairs\nw1.1 insert a 1 = inserted\n",
         ),
-        // flushes are counted from 1 in each run
+        // fences are counted from 1 in each run
         (
             "memory 16 64\nw 1 insert a 1\nrun alone\nw 1 insert b 2\ncut 1 0\nrun alone\npower\n",
             "w1.1 insert a 1 = inserted\nw1.2 insert b 2 = lost\npower cut\npower on 1 pairs\n",
         ),
-        // a cut that no flush meets, and one that no line uses
+        // a cut that no fence meets, and one that no line uses
         (
             "memory 16 64\nw 1 get a\ncut 1 0\nrun alone\npower\nrun alone\ncut 1 0\n",
             "w1.1 get a = missing\npower cut\npower on 0 pairs\n",

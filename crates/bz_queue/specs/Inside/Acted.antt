@@ -1,6 +1,6 @@
 -- What stands between an act and its effect.
 use Rattle.std.specs.Prelude.{◌≡◌, ◌≢◌, ◌≤◌, ◌+◌, ℕ, ◌∷◌, length, Option, Some, None, get_or, slice_set}
-use Rattle.bz_swap_acts.specs.Rule.{is_flush_act}
+use Rattle.bz_swap_acts.specs.Rule.{is_fence_act}
 use Rattle.bz_swap_acts.specs.declared.acted.Act.{Act}
 use Rattle.bz_swap_machine.specs.declared.done.Done.{Done}
 use Rattle.bz_mark.specs.declared.marks.Mark.{Mark}
@@ -88,7 +88,7 @@ pub record HasMarked (old : Parts) (s : ℕ) (new : Parts) : Type 0 where
 -- the act that was made, with its effect if it had one
 pub record HasActed (old : Parts) (w : ℕ) (new : Parts) : Type 0 where
   pub made : Act
-  pub flush : is_flush_act made ≡ (worker_of old.access w).flush_next
+  pub flush : is_fence_act made ≡ (worker_of old.access w).flush_next
   pub struck : IsStruck (Memory (mark_of w made) ∷ old.journal.past) new.journal.past
   pub rest : new ≡ record old { access = new.access; journal = record old.journal { past = new.journal.past }; workers = new.workers }
   pub others : (v : ℕ) → v ≢ w → worker_of new.access v ≡ worker_of old.access v

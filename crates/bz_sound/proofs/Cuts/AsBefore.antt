@@ -9,7 +9,7 @@ use Rattle.bz_call.specs.declared.replies.Reply.TheVariants as reply
 use Rattle.bz_call.specs.declared.replies.Spent.{Spent}
 use Rattle.bz_call.specs.declared.replies.Spent.TheVariants.{Nodes, Swaps, Height}
 use Rattle.bz_mark.specs.declared.marks.Mark.{Mark}
-use Rattle.bz_mark.specs.declared.marks.Mark.TheVariants.{Begin, End, Load, Store, Cas, Flush, Ask, Fence, Evict, Cut, On, Ready, Effect}
+use Rattle.bz_mark.specs.declared.marks.Mark.TheVariants.{Begin, End, Load, Store, Cas, Ask, Fence, Evict, Cut, On, Ready, Effect}
 use Rattle.bz_mark.specs.declared.power.Power.TheVariants as power
 use Rattle.bz_sound.specs.Calls.{Open, open_call}
 use Rattle.bz_sound.specs.Replies.{Pages}
@@ -81,7 +81,6 @@ follows start past (End w n reply at) once may = may
 follows start past (Load w a v) once may = acts-open start past w once may
 follows start past (Store w a v) once may = acts-open start past w once may
 follows start past (Cas w a old new found) once may = acts-open start past w once may
-follows start past (Flush w line) once may = acts-open start past w once may
 follows start past (Ask w line) once may = acts-open start past w once may
 follows start past (Fence w) once may = acts-open start past w once may
 follows start past (Evict a) once may = not-off past (unbroken-once start past once)
@@ -96,7 +95,6 @@ followed start past (End w n reply at) h leaves may = may
 followed start past (Load w a v) h leaves may = open-acts past w h may
 followed start past (Store w a v) h leaves may = open-acts past w h may
 followed start past (Cas w a old new found) h leaves may = open-acts past w h may
-followed start past (Flush w line) h leaves may = open-acts past w h may
 followed start past (Ask w line) h leaves may = open-acts past w h may
 followed start past (Fence w) h leaves may = open-acts past w h may
 followed start past (Evict a) h leaves may = tt

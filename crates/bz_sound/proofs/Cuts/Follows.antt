@@ -4,7 +4,7 @@ use Rattle.bz_call.specs.Map.{Map}
 use Rattle.bz_mark.specs.Moments.{at_moment, mark_at}
 use Rattle.bz_mark.proofs.MomentLaws.{at_moment-next}
 use Rattle.bz_mark.specs.declared.marks.Mark.{Mark}
-use Rattle.bz_mark.specs.declared.marks.Mark.TheVariants.{Begin, End, Load, Store, Cas, Flush, Ask, Fence, Evict, Cut, On, Ready, Effect}
+use Rattle.bz_mark.specs.declared.marks.Mark.TheVariants.{Begin, End, Load, Store, Cas, Ask, Fence, Evict, Cut, On, Ready, Effect}
 use Rattle.bz_mark.specs.declared.power.Power.{Power}
 use Rattle.bz_mark.specs.declared.power.Power.TheVariants as power
 use Rattle.bz_sound.specs.Calls.{Open, open_call}
@@ -41,7 +41,6 @@ only-on at_start start past (End w n reply at) once off may = absurd (off-none a
 only-on at_start start past (Load w a v) once off may = absurd (off-idle at_start start past w once may off)
 only-on at_start start past (Store w a v) once off may = absurd (off-idle at_start start past w once may off)
 only-on at_start start past (Cas w a old new found) once off may = absurd (off-idle at_start start past w once may off)
-only-on at_start start past (Flush w line) once off may = absurd (off-idle at_start start past w once may off)
 only-on at_start start past (Ask w line) once off may = absurd (off-idle at_start start past w once may off)
 only-on at_start start past (Fence w) once off may = absurd (off-idle at_start start past w once may off)
 only-on at_start start past (Evict a) once off may = absurd (may off)
@@ -55,7 +54,6 @@ only-on at_start start past Ready once off may = absurd (go past once off may)
     go (Load w a v ∷ past) once off acted = off-idle at_start start past w once.1 once.0 off
     go (Store w a v ∷ past) once off acted = off-idle at_start start past w once.1 once.0 off
     go (Cas w a old new found ∷ past) once off acted = off-idle at_start start past w once.1 once.0 off
-    go (Flush w line ∷ past) once off acted = off-idle at_start start past w once.1 once.0 off
     go (Ask w line ∷ past) once off acted = off-idle at_start start past w once.1 once.0 off
     go (Fence w ∷ past) once off acted = off-idle at_start start past w once.1 once.0 off
     go (mark ∷ past) once off acted = acted
@@ -82,7 +80,6 @@ acted-recovers at_start start [] once acted = absurd acted
 acted-recovers at_start start (Load w a v ∷ past) once acted = recovers at_start past w once.0 acted
 acted-recovers at_start start (Store w a v ∷ past) once acted = recovers at_start past w once.0 acted
 acted-recovers at_start start (Cas w a old new found ∷ past) once acted = recovers at_start past w once.0 acted
-acted-recovers at_start start (Flush w line ∷ past) once acted = recovers at_start past w once.0 acted
 acted-recovers at_start start (Ask w line ∷ past) once acted = recovers at_start past w once.0 acted
 acted-recovers at_start start (Fence w ∷ past) once acted = recovers at_start past w once.0 acted
 acted-recovers at_start start (mark ∷ past) once acted = absurd acted

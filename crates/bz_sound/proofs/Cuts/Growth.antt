@@ -5,11 +5,11 @@ use Rattle.bz_call.specs.Pages.{names_page}
 use Rattle.bz_mark.specs.Log.{Log, with_mark, count_page_ends}
 use Rattle.bz_mark.specs.WordsAfter.{words_after_marks, Found}
 use Rattle.bz_mark.specs.declared.marks.Mark.{Mark}
-use Rattle.bz_mark.specs.declared.marks.Mark.TheVariants.{Begin, End, Load, Store, Cas, Flush, Ask, Fence, Evict, Cut, On, Ready, Effect}
+use Rattle.bz_mark.specs.declared.marks.Mark.TheVariants.{Begin, End, Load, Store, Cas, Ask, Fence, Evict, Cut, On, Ready, Effect}
 use Rattle.bz_mark.specs.declared.power.Power.{Power}
 use Rattle.bz_sound.specs.Memory.Moments.{map_at_start, Decodes}
 use Rattle.bz_sound.specs.Power.Calls.{MayFollow}
-use Rattle.bz_sound.specs.Power.Growth.{FreshJournalsAreSound, QuietActsFollow, FlushesFollow, EffectsFollowActs, BeginsFollow, EndsFollow, PageEndsFollow, LoadsAreSettled}
+use Rattle.bz_sound.specs.Power.Growth.{FreshJournalsAreSound, QuietActsFollow, FencesFollow, EffectsFollowActs, BeginsFollow, EndsFollow, PageEndsFollow, LoadsAreSettled}
 use Rattle.bz_sound.specs.Power.Laws.{CutsFollow, OnsFollow, ReadysFollow}
 use Rattle.bz_sound.specs.Power.Replies.{HasRightReply}
 use Rattle.bz_sound.specs.Power.Sound.{IsSound}
@@ -66,8 +66,7 @@ quiet-acts c at_start log (Cas w a old new is) sound quiet follows found = grown
 quiet-acts c at_start log (Ask w line) sound quiet follows found = grown c at_start log (Ask w line) sound found follows tt refl (decodes-now c at_start log sound)
 quiet-acts c at_start log mark sound quiet follows found = absurd quiet
 
-pub flushes : FlushesFollow
-flushes c at_start log (Flush w line) sound flush follows decodes = grown c at_start log (Flush w line) sound tt follows tt refl decodes
+pub flushes : FencesFollow
 flushes c at_start log (Fence w) sound flush follows decodes = grown c at_start log (Fence w) sound tt follows tt refl decodes
 flushes c at_start log (Evict a) sound flush follows decodes = grown c at_start log (Evict a) sound tt follows tt refl decodes
 flushes c at_start log mark sound flush follows decodes = absurd flush
@@ -93,7 +92,7 @@ page-ends c at_start log answer pairs sound is paged right = record {
   durable = each-with (Decodes c log.start) (End answer.worker answer.opened.number answer.reply answer.at) log.past sound.durable (decodes-now c at_start log sound);
 }
 
--- a flush, a fence or an eviction with the Effect of a call
+-- a fence or an eviction with the Effect of a call
 with-effect : (c : Config) (at_start : Power) (log : Log) (mark : Mark) (w n : ℕ) → IsSound c at_start log → Found (words_after_marks log.start log.past) mark
     → MayFollow at_start (map_at_start c log.start) log.past mark → HasRightReply c log.start log.pages log.past mark → count_page_ends (mark ∷ log.past) ≡ count_page_ends log.past
     → MayFollow at_start (map_at_start c log.start) (mark ∷ log.past) (Effect w n) → Decodes c log.start (Effect w n ∷ mark ∷ log.past)
@@ -108,7 +107,6 @@ with-effect c at_start log mark w n sound found follows right pages effect decod
 }
 
 pub effects : EffectsFollowActs
-effects c at_start log (Flush v line) w n sound follows effect decodes = with-effect c at_start log (Flush v line) w n sound tt follows tt refl effect decodes
 effects c at_start log (Fence v) w n sound follows effect decodes = with-effect c at_start log (Fence v) w n sound tt follows tt refl effect decodes
 effects c at_start log (Evict a) w n sound follows effect decodes = with-effect c at_start log (Evict a) w n sound tt follows tt refl effect decodes
 effects c at_start log mark w n sound follows effect decodes = absurd effect.0

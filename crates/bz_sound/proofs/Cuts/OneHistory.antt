@@ -26,7 +26,7 @@ use Rattle.bz_sound.proofs.Memory.Between.{at_moment-twice, StaysOpen, open-betw
 use Rattle.bz_sound.proofs.Memory.Ended.{IsInside, inside}
 use Rattle.bz_sound.proofs.Memory.Marks.{each-at, each-before}
 use Rattle.bz_sound.proofs.Memory.NeverTold.{never-page}
-use Rattle.bz_sound.proofs.Memory.Settled.{not-both, after-flush}
+use Rattle.bz_sound.proofs.Memory.Settled.{not-both, after-fence}
 use Rattle.bz_sound.proofs.Memory.Standing.{MayStand, CallsStand, Stands, powered-stands}
 
 -- a call that happened directly after a load leaves the map as it is
@@ -121,7 +121,7 @@ same-load v w (mark ∷ past) a b = absurd a
 
 -- no Effect comes directly after a load
 no-effect : (start : Map) (past : List Mark) (at v w n : ℕ) → CallsStand start past → at < length past → IsAfterLoad v (at_moment at past) → mark_at at past ≡ Some (Effect w n) → ⊥
-no-effect start past at v w n once h load is = not-both v (at_moment at past) load (after-flush start past at w n once h is)
+no-effect start past at v w n once h load is = not-both v (at_moment at past) load (after-fence start past at w n once h is)
 
 -- two open calls of one worker at one moment are one
 one-call : (past : List Mark) (h k : Happening) → h.worker ≡ k.worker → h.at ≡ k.at → StaysOpen past h.worker h.opened h.at → StaysOpen past k.worker k.opened k.at → h.opened.number ≡ k.opened.number

@@ -1,7 +1,7 @@
 -- What sound journals tell of their calls, and what the image says of replies and effects, where the power fails.
 use Rattle.bz_call.specs.declared.replies.Reply.TheVariants.{Full}
 use Rattle.bz_mark.specs.Moments.{at_moment}
-use Rattle.bz_mark.specs.declared.marks.Mark.TheVariants.{Load, Store, Cas, Flush, Ask, Fence}
+use Rattle.bz_mark.specs.declared.marks.Mark.TheVariants.{Load, Store, Cas, Ask, Fence}
 use Rattle.bz_sound.specs.Memory.Moments.{map_at_start}
 use Rattle.bz_mark.specs.Counts.{is_taken}
 use Rattle.bz_sound.specs.Power.Calls.{MayFollow}
@@ -20,7 +20,7 @@ use Rattle.bz_sound.proofs.Memory.Once.{stands-once}
 use Rattle.bz_sound.proofs.Memory.ReadPages.{pages-by}
 use Rattle.bz_sound.proofs.Memory.Reads.{answers-by}
 use Rattle.bz_sound.proofs.Memory.RoomLeft.{leaves-room}
-use Rattle.bz_sound.proofs.Memory.Settled.{after-flush}
+use Rattle.bz_sound.proofs.Memory.Settled.{after-fence}
 use Rattle.bz_sound.proofs.Memory.Standing.{powered-stands}
 use Rattle.bz_sound.proofs.Memory.Told.{EndsCall, ended, last-call, lies-within, full-cause}
 
@@ -35,13 +35,12 @@ acts-allowed c at_start log moment w sound h = record {
   load = λ a v is. each-at (MayFollow at_start (map_at_start c log.start)) log.past moment (Load w a v) sound.once h is;
   store = λ a v is. each-at (MayFollow at_start (map_at_start c log.start)) log.past moment (Store w a v) sound.once h is;
   compare_and_swap = λ a old new found is. each-at (MayFollow at_start (map_at_start c log.start)) log.past moment (Cas w a old new found) sound.once h is;
-  flush = λ line is. each-at (MayFollow at_start (map_at_start c log.start)) log.past moment (Flush w line) sound.once h is;
   ask = λ line is. each-at (MayFollow at_start (map_at_start c log.start)) log.past moment (Ask w line) sound.once h is;
   fence = λ is. each-at (MayFollow at_start (map_at_start c log.start)) log.past moment (Fence w) sound.once h is;
 }
 
 pub effects-directly : EffectsComeDirectly
-effects-directly c at_start log moment w n sound h is = after-flush _ log.past moment w n (powered-stands c at_start log sound).once h is
+effects-directly c at_start log moment w n sound h is = after-fence _ log.past moment w n (powered-stands c at_start log sound).once h is
 
 pub effects-once : EffectsStandOnce
 effects-once c at_start log first second w n sound h k is again = stands-once _ log.past first second w n (powered-stands c at_start log sound).once h k is again

@@ -9,7 +9,7 @@ use Rattle.bz_content.specs.WorkedInsert.{small, undecided, succeeded}
 use Rattle.bz_content.proofs.Proved.{worked_insert_reads}
 use Rattle.bz_call.specs.declared.calls.Call.TheVariants.{Insert, Get}
 use Rattle.bz_call.specs.declared.replies.Reply.TheVariants.{Value}
-use Rattle.bz_mark.specs.declared.marks.Mark.TheVariants.{Begin, End, Load, Store, Flush, Evict, Cut, On, Ready}
+use Rattle.bz_mark.specs.declared.marks.Mark.TheVariants.{Begin, End, Load, Store, Evict, Cut, On, Ready}
 use Rattle.bz_mark.proofs.WordLaws.{found-read, read-found}
 use Rattle.bz_mark.specs.declared.power.Power.TheVariants as power
 use Rattle.bz_sound.specs.Calls.{Open, map_after}
@@ -19,20 +19,20 @@ use Rattle.bz_sound.specs.Memory.Moments.{map_at_start, HoldsMap, Decodes}
 use Rattle.bz_sound.specs.Power.Example.{start, journal, one, decided, took_effect, kept, lost, recovering, recovered, asking, the_insert, IsRight, CutsAreRight, CutsAreRefused, WorkedCuts}
 use Rattle.bz_sound.proofs.Cuts.Growth.{fresh-sound, begins, quiet-acts, flushes, effects, ends, cuts-follow, ons-follow, readys-follow, decodes-now}
 use Rattle.bz_sound.proofs.Cuts.Left.{pending-now, happened-cut}
-use Rattle.bz_sound.proofs.Cuts.WorkedWords.{same-image, start-length, start-word, flushed_words, flushed-length, flushed-word, undecided-content, succeeded-content, status-undecided, status-succeeded, root-succeeded}
+use Rattle.bz_sound.proofs.Cuts.WorkedWords.{same-image, start-length, start-word, evicted_words, evicted-length, evicted-word, undecided-content, succeeded-content, status-undecided, status-succeeded, root-succeeded}
 use Rattle.bz_sound.proofs.Memory.Changed.{change-decodes}
 
--- the image before and after the flush
+-- the image before and after the eviction
 before : slice_index start ≡ undecided
 before = same-image (slice_index start) undecided start-word
 
-after : slice_index flushed_words ≡ succeeded
-after = same-image (slice_index flushed_words) succeeded flushed-word
+after : slice_index evicted_words ≡ succeeded
+after = same-image (slice_index evicted_words) succeeded evicted-word
 
 whole-before : image_fault small (slice_index start) ≡ None
 whole-before = ap (image_fault small) before ∙ worked_insert_reads.undecided.whole
 
-whole-after : image_fault small (slice_index flushed_words) ≡ None
+whole-after : image_fault small (slice_index evicted_words) ≡ None
 whole-after = ap (image_fault small) after ∙ worked_insert_reads.succeeded.whole
 
 same-tests : (a b : Bool) → (a ≡ true → b ≡ true) → (b ≡ true → a ≡ true) → a ≡ b
@@ -45,7 +45,7 @@ turned : (key : List ℕ) → bytes_eq a_key key ≡ bytes_eq key a_key
 turned key = same-tests (bytes_eq a_key key) (bytes_eq key a_key) (λ is. (bytes_eq-Decides key a_key).1 (sym ((bytes_eq-Decides a_key key).0 is)))
     (λ is. (bytes_eq-Decides a_key key).1 (sym ((bytes_eq-Decides key a_key).0 is)))
 
-changes : ChangesKey small (slice_index start) (slice_index flushed_words) a_key None (Some one)
+changes : ChangesKey small (slice_index start) (slice_index evicted_words) a_key None (Some one)
 changes = record {
   was = ap (λ (image : ℕ → ℕ). content_in small image a_key) before ∙ undecided-content a_key;
   becomes = λ key. ap (λ (image : ℕ → ℕ). content_in small image key) after ∙ succeeded-content key
@@ -66,13 +66,13 @@ begun sound = begins small power.On (journal []) 1 1 (Insert a_key one) sound (r
 stored : IsRight power.On (Begin 1 1 (Insert a_key one) ∷ []) → IsRight power.On decided
 stored sound = quiet-acts small power.On (journal (Begin 1 1 (Insert a_key one) ∷ [])) (Store 1 32 2) sound tt (record { opened = the_call; is_open = refl }) tt
 
-follows : IsRight power.On decided → EffectFollows small (journal decided) (Flush 1 4) 1 the_call None
-follows sound = change-decodes small (journal decided) (Flush 1 4) 1 the_call None (Some one) (decodes-now small power.On (journal decided) sound) tt refl refl refl (whole-after) changes
+follows : IsRight power.On decided → EffectFollows small (journal decided) (Evict 32) 1 the_call None
+follows sound = change-decodes small (journal decided) (Evict 32) 1 the_call None (Some one) (decodes-now small power.On (journal decided) sound) tt refl refl refl (whole-after) changes
 
-flushed : IsRight power.On decided → IsRight power.On took_effect
-flushed sound =
-    let f : EffectFollows small (journal decided) (Flush 1 4) 1 the_call None = follows sound in
-    effects small power.On (journal decided) (Flush 1 4) 1 1 sound (record { opened = the_call; is_open = refl }) f.may_follow f.decodes
+made_durable : IsRight power.On decided → IsRight power.On took_effect
+made_durable sound =
+    let f : EffectFollows small (journal decided) (Evict 32) 1 the_call None = follows sound in
+    effects small power.On (journal decided) (Evict 32) 1 1 sound (λ off. cc) f.may_follow f.decodes
 
 cut-kept : IsRight power.On took_effect → IsRight power.On kept
 cut-kept sound = cuts-follow small power.On (journal took_effect) sound (λ off. off)
@@ -84,7 +84,7 @@ on-kept : IsRight power.On kept → IsRight power.On (On ∷ kept)
 on-kept sound = ons-follow small power.On (journal kept) sound tt
 
 loaded : IsRight power.On (On ∷ kept) → IsRight power.On recovering
-loaded sound = quiet-acts small power.On (journal (On ∷ kept)) (Load 0 32 2) sound tt refl (found-read flushed_words 32 2 (omega (arith, flushed-length)) (sym (flushed-word 32 ∙ status-succeeded)))
+loaded sound = quiet-acts small power.On (journal (On ∷ kept)) (Load 0 32 2) sound tt refl (found-read evicted_words 32 2 (omega (arith, evicted-length)) (sym (evicted-word 32 ∙ status-succeeded)))
 
 ended : IsRight power.On recovering → IsRight power.On recovered
 ended sound = readys-follow small power.On (journal recovering) sound refl
@@ -98,7 +98,7 @@ the_get = record { number = 2; call = Get a_key; begun = 8; effect = None }
 
 asked : IsRight power.On (Begin 1 2 (Get a_key) ∷ recovered) → IsRight power.On asking
 asked sound = quiet-acts small power.On (journal (Begin 1 2 (Get a_key) ∷ recovered)) (Load 1 1 1) sound tt (record { opened = the_get; is_open = refl })
-    (found-read flushed_words 1 1 (omega (arith, flushed-length)) (sym (flushed-word 1 ∙ root-succeeded)))
+    (found-read evicted_words 1 1 (omega (arith, evicted-length)) (sym (evicted-word 1 ∙ root-succeeded)))
 
 -- what the map has then
 has-pair : Decodes small start took_effect → get (map_after (map_at_start small start) took_effect) a_key ≡ Some one
@@ -123,7 +123,7 @@ cut-again sound = ons-follow small power.On (journal (Cut ∷ recovering)) (cuts
 -- the word of the eviction is durable already
 evicted : IsRight power.On recovering → IsRight power.On (Evict 32 ∷ recovering)
 evicted sound = flushes small power.On (journal recovering) (Evict 32) sound tt (λ off. cc)
-    (subst (λ (words : List ℕ). HoldsMap small (slice_index words) (map_after (map_at_start small start) recovering)) (sym (set-get_or flushed_words 32 0))
+    (subst (λ (words : List ℕ). HoldsMap small (slice_index words) (map_after (map_at_start small start) recovering)) (sym (set-get_or evicted_words 32 0))
     (decodes-now small power.On (journal recovering) sound))
 
 off-first : IsRight power.Off []
@@ -157,7 +157,7 @@ cuts-are-right = record {
     stands = stored (begun (at-first))
 
     durable : IsRight power.On took_effect
-    durable = flushed stands
+    durable = made_durable stands
 
     failed : IsRight power.On kept
     failed = cut-kept durable

@@ -1,11 +1,10 @@
 -- The words of the worked journals with power cuts.
-use Rattle.std.proofs.Common.{◌≡◌, ◌≢◌, ◌≤◌, ◌<◌, ◌+◌, ◌/◌, ◌==◌, ◌^◌, ℕ, false, List, [], ◌∷◌, ◌++◌, length, drop, refl, sym, ap, ◌∙◌, subst, inl, inr, arith, Some, None, get_or-set_other}
+use Rattle.std.proofs.Common.{◌≡◌, ◌≢◌, ◌≤◌, ◌<◌, ◌+◌, ◌==◌, ◌^◌, ℕ, false, List, [], ◌∷◌, ◌++◌, length, drop, refl, sym, ap, ◌∙◌, subst, inl, inr, arith, Some, None, get_or-set_other}
 use Rattle.std.specs.Prelude.{if◌then◌else◌, slice_index, slice_set, bytes_eq}
 use Rattle.std.proofs.lemmas.Bool.{cases_lt, cases_eq}
 use Rattle.std.proofs.lemmas.Bool.Decides.{nat_tests}
 use Rattle.std.proofs.lemmas.List.{get_or_past, get_or-set_same, length-set}
 use Rattle.std.proofs.lemmas.List.FromFn.{get_or-map-range_with_len, length-map-range_with_len}
-use Rattle.bz_pm.specs.Acts.{with_line}
 use Rattle.bz_layout.specs.Addresses as layout
 use Rattle.bz_content.specs.Content.{content_in}
 use Rattle.bz_content.specs.Image.{node}
@@ -20,7 +19,6 @@ use Rattle.bz_word.specs.Statuses.{status}
 use Rattle.bz_word.specs.Headers.{header}
 use Rattle.bz_word.specs.Metas.{meta}
 use Rattle.bz_key.specs.Packing.{packed, packed_word, packed_byte, unpacked, unpacked_key, unpacked_payload}
-use Rattle.bz_mark.proofs.WordLaws.Lines.{length-line, in_line, off_line}
 use Rattle.bz_sound.specs.Power.Example.{words_below, start}
 
 -- images with equal words are one
@@ -79,15 +77,12 @@ start-length = length-below undecided (layout.words_of small)
 pub start-word : (a : ℕ) → slice_index start a ≡ undecided a
 start-word a = at-below undecided (layout.words_of small) a undecided-past
 
--- the durable words once the line of the status is flushed
-abbrev pub flushed_words : List ℕ
-flushed_words = with_line 4 (slice_set start 32 2) start
+-- the durable words once the status is evicted
+abbrev pub evicted_words : List ℕ
+evicted_words = slice_set start 32 (slice_index (slice_set start 32 2) 32)
 
-same-length : length (slice_set start 32 2) ≡ length start
-same-length = length-set start 32 2
-
-pub flushed-length : length flushed_words ≡ layout.words_of small
-flushed-length = length-line 4 (slice_set start 32 2) start same-length ∙ start-length
+pub evicted-length : length evicted_words ≡ layout.words_of small
+evicted-length = length-set start 32 (slice_index (slice_set start 32 2) 32) ∙ start-length
 
 -- three words
 pub status-undecided : undecided 32 ≡ 1
@@ -102,20 +97,14 @@ pub root-succeeded : succeeded 1 ≡ 1
 unfolding word_at
 root-succeeded = refl
 
-stored-word : (a : ℕ) → a < length start → slice_index (slice_set start 32 2) a ≡ succeeded a
-stored-word a within = elim (cases_eq a 32) [
-  | inl here ↦ subst (λ (b : ℕ). slice_index (slice_set start 32 2) b ≡ succeeded b) (sym here)
-      (get_or-set_same start 32 2 0 (omega (arith, start-length)) ∙ sym status-succeeded)
-  | inr different ↦ get_or-set_other start 32 a 2 0 different ∙ start-word a ∙ same-but_status a different
-]
+stored-status : slice_index (slice_set start 32 2) 32 ≡ 2
+stored-status = get_or-set_same start 32 2 0 (omega (arith, start-length))
 
-pub flushed-word : (a : ℕ) → slice_index flushed_words a ≡ succeeded a
-flushed-word a = elim (cases_lt a (length start)) [
-  | inl within ↦ elim (cases_eq (a / 8) 4) [
-    | inl here ↦ in_line 4 (slice_set start 32 2) start a same-length within here ∙ stored-word a within
-    | inr other ↦ off_line 4 (slice_set start 32 2) start a same-length within other ∙ start-word a ∙ same-but_status a (λ is. other (ap (λ (b : ℕ). b / 8) is))
-  ]
-  | inr past ↦ get_or_past flushed_words a 0 (omega (arith, flushed-length, start-length)) ∙ sym (succeeded-past a (omega (arith, start-length)))
+pub evicted-word : (a : ℕ) → slice_index evicted_words a ≡ succeeded a
+evicted-word a = elim (cases_eq a 32) [
+  | inl here ↦ subst (λ (b : ℕ). slice_index evicted_words b ≡ succeeded b) (sym here)
+      (get_or-set_same start 32 (slice_index (slice_set start 32 2) 32) 0 (omega (arith, start-length)) ∙ stored-status ∙ sym status-succeeded)
+  | inr different ↦ get_or-set_other start 32 a (slice_index (slice_set start 32 2) 32) 0 different ∙ start-word a ∙ same-but_status a different
 ]
 
 -- what the two images say of a key

@@ -11,10 +11,10 @@ use Rattle.bz_call.specs.declared.calls.Call.{Call}
 use Rattle.bz_call.specs.declared.calls.Call.TheVariants.{Insert, Delete, Update, Upsert, Get, Page}
 use Rattle.bz_mark.specs.Log.{Log}
 use Rattle.bz_mark.specs.declared.marks.Mark.{Mark}
-use Rattle.bz_mark.specs.declared.marks.Mark.TheVariants.{Flush, Fence, Evict}
+use Rattle.bz_mark.specs.declared.marks.Mark.TheVariants.{Fence, Evict}
 use Rattle.bz_sound.specs.Calls.{Open, open_call, map_after, map_with}
 use Rattle.bz_sound.specs.Memory.ImageLaws.{IsChangeOf, ChangesKey, EffectFollows, ChangesFollow, SameContentDecodes}
-use Rattle.bz_sound.specs.Memory.Moments.{image_after, map_at_start, HoldsMap, Decodes, IsAfterFlush}
+use Rattle.bz_sound.specs.Memory.Moments.{image_after, map_at_start, HoldsMap, Decodes, IsAfterFence}
 use Rattle.bz_sound.proofs.Memory.Growth.{decodes-now}
 
 -- a map with this payload, or none, at a key, and else as before
@@ -60,7 +60,7 @@ holds-changed c before after map call old new holds whole change is = record {
 }
 
 -- the two marks that make words durable leave open calls and map
-durable-change : (c : Config) (log : Log) (mark : Mark) (w : ℕ) (opened : Open) (old new : Option (List ℕ)) → Decodes c log.start log.past → IsAfterFlush (mark ∷ log.past)
+durable-change : (c : Config) (log : Log) (mark : Mark) (w : ℕ) (opened : Open) (old new : Option (List ℕ)) → Decodes c log.start log.past → IsAfterFence (mark ∷ log.past)
     → open_call w (mark ∷ log.past) ≡ Some opened → map_after (map_at_start c log.start) (mark ∷ log.past) ≡ map_after (map_at_start c log.start) log.past
     → opened.effect ≡ None → IsChangeOf opened.call old new → image_fault c (image_after log.start (mark ∷ log.past)) ≡ None
     → ChangesKey c (image_after log.start log.past) (image_after log.start (mark ∷ log.past)) (key_of opened.call) old new → EffectFollows c log mark w opened old
@@ -75,10 +75,9 @@ durable-change c log mark w opened old new now flush is same quiet changes whole
     }
 
 -- whatever the marks are, the words decode to the map before
-pub change-decodes : (c : Config) (log : Log) (mark : Mark) (w : ℕ) (opened : Open) (old new : Option (List ℕ)) → Decodes c log.start log.past → IsAfterFlush (mark ∷ log.past)
+pub change-decodes : (c : Config) (log : Log) (mark : Mark) (w : ℕ) (opened : Open) (old new : Option (List ℕ)) → Decodes c log.start log.past → IsAfterFence (mark ∷ log.past)
     → open_call w log.past ≡ Some opened → opened.effect ≡ None → IsChangeOf opened.call old new → image_fault c (image_after log.start (mark ∷ log.past)) ≡ None
     → ChangesKey c (image_after log.start log.past) (image_after log.start (mark ∷ log.past)) (key_of opened.call) old new → EffectFollows c log mark w opened old
-change-decodes c log (Flush v line) w opened old new now flush is quiet changes whole change = durable-change c log (Flush v line) w opened old new now flush is refl quiet changes whole change
 change-decodes c log (Fence v) w opened old new now flush is quiet changes whole change = durable-change c log (Fence v) w opened old new now flush is refl quiet changes whole change
 change-decodes c log (Evict a) w opened old new now flush is quiet changes whole change = durable-change c log (Evict a) w opened old new now flush is refl quiet changes whole change
 change-decodes c log mark w opened old new now flush is quiet changes whole change = absurd flush
@@ -86,9 +85,8 @@ change-decodes c log mark w opened old new now flush is quiet changes whole chan
 pub changes-follow : ChangesFollow
 changes-follow c log mark w opened old new sound flush is quiet changes whole change = change-decodes c log mark w opened old new (decodes-now c log sound) flush is quiet changes whole change
 
-pub content-decodes : (c : Config) (log : Log) (mark : Mark) → Decodes c log.start log.past → IsAfterFlush (mark ∷ log.past) → image_fault c (image_after log.start (mark ∷ log.past)) ≡ None
+pub content-decodes : (c : Config) (log : Log) (mark : Mark) → Decodes c log.start log.past → IsAfterFence (mark ∷ log.past) → image_fault c (image_after log.start (mark ∷ log.past)) ≡ None
     → ((key : List ℕ) → content_in c (image_after log.start (mark ∷ log.past)) key ≡ content_in c (image_after log.start log.past) key) → Decodes c log.start (mark ∷ log.past)
-content-decodes c log (Flush v line) now flush whole same = record { well_formed = whole; content = λ key. same key ∙ now.content key }
 content-decodes c log (Fence v) now flush whole same = record { well_formed = whole; content = λ key. same key ∙ now.content key }
 content-decodes c log (Evict a) now flush whole same = record { well_formed = whole; content = λ key. same key ∙ now.content key }
 content-decodes c log mark now flush whole same = absurd flush

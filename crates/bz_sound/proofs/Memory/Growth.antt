@@ -9,10 +9,10 @@ use Rattle.bz_mark.proofs.MomentLaws.{mark_at-newest}
 use Rattle.bz_mark.specs.Moments.{IsInner, mark_at}
 use Rattle.bz_mark.specs.WordsAfter.{words_after_marks, Found}
 use Rattle.bz_mark.specs.declared.marks.Mark.{Mark}
-use Rattle.bz_mark.specs.declared.marks.Mark.TheVariants.{Begin, End, Load, Store, Cas, Flush, Ask, Fence, Evict, Effect}
+use Rattle.bz_mark.specs.declared.marks.Mark.TheVariants.{Begin, End, Load, Store, Cas, Ask, Fence, Evict, Effect}
 use Rattle.bz_sound.specs.Calls.{Open, open_call}
 use Rattle.bz_sound.specs.Memory.Calls.{MayFollow}
-use Rattle.bz_sound.specs.Memory.Laws.{QuietActsFollow, FlushesFollow, EffectsFollowActs, BeginsFollow, EndsFollow, PageEndsFollow}
+use Rattle.bz_sound.specs.Memory.Laws.{QuietActsFollow, FencesFollow, EffectsFollowActs, BeginsFollow, EndsFollow, PageEndsFollow}
 use Rattle.bz_sound.specs.Memory.Moments.{map_at_start, Decodes}
 use Rattle.bz_sound.specs.Memory.Replies.{Answer, IsRightReplyBy, HasRightReplyBy, HasRightReply}
 use Rattle.bz_sound.specs.Memory.Sound.{IsSound}
@@ -44,8 +44,7 @@ quiet-acts c log (Cas w a old new is) sound quiet follows found = grown c log (C
 quiet-acts c log (Ask w line) sound quiet follows found = grown c log (Ask w line) sound found follows tt refl (decodes-now c log sound)
 quiet-acts c log mark sound quiet follows found = absurd quiet
 
-pub flushes : FlushesFollow
-flushes c log (Flush w line) sound flush follows decodes = grown c log (Flush w line) sound tt follows tt refl decodes
+pub flushes : FencesFollow
 flushes c log (Fence w) sound flush follows decodes = grown c log (Fence w) sound tt follows tt refl decodes
 flushes c log (Evict a) sound flush follows decodes = grown c log (Evict a) sound tt follows tt refl decodes
 flushes c log mark sound flush follows decodes = absurd flush
@@ -92,7 +91,7 @@ inner-effect w n mark past =
     let next : length (mark ∷ past) ≡ length past + 1 = omega arith in
     (omega arith, (w, n, subst (λ (k : ℕ). mark_at k (Effect w n ∷ mark ∷ past) ≡ Some (Effect w n)) next (mark_at-newest (Effect w n) (mark ∷ past))))
 
--- a flush, a fence or an eviction with the Effect of a call
+-- a fence or an eviction with the Effect of a call
 with-effect : (c : Config) (log : Log) (mark : Mark) (w n : ℕ) → IsSound c log → Found (words_after_marks log.start log.past) mark → MayFollow (map_at_start c log.start) log.past mark
     → HasRightReply c log.start log.pages log.past mark → count_page_ends (mark ∷ log.past) ≡ count_page_ends log.past
     → MayFollow (map_at_start c log.start) (mark ∷ log.past) (Effect w n) → Decodes c log.start (Effect w n ∷ mark ∷ log.past)
@@ -107,7 +106,6 @@ with-effect c log mark w n sound found follows right pages effect decodes = reco
 }
 
 pub effects : EffectsFollowActs
-effects c log (Flush v line) w n sound follows effect decodes = with-effect c log (Flush v line) w n sound tt follows tt refl effect decodes
 effects c log (Fence v) w n sound follows effect decodes = with-effect c log (Fence v) w n sound tt follows tt refl effect decodes
 effects c log (Evict a) w n sound follows effect decodes = with-effect c log (Evict a) w n sound tt follows tt refl effect decodes
 effects c log mark w n sound follows effect decodes = absurd effect.0

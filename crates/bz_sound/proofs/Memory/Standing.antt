@@ -9,7 +9,7 @@ use Rattle.bz_mark.specs.declared.marks.Mark.TheVariants.{Begin, End, Effect}
 use Rattle.bz_mark.specs.declared.power.Power.{Power}
 use Rattle.bz_sound.specs.Calls.{Open, MayBegin, MayEnd, MayEffect}
 use Rattle.bz_sound.specs.Memory.Calls as unbroken
-use Rattle.bz_sound.specs.Memory.Moments.{map_at_start, IsAfterFlush, EachMark}
+use Rattle.bz_sound.specs.Memory.Moments.{map_at_start, IsAfterFence, EachMark}
 use Rattle.bz_sound.specs.Memory.Replies.{HasRightReplyBy}
 use Rattle.bz_sound.specs.Memory.Sound as unbroken_sound
 use Rattle.bz_sound.specs.Memory.Spent as unbroken_spent
@@ -21,7 +21,7 @@ use Rattle.bz_sound.specs.Power.Spent as powered_spent
 abbrev pub MayStand : Map → List Mark → Mark → Type 0
 MayStand start past (Begin w n call) = (1 ≤ w) × MayBegin past w n
 MayStand start past (End w n reply at) = MayEnd past w n
-MayStand start past (Effect w n) = IsAfterFlush past × MayEffect start past w n
+MayStand start past (Effect w n) = IsAfterFence past × MayEffect start past w n
 MayStand start past mark = Unit {0}
 
 abbrev pub CallsStand : Map → List Mark → Type 0

@@ -12,7 +12,7 @@ use Rattle.bz_mark.specs.Log.{Log}
 use Rattle.bz_mark.specs.Moments.{at_moment, mark_at}
 use Rattle.bz_mark.proofs.MomentLaws.{length-at_moment, mark_at-at_moment}
 use Rattle.bz_mark.specs.declared.marks.Mark.{Mark}
-use Rattle.bz_mark.specs.declared.marks.Mark.TheVariants.{Begin, End, Load, Store, Cas, Flush, Ask, Fence, Cut, Effect}
+use Rattle.bz_mark.specs.declared.marks.Mark.TheVariants.{Begin, End, Load, Store, Cas, Ask, Fence, Cut, Effect}
 use Rattle.bz_sound.proofs.CallLaws.{began_before, has_begin}
 use Rattle.bz_sound.specs.Calls.{Open, open_call, begun_calls, with_effect}
 use Rattle.bz_sound.specs.Replies.{Pages}
@@ -23,18 +23,17 @@ use Rattle.bz_sound.specs.Memory.Replies.{IsAnswerBy, IsRightReplyBy, HasRightRe
 use Rattle.bz_sound.specs.Memory.Spent.{IsSpent}
 use Rattle.bz_sound.proofs.Memory.Marks.{each-at}
 use Rattle.bz_sound.proofs.Memory.NeverTold.{never-full}
-use Rattle.bz_sound.proofs.Memory.Settled.{after-flush}
+use Rattle.bz_sound.proofs.Memory.Settled.{after-fence}
 use Rattle.bz_sound.proofs.Memory.Standing.{MayStand, CallsStand, Stands, unbroken-stands}
 
 pub effects-directly : EffectsComeDirectly
-effects-directly c log moment w n sound h is = after-flush _ log.past moment w n (unbroken-stands c log sound).once h is
+effects-directly c log moment w n sound h is = after-fence _ log.past moment w n (unbroken-stands c log sound).once h is
 
 pub acts-of-open-calls : ActsAreOfOpenCalls
 acts-of-open-calls c log moment w sound h = record {
   load = λ a v is. each-at (MayFollow (map_at_start c log.start)) log.past moment (Load w a v) sound.once h is;
   store = λ a v is. each-at (MayFollow (map_at_start c log.start)) log.past moment (Store w a v) sound.once h is;
   compare_and_swap = λ a old new found is. each-at (MayFollow (map_at_start c log.start)) log.past moment (Cas w a old new found) sound.once h is;
-  flush = λ line is. each-at (MayFollow (map_at_start c log.start)) log.past moment (Flush w line) sound.once h is;
   ask = λ line is. each-at (MayFollow (map_at_start c log.start)) log.past moment (Ask w line) sound.once h is;
   fence = λ is. each-at (MayFollow (map_at_start c log.start)) log.past moment (Fence w) sound.once h is;
 }

@@ -8,9 +8,9 @@ use Rattle.bz_call.specs.declared.replies.Spent.{Spent}
 use Rattle.bz_mark.specs.Log.{Log}
 use Rattle.bz_mark.specs.Moments.{at_moment, mark_at}
 use Rattle.bz_mark.specs.declared.marks.Mark.{Mark}
-use Rattle.bz_mark.specs.declared.marks.Mark.TheVariants.{Begin, End, Load, Store, Cas, Flush, Ask, Fence, Evict, Effect}
+use Rattle.bz_mark.specs.declared.marks.Mark.TheVariants.{Begin, End, Load, Store, Cas, Ask, Fence, Evict, Effect}
 use Rattle.bz_sound.specs.Calls.{Open, open_call, begun_calls, with_effect}
-use Rattle.bz_sound.specs.Memory.Moments.{IsAfterFlush}
+use Rattle.bz_sound.specs.Memory.Moments.{IsAfterFence}
 use Rattle.bz_sound.specs.Memory.Calls.{HasOpenCall}
 use Rattle.bz_sound.specs.Memory.Spent.{IsSpent}
 use Rattle.bz_sound.specs.Memory.Sound.{IsSound, IsApart}
@@ -20,7 +20,6 @@ pub record OpenCallsStay (w : ℕ) (past : List Mark) : Type 0 where
   pub load : (v a value : ℕ) → open_call w (Load v a value ∷ past) ≡ open_call w past
   pub store : (v a value : ℕ) → open_call w (Store v a value ∷ past) ≡ open_call w past
   pub compare_and_swap : (v a old new found : ℕ) → open_call w (Cas v a old new found ∷ past) ≡ open_call w past
-  pub flush : (v line : ℕ) → open_call w (Flush v line ∷ past) ≡ open_call w past
   pub ask : (v line : ℕ) → open_call w (Ask v line ∷ past) ≡ open_call w past
   pub fence : (v : ℕ) → open_call w (Fence v ∷ past) ≡ open_call w past
   pub eviction : (a : ℕ) → open_call w (Evict a ∷ past) ≡ open_call w past
@@ -51,18 +50,17 @@ pub record ActsTell (c : Config) (log : Log) (moment w : ℕ) : Type 0 where
   pub load : (a v : ℕ) → mark_at moment log.past ≡ Some (Load w a v) → HasOpenCall (at_moment moment log.past) w
   pub store : (a v : ℕ) → mark_at moment log.past ≡ Some (Store w a v) → HasOpenCall (at_moment moment log.past) w
   pub compare_and_swap : (a old new found : ℕ) → mark_at moment log.past ≡ Some (Cas w a old new found) → HasOpenCall (at_moment moment log.past) w
-  pub flush : (line : ℕ) → mark_at moment log.past ≡ Some (Flush w line) → HasOpenCall (at_moment moment log.past) w
   pub ask : (line : ℕ) → mark_at moment log.past ≡ Some (Ask w line) → HasOpenCall (at_moment moment log.past) w
   pub fence : mark_at moment log.past ≡ Some (Fence w) → HasOpenCall (at_moment moment log.past) w
 
 abbrev pub ActsAreOfOpenCalls : Type 0
 ActsAreOfOpenCalls = (c : Config) (log : Log) (moment w : ℕ) → IsSound c log → moment < length log.past → ActsTell c log moment w
 
--- an Effect stands directly after a flush, a fence or an eviction
+-- an Effect stands directly after a fence or an eviction
 abbrev pub EffectsComeDirectly : Type 0
 EffectsComeDirectly =
     (c : Config) (log : Log) (moment w n : ℕ) → IsSound c log → moment < length log.past → mark_at moment log.past ≡ Some (Effect w n) →
-    IsAfterFlush (at_moment moment log.past)
+    IsAfterFence (at_moment moment log.past)
 
 -- no call takes effect twice
 abbrev pub EffectsStandOnce : Type 0

@@ -2,9 +2,9 @@
 use Rattle.std.specs.Prelude.{◌≡◌, ◌≤◌, ℕ, List, Some}
 use Rattle.bz_call.specs.Map.{Map}
 use Rattle.bz_mark.specs.declared.marks.Mark.{Mark}
-use Rattle.bz_mark.specs.declared.marks.Mark.TheVariants.{Begin, End, Load, Store, Cas, Flush, Ask, Fence, Evict, Cut, On, Ready, Effect}
+use Rattle.bz_mark.specs.declared.marks.Mark.TheVariants.{Begin, End, Load, Store, Cas, Ask, Fence, Evict, Cut, On, Ready, Effect}
 use Rattle.bz_sound.specs.Calls.{Open, open_call, MayBegin, MayEnd, MayEffect}
-use Rattle.bz_sound.specs.Memory.Moments.{IsAfterFlush, EachMark}
+use Rattle.bz_sound.specs.Memory.Moments.{IsAfterFence, EachMark}
 
 -- the worker has a call that is open
 pub record HasOpenCall (past : List Mark) (w : ℕ) : Type 0 where
@@ -20,11 +20,10 @@ MayFollow start past (End w n reply at) = MayEnd past w n
 MayFollow start past (Load w a v) = HasOpenCall past w
 MayFollow start past (Store w a v) = HasOpenCall past w
 MayFollow start past (Cas w a old new found) = HasOpenCall past w
-MayFollow start past (Flush w line) = HasOpenCall past w
 MayFollow start past (Ask w line) = HasOpenCall past w
 MayFollow start past (Fence w) = HasOpenCall past w
 MayFollow start past (Evict a) = Unit {0}
-MayFollow start past (Effect w n) = IsAfterFlush past × MayEffect start past w n
+MayFollow start past (Effect w n) = IsAfterFence past × MayEffect start past w n
 MayFollow start past Cut = ⊥
 MayFollow start past On = ⊥
 MayFollow start past Ready = ⊥

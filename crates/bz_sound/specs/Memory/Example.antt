@@ -8,7 +8,7 @@ use Rattle.bz_call.specs.declared.calls.Call.TheVariants.{Get, Delete}
 use Rattle.bz_call.specs.declared.replies.Reply.TheVariants.{Missing}
 use Rattle.bz_mark.specs.Log.{Log}
 use Rattle.bz_mark.specs.declared.marks.Mark.{Mark}
-use Rattle.bz_mark.specs.declared.marks.Mark.TheVariants.{Begin, End, Load, Flush, Cut, Effect}
+use Rattle.bz_mark.specs.declared.marks.Mark.TheVariants.{Begin, End, Load, Fence, Cut, Effect}
 use Rattle.bz_sound.specs.Memory.Sound.{IsSound}
 
 -- the key `a`
@@ -43,9 +43,9 @@ pub record WorkedGet (c : Config) : Type 0 where
   pub other_value : IsRefused c (Load 1 1 2 ∷ Begin 1 1 (Get a_key) ∷ [])
   pub no_call : IsRefused c (Load 1 1 1 ∷ [])
   pub recovering : IsRefused c (Begin 0 1 (Get a_key) ∷ [])
-  -- an Effect directly after a load, and one a mark after the flush
+  -- an Effect directly after a load, and one a mark after the fence
   pub after_load : IsRefused c (Effect 1 1 ∷ asked)
-  pub after_begin : IsRefused c (Effect 1 1 ∷ Begin 1 1 (Delete a_key) ∷ Flush 2 0 ∷ Begin 2 1 (Get a_key) ∷ [])
+  pub after_begin : IsRefused c (Effect 1 1 ∷ Begin 1 1 (Delete a_key) ∷ Fence 2 ∷ Begin 2 1 (Get a_key) ∷ [])
   -- a power cut
   pub cut : IsRefused c (Cut ∷ asked)
 

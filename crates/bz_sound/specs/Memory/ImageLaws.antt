@@ -19,7 +19,7 @@ use Rattle.bz_mark.specs.Moments.{at_moment}
 use Rattle.bz_mark.specs.declared.marks.Mark.{Mark}
 use Rattle.bz_mark.specs.declared.marks.Mark.TheVariants.{Effect}
 use Rattle.bz_sound.specs.Calls.{Open, open_call, map_after, map_at}
-use Rattle.bz_sound.specs.Memory.Moments.{image_after, image_at, map_at_start, Decodes, IsAfterLoad, IsAfterFlush}
+use Rattle.bz_sound.specs.Memory.Moments.{image_after, image_at, map_at_start, Decodes, IsAfterLoad, IsAfterFence}
 use Rattle.bz_sound.specs.Memory.Calls.{HasOpenCall, MayFollow}
 use Rattle.bz_mark.specs.Counts.{is_taken}
 use Rattle.bz_sound.specs.Memory.Spent.{is_used, count_used, LacksSlots, IsSpent}
@@ -86,11 +86,11 @@ pub record EffectFollows (c : Config) (log : Log) (mark : Mark) (w : ℕ) (opene
   pub decodes : Decodes c log.start (Effect w opened.number ∷ mark ∷ log.past)
   pub step : apply (map_after (map_at_start c log.start) (mark ∷ log.past)) opened.call ≡ apply_at old (map_after (map_at_start c log.start) (mark ∷ log.past)) opened.call
 
--- so it is where a flush, a fence or an eviction changes the content as an open call does that has no Effect yet
+-- so it is where a fence or an eviction changes the content as an open call does that has no Effect yet
 abbrev pub ChangesFollow : Type 0
 ChangesFollow =
     (c : Config) (log : Log) (mark : Mark) (w : ℕ) (opened : Open) (old new : Option (List ℕ)) →
-    IsSound c log → IsAfterFlush (mark ∷ log.past) → open_call w log.past ≡ Some opened → opened.effect ≡ None → IsChangeOf opened.call old new →
+    IsSound c log → IsAfterFence (mark ∷ log.past) → open_call w log.past ≡ Some opened → opened.effect ≡ None → IsChangeOf opened.call old new →
     image_fault c (image_after log.start (mark ∷ log.past)) ≡ None →
     ChangesKey c (image_after log.start log.past) (image_after log.start (mark ∷ log.past)) (key_of opened.call) old new →
     EffectFollows c log mark w opened old
@@ -145,9 +145,9 @@ HeldSlotsAreSpent =
     (c : Config) (start : List ℕ) (past : List Mark) (w slots : ℕ) (free : List ℕ) (holder place : ℕ → ℕ) → length free < slots → AreOthersHeld (λ slot. is_used c start past slot) free c past w holder place →
     LacksSlots c (count_used c start past) slots w past
 
--- where a flush, a fence or an eviction leaves the content, the words decode as before
+-- where a fence or an eviction leaves the content, the words decode as before
 abbrev pub SameContentDecodes : Type 0
 SameContentDecodes =
-    (c : Config) (log : Log) (mark : Mark) → IsSound c log → IsAfterFlush (mark ∷ log.past) → image_fault c (image_after log.start (mark ∷ log.past)) ≡ None →
+    (c : Config) (log : Log) (mark : Mark) → IsSound c log → IsAfterFence (mark ∷ log.past) → image_fault c (image_after log.start (mark ∷ log.past)) ≡ None →
     ((key : List ℕ) → content_in c (image_after log.start (mark ∷ log.past)) key ≡ content_in c (image_after log.start log.past) key) →
     Decodes c log.start (mark ∷ log.past)

@@ -11,7 +11,7 @@ use Rattle.bz_mark.specs.WordsAfter.{words_after_marks, Found}
 use Rattle.bz_mark.specs.declared.marks.Mark.{Mark}
 use Rattle.bz_mark.specs.declared.marks.Mark.TheVariants.{Begin, End, Load, Store, Cas, Ask, Effect}
 use Rattle.bz_sound.specs.Calls.{open_call, MayBegin}
-use Rattle.bz_sound.specs.Memory.Moments.{map_at_start, Decodes, IsAfterLoad, IsAfterFlush}
+use Rattle.bz_sound.specs.Memory.Moments.{map_at_start, Decodes, IsAfterLoad, IsAfterFence}
 use Rattle.bz_sound.specs.Memory.Calls.{MayFollow}
 use Rattle.bz_sound.specs.Memory.Replies.{Answer, IsRightReply}
 use Rattle.bz_sound.specs.Memory.Sound.{IsSound}
@@ -36,10 +36,10 @@ QuietActsFollow =
     (c : Config) (log : Log) (mark : Mark) → IsSound c log → IsQuietAct mark → MayFollow (map_at_start c log.start) log.past mark →
     Found (words_after_marks log.start log.past) mark → IsSound c (with_mark log mark)
 
--- a flush, a fence or an eviction may be added after which the durable words decode to the map as it was
-abbrev pub FlushesFollow : Type 0
-FlushesFollow =
-    (c : Config) (log : Log) (mark : Mark) → IsSound c log → IsAfterFlush (mark ∷ log.past) → MayFollow (map_at_start c log.start) log.past mark →
+-- a fence or an eviction may be added after which the durable words decode to the map as it was
+abbrev pub FencesFollow : Type 0
+FencesFollow =
+    (c : Config) (log : Log) (mark : Mark) → IsSound c log → IsAfterFence (mark ∷ log.past) → MayFollow (map_at_start c log.start) log.past mark →
     Decodes c log.start (mark ∷ log.past) → IsSound c (with_mark log mark)
 
 -- So may each of these with the Effect of a call, after which they decode to the map with the call's step. In

@@ -9,7 +9,7 @@ use Rattle.bz_content.specs.Map.{map_in}
 use Rattle.bz_mark.specs.Moments.{at_moment}
 use Rattle.bz_mark.specs.WordsAfter.{words_after_marks}
 use Rattle.bz_mark.specs.declared.marks.Mark.{Mark}
-use Rattle.bz_mark.specs.declared.marks.Mark.TheVariants.{Load, Flush, Fence, Evict}
+use Rattle.bz_mark.specs.declared.marks.Mark.TheVariants.{Load, Fence, Evict}
 use Rattle.bz_sound.specs.Calls.{map_after}
 
 -- the durable words after these marks, as an image: what a power cut would leave
@@ -38,12 +38,11 @@ abbrev pub IsAfterLoad : ℕ → List Mark → Type 0
 IsAfterLoad w (Load v a value ∷ past) = v ≡ w
 IsAfterLoad w past = ⊥
 
--- the newest mark is a flush, a fence or an eviction: no other mark makes a word durable
-abbrev pub IsAfterFlush : List Mark → Type 0
-IsAfterFlush (Flush w line ∷ past) = Unit {0}
-IsAfterFlush (Fence w ∷ past) = Unit {0}
-IsAfterFlush (Evict a ∷ past) = Unit {0}
-IsAfterFlush past = ⊥
+-- the newest mark is a fence or an eviction: no other mark makes a word durable
+abbrev pub IsAfterFence : List Mark → Type 0
+IsAfterFence (Fence w ∷ past) = Unit {0}
+IsAfterFence (Evict a ∷ past) = Unit {0}
+IsAfterFence past = ⊥
 
 -- each mark, after the marks before it, has P
 abbrev pub EachMark : (List Mark → Mark → Type 0) → List Mark → Type 0

@@ -7,11 +7,11 @@ use Rattle.bz_call.specs.declared.replies.Spent.{Spent}
 use Rattle.bz_mark.specs.Log.{Log}
 use Rattle.bz_mark.specs.Moments.{at_moment, mark_at}
 use Rattle.bz_mark.specs.declared.marks.Mark.{Mark}
-use Rattle.bz_mark.specs.declared.marks.Mark.TheVariants.{End, Load, Store, Cas, Flush, Ask, Fence, Effect}
+use Rattle.bz_mark.specs.declared.marks.Mark.TheVariants.{End, Load, Store, Cas, Ask, Fence, Effect}
 use Rattle.bz_mark.specs.declared.power.Power.{Power}
 use Rattle.bz_sound.specs.Calls.{Open, open_call}
 use Rattle.bz_sound.specs.Memory.CallLaws.{IsLastCall, LiesWithin, TellsAChange}
-use Rattle.bz_sound.specs.Memory.Moments.{IsAfterFlush}
+use Rattle.bz_sound.specs.Memory.Moments.{IsAfterFence}
 use Rattle.bz_sound.specs.Memory.OpenCallLaws.{LeavesRoom}
 use Rattle.bz_sound.specs.Power.Calls.{MayAct}
 use Rattle.bz_sound.specs.Power.Sound.{IsSound}
@@ -30,18 +30,17 @@ pub record ActsTell (at_start : Power) (log : Log) (moment w : ℕ) : Type 0 whe
   pub load : (a v : ℕ) → mark_at moment log.past ≡ Some (Load w a v) → MayAct at_start (at_moment moment log.past) w
   pub store : (a v : ℕ) → mark_at moment log.past ≡ Some (Store w a v) → MayAct at_start (at_moment moment log.past) w
   pub compare_and_swap : (a old new found : ℕ) → mark_at moment log.past ≡ Some (Cas w a old new found) → MayAct at_start (at_moment moment log.past) w
-  pub flush : (line : ℕ) → mark_at moment log.past ≡ Some (Flush w line) → MayAct at_start (at_moment moment log.past) w
   pub ask : (line : ℕ) → mark_at moment log.past ≡ Some (Ask w line) → MayAct at_start (at_moment moment log.past) w
   pub fence : mark_at moment log.past ≡ Some (Fence w) → MayAct at_start (at_moment moment log.past) w
 
 abbrev pub ActsAreAllowed : Type 0
 ActsAreAllowed = (c : Config) (at_start : Power) (log : Log) (moment w : ℕ) → IsSound c at_start log → moment < length log.past → ActsTell at_start log moment w
 
--- an Effect stands directly after a flush, a fence or an eviction
+-- an Effect stands directly after a fence or an eviction
 abbrev pub EffectsComeDirectly : Type 0
 EffectsComeDirectly =
     (c : Config) (at_start : Power) (log : Log) (moment w n : ℕ) → IsSound c at_start log → moment < length log.past → mark_at moment log.past ≡ Some (Effect w n) →
-    IsAfterFlush (at_moment moment log.past)
+    IsAfterFence (at_moment moment log.past)
 
 -- no call takes effect twice, before and after a cut
 abbrev pub EffectsStandOnce : Type 0

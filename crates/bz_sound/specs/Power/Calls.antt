@@ -3,12 +3,12 @@
 use Rattle.std.specs.Prelude.{◌≡◌, ◌≢◌, ◌≤◌, ℕ, zero, suc, List, ◌∷◌}
 use Rattle.bz_call.specs.Map.{Map}
 use Rattle.bz_mark.specs.declared.marks.Mark.{Mark}
-use Rattle.bz_mark.specs.declared.marks.Mark.TheVariants.{Begin, End, Load, Store, Cas, Flush, Ask, Fence, Evict, Cut, On, Ready, Effect}
+use Rattle.bz_mark.specs.declared.marks.Mark.TheVariants.{Begin, End, Load, Store, Cas, Ask, Fence, Evict, Cut, On, Ready, Effect}
 use Rattle.bz_mark.specs.declared.power.Power.{Power}
 use Rattle.bz_mark.specs.declared.power.Power.TheVariants as power
 use Rattle.bz_sound.specs.Calls.{MayBegin, MayEnd, MayEffect}
 use Rattle.bz_sound.specs.Memory.Calls.{HasOpenCall}
-use Rattle.bz_sound.specs.Memory.Moments.{IsAfterFlush, EachMark}
+use Rattle.bz_sound.specs.Memory.Moments.{IsAfterFence, EachMark}
 use Rattle.bz_mark.specs.Times.{power_of}
 
 -- worker 0 acts while the power is recovering, and any other worker while it has an open call
@@ -21,7 +21,6 @@ abbrev pub IsAfterRecovering : List Mark → Type 0
 IsAfterRecovering (Load w a v ∷ past) = w ≡ 0
 IsAfterRecovering (Store w a v ∷ past) = w ≡ 0
 IsAfterRecovering (Cas w a old new found ∷ past) = w ≡ 0
-IsAfterRecovering (Flush w line ∷ past) = w ≡ 0
 IsAfterRecovering (Ask w line ∷ past) = w ≡ 0
 IsAfterRecovering (Fence w ∷ past) = w ≡ 0
 IsAfterRecovering past = ⊥
@@ -33,7 +32,7 @@ pub record BeginsPowered (at_start : Power) (past : List Mark) (w n : ℕ) : Typ
   pub begins : MayBegin past w n
 
 -- A call is open from its Begin to its End or to the next Cut, and begins with the power on. An effect stands directly
--- after a flush, a fence or an eviction, of any worker, and names an open call that has none yet and changes the map; the
+-- after a fence or an eviction, of any worker, and names an open call that has none yet and changes the map; the
 -- map was this one at the start. Words are evicted, and the power fails, while it is not off; it comes on only while it is off.
 -- Recovery ends directly after an act of worker 0.
 abbrev pub MayFollow : Power → Map → List Mark → Mark → Type 0
@@ -42,11 +41,10 @@ MayFollow at_start start past (End w n reply at) = MayEnd past w n
 MayFollow at_start start past (Load w a v) = MayAct at_start past w
 MayFollow at_start start past (Store w a v) = MayAct at_start past w
 MayFollow at_start start past (Cas w a old new found) = MayAct at_start past w
-MayFollow at_start start past (Flush w line) = MayAct at_start past w
 MayFollow at_start start past (Ask w line) = MayAct at_start past w
 MayFollow at_start start past (Fence w) = MayAct at_start past w
 MayFollow at_start start past (Evict a) = power_of at_start past ≢ power.Off
-MayFollow at_start start past (Effect w n) = IsAfterFlush past × MayEffect start past w n
+MayFollow at_start start past (Effect w n) = IsAfterFence past × MayEffect start past w n
 MayFollow at_start start past Cut = power_of at_start past ≢ power.Off
 MayFollow at_start start past On = power_of at_start past ≡ power.Off
 MayFollow at_start start past Ready = IsAfterRecovering past

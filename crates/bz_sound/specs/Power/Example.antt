@@ -1,5 +1,5 @@
 -- Small journals with power cuts, worked out by hand over the memory of the worked insert: worker 1 inserts the key `a`,
--- whose swap in descriptor 1 is not decided yet. Its status stands at address 32, in line 4. And the journals that differ
+-- whose swap in descriptor 1 is not decided yet. Its status stands at address 32. And the journals that differ
 -- from them in one thing.
 use Rattle.std.specs.Prelude.{◌≡◌, ℕ, true, false, List, [], ◌∷◌, map, slice_index, Some, None}
 use Rattle.std.specs.List.{range_with_len}
@@ -10,7 +10,7 @@ use Rattle.bz_call.specs.declared.calls.Call.TheVariants.{Insert, Get}
 use Rattle.bz_call.specs.declared.replies.Reply.TheVariants.{Inserted, Value}
 use Rattle.bz_mark.specs.Log.{Log}
 use Rattle.bz_mark.specs.declared.marks.Mark.{Mark}
-use Rattle.bz_mark.specs.declared.marks.Mark.TheVariants.{Begin, End, Load, Store, Flush, Evict, Cut, On, Ready, Effect}
+use Rattle.bz_mark.specs.declared.marks.Mark.TheVariants.{Begin, End, Load, Store, Fence, Evict, Cut, On, Ready, Effect}
 use Rattle.bz_mark.specs.declared.power.Power.{Power}
 use Rattle.bz_mark.specs.declared.power.Power.TheVariants as power
 use Rattle.bz_sound.specs.Calls.{map_after}
@@ -43,11 +43,11 @@ one = 49 ∷ []
 abbrev pub decided : List Mark
 decided = Store 1 32 2 ∷ Begin 1 1 (Insert a_key one) ∷ []
 
--- the flush makes that durable, and so the effect of the call
+-- an eviction makes that durable, and so the effect of the call
 abbrev pub took_effect : List Mark
-took_effect = Effect 1 1 ∷ Flush 1 4 ∷ decided
+took_effect = Effect 1 1 ∷ Evict 32 ∷ decided
 
--- the power fails directly after the effect, so that the call is never answered; or before the flush
+-- the power fails directly after the effect, so that the call is never answered; or before the eviction
 abbrev pub kept : List Mark
 kept = Cut ∷ took_effect
 
@@ -108,12 +108,12 @@ pub record CutsAreRefused : Type 0 where
   pub recovery_on : IsRefused power.On (Load 0 32 2 ∷ took_effect)
   pub recovery_off : IsRefused power.On (Load 0 32 2 ∷ kept)
   pub recovery_ended : IsRefused power.On (Load 0 32 2 ∷ recovered)
-  -- the call that the cut ended is answered, and takes effect by recovery's flush
+  -- the call that the cut ended is answered, and takes effect by recovery's fence
   pub answered_off : IsRefused power.On (End 1 1 Inserted 3 ∷ kept)
   pub answered_later : IsRefused power.On (End 1 1 Inserted 3 ∷ recovered)
-  pub effect_later : IsRefused power.On (Effect 1 1 ∷ Flush 0 4 ∷ Load 0 32 1 ∷ On ∷ lost)
+  pub effect_later : IsRefused power.On (Effect 1 1 ∷ Fence 0 ∷ Load 0 32 1 ∷ On ∷ lost)
   -- a second effect of one call
-  pub effect_again : IsRefused power.On (Effect 1 1 ∷ Flush 1 4 ∷ took_effect)
+  pub effect_again : IsRefused power.On (Effect 1 1 ∷ Fence 1 ∷ took_effect)
   -- On with the power on, in recovery and after it, and as the first mark of a world whose power is on
   pub on_on : IsRefused power.On (On ∷ took_effect)
   pub on_recovering : IsRefused power.On (On ∷ recovering)

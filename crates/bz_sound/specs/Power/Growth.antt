@@ -13,7 +13,7 @@ use Rattle.bz_mark.specs.declared.marks.Mark.TheVariants.{Begin, End, Effect}
 use Rattle.bz_mark.specs.declared.power.Power.{Power}
 use Rattle.bz_sound.specs.Calls.{open_call}
 use Rattle.bz_sound.specs.Memory.Laws.{IsQuietAct}
-use Rattle.bz_sound.specs.Memory.Moments.{map_at_start, Decodes, IsAfterLoad, IsAfterFlush}
+use Rattle.bz_sound.specs.Memory.Moments.{map_at_start, Decodes, IsAfterLoad, IsAfterFence}
 use Rattle.bz_sound.specs.Memory.Replies.{Answer}
 use Rattle.bz_sound.specs.Power.Calls.{MayFollow, BeginsPowered}
 use Rattle.bz_sound.specs.Power.Replies.{IsRightReply}
@@ -31,10 +31,10 @@ QuietActsFollow =
     (c : Config) (at_start : Power) (log : Log) (mark : Mark) → IsSound c at_start log → IsQuietAct mark → MayFollow at_start (map_at_start c log.start) log.past mark →
     Found (words_after_marks log.start log.past) mark → IsSound c at_start (with_mark log mark)
 
--- a flush, a fence or an eviction may be added after which the durable words decode to the map as it was
-abbrev pub FlushesFollow : Type 0
-FlushesFollow =
-    (c : Config) (at_start : Power) (log : Log) (mark : Mark) → IsSound c at_start log → IsAfterFlush (mark ∷ log.past) →
+-- a fence or an eviction may be added after which the durable words decode to the map as it was
+abbrev pub FencesFollow : Type 0
+FencesFollow =
+    (c : Config) (at_start : Power) (log : Log) (mark : Mark) → IsSound c at_start log → IsAfterFence (mark ∷ log.past) →
     MayFollow at_start (map_at_start c log.start) log.past mark → Decodes c log.start (mark ∷ log.past) → IsSound c at_start (with_mark log mark)
 
 -- so may each of these with the Effect of a call, after which they decode to the map with the call's step

@@ -13,7 +13,7 @@ use Rattle.bz_mark.specs.declared.marks.Mark.{Mark}
 use Rattle.bz_mark.specs.declared.power.Power.{Power}
 use Rattle.bz_sound.specs.Calls.{Open, open_call, map_at}
 use Rattle.bz_sound.specs.Memory.ImageLaws.{ReadsAt, ImageAnswersBy, IsImagePage, ChangesKey, IsChangeOf, EffectFollows, AreHeldBy, AreOthersHeld}
-use Rattle.bz_sound.specs.Memory.Moments.{image_after, image_at, map_at_start, Decodes, IsAfterFlush}
+use Rattle.bz_sound.specs.Memory.Moments.{image_after, image_at, map_at_start, Decodes, IsAfterFence}
 use Rattle.bz_sound.specs.Memory.Replies.{IsWrite}
 use Rattle.bz_mark.specs.Counts.{is_taken}
 use Rattle.bz_sound.specs.Memory.Spent.{LacksSlots}
@@ -35,11 +35,11 @@ PagesComeFromTheImage =
     IsSound c at_start log → ReadsAt log.past w opened at → opened.call ≡ call.Page from → IsImagePage c (image_at log.start at log.past) from next pairs →
     IsRightReply c log.start (log.pages ++ pairs ∷ []) log.past (record { worker = w; opened = opened; reply = Page (length log.pages) next; at = at })
 
--- where a flush, a fence or an eviction changes the content as an open call does that has no Effect yet, its Effect may follow
+-- where a fence or an eviction changes the content as an open call does that has no Effect yet, its Effect may follow
 abbrev pub ChangesFollow : Type 0
 ChangesFollow =
     (c : Config) (at_start : Power) (log : Log) (mark : Mark) (w : ℕ) (opened : Open) (old new : Option (List ℕ)) →
-    IsSound c at_start log → IsAfterFlush (mark ∷ log.past) → open_call w log.past ≡ Some opened → opened.effect ≡ None → IsChangeOf opened.call old new →
+    IsSound c at_start log → IsAfterFence (mark ∷ log.past) → open_call w log.past ≡ Some opened → opened.effect ≡ None → IsChangeOf opened.call old new →
     image_fault c (image_after log.start (mark ∷ log.past)) ≡ None →
     ChangesKey c (image_after log.start log.past) (image_after log.start (mark ∷ log.past)) (key_of opened.call) old new →
     EffectFollows c log mark w opened old
@@ -47,7 +47,7 @@ ChangesFollow =
 -- where one leaves the content, as each does in recovery, the words decode as before
 abbrev pub SameContentDecodes : Type 0
 SameContentDecodes =
-    (c : Config) (at_start : Power) (log : Log) (mark : Mark) → IsSound c at_start log → IsAfterFlush (mark ∷ log.past) →
+    (c : Config) (at_start : Power) (log : Log) (mark : Mark) → IsSound c at_start log → IsAfterFence (mark ∷ log.past) →
     image_fault c (image_after log.start (mark ∷ log.past)) ≡ None →
     ((key : List ℕ) → content_in c (image_after log.start (mark ∷ log.past)) key ≡ content_in c (image_after log.start log.past) key) →
     Decodes c log.start (mark ∷ log.past)

@@ -12,7 +12,7 @@ use Rattle.bz_swap_machine.specs.declared.worker.Operation.TheVariants as operat
 use Rattle.bz_swap_machine.specs.declared.worker.Worker.{Worker}
 use Rattle.bz_swap_machine.specs.Machine.{Entries}
 use Rattle.bz_swap_machine.specs.Allowed.{for_worker, sum_below, counted, is_busy}
-use Rattle.bz_swap_machine.specs.Budget.{budget}
+use Rattle.bz_swap_machine.specs.Budget.{budget, left_at}
 use Rattle.bz_swap_machine.specs.Budgets.{IsBounded}
 use Rattle.bz_swap_machine.specs.Sizes.{most_workers}
 use Rattle.bz_swap_machine.specs.State.{State, IsState}
@@ -60,7 +60,6 @@ IsBusy (operation.Swapping s) = Unit {0}
 abbrev pub RestsAt : Place → Operation → Type 0
 RestsAt place.Idle o = o ≡ operation.Nothing
 RestsAt (place.StoreWord a v) o = o ≡ operation.Nothing
-RestsAt (place.FlushLine line) o = o ≡ operation.Nothing
 RestsAt (place.AskLine line) o = o ≡ operation.Nothing
 RestsAt (place.FenceLine line) o = o ≡ operation.Nothing
 RestsAt (place.LoadWord a) o = o ≡ operation.Nothing
@@ -78,7 +77,6 @@ PlaceLies st (place.AskRead a v) = LiesOutside st a
 PlaceLies st (place.FenceRead a v) = LiesOutside st a
 PlaceLies st (place.ClearRead a v) = LiesOutside st a
 PlaceLies st (place.StoreWord a v) = LiesOutside st a
-PlaceLies st (place.FlushLine line) = LiesOutside st (line * 8)
 PlaceLies st (place.AskLine line) = LiesOutside st (line * 8)
 PlaceLies st (place.FenceLine line) = LiesOutside st (line * 8)
 PlaceLies st other = Unit {0}
@@ -150,14 +148,17 @@ abbrev pub RecoversAt : Store → Place → Type 0
 RecoversAt st place.Idle = Unit {0}
 RecoversAt st (place.LoadWord a) = a < length st.cached
 RecoversAt st (place.StoreWord a v) = a < length st.cached
-RecoversAt st (place.FlushLine line) = line * 8 < length st.cached
+RecoversAt st (place.AskLine line) = line * 8 < length st.cached
+RecoversAt st (place.FenceLine line) = Unit {0}
 RecoversAt st other = ⊥
 
 pub record IsRecovering (p : Parts) : Type 0 where
   pub recoverer : RecoversAt p.store (worker_at p 0).place
   pub others : (w : ℕ) → 0 < w → (worker_at p w).place ≡ place.Idle
   pub rest : (w : ℕ) → (worker_at p w).operation ≡ operation.Nothing
-  pub enough : (worker_at p 0).place ≢ place.Idle → 0 < p.allowance.left
+  pub enough : left_at (worker_at p 0).place ≤ p.allowance.left
+  -- each worker has asked for as many lines as its place says, at most
+  pub asked : (w : ℕ) → length (get_or p.store.past.asks w []) ≤ lines_at (worker_at p w).place
 
 -- nothing was started yet
 pub record IsUntouched (p : Parts) : Type 0 where

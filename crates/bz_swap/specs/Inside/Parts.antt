@@ -7,7 +7,7 @@ use Rattle.bz_swap_machine.specs.declared.worker.Operation.{Operation}
 use Rattle.bz_swap_machine.specs.declared.worker.Operation.TheVariants as operation
 use Rattle.bz_swap_machine.specs.declared.worker.Worker.{Worker}
 use Rattle.bz_swap_machine.specs.Machine.{Entries, entries_in}
-use Rattle.bz_swap_machine.specs.Flushes.{is_flush}
+use Rattle.bz_swap_machine.specs.Fences.{is_fence}
 use Rattle.bz_swap_cells.specs.Store.{Store, descriptor_word_at}
 use Rattle.bz_swap.specs.declared.allowance.Allowance.{Allowance}
 use Rattle.bz_swap.specs.declared.phase.Phase.{Phase}
@@ -66,7 +66,6 @@ abbrev pub doing_at : Place → Operation → Doing
 doing_at place.Idle o = Idle
 doing_at (place.LoadWord a) o = Loading a
 doing_at (place.StoreWord a v) o = Storing a v
-doing_at (place.FlushLine line) o = Flushing line
 doing_at (place.AskLine line) o = Flushing line
 doing_at (place.FenceLine line) o = Flushing line
 doing_at (place.Prepare step) o = doing_operation o
@@ -78,7 +77,7 @@ doing_at (place.FenceRead a v) o = doing_operation o
 doing_at (place.ClearRead a v) o = doing_operation o
 
 abbrev pub working : Worker → Working
-working l = record { doing = doing_at l.place l.operation; flush_next = is_flush l.place }
+working l = record { doing = doing_at l.place l.operation; flush_next = is_fence l.place }
 
 -- no swap that was begun goes on in a recovery time
 abbrev pub begun_seen : Phase → Store → List Worker → List (List Entry)
@@ -101,8 +100,3 @@ seen p = record {
   runner = p.allowance.runner;
   left = p.allowance.left;
 }
-
--- where a flush begins: worker 0 makes it by one act, and any other worker asks first
-abbrev pub flush_begins : ℕ → ℕ → Place
-flush_begins zero line = place.FlushLine line
-flush_begins (suc w) line = place.AskLine line

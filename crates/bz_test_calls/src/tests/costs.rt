@@ -40,7 +40,7 @@ fn costs_from(world: &World, from: u32) -> Costs {
 }
 
 // Whether the next act of worker 1 is a fence, as the world foretells it.
-fn flushes_next(rt: &impl Abort, world: &World) -> bool {
+fn fences_next(rt: &impl Abort, world: &World) -> bool {
     assert!(rt; world.config().workers >= 1);
     world.flush_next(1)
 }
@@ -58,7 +58,7 @@ fn costs_at_most(rt: &impl Abort, world: &mut World, call: Call, answer: Answer,
     holds(rt, begin(world, 1, call));
     let mut foretold = 0u32;
     for _ in 0..1_000 {
-        if flushes_next(rt, world) {
+        if fences_next(rt, world) {
             foretold = foretold.saturating_add(1);
         }
         if let (_, Some(ended)) = steps(world, 1, 1) {

@@ -10,7 +10,8 @@ enum Act {
     Store(u32, u64),
     // from an old word to a new one, where this one is found
     Cas(u32, u64, u64, u64),
-    Flush(u32),
+    // an ask for a line, and a fence
+    Fenced(u32),
     Evict(u32),
     Cut,
 }
@@ -26,9 +27,11 @@ fn make(rt: &impl Abort, pm: &mut Pm, act: Act) {
             assert!(rt; a < words);
             same(rt, pm.cas(a, old, new), found);
         }
-        Act::Flush(line) => {
-            assert!(rt; line < words / 8);
-            pm.flush(line);
+        Act::Fenced(line) => {
+            assert!(rt; line < words / 8 && pm.may_ask(1));
+            pm.ask(1, line);
+            assert!(rt; pm.may_ask(1));
+            pm.fence(1);
         }
         Act::Evict(a) => {
             assert!(rt; a < words);
@@ -72,7 +75,7 @@ const TABLE: [(Act, &[(u32, u64)], &[(u32, u64)]); 16] = [
     (Act::Store(8, 2), &[(7, 1), (8, 2)], &[]),
     (Act::Cas(0, 100, 3, 100), &[(0, 3), (7, 1), (8, 2)], &[]),
     (Act::Cas(0, 100, 4, 3), &[(0, 3), (7, 1), (8, 2)], &[]),
-    (Act::Flush(0), &[(0, 3), (7, 1), (8, 2)], &[(0, 3), (7, 1)]),
+    (Act::Fenced(0), &[(0, 3), (7, 1), (8, 2)], &[(0, 3), (7, 1)]),
     (
         Act::Evict(8),
         &[(0, 3), (7, 1), (8, 2)],
@@ -94,7 +97,7 @@ const TABLE: [(Act, &[(u32, u64)], &[(u32, u64)]); 16] = [
         &[(0, 3), (7, 1), (8, 2)],
     ),
     (
-        Act::Flush(1),
+        Act::Fenced(1),
         &[(0, 3), (7, 6), (8, 2), (15, 5)],
         &[(0, 3), (7, 1), (8, 2), (15, 5)],
     ),
@@ -124,7 +127,7 @@ const TABLE: [(Act, &[(u32, u64)], &[(u32, u64)]); 16] = [
         &[(0, 3), (7, 1), (8, 2), (15, 5)],
     ),
     (
-        Act::Flush(1),
+        Act::Fenced(1),
         &[(0, 3), (7, 1), (8, 2), (15, 5)],
         &[(0, 3), (7, 1), (8, 2), (15, 5)],
     ),

@@ -132,8 +132,10 @@ fn make(rt: &impl Abort, pm: &mut Pm, todo: &Todo) -> Option<Seen>
             Some(Seen::Stored)
         }
         Todo::Flush(line) => {
-            assert!(rt; *line < words / 8);
-            pm.flush(*line);
+            assert!(rt; *line < words / 8 && pm.may_ask(0));
+            pm.ask(0, *line);
+            assert!(rt; pm.may_ask(0));
+            pm.fence(0);
             Some(Seen::Flushed)
         }
         _ => None,

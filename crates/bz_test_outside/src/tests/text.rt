@@ -31,7 +31,7 @@ fn crossing(a: Key, one: Payload) -> [Mark; 8] {
         begin(2, 1, Call::Get(a)),
         Mark::Load { w: 2, a: 0, v: 0 },
         Mark::Evict { a: 0 },
-        Mark::Flush { w: 1, line: 0 },
+        Mark::Fence { w: 1 },
         Mark::Effect { w: 1, n: 1 },
         end(1, 1, Reply::Inserted, 5),
         end(2, 1, Reply::Missing, 3),

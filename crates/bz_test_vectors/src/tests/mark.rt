@@ -16,7 +16,6 @@ fn parts(mark: Mark) -> (&'static str, u8, u64, u64) {
         Mark::Load { w, a, v } => ("load", w, a as u64, v),
         Mark::Store { w, a, v } => ("store", w, a as u64, v),
         Mark::Cas { w, a, found, .. } => ("cas", w, a as u64, found),
-        Mark::Flush { w, line } => ("flush", w, line as u64, 0),
         Mark::Ask { w, line } => ("ask", w, line as u64, 0),
         Mark::Fence { w } => ("fence", w, 0, 0),
         Mark::Evict { a } => ("evict", 0, a as u64, 0),
@@ -27,10 +26,10 @@ fn parts(mark: Mark) -> (&'static str, u8, u64, u64) {
     }
 }
 
-// A journal with room for thirteen marks, which has one of each kind.
+// A journal with room for twelve marks, which has one of each kind.
 fn filled(alloc: Global) -> Result<Journal, Fail> {
     let key = Key::of(b"a")?;
-    let mut journal = Journal::open(alloc, &[7, 8], 13, 1, 0)?;
+    let mut journal = Journal::open(alloc, &[7, 8], 12, 1, 0)?;
     journal.push(Mark::On);
     journal.push(Mark::Begin {
         w: 1,
@@ -50,7 +49,6 @@ fn filled(alloc: Global) -> Result<Journal, Fail> {
         new: 2,
         found: 7,
     });
-    journal.push(Mark::Flush { w: 1, line: 9 });
     journal.push(Mark::Ask { w: 2, line: 8 });
     journal.push(Mark::Fence { w: 2 });
     journal.push(Mark::Effect { w: 1, n: 1 });
@@ -67,13 +65,12 @@ fn filled(alloc: Global) -> Result<Journal, Fail> {
 }
 
 // Its marks.
-const PARTS: [(&str, u8, u64, u64); 13] = [
+const PARTS: [(&str, u8, u64, u64); 12] = [
     ("on", 0, 0, 0),
     ("begin", 1, 1, 0),
     ("load", 1, 0, 7),
     ("store", 1, 1, u64::MAX),
     ("cas", 1, 0, 7),
-    ("flush", 1, 9, 0),
     ("ask", 2, 8, 0),
     ("fence", 2, 0, 0),
     ("effect", 1, 1, 0),
@@ -87,7 +84,7 @@ const PARTS: [(&str, u8, u64, u64); 13] = [
 fn takes_as_many_marks_as_its_room(rt: HostRuntime) -> Result<(), Fail> {
     let journal = filled(rt.alloc())?;
     same(&rt, journal.room(), 0);
-    same(&rt, journal.length(), 13);
+    same(&rt, journal.length(), 12);
     for (i, want) in PARTS.iter().enumerate() {
         let i = i as u32;
         assert!(rt; i < journal.length());

@@ -1,7 +1,7 @@
 -- What stands between an act and the next: an act that was made, an effect that is not told, an answer that is not told, and a
 -- call whose task is to go on.
 use Rattle.std.specs.Prelude.{◌≡◌, ◌≢◌, ◌⊎◌, ℕ, ◌+◌, ◌<◌, ◌≤◌, ◌∷◌, true, false, length, get_or, Option, Some, None}
-use Rattle.bz_swap_acts.specs.Rule.{is_flush_act}
+use Rattle.bz_swap_acts.specs.Rule.{is_fence_act}
 use Rattle.bz_swap_acts.specs.declared.acted.Act.{Act}
 use Rattle.bz_swap_machine.specs.declared.done.Done.{Done}
 use Rattle.bz_swap_machine.specs.declared.done.Done.TheVariants as done
@@ -15,7 +15,7 @@ use Rattle.bz_rivals.specs.Wins.{GoesWell}
 use Rattle.bz_any_task.specs.Duties.{asks_of, needs_of, publishing_of, facts_of}
 use Rattle.bz_sight.specs.Effects.{TakesPlace}
 use Rattle.bz_sound.specs.Calls.{Open}
-use Rattle.bz_sound.specs.Memory.Moments.{IsAfterFlush, map_at_start}
+use Rattle.bz_sound.specs.Memory.Moments.{IsAfterFence, map_at_start}
 use Rattle.bz_mark.specs.declared.power.Power.TheVariants as power
 use Rattle.bz_sound.specs.Power.Calls.{MayFollow}
 use Rattle.bz_sound.specs.Power.Sound.{IsSound}
@@ -83,7 +83,7 @@ pub record IsStriking (p : Parts) (s : ℕ) : Type 0 where
   pub tabled : IsTabled p
   pub taken : AreTaken p
   pub marked : IsMarked p.access before.journal mark
-  pub flush : IsAfterFlush (mark ∷ before.journal.past)
+  pub flush : IsAfterFence (mark ∷ before.journal.past)
   pub past : SamePast p.access (state_after_marks before.journal.start (mark ∷ before.journal.past))
   -- the swap's status is not free in the caches
   pub decided : IsTaken p.access s
@@ -168,7 +168,7 @@ pub record MustTell (p : Parts) (w : ℕ) (seen : Seen) : Type 0 where
 -- worker w made one act, a flush exactly where that was said; its mark was added, and at most an Effect after it
 pub record HasActed (old : Parts) (w : ℕ) (new : Parts) : Type 0 where
   pub made : Act
-  pub flush : is_flush_act made ≡ (worker_of old.access w).flush_next
+  pub flush : is_fence_act made ≡ (worker_of old.access w).flush_next
   pub struck : IsStruck (mark_of w made ∷ old.journal.past) new.journal.past
   pub journal : new.journal ≡ record old.journal { past = new.journal.past }
   pub others : (v : ℕ) → v ≢ w → worker_of new.access v ≡ worker_of old.access v

@@ -35,7 +35,7 @@ use Rattle.bz_sound.specs.Solitary.{NoneIsOpenBesideASolitaryCall}
 use Rattle.bz_sound.specs.Memory.CallLaws.{OpenCallsAreKept}
 use Rattle.bz_sound.specs.Memory.OpenCallLaws.{EffectsStayOpen}
 use Rattle.bz_sound.specs.Power.CallLaws.{OpenCallsAreLast, OpenCallsLeaveRoom}
-use Rattle.bz_sound.specs.Power.Growth.{BeginsFollow, EffectsFollowActs, EndsFollow, FlushesFollow, LoadsAreSettled, PageEndsFollow, QuietActsFollow}
+use Rattle.bz_sound.specs.Power.Growth.{BeginsFollow, EffectsFollowActs, EndsFollow, FencesFollow, LoadsAreSettled, PageEndsFollow, QuietActsFollow}
 use Rattle.bz_sound.specs.Power.ImageLaws.{AnswersComeFromTheImage, ChangesFollow, PagesComeFromTheImage, SameContentDecodes, SpentAnswersFull}
 use Rattle.bz_stage.specs.Laws.{LackingLeavesSay}
 use Rattle.bz_refinement.specs.Laws.{EffectsAreTold, FlushesAreTold, LivesGoOn, QuietMarksAreLawful, ScenesAreSeen, StoresAreTold}
@@ -53,7 +53,7 @@ HasEnd path = (link : Link) × (slice_get path.links (path.depth - 1) ≡ Some l
 -- by which the journal stays sound
 pub record JournalLaws : Type 0 where
   pub quiet : QuietActsFollow
-  pub flush : FlushesFollow
+  pub flush : FencesFollow
   pub same : SameContentDecodes
 
 -- by which a solitary get is brief
@@ -167,7 +167,7 @@ pub record StrikeLaws : Type 0 where
   pub told : EffectsAreTold
   pub place : EffectsTakePlace
   pub same : SameContentDecodes
-  pub flushes : FlushesFollow
+  pub flushes : FencesFollow
   pub changes : ChangesFollow
   pub effects : EffectsFollowActs
   pub calls : OpenCallsAreKept

@@ -13,11 +13,12 @@ use Rattle.bz_swap.specs.Steps.{IsRawStep}
 use Rattle.bz_swap.specs.SwapMemory.{Working}
 use Rattle.bz_task.specs.declared.todo.Todo.{Todo}
 use Rattle.bz_task.specs.declared.todo.Todo.TheVariants.{Finish}
-use Rattle.bz_world.specs.Inside.Kept.{IsAwake, IsRecovering}
+use Rattle.bz_world.specs.Inside.Kept.{IsAwake, IsRecovering, IsStarted}
 use Rattle.bz_world.specs.WorldView.{mark_of, count_reached}
 use Rattle.bz_world.specs.declared.parts.Parts.{Parts}
+use Rattle.bz_swap_machine.specs.declared.done.Done.TheVariants.{Busy}
 
--- the durable words are all that is left, and no call is served; which of the next acts were flushes is kept
+-- the durable words are all that is left, and no call is served; which of the next acts were fences is kept
 pub record IsCut (old new : Parts) : Type 0 where
   pub size : length new.workers.items ≡ length old.workers.items
   pub none : (w : ℕ) → get_or new.workers.items w None ≡ None
@@ -40,6 +41,13 @@ pub record HasAsked (old : Parts) (todo : Todo) (new : Parts) : Type 0 where
   pub recovering : IsRecovering new Asked
   pub asks : asks_of new.recovery ≡ Some todo
   pub after : IsAfterRecovering new.journal.past
+
+-- or it has asked for the line of a flush, which goes on
+pub record HasGoneOn (old new : Parts) : Type 0 where
+  pub made : Act
+  pub told : Option ℕ
+  pub act : IsRawAct old made Busy told new
+  pub started : IsStarted new
 
 -- directly after an act of worker 0 the recovery asks for nothing more
 pub record MustWake (p : Parts) : Type 0 where

@@ -19,12 +19,15 @@ fn goes_on(watched: &mut Watched, random: &mut Random) -> bool {
     stays
 }
 
-// Stores a word and flushes its line; false where the power failed.
+// Stores a word, asks for its line and fences it; false where the power failed.
 fn put(watched: &mut Watched, random: &mut Random, a: u32, v: u64) -> bool {
     if watched.world.store(0, a, v).is_none() || !goes_on(watched, random) {
         return false;
     }
-    watched.world.flush(0, a).is_some() && goes_on(watched, random)
+    if watched.world.flush(0, a).is_none() || !goes_on(watched, random) {
+        return false;
+    }
+    watched.world.step(0).is_some() && goes_on(watched, random)
 }
 
 // Makes each word outside the descriptors the value that it stands for, and then each descriptor free.

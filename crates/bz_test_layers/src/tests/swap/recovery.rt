@@ -12,9 +12,9 @@ use std::test::Fail;
 // The step of a swap of two words whose fence makes its success durable.
 const EFFECT: u32 = 23;
 
-// Stores a word and flushes its line.
+// Stores a word, asks for its line and fences it.
 fn put(world: &mut World, a: u32, v: u64) -> bool {
-    world.store(0, a, v).is_some() && world.flush(0, a).is_some()
+    world.store(0, a, v).is_some() && world.flush(0, a).is_some() && world.step(0).is_some()
 }
 
 // Makes both targets the values that they stand for and both descriptors free, and gives the descriptors back.

@@ -278,8 +278,8 @@ impl World {
         self.is_address(a) && self.may_work(w)
     }
 
-    /// Begins to flush the line of an address: worker 0 flushes it, and another worker asks for it, whose next step is the fence. None
-    /// where that may not come.
+    /// Begins to flush the line of an address: asks for it. The worker's next step is the fence. None where that may not
+    /// come.
     pub(crate) fn flush(&mut self, w: u8, a: u32) -> Option<Progress> {
         if w >= self.count || self.access.steps() >= 1 << 36 || !self.may_flush(w, a) {
             return None;

@@ -1,15 +1,23 @@
-use Rattle.std.proofs.Common.{◌≡◌, ℕ, ◌+◌, ◌<◌, arith, sym, ◌∙◌, subst}
-use Rattle.std.specs.Prelude.{Some}
+use Rattle.std.proofs.Common.{◌≡◌, arith, refl, sym, ◌∙◌, subst}
+use Rattle.std.specs.Prelude.{Option, Some}
 use Rattle.std.proofs.lemmas.Bool.{true≢false}
-use Rattle.bz_sweep.specs.Duties.{asks_of as sweep_asks, tells_in as sweep_tells}
+use Rattle.bz_sweep.specs.Duties.{acts_in, asks_of as sweep_asks, tells_in as sweep_tells}
 use Rattle.bz_sweep.specs.declared.ask.Answer.{Answer}
-use Rattle.bz_sweep.specs.declared.ask.Ask.TheVariants.{Finish as NoMore}
-use Rattle.bz_recover.specs.Walking.{asks_of_walk, walk_left}
+use Rattle.bz_sweep.specs.declared.ask.Ask.{Ask}
+use Rattle.bz_sweep.specs.declared.ask.Ask.TheVariants.{Load, Store, Flush, Finish as NoMore}
+use Rattle.bz_task.specs.Requests.{steps_in}
+use Rattle.bz_task.specs.declared.todo.Todo.{Todo}
+use Rattle.bz_recover.specs.Duties.{todo_of, asks_in}
+use Rattle.bz_recover.specs.Walking.{asks_of_walk}
 use Rattle.bz_recover.proofs.Joining.{no-end, tells}
 use Rattle.bz_recover.proofs.recover.Recover.next.Goals as goal
 
-one-less : (a b w : ℕ) → a < b → a + w < b + w
-one-less a b w l = omega (arith, l)
+-- an act of the sweep takes as many steps as it is to the sweep
+same-acts : (ask : Ask) (todo : Todo) (walks : Option Todo) → todo_of ask ≡ Some todo → steps_in (asks_in (Some ask) walks) ≡ acts_in (Some ask)
+same-acts (Load a) todo walks is = refl
+same-acts (Store a x) todo walks is = refl
+same-acts (Flush line) todo walks is = refl
+same-acts NoMore todo walks is = absurd cc
 
 pub returns-in-Some-clause-ready : goal.returns-in-Some-clause-ready
 returns-in-Some-clause-ready c = record {
@@ -22,7 +30,16 @@ returns-in-Some-clause-ready c = record {
 }
 
 pub returns-in-Some-clause-sooner : goal.returns-in-Some-clause-sooner
-returns-in-Some-clause-sooner c v m k = one-less _ _ (walk_left c.args.self.now.walk.left c.args.self.now.walk.step) (c.next-2.ensures.sooner v m k)
+returns-in-Some-clause-sooner c v m k =
+    let same : steps_in (asks_in (sweep_asks c.next-2.new.self) (asks_of_walk c.args.self.now.walk)) ≡ acts_in (sweep_asks c.next-2.new.self) =
+    rw c.next-2.ensures.asked (same-acts c.next-2.result c.in-Some.todo (asks_of_walk c.args.self.now.walk) (sym c.in-Some.ensures)) in
+    omega (arith, c.next-2.ensures.sooner v m k, same)
+
+pub returns-in-Some-clause-nearer : goal.returns-in-Some-clause-nearer
+returns-in-Some-clause-nearer c =
+    let same : steps_in (asks_in (sweep_asks c.next-2.new.self) (asks_of_walk c.args.self.now.walk)) ≡ acts_in (sweep_asks c.next-2.new.self) =
+    rw c.next-2.ensures.asked (same-acts c.next-2.result c.in-Some.todo (asks_of_walk c.args.self.now.walk) (sym c.in-Some.ensures)) in
+    omega (arith, c.next-2.ensures.nearer, same)
 
 -- the sweep is told what came of its act
 pub returns-in-Some-clause-learns : goal.returns-in-Some-clause-learns

@@ -1,7 +1,7 @@
 use Rattle.std.specs.Prelude.{◌≡◌, length, replicate}
 use Rattle.std.proofs.Common.{ap, ◌∙◌}
 use Rattle.bz_swap.specs.Inside.Parts.{Parts, idle_worker}
-use Rattle.bz_swap.proofs.Renewing.{renewed_parts, renewed-kept, renewed-seen}
+use Rattle.bz_swap.proofs.Renewing.{renewed_parts, renewed-fresh, renewed-kept, renewed-seen}
 use Rattle.bz_swap.proofs.Stepping.{step-holds}
 use Rattle.bz_swap.proofs.access.Access.renew.Goals as goal
 
@@ -16,6 +16,11 @@ returns-clause-renewed c =
     let p : Parts = record { store = c.self.inside.cells; workers = c.self.inside.workers.items; phase = c.self.inside.phase; steps = c.self.inside.steps; allowance = c.self.inside.allowance } in
     let items : c.fill.new.self.items ≡ replicate (length p.workers) idle_worker = c.fill.ensures.items (λ y is. is) ∙ ap (λ n. replicate n c.idle_worker.result) c.self.inside.workers.ok.0 ∙ ap (replicate (length p.workers)) c.idle_worker.ensures in
     rw (c.renew.ensures, items, ← c.self.view_is) (renewed-seen p c.self.invariant (rw (← c.self.view_is) at c.requires))
+
+pub returns-clause-asks : goal.returns-clause-asks
+returns-clause-asks c =
+    let p : Parts = record { store = c.self.inside.cells; workers = c.self.inside.workers.items; phase = c.self.inside.phase; steps = c.self.inside.steps; allowance = c.self.inside.allowance } in
+    rw (← c.self.view_is) (renewed-fresh p c.self.invariant (rw (← c.self.view_is) at c.requires)).asks
 
 pub returns-clause-held : goal.returns-clause-held
 returns-clause-held c =

@@ -12,16 +12,16 @@ pub invariant_of-self : goal.invariant_of-self
 invariant_of-self c =
     let p : Parts = record { store = c.self.inside.cells; workers = c.self.inside.workers.items; phase = c.self.inside.phase; steps = c.self.inside.steps; allowance = c.self.inside.allowance } in
     let may = rw (← c.self.view_is) at c.requires in
-    rw (c.flush_place-worker.ensures, c.phase_after-self-inside.ensures, c.started-self-inside.ensures) (flush-begun p c.self.invariant c.args.w c.args.line c.index-worker.result.now may c.index-worker.ensures).kept
+    rw (c.phase_after-self-inside.ensures, c.started-self-inside.ensures) (flush-begun p c.self.invariant c.args.w c.args.line c.index-worker.result.now may c.index-worker.ensures).kept
 
 pub returns-clause-started : goal.returns-clause-started
 returns-clause-started c =
     let p : Parts = record { store = c.self.inside.cells; workers = c.self.inside.workers.items; phase = c.self.inside.phase; steps = c.self.inside.steps; allowance = c.self.inside.allowance } in
     let may = rw (← c.self.view_is) at c.requires in
-    rw (c.flush_place-worker.ensures, c.phase_after-self-inside.ensures, c.started-self-inside.ensures, ← c.self.view_is) (flush-begun p c.self.invariant c.args.w c.args.line c.index-worker.result.now may c.index-worker.ensures).is
+    rw (c.phase_after-self-inside.ensures, c.started-self-inside.ensures, ← c.self.view_is) (flush-begun p c.self.invariant c.args.w c.args.line c.index-worker.result.now may c.index-worker.ensures).is
 
 pub returns-clause-held : goal.returns-clause-held
 returns-clause-held c =
     let p : Parts = record { store = c.self.inside.cells; workers = c.self.inside.workers.items; phase = c.self.inside.phase; steps = c.self.inside.steps; allowance = c.self.inside.allowance } in
     let may = rw (← c.self.view_is) at c.requires in
-    rw (c.flush_place-worker.ensures, c.phase_after-self-inside.ensures, c.started-self-inside.ensures) (flush-begun p c.self.invariant c.args.w c.args.line c.index-worker.result.now may c.index-worker.ensures).holds
+    rw (c.phase_after-self-inside.ensures, c.started-self-inside.ensures) (flush-begun p c.self.invariant c.args.w c.args.line c.index-worker.result.now may c.index-worker.ensures).holds

@@ -1,4 +1,4 @@
-//! The same calls cut after each number of their acts, and their recoveries before a flush, with words evicted before both cuts.
+//! The same calls cut after each number of their acts, and their recoveries before a fence, with words evicted before both cuts.
 
 use super::bench::{acts, begin, booted, evict, find, recover};
 use super::rows::{Row, copy, merge, split};
@@ -12,10 +12,10 @@ use std::test::Fail;
 // More acts than any of the calls makes.
 const MOST: u16 = 1_000;
 
-// A recovery is cut before one of its first so many flushes.
+// A recovery is cut before one of its first so many fences.
 const FLUSHES: u16 = 9;
 
-// How the call ends in a world over the image, cut after so many acts; and its recovery before a flush, or at its end for 0.
+// How the call ends in a world over the image, cut after so many acts; and its recovery before a fence, or at its end for 0.
 fn ends(rt: &impl Abort, world: &mut World, row: &Row, made: u16, again: u8) -> Option<Verdict> {
     recover(rt, world, 0);
     begin(rt, world, &row.call);

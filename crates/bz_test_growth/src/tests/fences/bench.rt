@@ -1,4 +1,4 @@
-//! A world over an image, its steps up to a flush, whole calls, evictions, and what is found in it.
+//! A world over an image, its steps up to a fence, whole calls, evictions, and what is found in it.
 
 use super::images::{NODES, SWAPS};
 use crate::tests::bench::{key, same};
@@ -39,19 +39,19 @@ pub(super) fn booted(rt: &impl Abort, alloc: Global, image: &[u64]) -> World {
     World::boot(alloc, &config, image).expect(rt, "a world")
 }
 
-// Whether the next act of a worker is a flush.
+// Whether the next act of a worker is a fence.
 fn flush_next(world: &World, w: u8) -> bool {
     u32::from(w) <= world.config().workers && world.flush_next(w)
 }
 
-/// Steps of a worker, up to the flush with this number, which is not made: none. Where it has fewer flushes, what the last step was
+/// Steps of a worker, up to the fence with this number, which is not made: none. Where it has fewer fences, what the last step was
 /// answered.
-pub(super) fn steps(world: &mut World, w: u8, flush: u8) -> Option<Applied> {
+pub(super) fn steps(world: &mut World, w: u8, fence: u8) -> Option<Applied> {
     let mut made = 0u8;
     for _ in 0..MARKS {
         if flush_next(world, w) {
             made = made.saturating_add(1);
-            if made == flush {
+            if made == fence {
                 return None;
             }
         }
@@ -68,10 +68,10 @@ pub(super) fn begin(rt: &impl Abort, world: &mut World, call: &Call) {
     assert!(rt; matches!(world.begin(1, *call), Begun::Begun(_)));
 }
 
-/// Begins a call of worker 1, and makes its steps up to the flush with this number: none. Where it has fewer flushes, its reply.
-pub(super) fn call(rt: &impl Abort, world: &mut World, call: &Call, flush: u8) -> Option<Reply> {
+/// Begins a call of worker 1, and makes its steps up to the fence with this number: none. Where it has fewer fences, its reply.
+pub(super) fn call(rt: &impl Abort, world: &mut World, call: &Call, fence: u8) -> Option<Reply> {
     begin(rt, world, call);
-    match steps(world, 1, flush)? {
+    match steps(world, 1, fence)? {
         Applied::Ended(n) => world.reply(1, n),
         _ => None,
     }
@@ -106,11 +106,11 @@ pub(super) fn evict(world: &mut World, seed: u64) {
     }
 }
 
-/// The power is cut, where it is on, and comes on again; the recovery goes up to the flush with this number, or to its end.
-pub(super) fn recover(rt: &impl Abort, world: &mut World, flush: u8) {
+/// The power is cut, where it is on, and comes on again; the recovery goes up to the fence with this number, or to its end.
+pub(super) fn recover(rt: &impl Abort, world: &mut World, fence: u8) {
     world.apply(Event::Cut);
     same(rt, world.apply(Event::On), Applied::On);
-    let ended = steps(world, 0, flush);
+    let ended = steps(world, 0, fence);
     assert!(rt; matches!(ended, None | Some(Applied::Ready)));
 }
 

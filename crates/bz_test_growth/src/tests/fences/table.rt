@@ -1,4 +1,4 @@
-//! For every flush from the first on a call is cut before it, its recovery before each of its own, and the power comes on once more:
+//! For every fence from the first on a call is cut before it, its recovery before each of its own, and the power comes on once more:
 //! the pairs and the value are those of the table, and how often the recovery is cut makes no difference.
 
 use super::bench::{Found, booted, call, find, recover};
@@ -10,7 +10,7 @@ use std::alloc::Global;
 use std::process::Abort;
 use std::test::Fail;
 
-// The call is cut before a flush up to this one, and its recovery up to the other: more than either makes is told apart.
+// The call is cut before a fence up to this one, and its recovery up to the other: more than either makes is told apart.
 const CUTS: u8 = 120;
 
 const AGAIN: u8 = 20;
@@ -51,7 +51,7 @@ fn cut_twice(rt: &impl Abort, alloc: Global, row: &Row, cut: u8, again: u8) -> O
     ends(rt, &mut world, row, cut, again)
 }
 
-// With the call cut before this flush, no cut of the recovery changes how it ends.
+// With the call cut before this fence, no cut of the recovery changes how it ends.
 fn one_verdict(rt: &impl Abort, alloc: Global, row: &Row, cut: u8) -> Option<Verdict> {
     let first = cut_twice(rt, alloc, row, cut, 0);
     holds(rt, first.is_some());

@@ -1,5 +1,0 @@
-use Rattle.bz_sound.proofs.Proved as proved
-use Rattle.bz_sound.proofs.power_laws.flushes_follow.Goals as goal
-
-pub returns : goal.returns
-returns c = proved.flushes_follow

@@ -1,7 +1,0 @@
-//! A split, a merge and a copy over images, each cut before each of its flushes, and its recovery before each of its own.
-
-mod acts;
-mod bench;
-mod images;
-mod rows;
-mod table;
