@@ -59,7 +59,7 @@ fn cas_object(alloc: Global, w: u8, a: u32, old: u64, new: u64, found: u64) -> R
     Ok(json!(in alloc; {"a": a, "found": found, "mark": "cas", "new": new, "old": old, "w": w})?)
 }
 
-/// A flush of a line, or an ask for it.
+/// An ask for a line.
 fn line_object(alloc: Global, kind: &str, w: u8, line: u32) -> Result<Value, Memory>
     ensures { IfOk result (λ v. view v ≡ fields ((codes "line", number_data line) ∷ (codes "mark", string kind.now) ∷ (codes "w", number_data w) ∷ [])) }
 {

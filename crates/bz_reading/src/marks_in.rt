@@ -80,7 +80,7 @@ fn cas_in(value: &Value, last: u32) -> Option<Mark>
     })
 }
 
-/// The worker and the line of a flush or an ask.
+/// The worker and the line of an ask.
 fn line_in(value: &Value, last: u32) -> Option<(u8, u32)>
     ensures place { result ≡ place_of last (view value.now) }
     ensures worker { IfSome result (λ place. place.0 ≤ MAX_WORKERS) }

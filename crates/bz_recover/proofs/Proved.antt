@@ -45,7 +45,7 @@ recoveries_know = record {
   reached = λ t v image slots ready n walks tree e. held t v image slots ready n walks tree e;
 }
 
--- no store, flush or eviction of anybody changes how many acts are left
+-- no store, fence or eviction of anybody changes how many acts are left
 pub acts_left_stay : ActsLeftStay
 acts_left_stay = record {
   copied = λ t v stage old new copied k h. ap (λ n. n + walk_left t.walk.left t.walk.step) (sweep_acts_left_stay.copied t.sweep v (stage_of stage) old new copied k h);

@@ -22,7 +22,7 @@ abbrev pub IsNear : Config → (ℕ → ℕ) → Memory → Type 0
 IsNear c = IsNearIn (area_of c)
 
 pub record RecoveriesKnow : Type 0 where
-  -- no flush and no eviction of anybody changes what is known, nor what the words resolve to
+  -- no fence and no eviction of anybody changes what is known, nor what the words resolve to
   pub stable : (t : Recover) (values : ℕ → ℕ) (stage : Stage) (old new : Memory) (copied : ℕ → Bool) → IsReady t → Knows t values stage old → Copies old new copied → Knows t values stage new
   pub resolves : (t : Recover) (values : ℕ → ℕ) (stage : Stage) (old new : Memory) (copied : ℕ → Bool) → IsReady t → Knows t values stage old → Copies old new copied → ResolvesSome (config_of t) values old.durable new.durable
   -- its own acts

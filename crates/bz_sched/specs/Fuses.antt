@@ -7,8 +7,8 @@ use Rattle.bz_sched.specs.Queued.{Queued}
 
 -- an act may be made: it is no fence, or the power is not cut at the next one
 abbrev pub lets : Option ℕ → Bool → Bool
-lets (Some zero) flush = not flush
-lets fuse flush = true
+lets (Some zero) fence = not fence
+lets fuse fence = true
 
 -- after an act one fence fewer is made, if it was one
 abbrev pub burnt : Bool → Option ℕ → Option ℕ

@@ -30,7 +30,7 @@ StopsStep (Limit why) w old new = (why ≡ which.Marks) × (new ≡ old)
 StopsStep (Due v) w old new = (v ≡ w) × (new ≡ old)
 
 -- where a turn stops. At a limit: its call was to begin, one that asks for a page where the limit is one of those; or, where
--- it is one of marks, the step was to come. Before the flush: the step was to come, of that worker.
+-- it is one of marks, the step was to come. Before the fence: the step was to come, of that worker.
 abbrev pub StopsBy : Stop → ℕ → Point → Point → Type 0
 StopsBy (Limit which.Marks) w old new = (new ≡ old) ⊎ (new ≡ ready w old)
 StopsBy (Limit which.Calls) w old new = (open_call w old.past ≡ None) × (new ≡ old)

@@ -52,13 +52,13 @@ fn recover_once(world: &mut World, fuse: &mut Option<u32>) -> Turned
     ensures ends { EndsRecovery world.old fuse.old result world.new fuse.new }
     ensures left { result ≡ Finished → marks_left world.new < marks_left world.old }
 {
-    let flush = world.flush_next(0);
-    if !lets(*fuse, flush) {
+    let fence = world.flush_next(0);
+    if !lets(*fuse, fence) {
         return Turned::Stopped(Stop::Due(0));
     }
     match world.apply(Event::Step(0)) {
         Applied::Stepped | Applied::Ready => {
-            burn(fuse, flush);
+            burn(fuse, fence);
             Turned::Finished
         }
         Applied::Limit => Turned::Stopped(Stop::Limit(LimitKind::Marks)),

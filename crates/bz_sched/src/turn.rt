@@ -81,13 +81,13 @@ fn step(world: &mut World, fuse: &mut Option<u32>, w: u8) -> Turned
     ensures left { result ≡ Finished → marks_left world.new < marks_left world.old }
     ensures enough { (most : Bounds) (calls : List (ℕ × Call)) → fuse.old ≡ None → HasRoomFor most world.old calls → IsInCall most w world.old calls → (result ≡ Finished) × GoesOnAlone most w world.new calls fuse.new }
 {
-    let flush = world.flush_next(w);
-    if !lets(*fuse, flush) {
+    let fence = world.flush_next(w);
+    if !lets(*fuse, fence) {
         return Turned::Stopped(Stop::Due(w));
     }
     match world.apply(Event::Step(w)) {
         Applied::Stepped | Applied::Ended(_) => {
-            burn(fuse, flush);
+            burn(fuse, fence);
             Turned::Finished
         }
         Applied::Limit => Turned::Stopped(Stop::Limit(LimitKind::Marks)),

@@ -1,5 +1,5 @@
 -- What the parts of a script are: its sizes are in range, its queued calls and the turns of its runs are of workers from 1
--- to 64, its cuts wait for a flush from 1 on, and each line may stand where it does.
+-- to 64, its cuts wait for a fence from 1 on, and each line may stand where it does.
 use Rattle.std.proofs.Common.{◌≡◌, ◌≤◌, ℕ, ◌+◌, Bool, true, false, List, [], ◌∷◌, refl, Option, Some, None, ◌==◌}
 use Rattle.std.specs.Prelude.{if◌then◌else◌, nat_lt, ◌&&◌, length, codes, Ok, Err, Result}
 use Rattle.bz_key.specs.Spelling.{key_of_word, payload_of_word}

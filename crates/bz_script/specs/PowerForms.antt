@@ -13,7 +13,7 @@ cut_by None seed = Err Number
 cut_by (Some flush) None = Err Number
 cut_by (Some flush) (Some seed) = Ok (Arm flush seed)
 
--- `cut FLUSH SEED`
+-- `cut FENCE SEED`
 abbrev pub cut_of : List (List ℕ) → Result Item ScriptRule
 cut_of words =
     if length words == 3

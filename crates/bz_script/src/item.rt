@@ -24,7 +24,7 @@ pub enum Item {
     /// Queues a call for a worker, 1 to 64.
     Queue(u8, Call),
 
-    /// Arms a cut of the power before a flush of the next run or power on, counted from 1. Where the seed is not 0, words that
+    /// Arms a cut of the power before a fence of the next run or power on, counted from 1. Where the seed is not 0, words that
     /// are not durable yet are evicted before it by the draws from the seed.
     Arm { flush: u32, seed: u64 },
 

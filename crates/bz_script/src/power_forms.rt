@@ -10,7 +10,7 @@ use crate::words::word;
 
 const MOST_FENCES: u64 = 33_554_432;
 
-/// `cut FLUSH SEED`.
+/// `cut FENCE SEED`.
 pub(crate) fn read_cut(words: &[&[u8]]) -> Result<Item, ScriptRule>
     ensures { result ≡ cut_of (texts_of words.now) }
 {

@@ -61,7 +61,7 @@ pub fn pages_come_from_the_image()
     ensures { PagesComeFromTheImage }
 {}
 
-/// A flush, a fence or an eviction that changes the content as an open call does is followed by its Effect.
+/// A fence or an eviction that changes the content as an open call does is followed by its Effect.
 pub fn changes_follow()
     ensures { ChangesFollow }
 {}
@@ -86,7 +86,7 @@ pub fn held_slots_are_spent()
     ensures { HeldSlotsAreSpent }
 {}
 
-/// A flush, a fence or an eviction that leaves the content needs no Effect.
+/// A fence or an eviction that leaves the content needs no Effect.
 pub fn same_content_decodes()
     ensures { SameContentDecodes }
 {}

@@ -72,7 +72,7 @@ pub fn pages_come_from_the_image()
     ensures { PagesComeFromTheImage }
 {}
 
-/// A flush, a fence or an eviction that changes the content as an open call does is followed by its Effect.
+/// A fence or an eviction that changes the content as an open call does is followed by its Effect.
 pub fn changes_follow()
     ensures { ChangesFollow }
 {}

@@ -101,7 +101,7 @@ impl Access {
         matches!(self.workers[w as usize].place, Place::Idle)
     }
 
-    /// Whether the worker's next step is a flush.
+    /// Whether the worker's next step is a fence.
     pub fn flush_next(&self, w: u8) -> bool
         requires { w < length self.now.workers }
         ensures told { result ≡ (worker_of self.now w).flush_next }

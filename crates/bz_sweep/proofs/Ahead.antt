@@ -121,7 +121,7 @@ is-counted r v m Done at k = tt
 pub few-acts : (r : Area) (raw : ℕ → ℕ) → left_in r (pointers_in r raw) Fresh ≤ sweep_acts r
 few-acts r raw = omega (arith, few-all raw 0 r.swaps)
 
--- the descriptors stay by evictions and flushes, as long as they are not made free
+-- the descriptors stay by evictions and fences, as long as they are not made free
 stays : (r : Area) (m n : Memory) (f : ℕ → Bool) → ((a : ℕ) → IsOfSwap r a → m.cached a ≡ m.durable a) → Copies m n f → (a : ℕ) → pointers_in r n.durable a ≡ pointers_in r m.durable a
 stays r m n f same h a = same-all m.durable n.durable a r.swaps (λ s i l k. h.durable _ ∙ chosen (f _) (same _ (of-entry r s i 0 l k (omega arith))))
   where

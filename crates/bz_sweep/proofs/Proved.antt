@@ -56,7 +56,7 @@ sweeps_know = record {
   ended = λ t v stage other m e k. ended t.area v m stage other t.phase e k;
 }
 
--- no store, flush or eviction of anybody changes how many acts are left
+-- no store, fence or eviction of anybody changes how many acts are left
 pub acts_left_stay : ActsLeftStay
 acts_left_stay = record {
   copied = λ t v stage old new copied k h. copied-left t.area v old new copied stage t.phase k h;

@@ -1,4 +1,4 @@
--- The sweep at each act: what is known stays by evictions and flushes, and goes on from word to word.
+-- The sweep at each act: what is known stays by evictions and fences, and goes on from word to word.
 use Rattle.std.proofs.Common.{◌≡◌, ◌≢◌, ◌⊎◌, ℕ, ◌+◌, ◌*◌, ◌<◌, ◌≤◌, ◌==◌, Bool, true, false, arith, refl, sym, ap, ◌∙◌, inl, inr, subst}
 use Rattle.std.specs.Prelude.{if◌then◌else◌}
 use Rattle.std.proofs.lemmas.Bool.{cases_lt, cases_eq}

@@ -23,7 +23,7 @@ pub record ResolvesSome (r : Area) (values x y : ℕ → ℕ) : Type 0 where
   pub words : (a : ℕ) → IsShared r a → (y a ≡ x a) ⊎ (y a ≡ values a)
 
 pub record SweepsKnow : Type 0 where
-  -- no flush and no eviction of anybody changes what is known, nor what the words resolve to
+  -- no fence and no eviction of anybody changes what is known, nor what the words resolve to
   pub stable : (t : Sweep) (values : ℕ → ℕ) (stage : Stage) (old new : Memory) (copied : ℕ → Bool) → IsReady t → Knows t values stage old → Copies old new copied → Knows t values stage new
   pub resolves : (t : Sweep) (values : ℕ → ℕ) (stage : Stage) (old new : Memory) (copied : ℕ → Bool) → IsReady t → Knows t values stage old → Copies old new copied → ResolvesSome (area_in t) values old.durable new.durable
   -- its own acts

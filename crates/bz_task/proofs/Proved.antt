@@ -103,7 +103,7 @@ nothing_is_gained = nothing-gained
 pub sharers_of_nothing_are_apart : SharersOfNothingAreApart
 sharers_of_nothing_are_apart = sharers-apart
 
--- a read, a flush, an eviction and an act of a swap without effect are lawful for everybody
+-- a read, an ask, a fence, an eviction and an act of a swap without effect are lawful for everybody
 pub quiet_acts_are_lawful : QuietActsAreLawful
 quiet_acts_are_lawful = quiet-lawful
 

@@ -1,4 +1,4 @@
--- What becomes one that readers read was flushed before.
+-- What becomes one that readers read was durable before.
 use Rattle.std.proofs.Common.{◌≡◌, ◌+◌, ◌⊎◌, Bool, true, false, refl, ap, ◌∙◌, inl, inr}
 use Rattle.bz_layout.specs.Addresses.{node_address}
 use Rattle.bz_task.specs.Scene.{IsFlushed, here}

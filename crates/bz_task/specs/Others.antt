@@ -60,7 +60,7 @@ pub record StoresTo (a v : ℕ) (x y : Instant) : Type 0 where
 abbrev pub SharersOfNothingAreApart : Type 0
 SharersOfNothingAreApart = (s v : Scene) → ShareNothing s v → AreApart s v
 
--- a read, a flush, an eviction and an act of a swap without effect are lawful, one's own ones too
+-- a read, an ask, a fence, an eviction and an act of a swap without effect are lawful, one's own ones too
 abbrev pub QuietActsAreLawful : Type 0
 QuietActsAreLawful = (v later : Scene) (y : Instant) → LeavesAll v y → Watches v later y → IsLawful v later
 

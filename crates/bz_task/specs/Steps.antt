@@ -38,7 +38,7 @@ NodeMoves c x y k = Moves (words c x k) (words c y k)
 abbrev pub ReplacedRootIsFrozen : Config → Instant → Instant → Type 0
 ReplacedRootIsFrozen c x y = (y.value ROOT_AT ≡ x.value ROOT_AT) ⊎ ((page_at c y (x.value ROOT_AT - 1)).frozen ≡ true)
 
--- no swap takes effect: a read, a flush, an eviction, an act of a swap, a private store
+-- no swap takes effect: a read, an ask, a fence, an eviction, an act of a swap, a private store
 pub record IsQuiet (c : Config) (x y : Instant) : Type 0 where
   pub effects : y.effects ≡ x.effects
   pub reached : (k : ℕ) → y.reached k ≡ x.reached k

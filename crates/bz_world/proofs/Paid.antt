@@ -101,7 +101,7 @@ steps-run c w (m ∷ past) is = is
 pub act-runs : (c : Config) (w : ℕ) (made : Act) (past : List Mark) → runner c (mark_of w made ∷ past) ≡ Some w
 act-runs c w made past = steps-run c w (mark_of w made ∷ past) (act-steps w made past)
 
--- after a flush, or an eviction, it is the one that steps
+-- after a fence, or an eviction, it is the one that steps
 pub flush-runs : (c : Config) (w : ℕ) (past : List Mark) → IsAfterFence past → runner c past ≡ Some w → stepper past ≡ Some w
 flush-runs c w (mark.Ask v line ∷ past) flush is = is
 flush-runs c w (mark.Fence v ∷ past) flush is = is

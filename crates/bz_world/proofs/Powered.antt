@@ -30,7 +30,7 @@ use Rattle.bz_world.specs.Inside.Serving.{IsOpened, LookUp}
 use Rattle.bz_world.specs.WorldView.{mark_of}
 use Rattle.bz_world.specs.declared.serving.OpenCall.{OpenCall}
 
--- acts, flushes and evictions leave the power
+-- acts and evictions leave the power
 pub leaves-power : (w : ℕ) (past : List Mark) (made : Act) → LeavesPower past (mark_of w made)
 leaves-power w past (act.Load a v) = tt
 leaves-power w past (act.Store a v) = tt

@@ -52,7 +52,7 @@ acts-act w past act.Fence = let t : (w == w) ≡ true = grind (arith, nat_tests)
 pub acts-begin : (w n : ℕ) (past : List Mark) (called : _) → acts_since w (mark.Begin w n called ∷ past) ≡ 0
 acts-begin w n past called = let t : (w == w) ≡ true = grind (arith, nat_tests) in rw t refl
 
--- a flush or an eviction begins no call either
+-- a fence or an eviction begins no call either
 pub solitary-flush : (v : ℕ) (m : Mark) (past : List Mark) → IsAfterFence (m ∷ past) → IsSolitary v (m ∷ past) → IsSolitary v past
 solitary-flush v (mark.Ask u line) past f l = l
 solitary-flush v (mark.Fence u) past f l = l

@@ -47,7 +47,7 @@ use Rattle.bz_world.proofs.Owners.{IsOwner, is-owner}
 use Rattle.bz_world.proofs.Staying.{SameFor, Leaves, none-takes-well, slot-stays}
 use Rattle.bz_world.specs.Inside.Laws.{StrikeLaws}
 
--- a flush or an eviction opens and ends no call
+-- a fence or an eviction opens and ends no call
 pub flush-calls : (v : ℕ) (m : Mark) (past : List Mark) → IsAfterFence (m ∷ past) → open_call v (m ∷ past) ≡ open_call v past
 flush-calls v (mark.Ask u line) past f = refl
 flush-calls v (mark.Fence u) past f = refl

@@ -438,7 +438,7 @@ abbrev pub GivesBack : Config → Log → Applied → Supply → Supply → Type
 GivesBack config log applied.Ready old new = (new.taken ≡ 0) × (new.left + count_reached config log ≡ config.nodes)
 GivesBack config log other old new = new ≡ old
 
--- a step of the recovery: exactly one act of worker 0, a flush exactly where that was said before; and with it fewer have been made than so many a word
+-- a step of the recovery: exactly one act of worker 0, a fence exactly where that was said before; and with it fewer have been made than so many a word
 pub record Recovers (old : WorldView) (answer : Applied) (new : WorldView) : Type 0 where
   pub made : Act
   pub flush : is_fence_act made ≡ flush_of old 0
@@ -463,7 +463,7 @@ pub record Evicts (old : WorldView) (a : ℕ) (answer : Applied) (new : WorldVie
   pub effect : IsStruck (Evict a ∷ old.log.past) past
   pub rest : new ≡ record old { log = record old.log { past = past } }
 
--- a power cut adds its mark, and nobody has a next act: which of them were flushes is kept. What was taken is told no more
+-- a power cut adds its mark, and nobody has a next act: which of them were fences is kept. What was taken is told no more
 abbrev pub after_cut : WorldView → WorldView
 after_cut lab = record lab { log = with_mark lab.log Cut; flushes = replicate (lab.config.workers + 1) false; swapping = replicate (lab.config.workers + 1) false; left_out = lab.flushes; supply = supply_by power.Off lab.supply }
 

@@ -191,7 +191,7 @@ impl World {
     pub fn flush_next(&self, w: u8) -> bool
         requires { w ≤ self.now.config.workers }
         ensures told { result ≡ flush_of self.now w }
-        // one that may make no act has no flush to come
+        // one that may make no act has no fence to come
         ensures idle { (MayAct self.now.at_start self.now.log.past w → ⊥) → result ≡ false }
     {
         self.parts.access.flush_next(w)

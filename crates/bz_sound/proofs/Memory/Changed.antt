@@ -1,4 +1,4 @@
--- A flush, a fence or an eviction that changes the content as a call does makes the call's effect durable.
+-- A fence or an eviction that changes the content as a call does makes the call's effect durable.
 use Rattle.std.proofs.Common.{◌≡◌, ℕ, Bool, List, ◌∷◌, refl, sym, ap, ◌∙◌, subst, Option, Some, None, cond}
 use Rattle.std.specs.Prelude.{bytes_eq, if◌then◌else◌}
 use Rattle.std.proofs.lemmas.Map.Text.{is_eq-slice_cmp}

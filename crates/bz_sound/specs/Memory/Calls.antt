@@ -11,7 +11,7 @@ pub record HasOpenCall (past : List Mark) (w : ℕ) : Type 0 where
   pub opened : Open
   pub is_open : open_call w past ≡ Some opened
 
--- Worker 0 makes no calls. A worker acts while it has an open call. An effect stands directly after a flush, a
+-- Worker 0 makes no calls. A worker acts while it has an open call. An effect stands directly after a
 -- fence or an eviction, of any worker, and names an open call that has none yet and changes the map; the map was this one at
 -- the start. The power neither fails nor comes on.
 abbrev pub MayFollow : Map → List Mark → Mark → Type 0

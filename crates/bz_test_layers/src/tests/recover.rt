@@ -142,11 +142,11 @@ fn make(rt: &impl Abort, pm: &mut Pm, todo: &Todo) -> Option<Seen>
     }
 }
 
-// How many acts a recovery made, and how many of them were flushes; whether it has ended.
+// How many acts a recovery made, and how many of them were fences; whether it has ended.
 #[derive(Clone, Copy, Drop)]
 struct Made {
     acts: u32,
-    flushes: u32,
+    fences: u32,
     ended: bool,
 }
 
@@ -157,11 +157,11 @@ fn recover(rt: &impl Abort, pm: &mut Pm, slots: &mut Slots, most: u32, evicts: b
 {
     let mut recover = Recover::new(&CONFIG);
     let mut seen = Seen::Start;
-    let mut flushes: u32 = 0;
+    let mut fences: u32 = 0;
     for made in 0..most {
         let todo = recover.next(seen, slots);
         if let Todo::Flush(_) = todo {
-            flushes = flushes.wrapping_add(1);
+            fences = fences.wrapping_add(1);
         }
         match make(rt, pm, &todo) {
             Some(told) => seen = told,
@@ -169,7 +169,7 @@ fn recover(rt: &impl Abort, pm: &mut Pm, slots: &mut Slots, most: u32, evicts: b
                 assert!(rt; matches!(recover.ended(), Some(Outcome::Recovered)));
                 return Made {
                     acts: made,
-                    flushes,
+                    fences,
                     ended: true,
                 };
             }
@@ -181,7 +181,7 @@ fn recover(rt: &impl Abort, pm: &mut Pm, slots: &mut Slots, most: u32, evicts: b
     }
     Made {
         acts: most,
-        flushes,
+        fences,
         ended: false,
     }
 }
@@ -212,8 +212,8 @@ fn every_kind_of_word_is_resolved(rt: HostRuntime) -> Result<(), Fail> {
     assert!(rt; made.ended);
     is_recovered(&rt, &pm);
     same(&rt, slots.left(), 0);
-    // words 1, 81 and 82, 89, 100 and 101, 120 and 207 stand in six lines; a flush for each, and for each descriptor
-    same(&rt, made.flushes, 10);
+    // words 1, 81 and 82, 89, 100 and 101, 120 and 207 stand in six lines; an ask and a fence for each, and for each descriptor
+    same(&rt, made.fences, 10);
     Ok(())
 }
 
@@ -227,7 +227,7 @@ fn a_recovered_memory_is_only_read(rt: HostRuntime) -> Result<(), Fail> {
     // a load of each word outside the descriptors, and of each status; then of the root pointer, and of the header and the status
     // of the node to which it leads, an inner one without children
     same(&rt, made.acts, 151);
-    same(&rt, made.flushes, 0);
+    same(&rt, made.fences, 0);
     is_recovered(&rt, &pm);
     Ok(())
 }

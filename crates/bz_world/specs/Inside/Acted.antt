@@ -165,7 +165,7 @@ pub record MustTell (p : Parts) (w : ℕ) (seen : Seen) : Type 0 where
   pub is : get_or p.workers.items w None ≡ Some serving
   pub told : IsTold p w serving seen
 
--- worker w made one act, a flush exactly where that was said; its mark was added, and at most an Effect after it
+-- worker w made one act, a fence exactly where that was said; its mark was added, and at most an Effect after it
 pub record HasActed (old : Parts) (w : ℕ) (new : Parts) : Type 0 where
   pub made : Act
   pub flush : is_fence_act made ≡ (worker_of old.access w).flush_next

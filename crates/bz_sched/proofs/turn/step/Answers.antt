@@ -6,23 +6,23 @@ use Rattle.bz_sched.proofs.ReadyLemmas.{is_worker}
 use Rattle.bz_sched.proofs.StepLemmas.{Burnt, stepped, step_answers, step_due, step_limit, step_made}
 use Rattle.bz_sched.proofs.turn.step.Goals as goal
 
-pub flush_next-flush-requires : goal.flush_next-flush-requires
-flush_next-flush-requires c = (is_worker c.args.world.now c.args.w c.requires.ready c.requires.worker).in_range
+pub flush_next-fence-requires : goal.flush_next-fence-requires
+flush_next-fence-requires c = (is_worker c.args.world.now c.args.w c.requires.ready c.requires.worker).in_range
 
 pub returns-then-not-lets-clause-ends : goal.returns-then-not-lets-clause-ends
 returns-then-not-lets-clause-ends c = λ queue.
     step_due c.args.world.now (with_fuse queue c.args.fuse.now) c.args.w c.requires.ready
-    (rw c.flush_next-flush.ensures.told at (due_is c.args.fuse.now c.flush_next-flush.result (sym c.if-not-lets.ensures)))
+    (rw c.flush_next-fence.ensures.told at (due_is c.args.fuse.now c.flush_next-fence.result (sym c.if-not-lets.ensures)))
 
 pub burn-requires : goal.burn-requires
 burn-requires c = sym c.lets.ensures ∙ c.if-not-lets.false
 
 pub returns-in-Stepped-clause-ends : goal.returns-in-Stepped-clause-ends
 returns-in-Stepped-clause-ends c = λ queue.
-    let burnt : Burnt c.flush_next-flush.result (with_fuse queue c.args.fuse.now) (with_fuse queue c.burn.new.fuse) = record { calls = refl; room = refl; may = sym c.lets.ensures ∙ c.if-not-lets.false; fuse = c.burn.ensures } in
+    let burnt : Burnt c.flush_next-fence.result (with_fuse queue c.args.fuse.now) (with_fuse queue c.burn.new.fuse) = record { calls = refl; room = refl; may = sym c.lets.ensures ∙ c.if-not-lets.false; fuse = c.burn.ensures } in
     elim (stepped c.args.world.now c.args.w c.apply.result c.apply.new.self c.requires.ready (is_worker c.args.world.now c.args.w c.requires.ready c.requires.worker) c.requires.«open» c.apply.ensures) [
       | inl refused ↦ let other = refused.answered in elim c.in-Stepped.is [ inl is ↦ absurd (cc) | inr is ↦ absurd (cc) ]
-      | inr goes ↦ step_made c.args.world.now (with_fuse queue c.args.fuse.now) (with_fuse queue c.burn.new.fuse) c.args.w c.apply.result c.apply.new.self c.requires.ready goes (rw c.flush_next-flush.ensures.told at burnt)
+      | inr goes ↦ step_made c.args.world.now (with_fuse queue c.args.fuse.now) (with_fuse queue c.burn.new.fuse) c.args.w c.apply.result c.apply.new.self c.requires.ready goes (rw c.flush_next-fence.ensures.told at burnt)
     ]
 
 pub returns-in-Limit-clause-ends : goal.returns-in-Limit-clause-ends
@@ -37,13 +37,13 @@ unreachable-requires c =
     ]
 
 pub returns-then-not-lets-clause-enough : goal.returns-then-not-lets-clause-enough
-returns-then-not-lets-clause-enough c = λ most calls unarmed room inside. absurd (never_due c.flush_next-flush.result c.args.fuse.now unarmed (sym c.if-not-lets.ensures))
+returns-then-not-lets-clause-enough c = λ most calls unarmed room inside. absurd (never_due c.flush_next-fence.result c.args.fuse.now unarmed (sym c.if-not-lets.ensures))
 
 pub returns-in-Stepped-clause-enough : goal.returns-in-Stepped-clause-enough
 returns-in-Stepped-clause-enough c = λ most calls unarmed room inside.
     elim (stepped c.args.world.now c.args.w c.apply.result c.apply.new.self c.requires.ready (is_worker c.args.world.now c.args.w c.requires.ready c.requires.worker) c.requires.«open» c.apply.ensures) [
       | inl refused ↦ let other = refused.answered in elim c.in-Stepped.is [ inl is ↦ absurd (cc) | inr is ↦ absurd (cc) ]
-      | inr goes ↦ (refl, steps_well most c.args.w c.args.world.now c.apply.new.self calls c.apply.result c.flush_next-flush.result c.args.fuse.now c.burn.new.fuse unarmed c.burn.ensures room inside goes.steps)
+      | inr goes ↦ (refl, steps_well most c.args.w c.args.world.now c.apply.new.self calls c.apply.result c.flush_next-fence.result c.args.fuse.now c.burn.new.fuse unarmed c.burn.ensures room inside goes.steps)
     ]
 
 pub returns-in-Limit-clause-enough : goal.returns-in-Limit-clause-enough
