@@ -18,7 +18,7 @@ use Rattle.bz_ring.specs.Sound.{IsSound}
 use Rattle.bz_swap_marks.specs.Marks.{mark_of}
 use Rattle.bz_queue.specs.Inside.Acted.{IsActed, HasActed, HasEnded}
 use Rattle.bz_queue.specs.Inside.Going.{MustGoOn}
-use Rattle.bz_queue.specs.Inside.Kept.{IsTabled, IsKept}
+use Rattle.bz_queue.specs.Inside.Kept.{IsTabled, IsAwake}
 use Rattle.bz_queue.specs.Inside.Left.{PaysFor}
 use Rattle.bz_queue.specs.Inside.Serving.{IsSlot}
 use Rattle.bz_queue.specs.Inside.Sparing.{IsSparingSlot}
@@ -48,12 +48,12 @@ pub swapping-held : (m : SwapMemory) (w : ℕ) (entries : List Entry) → 0 < w 
 swapping-held m w entries some holds = holds-held (swapping m w entries).phase (swapping m w entries) (λ is. (let both : Running ≡ Recovering = sym (phase-after m w Idle some) ∙ is in cc)) holds
 
 -- the worker of an open call does something
-pub is-busy : (p : Parts) (w : ℕ) → IsKept p → open_call w p.journal.past ≢ None → doing_of p.access w ≢ Idle
+pub is-busy : (p : Parts) (w : ℕ) → IsAwake p → open_call w p.journal.past ≢ None → doing_of p.access w ≢ Idle
 is-busy p w k open_is =
     let s = is-serving p.numbers.ring p.access p.journal.past p.owners.items p.numbers.workers w (get_or p.workers.items w None) open_is (k.slots w) in
     busy-at p.numbers.ring p.access p.journal.past p.owners.items w s.x.call s.served.opened.begun s.x.effect s.x.place s.served.place
 
-pub worker-inside : (p : Parts) (w : ℕ) → IsKept p → open_call w p.journal.past ≢ None → w < length p.access.workers
+pub worker-inside : (p : Parts) (w : ℕ) → IsAwake p → open_call w p.journal.past ≢ None → w < length p.access.workers
 worker-inside p w k open_is =
     let s = is-serving p.numbers.ring p.access p.journal.past p.owners.items p.numbers.workers w (get_or p.workers.items w None) open_is (k.slots w) in
     omega (arith, s.served.opened.within, k.tabled.crew)
@@ -74,7 +74,7 @@ struck-acted old mid new w made ended told a struck rest pays = record {
   pays = pays;
 }
 
-module _ (old new : Parts) (w : ℕ) (made : Act) (ended : Done) (k : IsKept old) (open_is : open_call w old.journal.past ≢ None) (room : length old.journal.past < old.journal.most) (a : IsActed old w made ended None new) where
+module _ (old new : Parts) (w : ℕ) (made : Act) (ended : Done) (k : IsAwake old) (open_is : open_call w old.journal.past ≢ None) (room : length old.journal.past < old.journal.most) (a : IsActed old w made ended None new) where
   abbrev p : Parts
   p = record old { access = new.access; journal = with_mark old.journal (Memory (mark_of w made)) }
 
@@ -100,7 +100,7 @@ module _ (old new : Parts) (w : ℕ) (made : Act) (ended : Done) (k : IsKept old
     begins = refl;
     steps = omega (arith, a.step.one.steps, k.tabled.steps);
     room = omega arith;
-    power = plain-power old.journal.past (mark_of w made) (act-plain w made);
+    power = plain-power old.journal.past (mark_of w made) (act-plain w made) ∙ k.tabled.powered;
   })
 
   sound : IsSound old.numbers.ring old.journal.start p.journal.past
@@ -123,8 +123,9 @@ module _ (old new : Parts) (w : ℕ) (made : Act) (ended : Done) (k : IsKept old
       (quiet old.numbers.ring old.access new.access old.journal old.owners.items old.numbers.workers w made ended k.tabled.swaps k.memory k.sound s.x s.served held a.step).1 a.step.one.others.taken (act-plain w made) s.served
       (subst (IsSparingSlot old.numbers.ring old.access old.journal.past w) s.is (k.alone w))
 
-  pub kept-on : ended ≡ done.Busy → IsKept new
-  kept-on is = subst IsKept (sym a.rest) (record {
+  pub kept-on : ended ≡ done.Busy → IsAwake new
+  kept-on is = subst IsAwake (sym a.rest) (record {
+    on = k.on;
     tabled = tabled;
     memory = (quiet old.numbers.ring old.access new.access old.journal old.owners.items old.numbers.workers w made ended k.tabled.swaps k.memory k.sound s.x s.served held a.step).0;
     sound = sound;
@@ -143,6 +144,7 @@ module _ (old new : Parts) (w : ℕ) (made : Act) (ended : Done) (k : IsKept old
   must : ended ≢ done.Busy → MustGoOn p w s.x ended
   must other = record {
     between = record {
+      on = k.on;
       tabled = tabled;
       memory = (quiet old.numbers.ring old.access new.access old.journal old.owners.items old.numbers.workers w made ended k.tabled.swaps k.memory k.sound s.x s.served held a.step).0;
       sound = sound;

@@ -6,6 +6,7 @@ use Rattle.std.proofs.lemmas.Bool.{cases_eq, eq-eqb, ne_eqb, le-ltb, lt-leb}
 use Rattle.bz_swap.specs.Held.{IsHeld}
 use Rattle.bz_swap.specs.Starts.{MayRead, started}
 use Rattle.bz_swap.specs.SwapMemory.{SwapMemory, Working, Idle, Reading, Swapping, doing_of, idle, worker_of}
+use Rattle.bz_mark.specs.declared.power.Power.TheVariants as power
 use Rattle.bz_ring.specs.declared.calls.QCall.{QCall}
 use Rattle.bz_ring.specs.declared.calls.QCall.TheVariants as call
 use Rattle.bz_ring.specs.declared.marks.QMark.{QMark}
@@ -18,11 +19,11 @@ use Rattle.bz_ring.proofs.EachMoment.{at_moment-earlier, at_moment-now}
 use Rattle.bz_ring.proofs.Proved.{sound_journals_grow}
 use Rattle.bz_change.specs.Changes as change
 use Rattle.bz_queue.specs.Inside.Begun.{MayBegin}
-use Rattle.bz_queue.specs.Inside.Kept.{IsTabled, IsMemory, IsKept, view_of}
+use Rattle.bz_queue.specs.Inside.Kept.{IsTabled, IsMemory, IsAwake, view_of}
 use Rattle.bz_queue.specs.Inside.Left.{lefts_of}
 use Rattle.bz_queue.specs.Inside.Serving.{IsFree, IsServed, IsSlot}
 use Rattle.bz_queue.specs.Inside.Sparing.{IsAlone, IsSparingSlot}
-use Rattle.bz_queue.specs.QueueView.{QueueView, IsCall, begin_answer, after_begin}
+use Rattle.bz_queue.specs.QueueView.{QueueView, IsCall, begin_answer, after_begin, power_in}
 use Rattle.bz_queue.specs.declared.answers.QBegun.TheVariants.{Begun}
 use Rattle.bz_queue.specs.declared.parts.Parts.{Parts}
 use Rattle.bz_queue.specs.declared.serving.OpenCall.{OpenCall}
@@ -41,20 +42,20 @@ abbrev pub first-of : QCall → OpenCall
 first-of called = record { call = called; place = Counter; effect = None }
 
 -- its worker has none
-pub is-free : (p : Parts) (w : ℕ) (called : QCall) → IsKept p → MayBegin p w called → IsFree p.access p.journal.past w
+pub is-free : (p : Parts) (w : ℕ) (called : QCall) → IsAwake p → MayBegin p w called → IsFree p.access p.journal.past w
 is-free p w called k may = by (get_or p.workers.items w None) may.free (k.slots w)
   where
     by : (slot : Option OpenCall) → slot ≡ None → IsSlot p.numbers.ring p.access p.journal.past p.owners.items p.numbers.workers w slot → IsFree p.access p.journal.past w
     by None none h = h
     by (Some x) none h = absurd (cc none)
 
-pub may-read : (p : Parts) (w : ℕ) (called : QCall) → IsKept p → MayBegin p w called → MayRead p.access w (change.counter_of called)
+pub may-read : (p : Parts) (w : ℕ) (called : QCall) → IsAwake p → MayBegin p w called → MayRead p.access w (change.counter_of called)
 may-read p w called k may = record {
   work = record { some = may.worker; within = omega (arith, may.within, k.tabled.crew); idle = (is-free p w called k may).idle; phase = k.memory.calm.phase };
   address = counter-address p.numbers.ring p.access called k.tabled.swaps k.tabled.size;
 }
 
-module _ (old new : Parts) (w : ℕ) (called : QCall) (n : ℕ) (k : IsKept old) (may : MayBegin old w called) (number : n ≡ begun_calls w old.journal.past + 1) (held : IsHeld (started old.access w (Reading (change.counter_of called))))
+module _ (old new : Parts) (w : ℕ) (called : QCall) (n : ℕ) (k : IsAwake old) (may : MayBegin old w called) (number : n ≡ begun_calls w old.journal.past + 1) (held : IsHeld (started old.access w (Reading (change.counter_of called))))
     (rest : new ≡ record old { access = started old.access w (Reading (change.counter_of called)); journal = with_mark old.journal (Begin w n called); workers = new.workers; last = new.last; begun = old.begun + 1 })
     (table : new.workers.items ≡ slice_set old.workers.items w (Some (first-of called))) (numbers : new.last.items ≡ slice_set old.last.items w n) where
   abbrev m : SwapMemory
@@ -76,7 +77,7 @@ module _ (old new : Parts) (w : ℕ) (called : QCall) (n : ℕ) (k : IsKept old)
   others-same v other = set-other old.access.workers w v (record { doing = Reading (change.counter_of called); flush_next = false }) idle other
 
   sound : IsSound old.numbers.ring old.journal.start past
-  sound = (sound_journals_grow old.numbers.ring old.journal.start old.journal.past).begin w n called k.sound (record { worker = may.worker; powered = k.tabled.powered; begins = record { numbered = number; none_open = free.none } })
+  sound = (sound_journals_grow old.numbers.ring old.journal.start old.journal.past).begin w n called k.sound (record { worker = may.worker; powered = k.tabled.powered ∙ k.on; begins = record { numbered = number; none_open = free.none } })
 
   leaves : (v : ℕ) → v ≢ w → Leaves old.access m old.journal.past past old.owners.items old.owners.items v
   leaves v other = record {
@@ -149,7 +150,7 @@ module _ (old new : Parts) (w : ℕ) (called : QCall) (n : ℕ) (k : IsKept old)
   memory : IsMemory m (with_mark old.journal (Begin w n called))
   memory =
       let it = started-memory old.access old.journal w (Reading (change.counter_of called)) k.memory may.worker free.idle (λ s is. cc) held in
-      record { words = it.words; past = it.past; calm = it.calm; owned = it.owned; noted = it.noted; shown = record { begun = it.shown.begun; shown = it.shown.shown; only = it.shown.only }; unused = it.unused; low = omega (arith, it.low) }
+      record { words = it.words; past = it.past; calm = it.calm; owned = it.owned; noted = it.noted; shown = record { begun = it.shown.begun; shown = it.shown.shown; only = it.shown.only }; unused = it.unused; sweepable = it.sweepable; low = omega (arith, it.low) }
 
   -- where no other call is open nobody does anything
   idle-before : ((u : ℕ) → open_call u old.journal.past ≡ None) → (v : ℕ) → doing_of old.access v ≡ Idle
@@ -184,8 +185,8 @@ module _ (old new : Parts) (w : ℕ) (called : QCall) (n : ℕ) (k : IsKept old)
     | inr other ↦ other-alone v (get_or new.workers.items v None) other
   ]
 
-  pub kept-begun : IsKept new
-  kept-begun = subst IsKept (sym rest) (record { tabled = tabled; memory = memory; sound = sound; slots = slot; sparing = (tt, k.sparing); alone = alone })
+  pub kept-begun : IsAwake new
+  kept-begun = subst IsAwake (sym rest) (record { on = k.on; tabled = tabled; memory = memory; sound = sound; slots = slot; sparing = (tt, k.sparing); alone = alone })
 
 -- no worker has begun more calls than all have
 pub few-calls : (w : ℕ) (past : List QMark) → begun_calls w past ≤ count_begins past
@@ -199,26 +200,27 @@ few-calls w (End v n answer at ∷ past) = few-calls w past
 few-calls w (Effect v n ∷ past) = few-calls w past
 few-calls w (Memory memory ∷ past) = few-calls w past
 
-pub number-of : (p : Parts) (w : ℕ) (called : QCall) → IsKept p → MayBegin p w called → slice_index p.last.items w ≡ begun_calls w p.journal.past
+pub number-of : (p : Parts) (w : ℕ) (called : QCall) → IsAwake p → MayBegin p w called → slice_index p.last.items w ≡ begun_calls w p.journal.past
 number-of p w called k may = k.tabled.counted w (omega (arith, may.within, k.tabled.numbers.workers.at_most))
 
-pub number-within : (p : Parts) (w : ℕ) (called : QCall) → IsKept p → MayBegin p w called → w < length p.last.items
+pub number-within : (p : Parts) (w : ℕ) (called : QCall) → IsAwake p → MayBegin p w called → w < length p.last.items
 number-within p w called k may = omega (arith, may.within, k.tabled.number_places, k.tabled.numbers.workers.at_most)
 
-pub number-fits : (p : Parts) (w : ℕ) (called : QCall) → IsKept p → MayBegin p w called → begun_calls w p.journal.past < 65536
+pub number-fits : (p : Parts) (w : ℕ) (called : QCall) → IsAwake p → MayBegin p w called → begun_calls w p.journal.past < 65536
 number-fits p w called k may = omega (arith, few-calls w p.journal.past, k.tabled.begins, may.few, k.tabled.numbers.calls.at_most)
 
 not-either : (a b : Bool) → a ≡ false → b ≡ false → (a || b) ≡ false
 not-either false b one two = two
 not-either true b one two = absurd (cc)
 
-pub answer-is : (p : Parts) (w : ℕ) (called : QCall) (n : ℕ) → IsKept p → MayBegin p w called → n ≡ begun_calls w p.journal.past + 1 → begin_answer (view_of p) w ≡ Begun n
+pub answer-is : (p : Parts) (w : ℕ) (called : QCall) (n : ℕ) → IsAwake p → MayBegin p w called → n ≡ begun_calls w p.journal.past + 1 → begin_answer (view_of p) w ≡ Begun n
 answer-is p w called n k may number =
     let worker : ((w == 0) || nat_lt p.numbers.workers w) ≡ false = not-either (w == 0) (nat_lt p.numbers.workers w) (ne_eqb w 0 (λ zero. absurd (omega (arith, may.worker)))) (le-ltb p.numbers.workers w may.within) in
     let room : nat_lt (p.journal.most - length p.journal.past) 3 ≡ false = le-ltb (p.journal.most - length p.journal.past) 3 (omega (arith, may.room)) in
     let none : is_some (open_call w p.journal.past) ≡ false = ap is_some (is-free p w called k may).none in
     let few : nat_le p.numbers.calls (count_begins p.journal.past) ≡ false = lt-leb p.numbers.calls (count_begins p.journal.past) (omega (arith, k.tabled.begins, may.few)) in
-    rw (worker, room, none, few) (ap Begun (sym number))
+    let powered : power_in (view_of p) ≡ power.On = k.tabled.powered ∙ k.on in
+    rw (worker, room, powered, none, few) (ap Begun (sym number))
 
 pub after-is : (old new : Parts) (w : ℕ) (called : QCall) (n : ℕ)
     → new ≡ record old { access = started old.access w (Reading (change.counter_of called)); journal = with_mark old.journal (Begin w n called); workers = new.workers; last = new.last; begun = old.begun + 1 }

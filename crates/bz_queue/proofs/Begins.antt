@@ -11,7 +11,7 @@ use Rattle.bz_ring.specs.declared.calls.QCall.{QCall}
 use Rattle.bz_ring.specs.declared.calls.QCall.TheVariants as call
 use Rattle.bz_change.specs.Changes as change
 use Rattle.bz_queue.specs.Inside.Going.{IsBetween, MustJudge, WentOn}
-use Rattle.bz_queue.specs.Inside.Kept.{IsTabled, IsKept}
+use Rattle.bz_queue.specs.Inside.Kept.{IsTabled, IsAwake}
 use Rattle.bz_queue.specs.Inside.Left.{PaysFor}
 use Rattle.bz_queue.specs.Inside.Serving.{counter_now, IsChanged, IsAt, IsServed, IsSlot}
 use Rattle.bz_queue.specs.Inside.Sparing.{IsSparingSlot}
@@ -25,6 +25,7 @@ use Rattle.bz_queue.proofs.Ends.{place-of}
 use Rattle.bz_queue.proofs.Memories.{swapping-memory}
 use Rattle.bz_queue.proofs.Slots.{Leaves, slot-still}
 use Rattle.bz_queue.proofs.Sparing.{beside}
+use Rattle.bz_queue.proofs.Sweepable.{calls-name}
 use Rattle.bz_queue.proofs.Tables.{tabled-still, ring-of}
 use Rattle.bz_queue.proofs.Went.{set-here, set-other, set-length, counter-address, cell-address, may-work, same-past}
 
@@ -166,7 +167,7 @@ module _ (old new : Parts) (w : ℕ) (x : OpenCall) (counter word : ℕ) (h : Mu
     begins = refl;
     steps = b.tabled.steps;
     room = omega (arith, b.tabled.marks, b.tabled.most);
-    power = refl;
+    power = b.tabled.powered;
   })
 
   alone : (v : ℕ) → IsSparingSlot old.numbers.ring m old.journal.past v (get_or new.workers.items v None)
@@ -179,7 +180,7 @@ module _ (old new : Parts) (w : ℕ) (x : OpenCall) (counter word : ℕ) (h : Mu
 
   pub swap-begun : WentOn old w Stepped new
   swap-begun = record {
-    kept = subst IsKept (sym rest) (record { tabled = tabled; memory = swapping-memory old.access old.journal w entries b.memory may held; sound = b.sound; slots = slot; sparing = b.sparing; alone = alone });
+    kept = subst IsAwake (sym rest) (record { on = b.on; tabled = tabled; memory = swapping-memory old.access old.journal w entries b.memory may (calls-name old.numbers.ring old.access.swaps x.call counter word b.tabled.swaps) held; sound = b.sound; slots = slot; sparing = b.sparing; alone = alone });
     numbers = ap (λ (q : Parts). q.numbers) rest;
     start = ap (λ (q : Parts). q.journal.start) rest;
     most = ap (λ (q : Parts). q.journal.most) rest;

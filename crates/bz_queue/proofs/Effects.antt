@@ -12,7 +12,7 @@ use Rattle.bz_ring.specs.Sound.{first_items}
 use Rattle.bz_ring.proofs.EachMoment.{at_moment-earlier}
 use Rattle.bz_ring.proofs.Proved.{none_is_open_beside}
 use Rattle.bz_queue.specs.Inside.Acted.{IsStriking}
-use Rattle.bz_queue.specs.Inside.Kept.{IsTabled, IsKept}
+use Rattle.bz_queue.specs.Inside.Kept.{IsTabled, IsAwake}
 use Rattle.bz_queue.specs.Inside.Left.{is_stale}
 use Rattle.bz_queue.specs.Inside.Serving.{IsSlot, with_moment}
 use Rattle.bz_queue.specs.Inside.Sparing.{IsAlone, IsSparingSlot}
@@ -103,7 +103,7 @@ module _ (p : Parts) (s : ℕ) (h : IsStriking p s) where
       begins = refl;
       steps = omega (arith, h.moves.steps, h.kept.tabled.steps);
       room = omega (arith, room, ap length past-is, ap (λ (z : Parts). z.journal.most) h.rest);
-      power = plain-power o.journal.past h.memory h.strikes.plain;
+      power = plain-power o.journal.past h.memory h.strikes.plain ∙ h.kept.tabled.powered;
     })
 
     slot : (u : ℕ) → IsSlot o.numbers.ring p.access struck o.owners.items o.numbers.workers u (get_or new.workers.items u None)
@@ -152,8 +152,9 @@ module _ (p : Parts) (s : ℕ) (h : IsStriking p s) where
       | inr differs ↦ beside o.numbers.ring p.access struck v u (get_or new.workers.items u None) differs (λ none. (let both : Some (with_effect (length acted) before) ≡ None = sym now-open ∙ none in cc))
     ]
 
-    pub kept-struck : IsKept new
-    kept-struck = subst IsKept (sym is) (record {
+    pub kept-struck : IsAwake new
+    kept-struck = subst IsAwake (sym is) (record {
+      on = h.kept.on;
       tabled = tabled;
       memory = struck-memory o.numbers.ring (ring-of o.numbers h.kept.tabled.numbers) o.access p.access o.journal o.owners.items o.numbers.workers s h.memory h.kept.tabled.swaps h.kept.memory h.kept.sound first h.strikes (get_or o.workers.items v None) swap-of;
       sound = struck-sound o.numbers.ring (ring-of o.numbers h.kept.tabled.numbers) o.access p.access o.journal o.owners.items o.numbers.workers s h.memory h.kept.tabled.swaps h.kept.memory h.kept.sound first h.strikes (get_or o.workers.items v None) swap-of;

@@ -14,7 +14,7 @@ use Rattle.bz_ring.specs.Sound.{IsSound}
 use Rattle.bz_ring.proofs.EachMoment.{at_moment-earlier}
 use Rattle.bz_ring.proofs.Proved.{none_is_open_beside, sound_journals_grow}
 use Rattle.bz_queue.specs.Inside.Going.{IsBetween, MustEnd, WentOn}
-use Rattle.bz_queue.specs.Inside.Kept.{IsTabled, IsMemory, IsKept}
+use Rattle.bz_queue.specs.Inside.Kept.{IsTabled, IsMemory, IsAwake}
 use Rattle.bz_queue.specs.Inside.Left.{PaysFor}
 use Rattle.bz_queue.specs.Inside.Serving.{IsSlot}
 use Rattle.bz_queue.specs.Inside.Sparing.{IsSparingSlot}
@@ -93,7 +93,7 @@ module _ (old new : Parts) (w : ℕ) (x : OpenCall) (answer : QReply) (moment n 
     begins = refl;
     steps = omega (arith, b.tabled.steps);
     room = omega arith;
-    power = refl;
+    power = b.tabled.powered;
   })
 
   memory : IsMemory old.access (with_mark old.journal (End w n answer moment))
@@ -105,6 +105,7 @@ module _ (old new : Parts) (w : ℕ) (x : OpenCall) (answer : QReply) (moment n 
     noted = b.memory.noted;
     shown = record { begun = b.memory.shown.begun; shown = b.memory.shown.shown; only = b.memory.shown.only };
     unused = b.memory.unused;
+    sweepable = b.memory.sweepable;
     low = omega (arith, b.memory.low);
   }
 
@@ -135,7 +136,7 @@ module _ (old new : Parts) (w : ℕ) (x : OpenCall) (answer : QReply) (moment n 
 
   pub ended : WentOn old w (Ended n) new
   ended = record {
-    kept = subst IsKept (sym rest) (record { tabled = tabled; memory = memory; sound = sound; slots = slot; sparing = (takes, b.sparing); alone = alone });
+    kept = subst IsAwake (sym rest) (record { on = b.on; tabled = tabled; memory = memory; sound = sound; slots = slot; sparing = (takes, b.sparing); alone = alone });
     numbers = ap (λ (q : Parts). q.numbers) rest;
     start = ap (λ (q : Parts). q.journal.start) rest;
     most = ap (λ (q : Parts). q.journal.most) rest;

@@ -22,7 +22,7 @@ use Rattle.bz_change.specs.Laws.{IsCalm}
 use Rattle.bz_change.specs.Values.{SameValues}
 use Rattle.bz_change.proofs.Proved.{quiet_acts_leave}
 use Rattle.bz_queue.specs.Inside.Acted.{IsEvicted}
-use Rattle.bz_queue.specs.Inside.Kept.{IsTabled, IsMemory, IsKept}
+use Rattle.bz_queue.specs.Inside.Kept.{IsTabled, IsMemory, IsAwake}
 use Rattle.bz_queue.specs.Inside.Serving.{counter_now, IsSlot}
 use Rattle.bz_queue.specs.Inside.Sparing.{IsSparingSlot}
 use Rattle.bz_queue.specs.declared.parts.Parts.{Parts}
@@ -34,9 +34,10 @@ use Rattle.bz_queue.proofs.Shown.{shown-eviction}
 use Rattle.bz_queue.proofs.Slots.{Leaves, slot-still}
 use Rattle.bz_queue.proofs.Sparing.{alone-quiet}
 use Rattle.bz_queue.proofs.Striking.{eviction-marked, evicts-effect, not-off}
+use Rattle.bz_queue.proofs.Sweepable.{sweepable-eviction}
 use Rattle.bz_queue.proofs.Tables.{tabled-still}
 
-module _ (old new : Parts) (a : ℕ) (k : IsKept old) (room : length old.journal.past < old.journal.most) (e : IsEvicted old a None new) where
+module _ (old new : Parts) (a : ℕ) (k : IsAwake old) (room : length old.journal.past < old.journal.most) (e : IsEvicted old a None new) where
   abbrev past : List QMark
   past = Memory (Evict a) ∷ old.journal.past
 
@@ -60,6 +61,7 @@ module _ (old new : Parts) (a : ℕ) (k : IsKept old) (room : length old.journal
     owned = owned_stay.eviction old.access new.access a None e.eviction k.memory.owned;
     noted = notes_are_of_begun.eviction old.access new.access a None e.eviction k.memory.noted;
     shown = shown-eviction old.access new.access a None old.journal.past e.eviction k.memory.shown;
+    sweepable = sweepable-eviction old.access new.access a None e.eviction k.memory.sweepable;
     unused = λ s from. none.swaps s ∙ k.memory.unused s (subst (λ (t : ℕ). t ≤ s) (ap (λ (m : SwapMemory). m.taken) e.eviction.is) from);
     low = omega (arith, quiet.1 TAIL_AT, k.memory.low);
   }
@@ -101,7 +103,7 @@ module _ (old new : Parts) (a : ℕ) (k : IsKept old) (room : length old.journal
     begins = refl;
     steps = omega (arith, ap (λ (m : SwapMemory). m.steps) e.eviction.is, k.tabled.steps);
     room = omega arith;
-    power = refl;
+    power = k.tabled.powered;
   })
 
   alone : (v : ℕ) (slot : Option OpenCall) → IsSlot old.numbers.ring old.access old.journal.past old.owners.items old.numbers.workers v slot → IsSparingSlot old.numbers.ring old.access old.journal.past v slot → IsSparingSlot old.numbers.ring new.access past v slot
@@ -110,8 +112,9 @@ module _ (old new : Parts) (a : ℕ) (k : IsKept old) (room : length old.journal
       alone-quiet old.numbers.ring old.access new.access old.journal.past old.owners.items old.numbers.workers v (Evict a) x (eviction-leaves old.access new.access v a None k.memory.calm.phase e.eviction) none.swaps quiet.1
       (ap (λ (m : SwapMemory). m.taken) e.eviction.is) tt h was
 
-  pub kept-evicted : IsKept new
-  kept-evicted = subst IsKept (sym e.rest) (record {
+  pub kept-evicted : IsAwake new
+  kept-evicted = subst IsAwake (sym e.rest) (record {
+    on = k.on;
     tabled = tabled;
     memory = memory;
     sound = sound;

@@ -8,7 +8,7 @@ use Rattle.bz_ring.specs.declared.calls.QCall.{QCall}
 use Rattle.bz_change.specs.Values.{IsChanged, IsSwapOf}
 use Rattle.bz_change.proofs.Proved.{effects_change}
 use Rattle.bz_queue.specs.Inside.Acted.{HasMarked, IsEvicted}
-use Rattle.bz_queue.specs.Inside.Kept.{IsKept}
+use Rattle.bz_queue.specs.Inside.Kept.{IsAwake}
 use Rattle.bz_queue.specs.Inside.Left.{left_of, marks_left}
 use Rattle.bz_queue.specs.Inside.Serving.{IsSlot, with_moment}
 use Rattle.bz_queue.specs.QueueView.{IsStruck}
@@ -27,7 +27,7 @@ pub record LeavesMarks (old new : Parts) : Type 0 where
   pub pays : (w : ℕ) → open_call w old.journal.past ≢ None → length new.journal.past + marks_left new w ≤ length old.journal.past + marks_left old w + 1
 
 -- an eviction without effect
-module _ (old new : Parts) (a : ℕ) (k : IsKept old) (room : length old.journal.past < old.journal.most) (e : IsEvicted old a None new) where
+module _ (old new : Parts) (a : ℕ) (k : IsAwake old) (room : length old.journal.past < old.journal.most) (e : IsEvicted old a None new) where
   by-slot : (w : ℕ) (slot : Option OpenCall) → IsSlot old.numbers.ring old.access old.journal.past old.owners.items old.numbers.workers w slot → left_of new.access w slot ≤ left_of old.access w slot
   by-slot w None h = omega arith
   by-slot w (Some x) h = omega (
@@ -42,7 +42,7 @@ module _ (old new : Parts) (a : ℕ) (k : IsKept old) (room : length old.journal
   quiet-leaves-marks = record { no_more = less; pays = λ w open_is. omega (arith, less w, ap (λ (q : Parts). length q.journal.past) e.rest) }
 
 -- one that gave a swap its effect, which was marked
-module _ (old mid new : Parts) (a s : ℕ) (k : IsKept old) (e : IsEvicted old a (Some s) mid) (marked : HasMarked mid s new) (struck : IsStruck mid.journal.past new.journal.past) (access : new.access ≡ mid.access) where
+module _ (old mid new : Parts) (a s : ℕ) (k : IsAwake old) (e : IsEvicted old a (Some s) mid) (marked : HasMarked mid s new) (struck : IsStruck mid.journal.past new.journal.past) (access : new.access ≡ mid.access) where
   held : IsHeld mid.access
   held = holds-held mid.access.phase mid.access (λ is. k.memory.calm.phase (sym (ap (λ (m : SwapMemory). m.phase) e.eviction.is) ∙ is)) e.held
 

@@ -6,7 +6,7 @@ use Rattle.bz_rivals.proofs.Proved.{rivals_are_few}
 use Rattle.bz_swap.specs.Solo.{allowed_while, allowed_to_all}
 use Rattle.bz_swap.specs.SwapMemory.{Doing, Idle, doing_of}
 use Rattle.bz_swap.proofs.Proved.{solo_steps_are_allowed}
-use Rattle.bz_queue.specs.Inside.Kept.{IsKept}
+use Rattle.bz_queue.specs.Inside.Kept.{IsAwake}
 use Rattle.bz_queue.specs.Inside.Left.{for_place, is_stale, left_of, marks_left, may_move, own_left}
 use Rattle.bz_queue.specs.Inside.Serving.{IsSlot}
 use Rattle.bz_queue.specs.declared.parts.Parts.{Parts}
@@ -43,17 +43,17 @@ zero-idle : (p : Parts) (slot : Option OpenCall) → IsSlot p.numbers.ring p.acc
 zero-idle p None h = h.idle
 zero-idle p (Some x) h = absurd (omega (arith, h.opened.worker))
 
-all-few : (p : Parts) → IsKept p → allowed_to_all p.access ≤ for_worker * p.numbers.workers
+all-few : (p : Parts) → IsAwake p → allowed_to_all p.access ≤ for_worker * p.numbers.workers
 all-few p k =
     let crew : length p.access.workers ≡ suc p.numbers.workers = omega (arith, k.tabled.crew) in
     let none : allowed_while (doing_of p.access 0) ≡ 0 = ap allowed_while (zero-idle p (get_or p.workers.items 0 None) (k.slots 0)) in
     subst (λ (n : ℕ). sum_below (λ v. allowed_while (doing_of p.access v)) n ≤ for_worker * p.numbers.workers) (sym crew)
     (sum-few (λ v. allowed_while (doing_of p.access v)) p.numbers.workers none (λ v. while-few (doing_of p.access v)))
 
-rivals-few : (p : Parts) (w : ℕ) (x : OpenCall) → IsKept p → w ≤ p.numbers.workers → rivals p.access w ≤ p.numbers.workers
+rivals-few : (p : Parts) (w : ℕ) (x : OpenCall) → IsAwake p → w ≤ p.numbers.workers → rivals p.access w ≤ p.numbers.workers
 rivals-few p w x k within = omega (arith, rivals_are_few.all p.access w (omega (arith, k.tabled.crew)), k.tabled.crew)
 
-slot-few : (p : Parts) (w : ℕ) (slot : Option OpenCall) → IsKept p → IsSlot p.numbers.ring p.access p.journal.past p.owners.items p.numbers.workers w slot → left_of p.access w slot ≤ for_worker * (p.numbers.workers + 2)
+slot-few : (p : Parts) (w : ℕ) (slot : Option OpenCall) → IsAwake p → IsSlot p.numbers.ring p.access p.journal.past p.owners.items p.numbers.workers w slot → left_of p.access w slot ≤ for_worker * (p.numbers.workers + 2)
 slot-few p w None k h = omega arith
 slot-few p w (Some x) k h = omega (
   arith,
@@ -67,5 +67,5 @@ slot-few p w (Some x) k h = omega (
   k.tabled.numbers.workers.at_most,
 )
 
-pub few-left : (p : Parts) (w : ℕ) → IsKept p → marks_left p w ≤ for_worker * (p.numbers.workers + 2)
+pub few-left : (p : Parts) (w : ℕ) → IsAwake p → marks_left p w ≤ for_worker * (p.numbers.workers + 2)
 few-left p w k = slot-few p w (get_or p.workers.items w None) k (k.slots w)

@@ -20,7 +20,7 @@ use Rattle.bz_ring.specs.declared.marks.QMark.{QMark}
 use Rattle.bz_ring.specs.declared.ring.Ring.{Ring}
 use Rattle.bz_change.specs.Values.{SameValues, IsChanged, IsSwapOf}
 use Rattle.bz_queue.specs.Inside.Acted.{HasMarked}
-use Rattle.bz_queue.specs.Inside.Kept.{IsKept}
+use Rattle.bz_queue.specs.Inside.Kept.{IsAwake}
 use Rattle.bz_queue.specs.Inside.Left.{for_place, for_round, left_of, marks_left, own_left, rounds_left, starts_left}
 use Rattle.bz_queue.specs.Inside.Serving.{IsServed, with_moment}
 use Rattle.bz_queue.specs.declared.parts.Parts.{Parts}
@@ -72,7 +72,7 @@ quiet-left r old new past owners crew w cost x spends none same served =
     omega (arith, whole)
 
 -- where a swap has had its effect, which was marked
-module _ (old mid new : Parts) (w cost s : ℕ) (k : IsKept old) (open_is : open_call w old.journal.past ≢ None) (spends : Spends old.access mid.access w cost (Some s)) (takes : TakesEffect old.access mid.access s)
+module _ (old mid new : Parts) (w cost s : ℕ) (k : IsAwake old) (open_is : open_call w old.journal.past ≢ None) (spends : Spends old.access mid.access w cost (Some s)) (takes : TakesEffect old.access mid.access s)
     (changed : (called : QCall) (counter word : ℕ) → IsSwapOf old.numbers.ring old.access s called counter word → IsChanged old.numbers.ring old.access mid.access called counter word)
     (still : (v : ℕ) → doing_of mid.access v ≡ doing_of old.access v) (slots-same : mid.workers.items ≡ old.workers.items) (marked : HasMarked mid s new) (access : new.access ≡ mid.access) where
   abbrev served-by : IsServing old.numbers.ring old.access old.journal.past old.owners.items old.numbers.workers w (get_or old.workers.items w None)

@@ -15,7 +15,7 @@ use Rattle.bz_swap_marks.specs.Marks.{mark_of}
 use Rattle.bz_change.specs.Values.{SameValues, IsChanged, IsSwapOf}
 use Rattle.bz_change.proofs.Proved.{effects_change}
 use Rattle.bz_queue.specs.Inside.Acted.{HasMarked, IsActed}
-use Rattle.bz_queue.specs.Inside.Kept.{IsKept}
+use Rattle.bz_queue.specs.Inside.Kept.{IsAwake}
 use Rattle.bz_queue.specs.Inside.Left.{left_of, PaysFor}
 use Rattle.bz_queue.specs.QueueView.{IsStruck}
 use Rattle.bz_queue.specs.declared.parts.Parts.{Parts}
@@ -30,7 +30,7 @@ struck-length past new (inl same) = omega (arith, ap length same)
 struck-length past new (inr (w, (n, is))) = omega (arith, ap length is)
 
 -- an act without effect
-module _ (old new : Parts) (w : ℕ) (made : Act) (ended : Done) (k : IsKept old) (open_is : open_call w old.journal.past ≢ None) (a : IsActed old w made ended None new) where
+module _ (old new : Parts) (w : ℕ) (made : Act) (ended : Done) (k : IsAwake old) (open_is : open_call w old.journal.past ≢ None) (a : IsActed old w made ended None new) where
   abbrev serving : IsServing old.numbers.ring old.access old.journal.past old.owners.items old.numbers.workers w (get_or old.workers.items w None)
   serving = is-serving old.numbers.ring old.access old.journal.past old.owners.items old.numbers.workers w (get_or old.workers.items w None) open_is (k.slots w)
 
@@ -55,7 +55,7 @@ module _ (old new : Parts) (w : ℕ) (made : Act) (ended : Done) (k : IsKept old
       (subst (λ (slot : Option OpenCall). length p.journal.past + left_of new.access w slot ≤ length old.journal.past + left_of old.access w slot) (sym serving.is) (omega (arith, less)))
 
 -- an act that gave a swap its effect, which was marked
-module _ (old mid new : Parts) (w : ℕ) (made : Act) (ended : Done) (s : ℕ) (k : IsKept old) (open_is : open_call w old.journal.past ≢ None) (a : IsActed old w made ended (Some s) mid) (marked : HasMarked mid s new)
+module _ (old mid new : Parts) (w : ℕ) (made : Act) (ended : Done) (s : ℕ) (k : IsAwake old) (open_is : open_call w old.journal.past ≢ None) (a : IsActed old w made ended (Some s) mid) (marked : HasMarked mid s new)
     (struck : IsStruck mid.journal.past new.journal.past) (access : new.access ≡ mid.access) where
   held : IsHeld mid.access
   held = holds-held mid.access.phase mid.access (λ is. k.memory.calm.phase (sym a.step.one.others.phase ∙ is)) a.held

@@ -2,6 +2,7 @@ pub mod Marks
 pub mod Slots
 pub mod Contents
 pub mod Shown
+pub mod Sweepable
 pub mod Memories
 pub mod Struck
 pub mod Tables
@@ -31,3 +32,12 @@ pub mod Evicting
 pub mod Pays
 pub mod Few
 pub mod Solo
+pub mod Powered
+pub mod Resting
+pub mod Refusing
+pub mod Dark
+pub mod Cutting
+pub mod Recovering
+pub mod Recovered
+pub mod Waking
+pub mod Opens

@@ -16,6 +16,7 @@ use Rattle.bz_change.specs.Values.{SameValues, StoresNothing}
 use Rattle.bz_change.proofs.Proved.{quiet_acts_leave, starts_leave}
 use Rattle.bz_swap_marks.specs.Marks.{mark_of}
 use Rattle.bz_queue.specs.Inside.Kept.{IsMemory}
+use Rattle.bz_queue.proofs.Sweepable.{AreNamable, sweepable-start, sweepable-step, sweepable-swap}
 use Rattle.bz_queue.proofs.Marks.{act-marked, act-kept}
 use Rattle.bz_queue.proofs.Shown.{shown-step}
 
@@ -30,6 +31,7 @@ quiet-memory old new log w made done some k none held step =
         owned = owned_stay.step old new w made done None step k.owned;
         noted = notes_are_of_begun.step old new w made done None step k.noted;
         shown = shown-step old new w made done None log.past some k.calm.held step k.shown;
+        sweepable = sweepable-step old new w made done None k.calm.held step k.sweepable;
         unused = λ s from. step.effect.swaps s ∙ k.unused s (subst (λ (t : ℕ). t ≤ s) step.one.others.taken from);
         low = omega (arith, calm.1 TAIL_AT, k.low);
       },
@@ -45,11 +47,12 @@ started-memory m log w doing k some idle no_swap held = record {
   noted = notes_are_of_begun.start m w doing k.noted;
   shown = record { begun = begun_stay_taken.start m w doing idle k.shown.begun; shown = k.shown.shown; only = k.shown.only };
   unused = k.unused;
+  sweepable = sweepable-start m w doing k.sweepable;
   low = k.low;
 }
 
-pub swapping-memory : (m : SwapMemory) (log : QLog) (w : ℕ) (entries : List Entry) → IsMemory m log → MaySwap m w entries → IsHeld (swapping m w entries) → IsMemory (swapping m w entries) log
-swapping-memory m log w entries k may held = record {
+pub swapping-memory : (m : SwapMemory) (log : QLog) (w : ℕ) (entries : List Entry) → IsMemory m log → MaySwap m w entries → AreNamable m.swaps entries → IsHeld (swapping m w entries) → IsMemory (swapping m w entries) log
+swapping-memory m log w entries k may names held = record {
   words = k.words;
   past = record { count = k.past.count; since = k.past.since; asks = k.past.asks; workers = k.past.workers };
   calm = starts_leave.swap m w entries k.calm may held;
@@ -61,5 +64,6 @@ swapping-memory m log w entries k may held = record {
     only = λ s within is. (let below : s < m.taken = k.shown.only s within is in omega arith);
   };
   unused = λ s from. k.unused s (omega arith);
+  sweepable = sweepable-swap m w entries names k.sweepable;
   low = k.low;
 }

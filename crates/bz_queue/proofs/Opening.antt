@@ -1,5 +1,5 @@
 -- A queue over fresh memory.
-use Rattle.std.proofs.Common.{◌≡◌, ◌<◌, ◌≤◌, inl, inr, ◌+◌, ◌-◌, ◌^◌, ℕ, zero, suc, Bool, false, List, [], ◌∷◌, length, map, replicate, get_or, slice_index, refl, sym, ap, subst, ◌∙◌, arith, length-append, Option, None}
+use Rattle.std.proofs.Common.{◌≡◌, ◌<◌, ◌≤◌, inl, inr, ◌+◌, ◌-◌, ◌^◌, ℕ, zero, suc, Bool, false, List, [], ◌∷◌, length, replicate, get_or, slice_index, refl, sym, ap, subst, ◌∙◌, arith, length-append, Option, None}
 use Rattle.std.specs.Prelude.{nat_lt}
 use Rattle.std.proofs.lemmas.Bool.{cases_lt, cases_Bool}
 use Rattle.std.proofs.lemmas.List.{length-replicate, get_or-replicate}
@@ -16,20 +16,23 @@ use Rattle.bz_swap.specs.Power.{AreRecovered, IsOpened, opened}
 use Rattle.bz_swap.specs.SwapMemory.{SwapMemory, Working, idle, has_effect}
 use Rattle.bz_swap.proofs.Proved.{begun_stay_taken, owned_stay, settled_words_stay}
 use Rattle.bz_swap_marks.proofs.Pasts.{fresh-past}
+use Rattle.bz_mark.specs.declared.power.Power.TheVariants as power
 use Rattle.bz_ring.specs.declared.ring.Ring.{Ring}
 use Rattle.bz_ring.specs.declared.ring.TheConstants.{TAIL_AT}
 use Rattle.bz_ring.specs.Content.{size_of}
 use Rattle.bz_ring.specs.Fresh.{fresh_words}
 use Rattle.bz_ring.specs.Journal.{QLog}
 use Rattle.bz_ring.proofs.Proved.{fresh_journals_are_sound, fresh_memory_is_empty}
-use Rattle.bz_queue.specs.Inside.Kept.{IsTabled, IsMemory, IsKept, view_of}
-use Rattle.bz_queue.specs.Inside.Left.{each_from, left_of, lefts_of, marks_left}
+use Rattle.bz_queue.specs.Inside.Kept.{IsTabled, IsMemory, IsAwake, view_of}
+use Rattle.bz_queue.specs.Inside.Left.{lefts_of}
 use Rattle.bz_queue.specs.Inside.Serving.{IsSlot}
 use Rattle.bz_queue.specs.Inside.Sparing.{IsSparingSlot}
 use Rattle.bz_queue.specs.QueueView.{QueueView, AreNumbers, new_view}
 use Rattle.bz_queue.specs.declared.open.Numbers.{Numbers}
 use Rattle.bz_queue.specs.declared.parts.Parts.{Parts}
 use Rattle.bz_queue.specs.declared.serving.OpenCall.{OpenCall}
+use Rattle.bz_queue.proofs.Sweepable.{sweepable-opening}
+use Rattle.bz_queue.proofs.Resting.{lefts-none, map-replicate}
 use Rattle.bz_queue.proofs.Tables.{ring-of}
 
 -- a list of one thing has it everywhere, and past its end
@@ -85,6 +88,7 @@ module _ (n : Numbers) (are : AreNumbers n) where
     noted = notes_are_of_begun.opening Opened (fresh_words r) r.swaps n.workers;
     shown = record { begun = begun_stay_taken.opening Opened (fresh_words r) r.swaps n.workers; shown = λ s within taken. absurd (taken (free s)); only = λ s within is. absurd (cc is) };
     unused = λ s from. no-effect s;
+    sweepable = sweepable-opening Opened (fresh_words r) r.swaps n.workers plain;
     low = omega (arith, (held.private TAIL_AT (inl (omega arith)) refl).1);
   }
 
@@ -92,7 +96,8 @@ module _ (n : Numbers) (are : AreNumbers n) where
   slot w = subst (IsSlot r m0 [] (replicate r.swaps 0) n.workers w) (sym (everywhere 65 w None)) (record { none = refl; idle = ap (λ (it : Working). it.doing) (everywhere (n.workers + 1) w idle) })
 
   module _ (p : Parts) (log : p.journal ≡ record { start = fresh_words r; past = []; most = n.marks }) (numbers : p.numbers ≡ n) (o : IsOpened p.access (fresh_words r) r.swaps n.workers) (holds : Holds p.access)
-      (workers : p.workers.items ≡ replicate 65 None) (owners : p.owners.items ≡ replicate r.swaps 0) (last : p.last.items ≡ replicate 65 0) (begun : p.begun ≡ 0) where
+      (workers : p.workers.items ≡ replicate 65 None) (owners : p.owners.items ≡ replicate r.swaps 0) (last : p.last.items ≡ replicate 65 0) (begun : p.begun ≡ 0)
+      (on : p.power ≡ power.On) where
     abbrev q : Parts
     q = record p { numbers = n; access = m0; journal = record { start = fresh_words r; past = []; most = n.marks }; begun = 0 }
 
@@ -122,11 +127,12 @@ module _ (n : Numbers) (are : AreNumbers n) where
       begins = refl;
       few = omega arith;
       steps = omega arith;
-      powered = refl;
+      powered = sym on;
     }
 
-    pub fresh-kept : IsKept p
-    fresh-kept = subst IsKept (sym is) (record {
+    pub fresh-kept : IsAwake p
+    fresh-kept = subst IsAwake (sym is) (record {
+      on = on;
       tabled = tabled;
       memory = fresh-memory n.marks held;
       sound = fresh_journals_are_sound r (fresh_words r) [] (fresh_memory_is_empty r (ring-of n are));
@@ -135,23 +141,13 @@ module _ (n : Numbers) (are : AreNumbers n) where
       alone = λ w. subst (λ (all : List (Option OpenCall)). IsSparingSlot r m0 [] w (get_or all w None)) (sym workers) (subst (IsSparingSlot r m0 [] w) (sym (everywhere 65 w None)) tt);
     })
 
-    map-same : (k : ℕ) → map (λ (it : Working). it.flush_next) (replicate k idle) ≡ replicate k false
-    map-same zero = refl
-    map-same (suc k) = ap (λ (all : List Bool). false ∷ all) (map-same k)
-
-    -- no call is open
-    nothing-left : (w : ℕ) → marks_left p w ≡ 0
-    nothing-left w = ap (λ (all : List (Option OpenCall)). left_of p.access w (get_or all w None)) workers ∙ ap (left_of p.access w) (everywhere 65 w None)
-
-    each-none : (f : ℕ → ℕ) (a k : ℕ) → ((w : ℕ) → f w ≡ 0) → each_from f a k ≡ replicate k 0
-    each-none f a zero none = refl
-    each-none f a (suc k) none = ap (λ (first : ℕ). first ∷ each_from f (a + 1) k) (none a) ∙ ap (λ (all : List ℕ). 0 ∷ all) (each-none f (a + 1) k none)
-
-    lefts-none : lefts_of p ≡ replicate (n.workers + 1) 0
-    lefts-none = each-none (marks_left p) 0 (length p.access.workers) nothing-left ∙ ap (λ (k : ℕ). replicate k 0) (ap (λ (q : Parts). length q.access.workers) is ∙ length-replicate (n.workers + 1) idle)
+    fresh-left : lefts_of p ≡ replicate (n.workers + 1) 0
+    fresh-left =
+        lefts-none p (λ w. ap (λ (all : List (Option OpenCall)). get_or all w None) workers ∙ everywhere 65 w None)
+        ∙ ap (λ (k : ℕ). replicate k 0) (ap (λ (q : Parts). length q.access.workers) is ∙ length-replicate (n.workers + 1) idle)
 
     pub fresh-view : view_of p ≡ new_view n
     fresh-view =
         ap (λ (z : Parts). let it : QueueView = record (view_of z) { left = lefts_of p } in it) is
-        ∙ ap (λ (flushes : List Bool). let it : QueueView = record (new_view n) { flushes = flushes; left = lefts_of p } in it) (map-same (n.workers + 1))
-        ∙ ap (λ (left : List ℕ). let it : QueueView = record (new_view n) { left = left } in it) lefts-none
+        ∙ ap (λ (flushes : List Bool). let it : QueueView = record (new_view n) { flushes = flushes; left = lefts_of p } in it) (map-replicate (λ (it : Working). it.flush_next) (n.workers + 1) idle)
+        ∙ ap (λ (left : List ℕ). let it : QueueView = record (new_view n) { left = left } in it) fresh-left

@@ -4,19 +4,22 @@ use Rattle.std.specs.Prelude.{is_none, if◌then◌else◌, nat_le, option_map, 
 use Rattle.std.proofs.lemmas.Bool.Decides.{nat_tests}
 use Rattle.bz_swap_acts.specs.declared.acted.Act.{Act}
 use Rattle.bz_mark.specs.declared.marks.Mark.TheVariants.{Evict}
+use Rattle.bz_mark.specs.declared.power.Power.{Power}
+use Rattle.bz_mark.specs.declared.power.Power.TheVariants as power
 use Rattle.bz_swap_marks.specs.Marks.{mark_of}
 use Rattle.bz_ring.specs.declared.marks.QMark.{QMark}
 use Rattle.bz_ring.specs.declared.marks.QMark.TheVariants.{Memory}
 use Rattle.bz_ring.specs.Calls.{Open, open_call, with_effect}
 use Rattle.bz_ring.specs.Content.{size_of}
-use Rattle.bz_queue.specs.QueueView.{QueueView, Evicts, GoesOn, IsStruck, Steps, IsApplied, is_short, left_in, step_refusal}
+use Rattle.bz_ring.specs.Follows.{power_after}
+use Rattle.bz_queue.specs.QueueView.{QueueView, Evicts, GoesOn, IsStruck, Steps, StrikesBy, IsApplied, is_short, left_in, power_in, step_refusal}
 use Rattle.bz_queue.specs.Solo.{MayStep, SoloCallsEnd, StepsOn, evictions_in, most_alone, steps_in}
 use Rattle.bz_queue.specs.declared.answers.QApplied.{QApplied}
 use Rattle.bz_queue.specs.declared.answers.QApplied.TheVariants as applied
 use Rattle.bz_queue.specs.declared.answers.QEvent.{QEvent}
 use Rattle.bz_queue.specs.declared.answers.QEvent.TheVariants as event
 use Rattle.bz_queue.specs.declared.open.Numbers.{Numbers}
-use Rattle.bz_queue.proofs.Marks.{act-plain, plain-calls}
+use Rattle.bz_queue.proofs.Marks.{act-plain, plain-calls, plain-power}
 
 -- how a step is answered
 abbrev by_tests : Bool → Bool → Option QApplied → Option QApplied
@@ -30,7 +33,7 @@ refusal-is : (q : QueueView) (w : ℕ) → MayStep q w → step_refusal q w ≡ 
 refusal-is q w may =
     let in_range : nat_lt q.numbers.workers w ≡ false = grind (arith, nat_tests, may.within) in
     let busy : is_none (open_call w q.log.past) ≡ false = not-none (open_call w q.log.past) may.is_open in
-    rw (in_range, busy) refl
+    rw (in_range, may.on, busy) refl
 
 -- a step is made, or the journal is short
 record IsShort (old : QueueView) (answer : QApplied) (new : QueueView) : Type 0 where
@@ -43,7 +46,7 @@ step-cases true old w answer new is (e, same) = inl (record { short = is; answer
 step-cases false old w answer new is h = inr h
 
 stepped : (old : QueueView) (w : ℕ) (answer : QApplied) (new : QueueView) → MayStep old w → IsApplied old (event.Step w) answer new → IsShort old answer new ⊎ Steps old w answer new
-stepped old w answer new may h = step-cases (is_short old.log) old w answer new refl (rw (refusal-is old w may) at h)
+stepped old w answer new may h = step-cases (is_short old.log) old w answer new refl (rw (refusal-is old w may, may.on) at h)
 
 -- what follows an act leaves the calls that are open
 still-open : (b : Bool) (n : ℕ) (o : Option Open) → o ≢ None → (if b then option_map (with_effect n) o else o) ≢ None
@@ -60,6 +63,11 @@ struck-longer : (w : ℕ) (made : Act) (past struck : List QMark) → IsStruck (
 struck-longer w made past struck (inl same) = omega (arith, ap length same)
 struck-longer w made past struck (inr (v, (n, is))) = omega (arith, ap length is)
 
+-- nor does it change the power
+struck-power : (past struck : List QMark) → IsStruck past struck → power_after struck ≡ power_after past
+struck-power past struck (inl same) = ap power_after same
+struck-power past struck (inr (v, (n, is))) = ap power_after is
+
 evicted-open : (w a : ℕ) (past struck : List QMark) → IsStruck (Memory (Evict a) ∷ past) struck → open_call w past ≢ None → open_call w struck ≢ None
 evicted-open w a past struck (inl same) some none = some (ap (open_call w) (sym same) ∙ none)
 evicted-open w a past struck (inr (v, (n, is))) some none = still-open (v == w) (suc (length past)) (open_call w past) some (ap (open_call w) (sym is) ∙ none)
@@ -74,8 +82,8 @@ eviction-cases true short old a answer new (e, same) = inl same
 eviction-cases false true old a answer new (e, same) = inl same
 eviction-cases false false old a answer new h = inr h
 
-evicted : (old : QueueView) (a : ℕ) (answer : QApplied) (new : QueueView) → IsApplied old (event.Evict a) answer new → (new ≡ old) ⊎ Evicts old a answer new
-evicted old a answer new h = eviction-cases (nat_le (size_of old.numbers.ring) a) (is_short old.log) old a answer new h
+evicted : (old : QueueView) (a : ℕ) (answer : QApplied) (new : QueueView) → power_in old ≡ power.On → IsApplied old (event.Evict a) answer new → (new ≡ old) ⊎ Evicts old a answer new
+evicted old a answer new on h = eviction-cases (nat_le (size_of old.numbers.ring) a) (is_short old.log) old a answer new (rw on at h)
 
 -- so much is known of a queue after such events: the steps took of what was left at first, which is few once something has happened
 record Run (old : QueueView) (w : ℕ) (events : List QEvent) (q : QueueView) : Type 0 where
@@ -95,6 +103,7 @@ run-stepped old mid new w events run s =
     let numbers : new.numbers ≡ mid.numbers = ap (λ (q : QueueView). q.numbers) s.rest in
     record {
       may = record {
+        on = ap power_after s.ends ∙ struck-power (Memory (mark_of w s.made) ∷ mid.log.past) s.struck s.effect ∙ plain-power mid.log.past (mark_of w s.made) (act-plain w s.made) ∙ run.may.on;
         within = subst (λ (it : Numbers). w ≤ it.workers) (sym numbers) run.may.within;
         is_open = subst (λ (past : List QMark). open_call w past ≢ None) (sym s.ends) (struck-open w s.made mid.log.past s.struck s.effect run.may.is_open);
       };
@@ -107,10 +116,12 @@ run-stepped old mid new w events run s =
 run-evicted : (old mid new : QueueView) (w a : ℕ) (answer : QApplied) (events : List QEvent) → Run old w events mid → Evicts mid a answer new → Run old w (event.Evict a ∷ events) new
 run-evicted old mid new w a answer events run e =
     let numbers : new.numbers ≡ mid.numbers = ap (λ (q : QueueView). q.numbers) e.rest in
+    let struck : IsStruck (Memory (Evict a) ∷ mid.log.past) new.log.past = subst (λ (z : Power). StrikesBy z (Memory (Evict a) ∷ mid.log.past) new.log.past) run.may.on e.effect in
     record {
       may = record {
+        on = struck-power (Memory (Evict a) ∷ mid.log.past) new.log.past struck ∙ run.may.on;
         within = subst (λ (it : Numbers). w ≤ it.workers) (sym numbers) run.may.within;
-        is_open = evicted-open w a mid.log.past new.log.past e.effect run.may.is_open;
+        is_open = evicted-open w a mid.log.past new.log.past struck run.may.is_open;
       };
       numbers = numbers ∙ run.numbers;
       steps = omega (arith, run.steps, e.no_more w);
@@ -135,10 +146,12 @@ run-of (event.Step v ∷ events) old q w may (own, (mid, (on, h))) =
     ])
 run-of (event.Evict a ∷ events) old q w may (mid, (on, (answer, h))) =
     let run = run-of events old mid w may on in
-    elim (evicted mid a answer q h) [
+    elim (evicted mid a answer q run.may.on h) [
       | inl same ↦ subst (Run old w (event.Evict a ∷ events)) (sym same) (run-refused old mid w a events run)
       | inr e ↦ run-evicted old mid q w a answer events run e
     ]
+run-of (event.Cut ∷ events) old q w may h = absurd h
+run-of (event.On ∷ events) old q w may h = absurd h
 
 goes-or-ends : (past : List QMark) (w : ℕ) (answer : QApplied) (new : List QMark) → GoesOn past w answer new → (answer ≡ applied.Stepped) ⊎ ((number : ℕ) × (answer ≡ applied.Ended number))
 goes-or-ends past w applied.Stepped new h = inl refl

@@ -27,26 +27,27 @@ use Rattle.bz_change.specs.Values.{IsSwapOf}
 use Rattle.bz_change.proofs.Proved.{effects_change}
 use Rattle.bz_swap_marks.specs.Marks.{mark_of}
 use Rattle.bz_queue.specs.Inside.Acted.{IsActed, IsEvicted, IsStriking}
-use Rattle.bz_queue.specs.Inside.Kept.{IsKept}
+use Rattle.bz_queue.specs.Inside.Kept.{IsAwake}
 use Rattle.bz_queue.specs.declared.parts.Parts.{Parts}
 use Rattle.bz_queue.proofs.Acting.{is-serving}
 use Rattle.bz_queue.proofs.Acted.{holds-held}
 use Rattle.bz_queue.proofs.Marks.{act-marked, act-kept, act-found, act-follows, act-plain}
 use Rattle.bz_queue.proofs.Shown.{shown-step, shown-eviction}
 use Rattle.bz_queue.proofs.Struck.{HasSwap, has-swap}
+use Rattle.bz_queue.proofs.Sweepable.{sweepable-eviction, sweepable-step}
 
 -- the swap of the call
-swap-is : (old : Parts) (s : ℕ) (new : SwapMemory) (k : IsKept old) (t : TakesEffect old.access new s) → HasSwap old.numbers.ring old.access old.journal.past old.owners.items old.numbers.workers t.worker s (get_or old.workers.items t.worker None)
+swap-is : (old : Parts) (s : ℕ) (new : SwapMemory) (k : IsAwake old) (t : TakesEffect old.access new s) → HasSwap old.numbers.ring old.access old.journal.past old.owners.items old.numbers.workers t.worker s (get_or old.workers.items t.worker None)
 swap-is old s new k t = has-swap old.numbers.ring old.access old.journal.past old.owners.items old.numbers.workers t.worker s (get_or old.workers.items t.worker None) t.pending t.before (k.slots t.worker)
 
-is-swap-of : (old : Parts) (s : ℕ) (new : SwapMemory) (k : IsKept old) (t : TakesEffect old.access new s) → IsSwapOf old.numbers.ring old.access s (swap-is old s new k t).x.call (swap-is old s new k t).counter (swap-is old s new k t).word
+is-swap-of : (old : Parts) (s : ℕ) (new : SwapMemory) (k : IsAwake old) (t : TakesEffect old.access new s) → IsSwapOf old.numbers.ring old.access s (swap-is old s new k t).x.call (swap-is old s new k t).counter (swap-is old s new k t).word
 is-swap-of old s new k t = record { swaps = k.tabled.swaps; entries = ap (entries_of old.access) (sym (swap-is old s new k t).same) ∙ (swap-is old s new k t).swapping.entries }
 
 pub busy-then : (done : Done) (s : ℕ) → (done ≡ Busy) ⊎ (Some s ≡ None) → done ≡ Busy
 busy-then done s (inl is) = is
 busy-then done s (inr is) = absurd (cc)
 
-pub act-strikes : (old new : Parts) (w : ℕ) (made : Act) (done : Done) (s : ℕ) → IsKept old → open_call w old.journal.past ≢ None → IsActed old w made done (Some s) new → IsStriking new s
+pub act-strikes : (old new : Parts) (w : ℕ) (made : Act) (done : Done) (s : ℕ) → IsAwake old → open_call w old.journal.past ≢ None → IsActed old w made done (Some s) new → IsStriking new s
 act-strikes old new w made done s k open_is a =
     let serving = is-serving old.numbers.ring old.access old.journal.past old.owners.items old.numbers.workers w (get_or old.workers.items w None) open_is (k.slots w) in
     let held : IsHeld new.access = holds-held new.access.phase new.access (λ is. k.memory.calm.phase (sym a.step.one.others.phase ∙ is)) a.held in
@@ -64,6 +65,7 @@ act-strikes old new w made done s k open_is a =
         owned = owned_stay.step old.access new.access w made done (Some s) a.step k.memory.owned;
         noted = notes_are_of_begun.step old.access new.access w made done (Some s) a.step k.memory.noted;
         shown = shown-step old.access new.access w made done (Some s) old.journal.past serving.served.opened.worker k.memory.calm.held a.step k.memory.shown;
+        sweepable = sweepable-step old.access new.access w made done (Some s) k.memory.calm.held a.step k.memory.sweepable;
         takes = t;
         swaps = a.step.one.others.swaps;
         taken = a.step.one.others.taken;
@@ -97,10 +99,10 @@ eviction-effect Recovering old new told calm h = absurd (calm refl)
 pub evicts-effect : (old new : SwapMemory) (a : ℕ) (told : Option ℕ) → old.phase ≢ Recovering → IsEviction old a told new → EffectIs old new told
 evicts-effect old new a told calm e = eviction-effect old.phase old new told calm e.effect
 
-pub not-off : (p : Parts) → IsKept p → power_after p.journal.past ≢ power.Off
-not-off p k is = let both : power.On ≡ power.Off = sym k.tabled.powered ∙ is in cc
+pub not-off : (p : Parts) → IsAwake p → power_after p.journal.past ≢ power.Off
+not-off p k is = let both : power.On ≡ power.Off = sym (k.tabled.powered ∙ k.on) ∙ is in cc
 
-pub eviction-strikes : (old new : Parts) (a s : ℕ) → IsKept old → IsEvicted old a (Some s) new → IsStriking new s
+pub eviction-strikes : (old new : Parts) (a s : ℕ) → IsAwake old → IsEvicted old a (Some s) new → IsStriking new s
 eviction-strikes old new a s k e =
     let held : IsHeld new.access = holds-held new.access.phase new.access (λ is. k.memory.calm.phase (sym (ap (λ (m : SwapMemory). m.phase) e.eviction.is) ∙ is)) e.held in
     let t : TakesEffect old.access new.access s = evicts-effect old.access new.access a (Some s) k.memory.calm.phase e.eviction in
@@ -116,6 +118,7 @@ eviction-strikes old new a s k e =
         owned = owned_stay.eviction old.access new.access a (Some s) e.eviction k.memory.owned;
         noted = notes_are_of_begun.eviction old.access new.access a (Some s) e.eviction k.memory.noted;
         shown = shown-eviction old.access new.access a (Some s) old.journal.past e.eviction k.memory.shown;
+        sweepable = sweepable-eviction old.access new.access a (Some s) e.eviction k.memory.sweepable;
         takes = t;
         swaps = ap (λ (m : SwapMemory). m.swaps) e.eviction.is;
         taken = ap (λ (m : SwapMemory). m.taken) e.eviction.is;

@@ -152,6 +152,7 @@ module _ (r : Ring) (ring : IsRing r) (old new : SwapMemory) (log : QLog) (owner
     owned = strikes.owned;
     noted = strikes.noted;
     shown = record { begun = strikes.shown.begun; shown = strikes.shown.shown; only = strikes.shown.only };
+    sweepable = strikes.sweepable;
     unused = λ t from.
         let old_from : old.taken ≤ t = subst (λ (taken : ℕ). taken ≤ t) strikes.taken from in
         strikes.takes.other_swaps t (λ same. absurd (omega (arith, begun-before))) ∙ k.unused t old_from;

@@ -24,7 +24,7 @@ pub record KeepsTables (old new : Parts) : Type 0 where
   pub begins : count_begins new.journal.past ≡ count_begins old.journal.past
   pub steps : new.access.steps ≤ length new.journal.past
   pub room : length new.journal.past ≤ old.journal.most
-  pub power : power_after new.journal.past ≡ power_after old.journal.past
+  pub power : power_after new.journal.past ≡ new.power
 
 pub tabled-still : (old new : Parts) → IsTabled old → KeepsTables old new → IsTabled new
 tabled-still old new h k = record {
@@ -42,7 +42,7 @@ tabled-still old new h k = record {
   begins = k.begun ∙ h.begins ∙ sym k.begins;
   few = omega (arith, k.begun, h.few, ap (λ (n : Numbers). n.calls) k.numbers);
   steps = k.steps;
-  powered = k.power ∙ h.powered;
+  powered = k.power;
 }
 
 pub ring-of : (n : Numbers) → AreNumbers n → IsRing n.ring

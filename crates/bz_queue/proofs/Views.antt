@@ -1,23 +1,20 @@
 -- What callers see of a step and of an eviction, and of workers that there are not.
-use Rattle.std.proofs.Common.{◌≡◌, ◌≢◌, ◌<◌, ◌≤◌, ◌+◌, ◌*◌, inl, inr, arith, ℕ, zero, suc, Bool, true, false, List, [], ◌∷◌, length, map, get_or, refl, sym, ap, subst, ◌∙◌, Option, Some, None}
-use Rattle.std.specs.Prelude.{is_none, is_some, nat_lt}
+use Rattle.std.proofs.Common.{◌≡◌, ◌≢◌, ◌<◌, ◌≤◌, ◌+◌, ◌*◌, inl, inr, arith, ℕ, zero, suc, Bool, false, List, [], ◌∷◌, length, map, get_or, refl, sym, ap, subst, ◌∙◌, Some, None}
 use Rattle.std.proofs.lemmas.Bool.{cases_lt}
-use Rattle.std.proofs.lemmas.Bool.Decides.{nat_tests}
-use Rattle.std.proofs.Math.ListN.{get_or-eq_default}
 use Rattle.bz_mark.specs.declared.marks.Mark.TheVariants.{Evict}
+use Rattle.bz_mark.specs.declared.power.Power.{Power}
 use Rattle.bz_swap_machine.specs.Allowed.{for_worker}
 use Rattle.bz_swap.specs.SwapMemory.{SwapMemory, Working, idle, worker_of}
 use Rattle.bz_ring.specs.declared.marks.QMark.{QMark}
+use Rattle.bz_swap_marks.specs.Marks.{mark_of}
 use Rattle.bz_ring.specs.declared.marks.QMark.TheVariants.{Memory}
 use Rattle.bz_ring.specs.Calls.{open_call}
 use Rattle.bz_ring.specs.Journal.{QLog}
 use Rattle.bz_queue.specs.Inside.Acted.{HasActed, HasMarked, IsEvicted}
 use Rattle.bz_queue.specs.Inside.Going.{WentOn}
-use Rattle.bz_queue.specs.Inside.Kept.{IsKept, view_of}
-use Rattle.bz_queue.specs.Inside.Left.{each_from, lefts_of, marks_left, PaysFor}
-use Rattle.bz_queue.specs.Inside.Serving.{IsSlot}
-use Rattle.bz_queue.specs.QueueView.{QueueView, Evicts, GoesOn, IsStruck, Steps, IsApplied, is_short}
-use Rattle.bz_queue.specs.declared.answers.QEvent.TheVariants as event
+use Rattle.bz_queue.specs.Inside.Kept.{IsAwake, view_of}
+use Rattle.bz_queue.specs.Inside.Left.{each_from, left_of, lefts_of, marks_left, PaysFor}
+use Rattle.bz_queue.specs.QueueView.{QueueView, Evicts, GoesOn, IsStruck, Steps, StrikesBy}
 use Rattle.bz_queue.specs.declared.answers.QApplied.{QApplied}
 use Rattle.bz_queue.specs.declared.answers.QApplied.TheVariants.{Evicted, Stepped}
 use Rattle.bz_queue.specs.declared.open.Numbers.{Numbers}
@@ -25,9 +22,8 @@ use Rattle.bz_queue.specs.declared.parts.Parts.{Parts}
 use Rattle.bz_queue.proofs.Acted.{worker-inside}
 use Rattle.bz_queue.proofs.Evicting.{LeavesMarks, quiet-leaves-marks, struck-leaves-marks}
 use Rattle.bz_queue.proofs.Few.{few-left}
-use Rattle.bz_queue.specs.declared.serving.OpenCall.{OpenCall}
 
-flush-told : (workers : List Working) (v : ℕ) → get_or (map (λ (it : Working). it.flush_next) workers) v false ≡ (get_or workers v idle).flush_next
+pub flush-told : (workers : List Working) (v : ℕ) → get_or (map (λ (it : Working). it.flush_next) workers) v false ≡ (get_or workers v idle).flush_next
 flush-told [] v = refl
 flush-told (x ∷ workers) zero = refl
 flush-told (x ∷ workers) (suc v) = flush-told workers v
@@ -49,8 +45,14 @@ left-told p w within = each-told (marks_left p) 0 (length p.access.workers) w wi
 left-past : (p : Parts) (w : ℕ) → length p.access.workers ≤ w → get_or (lefts_of p) w 0 ≡ 0
 left-past p w past = each-past (marks_left p) 0 (length p.access.workers) w past
 
+pub left-none : (p : Parts) (w : ℕ) → ((v : ℕ) → get_or p.workers.items v None ≡ None) → get_or (lefts_of p) w 0 ≡ 0
+left-none p w none = elim (cases_lt w (length p.access.workers)) [
+  | inl within ↦ left-told p w within ∙ ap (left_of p.access w) (none w)
+  | inr past ↦ left-past p w past
+]
+
 -- so much is left at most to each
-few-told : (p : Parts) (w : ℕ) → IsKept p → get_or (lefts_of p) w 0 ≤ for_worker * (p.numbers.workers + 2)
+few-told : (p : Parts) (w : ℕ) → IsAwake p → get_or (lefts_of p) w 0 ≤ for_worker * (p.numbers.workers + 2)
 few-told p w k = elim (cases_lt w (length p.access.workers)) [
   | inl within ↦ omega (arith, few-left p w k, left-told p w within)
   | inr past ↦ omega (arith, left-past p w past)
@@ -62,7 +64,7 @@ no-more-told old new w count less = elim (cases_lt w (length old.access.workers)
   | inr past ↦ omega (arith, left-past new w (omega (arith, past, count)))
 ]
 
-same-view : (n n' : Numbers) (log log' : QLog) (flushes : List Bool) (left : List ℕ) → n ≡ n' → log.start ≡ log'.start → log.most ≡ log'.most
+pub same-view : (n n' : Numbers) (log log' : QLog) (flushes : List Bool) (left : List ℕ) → n ≡ n' → log.start ≡ log'.start → log.most ≡ log'.most
     → (let there : QueueView = record { numbers = n; log = log; flushes = flushes; left = left } in there) ≡ record { numbers = n'; log = record log' { past = log.past }; flushes = flushes; left = left }
 same-view n n' log log' flushes left numbers start most =
     ap (λ (z : Numbers). let it : QueueView = record { numbers = z; log = log; flushes = flushes; left = left } in it) numbers
@@ -70,7 +72,7 @@ same-view n n' log log' flushes left numbers start most =
     ∙ ap (λ (z : ℕ). let it : QueueView = record { numbers = n'; log = record { start = log'.start; past = log.past; most = z }; flushes = flushes; left = left } in it) most
 
 steps-of : (old mid new : Parts) (w : ℕ) (answer : QApplied) → HasActed old w mid → GoesOn mid.journal.past w answer new.journal.past → new.numbers ≡ mid.numbers → new.journal.start ≡ mid.journal.start → new.journal.most ≡ mid.journal.most
-    → ((v : ℕ) → v ≢ w → worker_of new.access v ≡ worker_of mid.access v) → PaysFor old new w → IsKept old → w < length old.access.workers → length new.access.workers ≡ length old.access.workers → Steps (view_of old) w answer (view_of new)
+    → ((v : ℕ) → v ≢ w → worker_of new.access v ≡ worker_of mid.access v) → PaysFor old new w → IsAwake old → w < length old.access.workers → length new.access.workers ≡ length old.access.workers → Steps (view_of old) w answer (view_of new)
 steps-of old mid new w answer a ends numbers start most others pays k within count = record {
   made = a.made;
   flush = a.flush ∙ sym (flush-told old.access.workers w);
@@ -84,20 +86,28 @@ steps-of old mid new w answer a ends numbers start most others pays k within cou
   others = λ v other. flush-told new.access.workers v ∙ ap (λ (it : Working). it.flush_next) (others v other ∙ a.others v other) ∙ sym (flush-told old.access.workers v);
 }
 
-pub steps-on : (old new : Parts) (w : ℕ) → IsKept old → open_call w old.journal.past ≢ None → HasActed old w new → Steps (view_of old) w Stepped (view_of new)
+-- an act and its effect are two marks
+struck-length : (past new : List QMark) → IsStruck past new → length new ≤ length past + 1
+struck-length past new (inl same) = omega (arith, ap length same)
+struck-length past new (inr (w, (n, is))) = omega (arith, ap length is)
+
+pub acted-room : (old new : Parts) (w : ℕ) → HasActed old w new → length old.journal.past + 3 ≤ old.journal.most → length new.journal.past < new.journal.most
+acted-room old new w a room = omega (arith, struck-length (Memory (mark_of w a.made) ∷ old.journal.past) new.journal.past a.struck, ap (λ (p : Parts). p.journal.most) a.rest, room)
+
+pub steps-on : (old new : Parts) (w : ℕ) → IsAwake old → open_call w old.journal.past ≢ None → HasActed old w new → Steps (view_of old) w Stepped (view_of new)
 steps-on old new w k is_open a = steps-of old new new w Stepped a refl refl refl refl (λ v other. refl) a.pays k (worker-inside old w k is_open) a.count
 
-pub steps-went : (old mid new : Parts) (w : ℕ) (answer : QApplied) → IsKept old → open_call w old.journal.past ≢ None → HasActed old w mid → WentOn mid w answer new → Steps (view_of old) w answer (view_of new)
+pub steps-went : (old mid new : Parts) (w : ℕ) (answer : QApplied) → IsAwake old → open_call w old.journal.past ≢ None → HasActed old w mid → WentOn mid w answer new → Steps (view_of old) w answer (view_of new)
 steps-went old mid new w answer k is_open a h = steps-of old mid new w answer a h.ends h.numbers h.start h.most h.others (omega (arith, a.pays, h.pays)) k (worker-inside old w k is_open) (h.count ∙ a.count)
 
 -- and of an eviction
-pub evicts-of : (old new : Parts) (a : ℕ) → IsKept old → new.numbers ≡ old.numbers → new.journal.start ≡ old.journal.start → new.journal.most ≡ old.journal.most → new.access.workers ≡ old.access.workers
+pub evicts-of : (old new : Parts) (a : ℕ) → IsAwake old → new.numbers ≡ old.numbers → new.journal.start ≡ old.journal.start → new.journal.most ≡ old.journal.most → new.access.workers ≡ old.access.workers
     → IsStruck (Memory (Evict a) ∷ old.journal.past) new.journal.past → LeavesMarks old new → Evicts (view_of old) a Evicted (view_of new)
 evicts-of old new a k numbers start most workers struck leaves =
     let count : length new.access.workers ≡ length old.access.workers = ap length workers in
     record {
       answered = refl;
-      effect = struck;
+      effect = subst (λ (z : Power). StrikesBy z (Memory (Evict a) ∷ old.journal.past) new.journal.past) (sym (k.tabled.powered ∙ k.on)) struck;
       rest =
           same-view new.numbers old.numbers new.journal old.journal (view_of new).flushes (lefts_of new) numbers start most
           ∙ ap (λ (all : List Working). let it : QueueView = record { numbers = old.numbers; log = record old.journal { past = new.journal.past }; flushes = map (λ (it : Working). it.flush_next) all; left = lefts_of new } in it) workers;
@@ -108,46 +118,15 @@ evicts-of old new a k numbers start most workers struck leaves =
       few = λ w. few-told old w k;
     }
 
-pub quiet-evicts : (old new : Parts) (a : ℕ) → IsKept old → length old.journal.past < old.journal.most → IsEvicted old a None new → Evicts (view_of old) a Evicted (view_of new)
+pub quiet-evicts : (old new : Parts) (a : ℕ) → IsAwake old → length old.journal.past < old.journal.most → IsEvicted old a None new → Evicts (view_of old) a Evicted (view_of new)
 quiet-evicts old new a k room e =
     evicts-of old new a k (ap (λ (q : Parts). q.numbers) e.rest) (ap (λ (q : Parts). q.journal.start) e.rest) (ap (λ (q : Parts). q.journal.most) e.rest) (ap (λ (m : SwapMemory). m.workers) e.eviction.is)
     (inl (ap (λ (q : Parts). q.journal.past) e.rest)) (quiet-leaves-marks old new a k room e)
 
-pub struck-evicts : (old mid new : Parts) (a s : ℕ) → IsKept old → IsEvicted old a (Some s) mid → HasMarked mid s new → IsStruck mid.journal.past new.journal.past
+pub struck-evicts : (old mid new : Parts) (a s : ℕ) → IsAwake old → IsEvicted old a (Some s) mid → HasMarked mid s new → IsStruck mid.journal.past new.journal.past
     → new ≡ record mid { journal = record mid.journal { past = new.journal.past }; workers = new.workers } → Evicts (view_of old) a Evicted (view_of new)
 struck-evicts old mid new a s k e marked struck rest =
     let access : new.access ≡ mid.access = ap (λ (q : Parts). q.access) rest in
     evicts-of old new a k (ap (λ (q : Parts). q.numbers) rest ∙ ap (λ (q : Parts). q.numbers) e.rest) (ap (λ (q : Parts). q.journal.start) rest ∙ ap (λ (q : Parts). q.journal.start) e.rest)
     (ap (λ (q : Parts). q.journal.most) rest ∙ ap (λ (q : Parts). q.journal.most) e.rest) (ap (λ (m : SwapMemory). m.workers) access ∙ ap (λ (m : SwapMemory). m.workers) e.eviction.is)
     (subst (λ (past : List QMark). IsStruck past new.journal.past) (ap (λ (q : Parts). q.journal.past) e.rest) struck) (struck-leaves-marks old mid new a s k e marked struck access)
-
-free-none : (p : Parts) (w : ℕ) (slot : Option OpenCall) → slot ≡ None → IsSlot p.numbers.ring p.access p.journal.past p.owners.items p.numbers.workers w slot → open_call w p.journal.past ≡ None
-free-none p w None is h = h.none
-free-none p w (Some x) is h = absurd (cc is)
-
--- a worker past the last place has no call
-pub none-past : (p : Parts) (w : ℕ) → IsKept p → length p.workers.items ≤ w → open_call w p.journal.past ≡ None
-none-past p w k past = free-none p w (get_or p.workers.items w None) (get_or-eq_default p.workers.items None past) (k.slots w)
-
--- where no refusal applies, what follows a step is what it is answered
-is-there : (slot : Option OpenCall) (p : Parts) (w : ℕ) → slot ≢ None → IsSlot p.numbers.ring p.access p.journal.past p.owners.items p.numbers.workers w slot → is_none (open_call w p.journal.past) ≡ false
-is-there None p w some h = absurd (some refl)
-is-there (Some x) p w some h = rw h.opened.is_open refl
-
--- what stands at a place is there, whatever stands for a place that is none
-none-here : (x y : Option OpenCall) → is_some x ≡ true → x ≡ y → y ≢ None
-none-here None y some is none = cc some
-none-here (Some z) y some is none = cc (is, none)
-
-here-some : (slots : List (Option OpenCall)) (w : ℕ) (x : Option OpenCall) → w < length slots → is_some x ≡ true → x ≡ get_or slots w x → get_or slots w None ≢ None
-here-some [] w x within some is = absurd (omega arith)
-here-some (y ∷ slots) zero x within some is = none-here x y some is
-here-some (y ∷ slots) (suc w) x within some is = here-some slots w x (omega arith) some is
-
-pub step-applied : (p q : Parts) (w : ℕ) (answer : QApplied) (x : Option OpenCall) → IsKept p → w ≤ p.numbers.workers → length p.journal.past + 3 ≤ p.journal.most → is_some x ≡ true → x ≡ get_or p.workers.items w x
-    → Steps (view_of p) w answer (view_of q) → IsApplied (view_of p) (event.Step w) answer (view_of q)
-step-applied p q w answer x k worker room some is steps =
-    let within : w < length p.workers.items = omega (arith, k.tabled.places, k.tabled.numbers.workers.at_most) in
-    let there : nat_lt p.numbers.workers w ≡ false = grind (arith, nat_tests) in
-    let long : is_short p.journal ≡ false = grind (arith, nat_tests) in
-    rw (there, long, is-there (get_or p.workers.items w None) p w (here-some p.workers.items w x within some is) (k.slots w)) steps

@@ -14,7 +14,7 @@ use Rattle.bz_ring.specs.Content.{cell_of, size_of}
 use Rattle.bz_ring.specs.Fresh.{IsRing}
 use Rattle.bz_change.specs.Changes as change
 use Rattle.bz_queue.specs.Inside.Going.{IsBetween, MustRead, ReadsAt, WentOn}
-use Rattle.bz_queue.specs.Inside.Kept.{IsTabled, IsKept}
+use Rattle.bz_queue.specs.Inside.Kept.{IsTabled, IsAwake}
 use Rattle.bz_queue.specs.Inside.Left.{PaysFor}
 use Rattle.bz_queue.specs.Inside.Serving.{IsAt, IsServed, IsSlot}
 use Rattle.bz_queue.specs.Inside.Sparing.{IsSparingSlot}
@@ -140,7 +140,7 @@ module _ (old new : Parts) (w : ℕ) (x : OpenCall) (place : Place) (a : ℕ) (h
     begins = refl;
     steps = b.tabled.steps;
     room = omega (arith, b.tabled.marks, b.tabled.most);
-    power = refl;
+    power = b.tabled.powered;
   })
 
   alone : (v : ℕ) → IsSparingSlot old.numbers.ring m old.journal.past v (get_or new.workers.items v None)
@@ -153,7 +153,8 @@ module _ (old new : Parts) (w : ℕ) (x : OpenCall) (place : Place) (a : ℕ) (h
 
   pub read-next : WentOn old w Stepped new
   read-next = record {
-    kept = subst IsKept (sym rest) (record {
+    kept = subst IsAwake (sym rest) (record {
+      on = b.on;
       tabled = tabled;
       memory = started-memory old.access old.journal w (Reading a) b.memory b.opened.worker b.idle (λ s is. cc) held;
       sound = b.sound;

@@ -1,10 +1,14 @@
 -- What callers see of a queue, and what it answers.
-use Rattle.std.specs.Prelude.{◌≡◌, ◌≢◌, ◌<◌, ◌≤◌, ◌⊎◌, ℕ, ◌+◌, ◌*◌, ◌-◌, ◌^◌, Bool, false, ◌==◌, ◌||◌, nat_lt, nat_le, if◌then◌else◌, is_some, is_none, get_or, slice_set, replicate, List, [], ◌∷◌, length, Option, Some, None, option_map, MatchOption}
+use Rattle.std.specs.Prelude.{◌≡◌, ◌≢◌, ◌<◌, ◌≤◌, ◌⊎◌, ℕ, zero, suc, ◌+◌, ◌*◌, ◌-◌, ◌^◌, Bool, false, ◌==◌, ◌||◌, nat_lt, nat_le, if◌then◌else◌, is_some, is_none, get_or, slice_set, replicate, List, [], ◌∷◌, length, Option, Some, None, option_map, MatchOption}
 use Rattle.bz_swap_acts.specs.Rule.{is_fence_act}
 use Rattle.bz_swap_acts.specs.declared.acted.Act.{Act}
 use Rattle.bz_layout.specs.declared.limits.TheConstants.{MIN_CAPACITY, MAX_CAPACITY, MIN_SWAPS, MAX_SWAPS, MIN_WORKERS, MAX_WORKERS, MIN_MARKS, MAX_MARKS, MIN_CALLS, MAX_CALLS}
 use Rattle.bz_swap_machine.specs.Allowed.{for_worker}
-use Rattle.bz_mark.specs.declared.marks.Mark.TheVariants.{Evict}
+use Rattle.bz_mark.specs.Counts.{acts_by}
+use Rattle.bz_mark.specs.Times.{since_on}
+use Rattle.bz_mark.specs.declared.marks.Mark.TheVariants.{Cut, Evict, On, Ready}
+use Rattle.bz_mark.specs.declared.power.Power.{Power}
+use Rattle.bz_mark.specs.declared.power.Power.TheVariants as power
 use Rattle.bz_ring.specs.declared.calls.QCall.{QCall}
 use Rattle.bz_ring.specs.declared.calls.QCall.TheVariants as call
 use Rattle.bz_ring.specs.declared.calls.QReply.{QReply}
@@ -12,8 +16,10 @@ use Rattle.bz_ring.specs.declared.marks.QMark.{QMark}
 use Rattle.bz_ring.specs.declared.marks.QMark.TheVariants.{Begin, End, Effect, Memory}
 use Rattle.bz_ring.specs.Calls.{Open, open_call, begun_calls, count_begins}
 use Rattle.bz_ring.specs.Content.{size_of}
+use Rattle.bz_ring.specs.Follows.{power_after}
 use Rattle.bz_ring.specs.Fresh.{fresh_words}
-use Rattle.bz_ring.specs.Journal.{QLog, with_mark}
+use Rattle.bz_ring.specs.Journal.{QLog, memory_of, with_mark}
+use Rattle.bz_sweep.specs.Places.{MOST_ACTS}
 use Rattle.bz_swap_marks.specs.Marks.{mark_of}
 use Rattle.bz_queue.specs.declared.answers.QApplied.{QApplied}
 use Rattle.bz_queue.specs.declared.answers.QApplied.TheVariants as applied
@@ -103,32 +109,79 @@ abbrev pub IsCall : QCall → Type 0
 IsCall (call.Put item) = item < 2 ^ 60
 IsCall call.Take = Unit {0}
 
--- the answer to a begin: the first refusal that applies, or else the call's number
+-- what the power is, as the journal tells: on at first
+abbrev pub power_in : QueueView → Power
+power_in q = power_after q.log.past
+
+-- the answer to a begin with the power on: the first refusal that applies, or else the call's number
+abbrev pub powered_answer : QueueView → ℕ → QBegun
+powered_answer q w =
+    if is_some (open_call w q.log.past) then begun.Busy
+    else (if nat_le q.numbers.calls (count_begins q.log.past) then begun.Limit limit.Calls
+    else begun.Begun (begun_calls w q.log.past + 1))
+
+abbrev pub answer_by : Power → QueueView → ℕ → QBegun
+answer_by power.Off q w = begun.Off
+answer_by power.Recovering q w = begun.Recovering
+answer_by power.On q w = powered_answer q w
+
+-- and to any begin
 abbrev pub begin_answer : QueueView → ℕ → QBegun
 begin_answer q w =
     if (w == 0) || nat_lt q.numbers.workers w then begun.NoWorker
     else (if is_short q.log then begun.Limit limit.Marks
-    else (if is_some (open_call w q.log.past) then begun.Busy
-    else (if nat_le q.numbers.calls (count_begins q.log.past) then begun.Limit limit.Calls
-    else begun.Begun (begun_calls w q.log.past + 1))))
+    else answer_by (power_in q) q w)
 
 -- a begin adds its mark where it is no refusal: a call's first act is no fence. So much is left to the calls then
 abbrev pub after_begin : QueueView → ℕ → QCall → List ℕ → QBegun → QueueView
 after_begin q w called left (begun.Begun n) = record q { log = with_mark q.log (Begin w n called); flushes = slice_set q.flushes w false; left = left }
 after_begin q w called left refusal = q
 
+-- a worker without an open call makes no step
+abbrev pub idle_refusal : QueueView → ℕ → Option QApplied
+idle_refusal q w = if is_none (open_call w q.log.past) then Some applied.Idle else None
+
+-- in a recovery worker 0 alone acts
+abbrev pub step_by : Power → QueueView → ℕ → Option QApplied
+step_by power.Off q w = Some applied.Off
+step_by power.Recovering q zero = None
+step_by power.Recovering q (suc w) = Some applied.Recovering
+step_by power.On q w = idle_refusal q w
+
 -- the first refusal of a step that applies
 abbrev pub step_refusal : QueueView → ℕ → Option QApplied
 step_refusal q w =
     if nat_lt q.numbers.workers w then Some applied.NoWorker
     else (if is_short q.log then Some applied.Limit
-    else (if is_none (open_call w q.log.past) then Some applied.Idle else None))
+    else step_by (power_in q) q w)
+
+-- nothing else than power on happens while the power is off
+abbrev pub off_refusal : Power → Option QApplied
+off_refusal power.Off = Some applied.Off
+off_refusal other = None
 
 -- and of an eviction
 abbrev pub evict_refusal : QueueView → ℕ → Option QApplied
 evict_refusal q a =
     if nat_le (size_of q.numbers.ring) a then Some applied.NoWord
-    else (if is_short q.log then Some applied.Limit else None)
+    else (if is_short q.log then Some applied.Limit
+    else off_refusal (power_in q))
+
+-- and of a power cut
+abbrev pub cut_refusal : QueueView → Option QApplied
+cut_refusal q =
+    if is_short q.log then Some applied.Limit
+    else off_refusal (power_in q)
+
+-- and of power on
+abbrev pub on_by : Power → Option QApplied
+on_by power.Off = None
+on_by other = Some applied.Powered
+
+abbrev pub on_refusal : QueueView → Option QApplied
+on_refusal q =
+    if is_short q.log then Some applied.Limit
+    else on_by (power_in q)
 
 -- at most an Effect follows, of any worker's call
 abbrev pub IsStruck : List QMark → List QMark → Type 0
@@ -153,17 +206,55 @@ pub record Steps (old : QueueView) (w : ℕ) (answer : QApplied) (new : QueueVie
   pub few : left_in old w ≤ for_worker * (old.numbers.workers + 2)
   pub others : (v : ℕ) → v ≢ w → flush_of new v ≡ flush_of old v
 
+-- how many acts a recovery makes: fewer than four for each word
+abbrev pub recovery_most : Numbers → ℕ
+recovery_most n = MOST_ACTS * size_of n.ring
+
+-- a recovery goes on, or its end follows
+abbrev pub EndsRecovery : List QMark → QApplied → List QMark → Type 0
+EndsRecovery past applied.Stepped new = new ≡ past
+EndsRecovery past applied.Ready new = new ≡ Memory Ready ∷ past
+EndsRecovery past other new = ⊥
+
+-- a step of a recovery: exactly one act of worker 0, a fence exactly where that was said before; no effect, and no call ends
+pub record Recovers (old : QueueView) (answer : QApplied) (new : QueueView) : Type 0 where
+  pub made : Act
+  pub flush : is_fence_act made ≡ flush_of old 0
+  pub few : acts_by 0 (since_on (memory_of (Memory (mark_of 0 made) ∷ old.log.past))) < recovery_most old.numbers
+  pub ends : EndsRecovery (Memory (mark_of 0 made) ∷ old.log.past) answer new.log.past
+  pub rest : new ≡ record old { log = record old.log { past = new.log.past }; flushes = new.flushes }
+  pub others : (v : ℕ) → v ≢ 0 → flush_of new v ≡ flush_of old v
+
+abbrev pub StepsBy : Power → QueueView → ℕ → QApplied → QueueView → Type 0
+StepsBy power.Recovering old w answer new = Recovers old answer new
+StepsBy other old w answer new = Steps old w answer new
+
+-- in a recovery an eviction has no effect
+abbrev pub StrikesBy : Power → List QMark → List QMark → Type 0
+StrikesBy power.On past new = IsStruck past new
+StrikesBy other past new = new ≡ past
+
 -- an eviction: its mark, and at most one effect
 pub record Evicts (old : QueueView) (a : ℕ) (answer : QApplied) (new : QueueView) : Type 0 where
   pub answered : answer ≡ applied.Evicted
-  pub effect : IsStruck (Memory (Evict a) ∷ old.log.past) new.log.past
+  pub effect : StrikesBy (power_in old) (Memory (Evict a) ∷ old.log.past) new.log.past
   pub rest : new ≡ record old { log = record old.log { past = new.log.past }; left = new.left }
   -- no call has more marks left than before; of an open call's the effect's mark is one, and the eviction's own is beside them
   pub no_more : (w : ℕ) → left_in new w ≤ left_in old w
   pub pays : (w : ℕ) → open_call w old.log.past ≢ None → length new.log.past + left_in new w ≤ length old.log.past + left_in old w + 1
   pub few : (w : ℕ) → left_in old w ≤ for_worker * (old.numbers.workers + 2)
 
+-- a power cut adds its mark: no call is open then, and nobody has a next act
+abbrev pub after_cut : QueueView → QueueView
+after_cut q = record q { log = with_mark q.log (Memory Cut); flushes = replicate (q.numbers.workers + 1) false; left = replicate (q.numbers.workers + 1) 0 }
+
+-- power on adds its mark: the first act of a recovery is no fence
+abbrev pub after_on : QueueView → QueueView
+after_on q = record q { log = with_mark q.log (Memory On); flushes = slice_set q.flushes 0 false }
+
 -- the answer to an event: a refusal exactly where one applies, and then nothing changes
 abbrev pub IsApplied : QueueView → QEvent → QApplied → QueueView → Type 0
-IsApplied old (event.Step w) answer new = MatchOption (step_refusal old w) (Steps old w answer new) (λ refusal. (answer ≡ refusal) × (new ≡ old))
+IsApplied old (event.Step w) answer new = MatchOption (step_refusal old w) (StepsBy (power_in old) old w answer new) (λ refusal. (answer ≡ refusal) × (new ≡ old))
+IsApplied old event.Cut answer new = MatchOption (cut_refusal old) ((answer ≡ applied.Cut) × (new ≡ after_cut old)) (λ refusal. (answer ≡ refusal) × (new ≡ old))
+IsApplied old event.On answer new = MatchOption (on_refusal old) ((answer ≡ applied.On) × (new ≡ after_on old)) (λ refusal. (answer ≡ refusal) × (new ≡ old))
 IsApplied old (event.Evict a) answer new = MatchOption (evict_refusal old a) (Evicts old a answer new) (λ refusal. (answer ≡ refusal) × (new ≡ old))

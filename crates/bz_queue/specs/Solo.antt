@@ -1,8 +1,9 @@
 -- What comes of a queue in which one worker steps alone, while words become durable by themselves: its call ends.
 use Rattle.std.specs.Prelude.{◌≡◌, ◌≢◌, ◌⊎◌, ◌≤◌, ℕ, ◌+◌, ◌*◌, true, List, [], ◌∷◌, length, None}
 use Rattle.bz_swap_machine.specs.Allowed.{for_worker}
+use Rattle.bz_mark.specs.declared.power.Power.TheVariants as power
 use Rattle.bz_ring.specs.Calls.{open_call}
-use Rattle.bz_queue.specs.QueueView.{QueueView, IsApplied, is_short}
+use Rattle.bz_queue.specs.QueueView.{QueueView, IsApplied, is_short, power_in}
 use Rattle.bz_queue.specs.declared.answers.QApplied.{QApplied}
 use Rattle.bz_queue.specs.declared.answers.QApplied.TheVariants as applied
 use Rattle.bz_queue.specs.declared.answers.QEvent.{QEvent}
@@ -13,20 +14,22 @@ abbrev pub StepsOn : List QEvent → QueueView → ℕ → QueueView → Type 0
 StepsOn [] old w new = new ≡ old
 StepsOn (event.Step v ∷ events) old w new = (v ≡ w) × ((mid : QueueView) × (StepsOn events old w mid × IsApplied mid (event.Step w) applied.Stepped new))
 StepsOn (event.Evict a ∷ events) old w new = (mid : QueueView) × (StepsOn events old w mid × ((answer : QApplied) × IsApplied mid (event.Evict a) answer new))
+StepsOn (other ∷ events) old w new = ⊥
 
 -- how many of the events are steps, and how many are evictions
 abbrev pub steps_in : List QEvent → ℕ
 steps_in [] = 0
 steps_in (event.Step v ∷ events) = steps_in events + 1
-steps_in (event.Evict a ∷ events) = steps_in events
+steps_in (other ∷ events) = steps_in events
 
 abbrev pub evictions_in : List QEvent → ℕ
 evictions_in [] = 0
-evictions_in (event.Step v ∷ events) = evictions_in events
 evictions_in (event.Evict a ∷ events) = evictions_in events + 1
+evictions_in (other ∷ events) = evictions_in events
 
--- the worker has an open call
+-- the worker has an open call, and the power is on
 pub record MayStep (q : QueueView) (w : ℕ) : Type 0 where
+  pub on : power_in q ≡ power.On
   pub within : w ≤ q.numbers.workers
   pub is_open : open_call w q.log.past ≢ None
 

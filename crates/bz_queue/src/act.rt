@@ -8,7 +8,7 @@ ghost use Rattle.bz_mark.specs.declared.marks.Mark.TheVariants.{Evict};
 ghost use Rattle.bz_swap.specs.SwapMemory.{Idle, doing_of};
 ghost use Rattle.bz_swap.specs.declared.phase.Phase.TheVariants.{Recovering};
 ghost use Rattle.bz_queue.specs.Inside.Acted.{IsActed, IsEvicted, IsStriking, HasActed, HasEnded, HasMarked};
-ghost use Rattle.bz_queue.specs.Inside.Kept.{IsKept, view_of};
+ghost use Rattle.bz_queue.specs.Inside.Kept.{IsAwake, view_of};
 ghost use Rattle.bz_queue.specs.Inside.Serving.{with_moment};
 ghost use Rattle.bz_queue.specs.QueueView.{IsStruck, Evicts};
 ghost use Rattle.bz_queue.specs.declared.answers.QApplied.TheVariants.{Evicted};
@@ -37,7 +37,7 @@ fn with_effect(slot: Option<OpenCall>, moment: u32) -> Option<OpenCall>
 fn mark_effect(parts: &mut Parts, swap: u16)
     requires striking { IsStriking parts.old swap }
     requires room { length parts.old.journal.past < parts.old.journal.most }
-    ensures kept { IsKept parts.new }
+    ensures kept { IsAwake parts.new }
     ensures struck { IsStruck parts.old.journal.past parts.new.journal.past }
     ensures marked { HasMarked parts.old swap parts.new }
     ensures rest { parts.new ≡ record parts.old { journal = record parts.old.journal { past = parts.new.journal.past }; workers = parts.new.workers } }
@@ -66,11 +66,11 @@ fn make_act(parts: &mut Parts, w: u8) -> Progress
 
 /// Makes the next act of a worker's open call, and notes its effect. Answers what the act has ended.
 pub(crate) fn act(parts: &mut Parts, w: u8) -> Done
-    requires kept { IsKept parts.old }
+    requires kept { IsAwake parts.old }
     requires open { open_call w parts.old.journal.past ≢ None }
     requires room { length parts.old.journal.past + 2 ≤ parts.old.journal.most }
     ensures made { HasActed parts.old w parts.new }
-    ensures busy { result ≡ Busy → IsKept parts.new }
+    ensures busy { result ≡ Busy → IsAwake parts.new }
     ensures ended { result ≢ Busy → HasEnded parts.new w result }
 {
     let progress = make_act(parts, w);
@@ -81,8 +81,8 @@ pub(crate) fn act(parts: &mut Parts, w: u8) -> Done
     progress.done
 }
 
-// Makes a word durable.
-fn make_eviction(parts: &mut Parts, a: u32) -> Option<u16>
+/// Makes a word durable.
+pub(crate) fn make_eviction(parts: &mut Parts, a: u32) -> Option<u16>
     requires within { a < length parts.old.access.cached }
     requires room { length parts.old.journal.past < parts.old.journal.most }
     ensures { IsEvicted parts.old a result parts.new }
@@ -94,10 +94,10 @@ fn make_eviction(parts: &mut Parts, a: u32) -> Option<u16>
 
 /// Makes a cached word durable, and notes the effect that comes of it.
 pub(crate) fn evict_word(parts: &mut Parts, a: u32)
-    requires kept { IsKept parts.old }
+    requires kept { IsAwake parts.old }
     requires within { a < size_of parts.old.numbers.ring }
     requires room { length parts.old.journal.past + 2 ≤ parts.old.journal.most }
-    ensures kept { IsKept parts.new }
+    ensures kept { IsAwake parts.new }
     ensures evicts { Evicts (view_of parts.old) a Evicted (view_of parts.new) }
 {
     if let Some(swap) = make_eviction(parts, a) {

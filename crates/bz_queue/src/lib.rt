@@ -8,7 +8,9 @@ mod going;
 pub mod laws;
 mod open;
 mod parts;
+mod power;
 mod queue;
+mod recovery;
 mod serving;
 mod step;
 

@@ -5,14 +5,17 @@ ghost use Rattle.bz_queue.specs.QueueView.{AreNumbers, IsOpenFault, IsRangeFault
 
 use crate::answers::QOpenError;
 use crate::parts::Parts;
+use crate::recovery::area_of;
 use crate::serving::OpenCall;
 use bz_layout::{
     MAX_CALLS, MAX_CAPACITY, MAX_MARKS, MAX_SWAPS, MAX_WORKERS, MIN_CALLS, MIN_CAPACITY, MIN_MARKS,
     MIN_SWAPS, MIN_WORKERS,
 };
+use bz_mark::Power;
 use bz_oom::Memory;
 use bz_ring::{QJournal, Ring, fresh};
 use bz_swap::Access;
+use bz_sweep::Sweep;
 use std::alloc::Global;
 
 // A place for each worker, from worker 0 on, of which there are at most 64 beside it.
@@ -112,6 +115,8 @@ fn fresh_parts(alloc: Global, numbers: &Numbers) -> Result<Parts, Memory>
         owners,
         last,
         begun: 0,
+        power: Power::On,
+        sweep: Sweep::new(&area_of(&numbers.ring)),
     })
 }
 

@@ -1,8 +1,10 @@
 //! What a queue is made of.
 use crate::open::Numbers;
 use crate::serving::OpenCall;
+use bz_mark::Power;
 use bz_ring::QJournal;
 use bz_swap::Access;
+use bz_sweep::Sweep;
 
 /// The memory, the journal of what happened, and what each worker is doing.
 #[derive(Drop)]
@@ -18,4 +20,7 @@ pub(crate) struct Parts {
     pub last: Vec<u32>,
     /// How many calls have begun.
     pub begun: u32,
+    pub power: Power,
+    /// The sweep of the newest recovery.
+    pub sweep: Sweep,
 }

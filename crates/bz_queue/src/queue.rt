@@ -4,6 +4,7 @@ use crate::answers::{QApplied, QBegun, QEvent, QOpenError};
 use crate::begin::begin;
 use crate::open::{Numbers, open_parts};
 use crate::parts::Parts;
+use crate::power::{cut, power_on};
 use crate::step::{evict, step};
 use bz_ring::{QCall, QMark, Ring};
 use std::alloc::Global;
@@ -73,6 +74,8 @@ impl QueueWorld {
         match event {
             QEvent::Step(w) => step(&mut self.parts, w),
             QEvent::Evict(a) => evict(&mut self.parts, a),
+            QEvent::Cut => cut(&mut self.parts),
+            QEvent::On => power_on(&mut self.parts),
         }
     }
 

@@ -24,7 +24,8 @@ use Rattle.bz_task.specs.Targets.{IsTargetAt}
 use Rattle.bz_task.proofs.Proved.{targets_stay}
 use Rattle.bz_sight.specs.Effects.{TakesPlace, EffectsTakePlace, EffectsKeepOwn, effect_instant}
 use Rattle.bz_sight.specs.Sight.{IsSeen, answer_at}
-use Rattle.bz_sight.proofs.Passings.{held, outside-test, answer-named, answer-private, outside-descriptors, fixed-place, fixed-lawful, descriptor-lawful}
+use Rattle.bz_swap_image.proofs.Proved.{descriptors_are_lawful}
+use Rattle.bz_sight.proofs.Passings.{held, outside-test, answer-named, answer-private, outside-descriptors, fixed-place, fixed-lawful}
 use Rattle.bz_sight.proofs.Leavings.{own-private, own-outside, outside-by, inside-answers}
 use Rattle.bz_sight.proofs.ReadWords.{target-read, read-outside}
 use Rattle.bz_sight.proofs.SwapMemories.{leaves-values}
@@ -190,7 +191,7 @@ module _ (c : Config) (x : Instant) (old new : SwapMemory) (s : ℕ) (seen : IsS
   lawful-after a l = go (is_in_descriptor c a) refl (is_fixed a) refl
     where
       go : (u : Bool) → is_in_descriptor c a ≡ u → (v : Bool) → is_fixed a ≡ v → is_lawful c (slice_index new.durable) a ≡ true
-      go true e v q = descriptor-lawful c new (t.same.swaps ∙ seen.swaps) after t.fields a l e
+      go true e v q = descriptors_are_lawful c new a (t.same.swaps ∙ seen.swaps) after t.fields l e
       go false e true q = fixed-lawful c x.image (slice_index new.durable) a e q (fixed-same a q) (((well_formed_images_have_no_fault c x.image).0 seen.good.form).lawful a l)
       go false e false q = left-after.lawful c a (sym (t.same.swaps ∙ seen.swaps)) (subst (λ n. IsOutside n a) (sym (t.same.swaps ∙ seen.swaps)) (outside-descriptors c a e)) q
 

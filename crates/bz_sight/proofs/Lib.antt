@@ -8,6 +8,4 @@ mod ReadWords
 mod Renewals
 mod Starting
 mod SwapMemories
-mod Swapped
-mod SwappedWords
 pub mod Proved

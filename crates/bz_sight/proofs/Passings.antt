@@ -1,23 +1,20 @@
 -- An act by which no swap takes effect changes nothing for readers.
-use Rattle.std.proofs.Common.{◌≡◌, ◌≢◌, ℕ, zero, suc, ◌+◌, ◌%◌, ◌^◌, ◌<◌, ◌≤◌, ◌⊎◌, ◌==◌, if◌then◌else◌, Bool, true, false, slice_index, arith, refl, sym, ap, subst, ◌∙◌, inl, inr}
+use Rattle.std.proofs.Common.{◌≡◌, ◌≢◌, ℕ, ◌+◌, ◌<◌, ◌≤◌, ◌⊎◌, if◌then◌else◌, Bool, true, false, slice_index, arith, refl, sym, ap, subst, ◌∙◌, inl, inr}
 use Rattle.std.specs.Prelude.{nat_lt, nat_le}
 use Rattle.std.proofs.lemmas.Bool.{cases_lt}
 use Rattle.std.proofs.lemmas.Bool.Decides.{nat_tests}
-use Rattle.bz_layout.specs.Addresses.{swap_address, node_address, words_of as size_of, swap_of, swap_word_of}
+use Rattle.bz_layout.specs.Addresses.{swap_address, node_address, words_of as size_of}
 use Rattle.bz_layout.specs.declared.config.Config.{Config}
-use Rattle.bz_layout.specs.declared.sizes.TheConstants.{NODE_WORDS, SHARED_WORDS, META_AT, STATUS_AT, ROOT_AT, ROOT_STATUS_AT, SUPERBLOCK_WORDS, SWAP_STATUS_AT}
-use Rattle.bz_layout.proofs.Laws.{addresses_are_placed, slots_apart}
-use Rattle.bz_swap_cells.specs.Store.{IsOutside, is_outside, status_word, status_at}
-use Rattle.bz_swap_machine.specs.declared.status.SwapStatus.{SwapStatus}
-use Rattle.bz_swap_machine.specs.declared.status.SwapStatus.TheVariants.{Free, Undecided, Deciding, Decided}
-use Rattle.bz_swap_machine.specs.declared.status.Verdict.TheVariants.{Succeeded, Failed}
-use Rattle.bz_swap.specs.PlainFields.{HavePlainFields}
+use Rattle.bz_layout.specs.declared.sizes.TheConstants.{NODE_WORDS, SHARED_WORDS, META_AT, STATUS_AT, ROOT_AT, ROOT_STATUS_AT, SUPERBLOCK_WORDS}
+use Rattle.bz_layout.proofs.Laws.{slots_apart}
+use Rattle.bz_swap_cells.specs.Store.{IsOutside, is_outside}
 use Rattle.bz_swap.specs.SwapMemory.{SwapMemory, value_at, is_named, is_among, is_settled_at}
 use Rattle.bz_swap.proofs.SettledWords.{settled-same}
 use Rattle.bz_content.specs.Image.{node}
-use Rattle.bz_content.specs.Lawful.{is_fixed, is_in_descriptor, is_lawful, is_word, is_value, LAST_STATUS}
+use Rattle.bz_content.specs.Lawful.{is_fixed, is_in_descriptor, is_lawful}
 use Rattle.bz_content.specs.Resolving.{resolve}
 use Rattle.bz_content.proofs.Proved.{well_formed_images_have_no_fault}
+use Rattle.bz_swap_image.proofs.Proved.{descriptors_are_lawful}
 use Rattle.bz_sight.specs.Swapped.{LeavesItsValues}
 use Rattle.bz_swap.specs.Held.{Holds, HoldsIn, IsHeld}
 use Rattle.bz_swap.specs.declared.phase.Phase.{Phase}
@@ -91,25 +88,6 @@ outside-descriptors c a e = elim (cases_lt a SUPERBLOCK_WORDS) [
   ]
 ]
 
--- the words that spell a status, and plain ones, are words of a descriptor
-status-lawful : (t : SwapStatus) → (is_word (status_word t) ≡ true) × (nat_le (status_word t % 2 ^ 63) LAST_STATUS ≡ true)
-status-lawful Free = (refl, refl)
-status-lawful Undecided = (refl, refl)
-status-lawful (Deciding Succeeded) = (refl, refl)
-status-lawful (Deciding Failed) = (refl, refl)
-status-lawful (Decided Succeeded) = (refl, refl)
-status-lawful (Decided Failed) = (refl, refl)
-
-plain-word : (x : ℕ) → x < 2 ^ 61 → (is_word x ≡ true) × (is_value x ≡ true)
-plain-word x l = (grind (arith, nat_tests), grind (arith, nat_tests))
-
-descriptor-by : (c : Config) (f : ℕ → ℕ) (a : ℕ) → is_in_descriptor c a ≡ true → is_word (f a) ≡ true → (if swap_word_of a == SWAP_STATUS_AT then nat_le (f a % 2 ^ 63) LAST_STATUS else is_value (f a)) ≡ true → is_lawful c f a ≡ true
-unfolding is_lawful
-descriptor-by c f a e w h = rw (e, w) h
-
-in-descriptor : (c : Config) (a : ℕ) → is_in_descriptor c a ≡ true → (SUPERBLOCK_WORDS ≤ a) × (a < node_address c 0)
-in-descriptor c a h = (grind (arith, nat_tests), grind (arith, nat_tests))
-
 -- a fixed word of the superblock
 pub fixed-place : (a : ℕ) → is_fixed a ≡ true → (a < SUPERBLOCK_WORDS) × ((a ≢ ROOT_AT) × (a ≢ ROOT_STATUS_AT))
 fixed-place a h = (grind (arith, nat_tests), (λ e. grind (arith, nat_tests), λ e. grind (arith, nat_tests)))
@@ -125,25 +103,6 @@ held-visible (Visible e) h = refl
 held-visible (Reserved e) h = absurd (cc)
 held-visible (Deleted k t) h = absurd (cc)
 held-visible Unused h = absurd (cc)
-
--- the words of descriptors are such as an image may hold
-pub descriptor-lawful : (c : Config) (m : SwapMemory) → m.swaps ≡ c.swaps → IsHeld m → HavePlainFields m → (a : ℕ) → a < size_of c → is_in_descriptor c a ≡ true → is_lawful c (slice_index m.durable) a ≡ true
-descriptor-lawful c m e good fields a l h =
-    let within : (SUPERBLOCK_WORDS ≤ a) × (a < node_address c 0) = in-descriptor c a h in
-    let at : (swap_of a < c.swaps) × (a ≡ swap_address (swap_of a) + swap_word_of a) = (addresses_are_placed c a l).in_descriptor within.0 within.1 in
-    by-word (swap_of a) (swap_word_of a) refl (subst (λ n. swap_of a < n) (sym e) at.0) at.1
-  where
-    by-word : (s i : ℕ) → swap_word_of a ≡ i → s < m.swaps → a ≡ swap_address s + i → is_lawful c (slice_index m.durable) a ≡ true
-    by-word s zero q lt is =
-        let word : slice_index m.durable a ≡ status_word (status_at m.swaps m.durable s) = ap (slice_index m.durable) (is ∙ omega arith) ∙ good.status s lt in
-        let fit : (is_word (status_word (status_at m.swaps m.durable s)) ≡ true) × (nat_le (status_word (status_at m.swaps m.durable s) % 2 ^ 63) LAST_STATUS ≡ true) = status-lawful (status_at m.swaps m.durable s) in
-        descriptor-by c (slice_index m.durable) a h (ap is_word word ∙ fit.0) (rw q (ap (λ x. nat_le (x % 2 ^ 63) LAST_STATUS) word ∙ fit.1))
-    by-word s (suc k) q lt is =
-        let small : swap_word_of a < 16 = omega arith in
-        let plain : slice_index m.durable a < 2 ^ 61 = subst (λ n. slice_index m.durable n < 2 ^ 61) (sym (is ∙ omega arith)) (fields.durable s k lt (omega (arith, q, small))) in
-        let fit : (is_word (slice_index m.durable a) ≡ true) × (is_value (slice_index m.durable a) ≡ true) = plain-word (slice_index m.durable a) plain in
-        let no : (suc k == SWAP_STATUS_AT) ≡ false = grind (arith, nat_tests) in
-        descriptor-by c (slice_index m.durable) a h fit.0 (rw (q, no) fit.1)
 
 module _ (c : Config) (x : Instant) (old new : SwapMemory) (seen : IsSeen c old x) (p : Passes c x old new) where
   abbrev y : Instant
@@ -320,7 +279,7 @@ module _ (c : Config) (x : Instant) (old new : SwapMemory) (seen : IsSeen c old 
       out e = subst (λ n. IsOutside n a) (sym (p.same.swaps ∙ seen.swaps)) (outside-descriptors c a e)
 
       descriptor : (t : Bool) → is_in_descriptor c a ≡ t → (u : Bool) → is_fixed a ≡ u → is_lawful c y.image a ≡ true
-      descriptor true e u q = descriptor-lawful c new (p.same.swaps ∙ seen.swaps) after p.fields a l e
+      descriptor true e u q = descriptors_are_lawful c new a (p.same.swaps ∙ seen.swaps) after p.fields l e
       descriptor false e true q = fixed-lawful c x.image y.image a e q (fixed-same a q ∙ ap (λ f. f a) (sym seen.image)) (((well_formed_images_have_no_fault c x.image).0 seen.good.form).lawful a l)
       descriptor false e false q = left-after.lawful c a (sym (p.same.swaps ∙ seen.swaps)) (out e) q
 

@@ -8,7 +8,6 @@ use Rattle.bz_sight.proofs.Passings.{acts-pass}
 use Rattle.bz_sight.proofs.Renewals.{renewed-seen}
 use Rattle.bz_sight.proofs.Starting.{hidden, hidden-values, may-start, starts-seen}
 use Rattle.bz_sight.proofs.SwapMemories.{changes-nothing, effect-shows, leaves-values}
-use Rattle.bz_sight.proofs.Swapped.{lawful-as, resolves-as}
 use Rattle.bz_sight.specs.Acts.{EffectStepsTakePlace, EvictionsAreSeen, FlushingStepsFlush, QuietStepsPass, StepsLeaveCaches, StoringStepsStore}
 use Rattle.bz_sight.specs.Awaiting.{StartsKeepAwaits}
 use Rattle.bz_sight.specs.Effects.{EffectsKeepOwn, EffectsTakePlace}
@@ -17,7 +16,7 @@ use Rattle.bz_sight.specs.Opening.{FreshMemoryIsSeen}
 use Rattle.bz_sight.specs.Passing.{ActsLeaveAll, ActsPass, FlushesAreSeen, StoresAreSeen}
 use Rattle.bz_sight.specs.Renewal.{RenewedMemoriesAreSeen}
 use Rattle.bz_sight.specs.Starts.{OwnWordsAreHidden, StartsAreSeen, TasksMayStart}
-use Rattle.bz_sight.specs.Swapped.{EffectsShowOnTheImage, HeldMemoriesLeaveTheirValues, LawfulAsTheSwap, QuietMomentsChangeNothing, ResolvesAsTheSwap}
+use Rattle.bz_sight.specs.Swapped.{EffectsShowOnTheImage, HeldMemoriesLeaveTheirValues, QuietMomentsChangeNothing}
 
 -- such an act, which is nobody's private store, leaves all that anybody owns
 pub acts_leave_all : ActsLeaveAll
@@ -70,14 +69,6 @@ fresh_memory_is_seen = fresh-seen
 -- a memory that is renewed when its recovery has ended is seen as a settled one
 pub renewed_memories_are_seen : RenewedMemoriesAreSeen
 renewed_memories_are_seen = renewed-seen
-
--- a word that is lawful to the swap resolves to its value there
-pub words_resolve_to_values : ResolvesAsTheSwap
-words_resolve_to_values = resolves-as
-
--- such a word is lawful in an image
-pub words_are_lawful : LawfulAsTheSwap
-words_are_lawful = lawful-as
 
 -- outside a recovery time a swap memory leaves its values
 pub held_memories_leave_their_values : HeldMemoriesLeaveTheirValues

@@ -6,7 +6,7 @@ use Rattle.bz_swap.specs.SwapMemory.{SwapMemory}
 use Rattle.bz_swap.specs.declared.phase.Phase.{Phase}
 use Rattle.bz_swap.specs.declared.phase.Phase.TheVariants.{Opened, Running, Recovering}
 use Rattle.bz_sight.specs.Swapped.{LeavesItsValues, HeldMemoriesLeaveTheirValues, EffectsShowOnTheImage, QuietMomentsChangeNothing}
-use Rattle.bz_sight.proofs.Swapped.{lawful-as, resolves-as}
+use Rattle.bz_swap_image.proofs.Proved.{words_are_lawful, words_resolve_to_values}
 
 -- the memory is held
 held : (p : Phase) (m : SwapMemory) → HoldsIn p m → p ≢ Recovering → IsHeld m
@@ -16,8 +16,8 @@ held Recovering m h ne = absurd (ne refl)
 
 pub leaves-values : HeldMemoriesLeaveTheirValues
 leaves-values m w = record {
-  values = λ a outside. resolves-as m.swaps m.durable a outside (h.lawful a outside);
-  lawful = λ c a same outside fixed. lawful-as c m.swaps m.durable a same outside fixed (h.lawful a outside);
+  values = λ a outside. words_resolve_to_values m.swaps m.durable a outside (h.lawful a outside);
+  lawful = λ c a same outside fixed. words_are_lawful c m.swaps m.durable a same outside fixed (h.lawful a outside);
 }
   where
     h : IsHeld m

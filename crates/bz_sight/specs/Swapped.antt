@@ -1,27 +1,14 @@
--- What the swap leaves, as the tree reads it: what is lawful and what is a value to the swap is so to the tree.
-use Rattle.std.specs.Prelude.{◌≡◌, ◌≢◌, ℕ, true, false, List, All, slice_index}
+-- What the swap leaves, as the tree reads it.
+use Rattle.std.specs.Prelude.{◌≡◌, ◌≢◌, ℕ, true, false, All, slice_index}
 use Rattle.bz_layout.specs.declared.config.Config.{Config}
 use Rattle.bz_word.specs.declared.entry.Entry.{Entry}
 use Rattle.bz_swap_cells.specs.Store.{IsOutside}
 use Rattle.bz_swap.specs.Effects.{TakesEffect, NoneTakesEffect}
 use Rattle.bz_swap.specs.Held.{Holds}
-use Rattle.bz_swap.specs.Lawful.{IsLawful}
-use Rattle.bz_swap.specs.Resolve.{resolve as swap_value}
 use Rattle.bz_swap.specs.SwapMemory.{SwapMemory, value_at, entries_of, is_target, is_named}
 use Rattle.bz_swap.specs.declared.phase.Phase.TheVariants.{Recovering}
 use Rattle.bz_content.specs.Lawful.{is_fixed, is_lawful}
 use Rattle.bz_content.specs.Resolving.{resolve}
-
--- a word that is lawful to the swap resolves to its value there
-abbrev pub ResolvesAsTheSwap : Type 0
-ResolvesAsTheSwap = (swaps : ℕ) (image : List ℕ) (a : ℕ) → IsOutside swaps a → IsLawful swaps image a → resolve (slice_index image) a ≡ swap_value swaps image a
-
--- and is lawful, unless it is a fixed one of the superblock, which would have to be plain besides. Of a descriptor's words
--- nothing is said: a held memory's statuses are statuses, but its other words there would have to be plain
-abbrev pub LawfulAsTheSwap : Type 0
-LawfulAsTheSwap =
-    (c : Config) (swaps : ℕ) (image : List ℕ) (a : ℕ) → c.swaps ≡ swaps → IsOutside swaps a → is_fixed a ≡ false → IsLawful swaps image a →
-    is_lawful c (slice_index image) a ≡ true
 
 -- what the word at an address resolves to in the image that a power cut would leave of a swap memory
 abbrev pub left_at : SwapMemory → ℕ → ℕ

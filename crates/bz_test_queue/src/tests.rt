@@ -1,6 +1,7 @@
 //! Queues and their journals, beside a plain list.
 
 mod bench;
+mod cuts;
 mod list;
 mod pairs;
 mod random;

@@ -25,9 +25,10 @@ use Rattle.bz_change.specs.Values.{IsSwapOf, IsChanged}
 use Rattle.bz_swap_marks.specs.Marks.{mark_of}
 use Rattle.bz_queue.specs.Acts.{IsPlain}
 use Rattle.bz_queue.specs.Inside.Going.{MustGoOn}
-use Rattle.bz_queue.specs.Inside.Kept.{AreShown, IsKept}
+use Rattle.bz_queue.specs.Inside.Kept.{AreShown, IsAwake}
 use Rattle.bz_queue.specs.Inside.Left.{PaysFor}
 use Rattle.bz_queue.specs.Inside.Serving.{with_moment}
+use Rattle.bz_queue.specs.Inside.Sweepable.{IsSweepable}
 use Rattle.bz_queue.specs.QueueView.{IsStruck}
 use Rattle.bz_queue.specs.declared.parts.Parts.{Parts}
 use Rattle.bz_queue.specs.declared.serving.OpenCall.{OpenCall}
@@ -52,6 +53,7 @@ pub record Strikes (r : Ring) (old new : SwapMemory) (log : QLog) (memory : Mark
   pub owned : AreOwned new
   pub noted : AreNoted new
   pub shown : AreShown new (Memory memory ∷ log.past)
+  pub sweepable : IsSweepable new
   pub takes : TakesEffect old new s
   pub swaps : new.swaps ≡ old.swaps
   pub taken : new.taken ≡ old.taken
@@ -71,7 +73,7 @@ pub record Moves (old new : SwapMemory) : Type 0 where
 -- that effect, which is not marked yet
 pub record IsStriking (p : Parts) (s : ℕ) : Type 0 where
   pub before : Parts
-  pub kept : IsKept before
+  pub kept : IsAwake before
   pub memory : Mark
   pub strikes : Strikes before.numbers.ring before.access p.access before.journal memory s
   pub moves : Moves before.access p.access

@@ -4,6 +4,7 @@ use Rattle.bz_swap_machine.specs.Allowed.{for_word}
 use Rattle.bz_swap_machine.specs.declared.done.Done.{Done}
 use Rattle.bz_swap_machine.specs.declared.done.Done.TheVariants as done
 use Rattle.bz_swap.specs.SwapMemory.{SwapMemory, Idle, worker_of, value_at, doing_of}
+use Rattle.bz_mark.specs.declared.power.Power.TheVariants as power
 use Rattle.bz_ring.specs.declared.calls.QCall.{QCall}
 use Rattle.bz_ring.specs.declared.calls.QReply.{QReply}
 use Rattle.bz_ring.specs.declared.marks.QMark.{QMark}
@@ -14,7 +15,7 @@ use Rattle.bz_ring.specs.Replies.{IsAfterLoad, IsRightReply}
 use Rattle.bz_ring.specs.Solitary.{IsSparing, one_with}
 use Rattle.bz_ring.specs.Sound.{IsSound, first_items}
 use Rattle.bz_change.specs.Changes as change
-use Rattle.bz_queue.specs.Inside.Kept.{IsTabled, IsMemory, IsKept}
+use Rattle.bz_queue.specs.Inside.Kept.{IsTabled, IsMemory, IsAwake}
 use Rattle.bz_queue.specs.Inside.Left.{starts_left, PaysFor}
 use Rattle.bz_queue.specs.Inside.Serving.{IsSlot, IsOpened, DidNotSuit, counter_now, RepliesAt}
 use Rattle.bz_queue.specs.Inside.Sparing.{IsSparingSlot, swaps_at}
@@ -27,6 +28,7 @@ use Rattle.bz_queue.specs.declared.serving.Place.TheVariants.{Counter, Cell, Aga
 
 -- all is well but for worker w, whose call is open and which does nothing
 pub record IsBetween (p : Parts) (w : ℕ) (x : OpenCall) : Type 0 where
+  pub on : p.power ≡ power.On
   pub tabled : IsTabled p
   pub memory : IsMemory p.access p.journal
   pub sound : IsSound p.numbers.ring p.journal.start p.journal.past
@@ -111,7 +113,7 @@ pub record MustEnd (p : Parts) (w : ℕ) (x : OpenCall) (answer : QReply) (at : 
 
 -- the call has gone on, or has ended
 pub record WentOn (old : Parts) (w : ℕ) (answer : QApplied) (new : Parts) : Type 0 where
-  pub kept : IsKept new
+  pub kept : IsAwake new
   pub numbers : new.numbers ≡ old.numbers
   pub start : new.journal.start ≡ old.journal.start
   pub most : new.journal.most ≡ old.journal.most

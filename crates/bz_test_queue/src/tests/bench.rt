@@ -22,6 +22,18 @@ pub(super) fn queue_of(
     QueueWorld::open(alloc, capacity, swaps, workers, 2_000_000, 60_000).expect(rt, "a queue")
 }
 
+/// One with so much room in its journal.
+pub(super) fn small_queue(
+    rt: &impl Abort,
+    alloc: Global,
+    capacity: u32,
+    swaps: u32,
+    workers: u32,
+    marks: u32,
+) -> QueueWorld {
+    QueueWorld::open(alloc, capacity, swaps, workers, marks, 60_000).expect(rt, "a queue")
+}
+
 // Whether a call may be made: the item of a put is below 2^60.
 fn is_call(call: QCall) -> bool
     ensures { IsTrue result ↔ IsCall call }

@@ -1,6 +1,7 @@
 //! A plain list beside a journal: each reply is that of the list at its moment.
 
 use super::bench::holds;
+use bz_mark::Mark;
 use bz_queue::{QCall, QMark, QReply, QueueWorld};
 use std::alloc::Global;
 use std::process::Abort;
@@ -110,6 +111,13 @@ fn judge(rt: &impl Abort, replay: &Replay, opened: Opened, ended: Ended) {
     holds(rt, is_right(opened, ended, list, replay.capacity));
 }
 
+// No call is open after a power cut.
+fn forget(rt: &impl Abort, replay: &mut Replay) {
+    for w in 0..65u8 {
+        put_down(rt, replay, w, None);
+    }
+}
+
 // One mark more, before which there were so many.
 fn hear(rt: &impl Abort, replay: &mut Replay, mark: QMark, now: u32) {
     let moment = moment_of(&replay.items);
@@ -136,6 +144,7 @@ fn hear(rt: &impl Abort, replay: &mut Replay, mark: QMark, now: u32) {
             judge(rt, replay, opened, Ended { reply, at, end });
             put_down(rt, replay, w, None);
         }
+        QMark::Memory(Mark::Cut) => forget(rt, replay),
         QMark::Memory(_) => {}
     }
 }

@@ -10,15 +10,15 @@ use std::process::Abort;
 // How many events a run has.
 const EVENTS: u32 = 6_000;
 
-// The draws of a seed.
+/// The draws of a seed.
 #[derive(Clone, Copy)]
-struct Draws {
-    state: u64,
+pub(super) struct Draws {
+    pub(super) state: u64,
 }
 
 impl Draws {
     // A number below this limit.
-    fn below(&mut self, limit: u8) -> u8
+    pub(super) fn below(&mut self, limit: u8) -> u8
         requires { 0 < limit }
         ensures { result < limit }
     {
@@ -35,8 +35,8 @@ fn crew_of(seed: u64) -> u8
     if seed % 2 == 0 { 3 } else { 8 }
 }
 
-// A call of a worker begins.
-fn some_call(rt: &impl Abort, queue: &mut QueueWorld, draws: &mut Draws, w: u8) {
+/// A call of a worker begins.
+pub(super) fn some_call(rt: &impl Abort, queue: &mut QueueWorld, draws: &mut Draws, w: u8) {
     if draws.below(2) == 0 {
         let item = draws.below(100);
         begin(rt, queue, w, QCall::Put(u64::from(item)));

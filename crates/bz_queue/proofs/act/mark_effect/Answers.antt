@@ -13,6 +13,9 @@ use Rattle.bz_queue.specs.declared.serving.OpenCall.{OpenCall}
 use Rattle.bz_queue.proofs.Effects.{swap-of, swap-inside, place-inside, number-inside, owner, serves, number, kept-struck}
 use Rattle.bz_queue.proofs.act.mark_effect.Goals as goal
 
+pub index-w-requires : goal.index-w-requires
+index-w-requires c = let p = c.args.parts.now in omega (arith, swap-inside p c.args.swap c.requires.striking, p.owners.ok.0)
+
 pub index-slot-requires : goal.index-slot-requires
 index-slot-requires c = omega (arith, place-inside p c.args.swap h, named, vec-is)
   where

@@ -1,9 +1,12 @@
 use Rattle.std.proofs.Common.{◌≡◌, ℕ, List, [], refl, ap, subst, ◌∙◌}
 use Rattle.bz_swap.specs.Power.{IsOpened}
+use Rattle.bz_mark.specs.declared.power.Power.TheVariants as power
 use Rattle.bz_ring.specs.Fresh.{fresh_words}
 use Rattle.bz_ring.specs.Journal.{QLog}
 use Rattle.bz_queue.specs.declared.parts.Parts.{Parts}
 use Rattle.bz_queue.proofs.Opening.{fresh-kept, fresh-view}
+use Rattle.bz_queue.proofs.Powered.{kept-awake}
+use Rattle.bz_queue.proofs.Tables.{ring-of}
 use Rattle.bz_queue.proofs.open.fresh_parts.Goals as goal
 
 pub returns : goal.returns
@@ -23,8 +26,13 @@ returns c =
       owners = c.in_ok-workers.field-0.owners;
       last = c.in_ok-workers.field-0.last;
       begun = 0;
+      power = power.On;
+      sweep = c.new.result;
     } in
     record {
-      kept = fresh-kept n c.requires p log refl o c.in_ok-access.ensures.held tables.workers tables.owners tables.last refl;
-      view = fresh-view n c.requires p log refl o c.in_ok-access.ensures.held tables.workers tables.owners tables.last refl;
+      kept = kept-awake p (fresh-kept n c.requires p log refl o c.in_ok-access.ensures.held tables.workers tables.owners tables.last refl refl);
+      view = fresh-view n c.requires p log refl o c.in_ok-access.ensures.held tables.workers tables.owners tables.last refl refl;
     }
+
+pub area_of-requires : goal.area_of-requires
+area_of-requires c = ring-of c.args.numbers.now c.requires

@@ -16,9 +16,9 @@ use Rattle.bz_swap.specs.Lawful.{IsReadable, HasEntry, IsLawfulKind}
 use Rattle.bz_swap.specs.Resolve.{entries_at}
 use Rattle.bz_content.specs.Lawful.{is_word, is_value, is_begun, is_named, is_in_descriptor, is_lawful}
 use Rattle.bz_content.specs.Resolving.{count_in, target_in, expected_in, value_in, stands_for, resolve}
-use Rattle.bz_sight.specs.Swapped.{ResolvesAsTheSwap, LawfulAsTheSwap}
+use Rattle.bz_swap_image.specs.Images.{ResolvesAsTheSwap, LawfulAsTheSwap}
 use Rattle.bz_content.proofs.Fresh.{every-passes}
-use Rattle.bz_sight.proofs.SwappedWords.{ReadsAlike, reads-alike, readable-status, readable-index}
+use Rattle.bz_swap_image.proofs.Descriptors.{ReadsAlike, reads-alike, readable-status, readable-index}
 
 if-same : (b d : Bool) {v w x y : ℕ} → b ≡ d → v ≡ w → x ≡ y → (if b then v else x) ≡ (if d then w else y)
 if-same true true e f g = f

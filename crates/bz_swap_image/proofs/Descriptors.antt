@@ -1,4 +1,4 @@
--- A descriptor that the swap can read says the same to the tree.
+-- A descriptor that the swap can read says the same to a reader of the image.
 use Rattle.std.proofs.Common.{◌≡◌, ◌≢◌, ℕ, zero, suc, ◌+◌, ◌*◌, ◌%◌, ◌^◌, ◌<◌, ◌==◌, true, false, List, arith, refl, ap, sym, ◌∙◌, inl, inr}
 use Rattle.std.specs.Prelude.{nat_lt, slice_index}
 use Rattle.std.proofs.lemmas.Bool.{cases_eq}
@@ -38,7 +38,7 @@ status-told x begun = elim (cases_eq x 1) [
   ]
 ]
 
-status-word : (swaps : ℕ) (image : List ℕ) (s : ℕ) → s < swaps → status_at swaps image s ≡ status_of (slice_index image (swap_address s + 0))
+pub status-word : (swaps : ℕ) (image : List ℕ) (s : ℕ) → s < swaps → status_at swaps image s ≡ status_of (slice_index image (swap_address s + 0))
 status-word swaps image s less = let a : nat_lt s swaps ≡ true = grind (arith, nat_tests) in rw a (ap (λ b. status_of (slice_index image b)) (omega arith))
 
 -- the status of a readable descriptor
@@ -70,7 +70,7 @@ reads-alike swaps image s number = record {
   value = λ i less. word-is swaps image s (3 + 3 * i) (swap_address s + (2 + 3 * i) + 2) number (omega arith) (omega arith);
 }
 
-first-is : (x : Entries) (raw : ℕ → ℕ) (s a n i : ℕ) → ((j : ℕ) → j < i + n → x.target j ≡ target_in raw s j) → first_entry x a n i ≡ entry_for raw s a i n
+pub first-is : (x : Entries) (raw : ℕ → ℕ) (s a n i : ℕ) → ((j : ℕ) → j < i + n → x.target j ≡ target_in raw s j) → first_entry x a n i ≡ entry_for raw s a i n
 unfolding entry_for
 first-is x raw s a zero i same = refl
 first-is x raw s a (suc n) i same = rw (same i (omega arith), first-is x raw s a n (i + 1) (λ j less. same j (omega arith))) refl

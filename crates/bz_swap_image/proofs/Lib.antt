@@ -1,0 +1,4 @@
+pub mod Descriptors
+pub mod HeldDescriptors
+pub mod Images
+pub mod Proved
