@@ -1,25 +1,29 @@
 -- The worked verdicts.
-use Rattle.std.specs.Prelude.{◌≡◌, ◌<◌, ◌≤◌, ℕ, zero, suc, List, [], ◌∷◌, length, Option, Some, None}
+use Rattle.std.specs.Prelude.{◌≡◌, ◌<◌, ◌≤◌, ◌+◌, ℕ, zero, suc, List, [], ◌∷◌, length, Option, Some, None}
 use Rattle.std.proofs.Common.{arith, refl, sym, ap, ◌∙◌, subst}
 use Rattle.std.specs.Cmp.Lexicographic.{slice_cmp}
 use Rattle.std.specs.FinMap.{get, get-empty}
 use Rattle.std.specs.Ordering.{nat_cmp}
 use Rattle.bz_call.specs.Map.{apply, apply_at, IsChange}
 use Rattle.bz_call.specs.declared.calls.Call.TheVariants.{Insert, Get}
+use Rattle.bz_call.specs.declared.calls.Call.TheVariants as kind
 use Rattle.bz_call.specs.declared.replies.Reply.{Reply as Answer}
-use Rattle.bz_call.specs.declared.replies.Reply.TheVariants.{Inserted, Exists, Missing, Full}
-use Rattle.bz_call.specs.declared.replies.Spent.TheVariants.{Nodes}
+use Rattle.bz_call.specs.declared.replies.Reply.TheVariants.{Inserted, Exists, Missing, Full, Page}
+use Rattle.bz_call.specs.declared.replies.Spent.TheVariants.{Nodes, Swaps}
 use Rattle.bz_mark.specs.declared.marks.Mark.{Mark}
-use Rattle.bz_mark.specs.declared.marks.Mark.TheVariants.{Begin, End, Load, Cas, Evict, Cut, On, Ready, Effect}
+use Rattle.bz_mark.specs.declared.marks.Mark.TheVariants.{Begin, End, Load, Store, Cas, Evict, Cut, On, Ready, Effect}
 use Rattle.bz_mark.specs.declared.power.Power.TheVariants as power
+use Rattle.bz_mark.specs.Counts.{count_taken}
 use Rattle.bz_mark.specs.Moments.{at_moment, IsInner}
+use Rattle.bz_mark.specs.Times.{since_on}
 use Rattle.bz_mark.specs.WordsAfter.{IsTruthful}
 use Rattle.bz_sound.specs.Calls.{Open}
 use Rattle.bz_sound.specs.Memory.Calls.{HasOpenCall}
+use Rattle.bz_sound.specs.Memory.Spent.{count_others}
 use Rattle.bz_sound.specs.Power.Calls.{BeginsPowered, CallsOnce}
 use Rattle.bz_check.specs.declared.verdict.JudgeRule.{JudgeRule}
 use Rattle.bz_check.specs.declared.verdict.JudgeRule.TheVariants.{Truth, Calls, Reply, Shape, Content}
-use Rattle.bz_check.specs.Example.{zeros, no_pairs, a_key, get_begun, insert_begun, insert_done, WorkedVerdicts}
+use Rattle.bz_check.specs.Example.{zeros, small, no_pairs, a_key, get_begun, insert_begun, page_begun, two_begun, insert_done, WorkedVerdicts}
 use Rattle.bz_check.specs.Replies.{PlainRepliesAreRight}
 use Rattle.bz_check.specs.Rules.{KeepsJudged}
 use Rattle.bz_check.specs.Verdicts.{place_of, IsFirstBroken}
@@ -27,9 +31,9 @@ use Rattle.bz_check.proofs.Following.{none_some, some_same}
 use Rattle.bz_check.proofs.Judging.{keeps_yet}
 
 abbrev Keeps : JudgeRule → List Mark → Type 0
-Keeps rule past = KeepsJudged power.On zeros no_pairs rule past
+Keeps rule past = KeepsJudged small power.On zeros no_pairs rule past
 
-all_kept : (past : List Mark) → IsTruthful zeros past → CallsOnce power.On no_pairs past → PlainRepliesAreRight no_pairs past → (rule : JudgeRule) → Keeps rule past
+all_kept : (past : List Mark) → IsTruthful zeros past → CallsOnce power.On no_pairs past → PlainRepliesAreRight small no_pairs past → (rule : JudgeRule) → Keeps rule past
 all_kept past truth calls replies Truth = truth
 all_kept past truth calls replies Calls = calls
 all_kept past truth calls replies Reply = replies
@@ -56,33 +60,33 @@ breaks_truth past broken = record { broken = broken; earlier = λ other lt. absu
 breaks_calls : (past : List Mark) → IsTruthful zeros past → (CallsOnce power.On no_pairs past → ⊥) → IsFirstBroken (λ rule. Keeps rule past) Calls
 breaks_calls past truth broken = record { broken = broken; earlier = truth_kept past truth }
 
-breaks_reply : (past : List Mark) → IsTruthful zeros past → CallsOnce power.On no_pairs past → (PlainRepliesAreRight no_pairs past → ⊥) → IsFirstBroken (λ rule. Keeps rule past) Reply
+breaks_reply : (past : List Mark) → IsTruthful zeros past → CallsOnce power.On no_pairs past → (PlainRepliesAreRight small no_pairs past → ⊥) → IsFirstBroken (λ rule. Keeps rule past) Reply
 breaks_reply past truth calls broken = record { broken = broken; earlier = both_kept past truth calls }
 
 -- what is kept before a moment
 before_one : (past : List Mark) (m : ℕ) → m < 1 → (IsInner m past → ⊥) → (rule : JudgeRule) → Keeps rule (at_moment m past)
-before_one past zero lt outer = keeps_yet power.On zeros no_pairs past
+before_one past zero lt outer = keeps_yet small power.On zeros no_pairs past
 before_one past (suc m) lt outer = absurd (omega arith)
 
 before_two : (past : List Mark) → ((rule : JudgeRule) → Keeps rule (at_moment 1 past)) → (m : ℕ) → m < 2 → (IsInner m past → ⊥) → (rule : JudgeRule) → Keeps rule (at_moment m past)
-before_two past one zero lt outer = keeps_yet power.On zeros no_pairs past
+before_two past one zero lt outer = keeps_yet small power.On zeros no_pairs past
 before_two past one (suc zero) lt outer = one
 before_two past one (suc (suc m)) lt outer = absurd (omega arith)
 
 before_three : (past : List Mark) → ((rule : JudgeRule) → Keeps rule (at_moment 1 past)) → IsInner 2 past → (m : ℕ) → m < 3 → (IsInner m past → ⊥) → (rule : JudgeRule) → Keeps rule (at_moment m past)
-before_three past one inner zero lt outer = keeps_yet power.On zeros no_pairs past
+before_three past one inner zero lt outer = keeps_yet small power.On zeros no_pairs past
 before_three past one inner (suc zero) lt outer = one
 before_three past one inner (suc (suc zero)) lt outer = absurd (outer inner)
 before_three past one inner (suc (suc (suc m))) lt outer = absurd (omega arith)
 
 before_three_all : (past : List Mark) → ((rule : JudgeRule) → Keeps rule (at_moment 1 past)) → ((rule : JudgeRule) → Keeps rule (at_moment 2 past)) → (m : ℕ) → m < 3 → (IsInner m past → ⊥) → (rule : JudgeRule) → Keeps rule (at_moment m past)
-before_three_all past one two zero lt outer = keeps_yet power.On zeros no_pairs past
+before_three_all past one two zero lt outer = keeps_yet small power.On zeros no_pairs past
 before_three_all past one two (suc zero) lt outer = one
 before_three_all past one two (suc (suc zero)) lt outer = two
 before_three_all past one two (suc (suc (suc m))) lt outer = absurd (omega arith)
 
 before_four : (past : List Mark) → ((rule : JudgeRule) → Keeps rule (at_moment 1 past)) → IsInner 2 past → ((rule : JudgeRule) → Keeps rule (at_moment 3 past)) → (m : ℕ) → m < 4 → (IsInner m past → ⊥) → (rule : JudgeRule) → Keeps rule (at_moment m past)
-before_four past one inner three zero lt outer = keeps_yet power.On zeros no_pairs past
+before_four past one inner three zero lt outer = keeps_yet small power.On zeros no_pairs past
 before_four past one inner three (suc zero) lt outer = one
 before_four past one inner three (suc (suc zero)) lt outer = absurd (outer inner)
 before_four past one inner three (suc (suc (suc zero))) lt outer = three
@@ -160,6 +164,34 @@ done_kept = all_kept insert_done (tt, (tt, (tt, tt))) done_once (tt, (tt, (tt, t
 -- an End with another number
 other_end : (o : Open) → Some (record { number = 1; call = Get a_key; begun = 0; effect = None }) ≡ Some o → o.number ≡ 2 → ⊥
 other_end o is number = omega (arith, ap (λ (x : Open). x.number) (some_same (record { number = 1; call = Get a_key; begun = 0; effect = None }) o is), number)
+
+-- descriptors and pages
+abbrev insert_one : Open
+insert_one = record { number = 1; call = Insert a_key []; begun = 0; effect = None }
+
+abbrev page_one : Open
+page_one = record { number = 1; call = kind.Page a_key; begun = 0; effect = None }
+
+none_spent : count_taken small (since_on insert_begun) + count_others small 1 insert_begun ≡ 0
+none_spent = refl
+
+taken_spent : count_taken small (since_on (Store 1 16 1 ∷ insert_begun)) + count_others small 1 (Store 1 16 1 ∷ insert_begun) ≡ 1
+taken_spent = refl
+
+held_spent : count_taken small (since_on two_begun) + count_others small 1 two_begun ≡ 1
+held_spent = refl
+
+page_kept : (rule : JudgeRule) → Keeps rule page_begun
+page_kept = all_kept page_begun (tt, tt) (begins_one, tt) (tt, tt)
+
+page_open : HasOpenCall page_begun 1
+page_open = record { opened = page_one; is_open = refl }
+
+page_loaded : (rule : JudgeRule) → Keeps rule (Load 1 0 0 ∷ page_begun)
+page_loaded = all_kept (Load 1 0 0 ∷ page_begun) (refl, (tt, tt)) (page_open, (begins_one, tt)) (tt, (tt, tt))
+
+begins_two : BeginsPowered power.On insert_begun 2 1
+begins_two = record { worker = omega arith; powered = refl; begins = record { numbered = refl; none_open = refl } }
 
 pub worked_verdicts : WorkedVerdicts
 worked_verdicts = record {
@@ -287,12 +319,39 @@ worked_verdicts = record {
   };
   full = all_kept (End 1 1 (Full Nodes) 1 ∷ insert_begun) (tt, (tt, tt))
       (record { opened = record { number = 1; call = Insert a_key []; begun = 0; effect = None }; is_open = refl; number = refl }, (begins_one, tt))
-      (record { after_begin = omega arith; before_end = omega arith; right = record { now = refl; writes = tt } }, (tt, tt));
+      (record { after_begin = omega arith; before_end = omega arith; right = record { now = refl; writes = tt; cause = tt } }, (tt, tt));
   full_get = record {
     within = omega arith;
     outer = at_end (End 1 1 (Full Nodes) 1 ∷ get_begun) 2 (omega arith);
     before = before_two (End 1 1 (Full Nodes) 1 ∷ get_begun) get_kept;
     this = breaks_reply (End 1 1 (Full Nodes) 1 ∷ get_begun) (tt, (tt, tt))
         (record { opened = record { number = 1; call = Get a_key; begun = 0; effect = None }; is_open = refl; number = refl }, (begins_one, tt)) (λ h. h.0.right.writes);
+  };
+  full_swaps = record {
+    within = omega arith;
+    outer = at_end (End 1 1 (Full Swaps) 1 ∷ insert_begun) 2 (omega arith);
+    before = before_two (End 1 1 (Full Swaps) 1 ∷ insert_begun) insert_kept;
+    this = breaks_reply (End 1 1 (Full Swaps) 1 ∷ insert_begun) (tt, (tt, tt)) (record { opened = insert_one; is_open = refl; number = refl }, (begins_one, tt)) (λ h. omega (arith, h.0.right.cause, none_spent));
+  };
+  full_taken = all_kept (End 1 1 (Full Swaps) 2 ∷ Store 1 16 1 ∷ insert_begun) (tt, (tt, (tt, tt)))
+      (record { opened = insert_one; is_open = refl; number = refl }, (insert_open, (begins_one, tt)))
+      (record { after_begin = omega arith; before_end = omega arith; right = record { now = refl; writes = tt; cause = omega (arith, taken_spent) } }, (tt, (tt, tt)));
+  full_held = all_kept (End 1 1 (Full Swaps) 2 ∷ two_begun) (tt, (tt, (tt, tt)))
+      (record { opened = insert_one; is_open = refl; number = refl }, (begins_two, (begins_one, tt)))
+      (record { after_begin = omega arith; before_end = omega arith; right = record { now = refl; writes = tt; cause = omega (arith, held_spent) } }, (tt, (tt, tt)));
+  paged = all_kept (End 1 1 (Page 0 None) 2 ∷ Load 1 0 0 ∷ page_begun) (tt, (refl, (tt, tt)))
+      (record { opened = page_one; is_open = refl; number = refl }, (page_open, (begins_one, tt)))
+      (record { after_begin = omega arith; before_end = omega arith; right = record { asked = refl; loaded = refl; number = refl } }, (tt, (tt, tt)));
+  other_page = record {
+    within = omega arith;
+    outer = at_end (End 1 1 (Page 1 None) 2 ∷ Load 1 0 0 ∷ page_begun) 3 (omega arith);
+    before = before_three_all (End 1 1 (Page 1 None) 2 ∷ Load 1 0 0 ∷ page_begun) page_kept page_loaded;
+    this = breaks_reply (End 1 1 (Page 1 None) 2 ∷ Load 1 0 0 ∷ page_begun) (tt, (refl, (tt, tt))) (record { opened = page_one; is_open = refl; number = refl }, (page_open, (begins_one, tt))) (λ h. omega (arith, h.0.right.number));
+  };
+  unread_page = record {
+    within = omega arith;
+    outer = at_end (End 1 1 (Page 0 None) 1 ∷ page_begun) 2 (omega arith);
+    before = before_two (End 1 1 (Page 0 None) 1 ∷ page_begun) page_kept;
+    this = breaks_reply (End 1 1 (Page 0 None) 1 ∷ page_begun) (tt, (tt, tt)) (record { opened = page_one; is_open = refl; number = refl }, (begins_one, tt)) (λ h. h.0.right.loaded);
   };
 }

@@ -86,12 +86,12 @@ same_broken Keeps past a b m n one other = elim (cases_lt m n) [
 ]
 
 -- marks that keep all rules break none at any moment
-never : (at_start : Power) (start : List ℕ) (map : Map) (past : List Mark) (rule : JudgeRule) (moment : ℕ) → ((kept : JudgeRule) → KeepsJudged at_start start map kept past) → BreaksFirst (KeepsJudged at_start start map) past rule moment → ⊥
-never at_start start map past rule moment all breaks =
-    breaks.this.broken (front (KeepsJudged at_start start map) (FollowsJudged at_start start map) rule (length past - moment) past (by_marks at_start start map) (all rule))
+never : (c : Config) (at_start : Power) (start : List ℕ) (map : Map) (past : List Mark) (rule : JudgeRule) (moment : ℕ) → ((kept : JudgeRule) → KeepsJudged c at_start start map kept past) → BreaksFirst (KeepsJudged c at_start start map) past rule moment → ⊥
+never c at_start start map past rule moment all breaks =
+    breaks.this.broken (front (KeepsJudged c at_start start map) (FollowsJudged c at_start start map) rule (length past - moment) past (by_marks c at_start start map) (all rule))
 
 pub one_verdict : OneVerdict
-one_verdict at_start start map past Sound Sound a b = refl
-one_verdict at_start start map past Sound (Broken rule moment) a b = absurd (never at_start start map past rule moment a b)
-one_verdict at_start start map past (Broken rule moment) Sound a b = absurd (never at_start start map past rule moment b a)
-one_verdict at_start start map past (Broken rule moment) (Broken other later) a b = same_broken (KeepsJudged at_start start map) past rule other moment later a b
+one_verdict c at_start start map past Sound Sound a b = refl
+one_verdict c at_start start map past Sound (Broken rule moment) a b = absurd (never c at_start start map past rule moment a b)
+one_verdict c at_start start map past (Broken rule moment) Sound a b = absurd (never c at_start start map past rule moment b a)
+one_verdict c at_start start map past (Broken rule moment) (Broken other later) a b = same_broken (KeepsJudged c at_start start map) past rule other moment later a b

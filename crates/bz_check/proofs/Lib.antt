@@ -8,6 +8,7 @@ mod Following
 mod Mapping
 mod Answering
 mod Seeing
+mod Counting
 mod Replying
 mod Judging
 mod Passing

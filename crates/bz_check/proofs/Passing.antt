@@ -2,12 +2,14 @@
 use Rattle.std.specs.Prelude.{◌≡◌, ◌<◌, ◌+◌, ℕ, List, [], ◌∷◌, ◌++◌, length, Option, Some}
 use Rattle.std.proofs.Common.{sym, ap, ◌∙◌, subst}
 use Rattle.bz_call.specs.Map.{Map}
+use Rattle.bz_layout.specs.declared.config.Config.{Config}
 use Rattle.bz_mark.specs.declared.marks.Mark.{Mark}
 use Rattle.bz_mark.specs.declared.power.Power.{Power}
 use Rattle.bz_mark.specs.Moments.{at_moment, mark_at}
 use Rattle.bz_sound.specs.Calls.{map_after}
 use Rattle.bz_check.specs.declared.sights.Sight.{Sight}
 use Rattle.bz_check.specs.declared.verdict.JudgeRule.{JudgeRule}
+use Rattle.bz_check.specs.Counts.{Counted, Counts, no_counts}
 use Rattle.bz_check.specs.Kept.{Kept, opened}
 use Rattle.bz_check.specs.Replays.{Replays}
 use Rattle.bz_check.specs.Tables.{Known, no_calls}
@@ -18,6 +20,7 @@ use Rattle.bz_check.specs.Sights.{sight_of, seen_after}
 use Rattle.bz_check.specs.Verdicts.{TellsFirst, first_of}
 use Rattle.bz_check.proofs.Deciding.{Goes, Went, goes_on}
 use Rattle.bz_check.proofs.Judging.{by_marks, none_yet}
+use Rattle.bz_check.proofs.Counting.{counts_none}
 use Rattle.bz_check.proofs.Knowing.{knows_none}
 use Rattle.bz_check.proofs.Replaying.{opened_replays}
 
@@ -38,12 +41,15 @@ init_holds at past pairs h = subst (λ (marks : List Mark). Holds (map_after at 
 pub init_seen : (at : Map) (past : List Mark) (seen : List (Option Sight)) → seen ≡ [] → seen ≡ seen_after at (at_moment 0 past)
 init_seen at past seen is = is ∙ ap (λ (marks : List Mark). seen_after at marks) (sym (none_yet past))
 
+pub init_counts : (c : Config) (past : List Mark) (k : Counted) → k ≡ no_counts c → Counts c (at_moment 0 past) k
+init_counts c past k is = subst (λ (marks : List Mark). Counts c marks k) (sym (none_yet past)) (subst (λ (n : Counted). Counts c [] n) (sym is) (counts_none c))
+
 -- one mark more
 pub seen_more : (at : Map) (past : List Mark) (mark : Mark) (old new : List (Option Sight)) (sight : Option Sight) → new ≡ old ++ sight ∷ [] → old ≡ seen_after at past → sight ≡ sight_of at past mark → new ≡ seen_after at (mark ∷ past)
 seen_more at past mark old new sight is saw sees = is ∙ ap (λ (all : List (Option Sight)). all ++ sight ∷ []) saw ∙ ap (λ (s : Option Sight). seen_after at past ++ s ∷ []) sees
 
-pub went_more : (at_start : Power) (start : List ℕ) (at : Map) (past : List Mark) (i : ℕ) (mark : Mark) (broken fault next : Option JudgeRule) → i < length past → mark_at i past ≡ Some mark → Goes (KeepsJudged at_start start at) past i broken
-    → TellsFirst (FollowsJudged at_start start at (at_moment i past) mark) fault → next ≡ first_of broken fault → Went (KeepsJudged at_start start at) past (i + 1) next
-went_more at_start start at past i mark broken fault next lt is goes tells e =
-    subst (λ (b : Option JudgeRule). Went (KeepsJudged at_start start at) past (i + 1) b) (sym e)
-    (goes_on (KeepsJudged at_start start at) (FollowsJudged at_start start at) past i mark broken fault (by_marks at_start start at) lt is goes tells)
+pub went_more : (c : Config) (at_start : Power) (start : List ℕ) (at : Map) (past : List Mark) (i : ℕ) (mark : Mark) (broken fault next : Option JudgeRule) → i < length past → mark_at i past ≡ Some mark → Goes (KeepsJudged c at_start start at) past i broken
+    → TellsFirst (FollowsJudged c at_start start at (at_moment i past) mark) fault → next ≡ first_of broken fault → Went (KeepsJudged c at_start start at) past (i + 1) next
+went_more c at_start start at past i mark broken fault next lt is goes tells e =
+    subst (λ (b : Option JudgeRule). Went (KeepsJudged c at_start start at) past (i + 1) b) (sym e)
+    (goes_on (KeepsJudged c at_start start at) (FollowsJudged c at_start start at) past i mark broken fault (by_marks c at_start start at) lt is goes tells)

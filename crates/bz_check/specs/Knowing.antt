@@ -10,6 +10,7 @@ use Rattle.bz_check.specs.declared.table.OpenCall.{OpenCall}
 use Rattle.bz_check.specs.declared.verdict.JudgeRule.{JudgeRule}
 use Rattle.bz_check.specs.declared.sights.Sight.{Sight}
 use Rattle.bz_check.specs.declared.verdict.JudgeRule.TheVariants.{Truth, Calls, Reply}
+use Rattle.bz_check.specs.Counts.{Counted}
 use Rattle.bz_check.specs.Kept.{Kept}
 use Rattle.bz_check.specs.Pairs.{found_in, may_change}
 use Rattle.bz_check.specs.Sights.{replies_in}
@@ -80,5 +81,5 @@ fault_by true false right = Some Calls
 fault_by true true false = Some Reply
 fault_by true true true = None
 
-abbrev pub fault_in : Kept → Known → List (List ℕ × List ℕ) → List (Option Sight) → ℕ → Mark → Option JudgeRule
-fault_in m t pairs seen now mark = fault_by (finds m.cached mark) (may_follow_in t (effect_changes t pairs mark) mark) (replies_in t seen now mark)
+abbrev pub fault_in : Kept → Known → List (List ℕ × List ℕ) → List (Option Sight) → Counted → ℕ → Mark → Option JudgeRule
+fault_in m t pairs seen k now mark = fault_by (finds m.cached mark) (may_follow_in t (effect_changes t pairs mark) mark) (replies_in t seen k now mark)

@@ -18,15 +18,16 @@ use Rattle.bz_check.specs.Verdicts.{IsVerdict}
 abbrev pub SoundKeepsAllRules : Type 0
 SoundKeepsAllRules = (c : Config) (at_start : Power) (log : Log) → IsSound c at_start log ↔ (IsFormed c log × IsSoundTo c at_start log log.past)
 
--- one verdict is right of marks by the rules of truth and of calls, and by replies as far as the map tells
+-- one verdict is right of marks by the rules of truth and of calls, and by replies as far as the map and counts tell
 abbrev pub OneVerdict : Type 0
-OneVerdict = (at_start : Power) (start : List ℕ) (map : Map) (past : List Mark) (one other : Verdict)
-    → IsVerdict (KeepsJudged at_start start map) past one → IsVerdict (KeepsJudged at_start start map) past other → one ≡ other
+OneVerdict = (c : Config) (at_start : Power) (start : List ℕ) (map : Map) (past : List Mark) (one other : Verdict)
+    → IsVerdict (KeepsJudged c at_start start map) past one → IsVerdict (KeepsJudged c at_start start map) past other → one ≡ other
 
--- a right reply is right as far as the map tells; and of an End without a page and without a Full the two are one
+-- a right reply is right as far as the map and counts tell; and of an End without a page, and without a Full of slots or of the height,
+-- the two are one
 pub record PlainRepliesAreReplies (c : Config) (start : List ℕ) (pages : Pages) (past : List Mark) (mark : Mark) : Type 0 where
-  pub right : HasRightReply c start pages past mark → HasPlainReply (map_at_start c start) past mark
-  pub plain : IsPlain mark → HasPlainReply (map_at_start c start) past mark → HasRightReply c start pages past mark
+  pub right : HasRightReply c start pages past mark → HasPlainReply c (map_at_start c start) past mark
+  pub plain : IsPlain mark → HasPlainReply c (map_at_start c start) past mark → HasRightReply c start pages past mark
 
 abbrev pub RepliesByTheMap : Type 0
 RepliesByTheMap = (c : Config) (start : List ℕ) (pages : Pages) (past : List Mark) (mark : Mark) → PlainRepliesAreReplies c start pages past mark

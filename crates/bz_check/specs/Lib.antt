@@ -6,6 +6,7 @@ pub mod Verdicts
 pub mod Rules
 pub mod Tables
 pub mod Pairs
+pub mod Counts
 pub mod Replies
 pub mod Answers
 pub mod Sights

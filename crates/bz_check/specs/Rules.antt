@@ -44,17 +44,17 @@ pub record IsFormed (c : Config) (log : Log) : Type 0 where
 abbrev pub IsSoundTo : Config → Power → Log → List Mark → Type 0
 IsSoundTo c at_start log past = (rule : JudgeRule) → KeepsRule c at_start log.start log.pages rule past
 
--- these marks keep the rules of truth and of calls, and their replies are right as far as the map tells; nothing is asked by the other
--- rules. The map was this one at the start
-abbrev pub KeepsJudged : Power → List ℕ → Map → JudgeRule → List Mark → Type 0
-KeepsJudged at_start start map Truth past = IsTruthful start past
-KeepsJudged at_start start map Calls past = CallsOnce at_start map past
-KeepsJudged at_start start map Reply past = PlainRepliesAreRight map past
-KeepsJudged at_start start map rule past = Unit {0}
+-- these marks keep the rules of truth and of calls, and their replies are right as far as the map and counts tell; nothing is asked by
+-- the other rules. The map was this one at the start
+abbrev pub KeepsJudged : Config → Power → List ℕ → Map → JudgeRule → List Mark → Type 0
+KeepsJudged c at_start start map Truth past = IsTruthful start past
+KeepsJudged c at_start start map Calls past = CallsOnce at_start map past
+KeepsJudged c at_start start map Reply past = PlainRepliesAreRight c map past
+KeepsJudged c at_start start map rule past = Unit {0}
 
 -- one mark more keeps them
-abbrev pub FollowsJudged : Power → List ℕ → Map → List Mark → Mark → JudgeRule → Type 0
-FollowsJudged at_start start map past mark Truth = Found (words_after_marks start past) mark
-FollowsJudged at_start start map past mark Calls = MayFollow at_start map past mark
-FollowsJudged at_start start map past mark Reply = HasPlainReply map past mark
-FollowsJudged at_start start map past mark rule = Unit {0}
+abbrev pub FollowsJudged : Config → Power → List ℕ → Map → List Mark → Mark → JudgeRule → Type 0
+FollowsJudged c at_start start map past mark Truth = Found (words_after_marks start past) mark
+FollowsJudged c at_start start map past mark Calls = MayFollow at_start map past mark
+FollowsJudged c at_start start map past mark Reply = HasPlainReply c map past mark
+FollowsJudged c at_start start map past mark rule = Unit {0}

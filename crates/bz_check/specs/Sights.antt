@@ -3,14 +3,19 @@ use Rattle.std.specs.Prelude.{◌==◌, ◌&&◌, ◌-◌, nat_lt, nat_le, ℕ, 
 use Rattle.std.specs.FinMap.{get}
 use Rattle.bz_call.specs.Map.{Map, key_of}
 use Rattle.bz_call.specs.declared.calls.Call.{Call}
+use Rattle.bz_call.specs.declared.calls.Call.TheVariants as kind
 use Rattle.bz_call.specs.declared.replies.Reply.{Reply}
 use Rattle.bz_call.specs.declared.replies.Reply.TheVariants.{Page, Full}
+use Rattle.bz_call.specs.declared.replies.Spent.{Spent}
+use Rattle.bz_call.specs.declared.replies.Spent.TheVariants.{Swaps}
 use Rattle.bz_mark.specs.declared.marks.Mark.{Mark}
 use Rattle.bz_mark.specs.declared.marks.Mark.TheVariants.{End, Load, Effect}
 use Rattle.bz_sound.specs.Calls.{Open, open_call, map_after}
+use Rattle.bz_check.specs.declared.counter.Standing.{Standing}
 use Rattle.bz_check.specs.declared.sights.Sight.{Sight}
 use Rattle.bz_check.specs.declared.table.OpenCall.{OpenCall}
 use Rattle.bz_check.specs.Answers.{answers_so, stays_in, is_write_in}
+use Rattle.bz_check.specs.Counts.{Counted, standing_in}
 use Rattle.bz_check.specs.Pairs.{found_in}
 use Rattle.bz_check.specs.Tables.{Known, open_in}
 
@@ -59,25 +64,39 @@ abbrev pub is_read_in : ℕ → Option Sight → Call → Reply → Bool
 is_read_in w None call reply = false
 is_read_in w (Some sight) call reply = (sight.load && sight.w == w) && (answers_so sight.found call reply && stays_in sight.found call)
 
--- the same, but that nothing is asked of a page, and of a Full that its End is the moment and its call one that may change a map
-abbrev pub may_read_in : ℕ → ℕ → ℕ → Option Sight → Call → Reply → Bool
-may_read_in now w at before call (Page page next) = true
-may_read_in now w at before call (Full spent) = at == now && is_write_in call
-may_read_in now w at before call reply = is_read_in w before call reply
+-- a load of this worker is followed by a page with the next number, and the call asks for a page
+abbrev pub paged_in : Bool → Call → Bool
+paged_in right (kind.Page from) = right
+paged_in right call = false
+
+abbrev pub may_page_in : Standing → ℕ → Option Sight → Call → ℕ → Bool
+may_page_in here w None call page = false
+may_page_in here w (Some sight) call page = paged_in ((sight.load && sight.w == w) && page == here.page) call
+
+-- the End of a Full is the moment, its call one that may change a map, and descriptors are spent where it says so
+abbrev pub may_be_full_in : Standing → ℕ → Call → Spent → Bool
+may_be_full_in here at call Swaps = (at == here.moment && is_write_in call) && here.spent
+may_be_full_in here at call spent = at == here.moment && is_write_in call
+
+-- a call without an Effect may be answered so
+abbrev pub may_read_in : Standing → ℕ → ℕ → Option Sight → Call → Reply → Bool
+may_read_in here w at before call (Page page next) = may_page_in here w before call page
+may_read_in here w at before call (Full spent) = may_be_full_in here at call spent
+may_read_in here w at before call reply = is_read_in w before call reply
 
 -- the moment is that of the Effect, which saw what answers the call so
 abbrev pub is_effective_in : ℕ → ℕ → Option Sight → Call → Reply → Bool
 is_effective_in at effect here call reply = at == effect && answers_so (found_of here) call reply
 
-abbrev pub answers_in : List (Option Sight) → ℕ → ℕ → ℕ → Call → Reply → Option ℕ → Bool
-answers_in seen now w at call reply (Some effect) = is_effective_in at effect (shown_at seen effect) call reply
-answers_in seen now w at call reply None = may_read_in now w at (shown_at seen (at - 1)) call reply
+abbrev pub answers_in : List (Option Sight) → Standing → ℕ → ℕ → Call → Reply → Option ℕ → Bool
+answers_in seen here w at call reply (Some effect) = is_effective_in at effect (shown_at seen effect) call reply
+answers_in seen here w at call reply None = may_read_in here w at (shown_at seen (at - 1)) call reply
 
--- the reply of an End is right, as far as the map tells, where so many marks stand before it
-abbrev pub reply_in : List (Option Sight) → ℕ → ℕ → ℕ → Reply → Option OpenCall → Bool
-reply_in seen now w at reply None = false
-reply_in seen now w at reply (Some call) = nat_lt call.begun at && (nat_le at now && answers_in seen now w at call.call reply call.effect)
+-- the reply of an End is right, as far as the map and counts tell
+abbrev pub reply_in : List (Option Sight) → Standing → ℕ → ℕ → Reply → Option OpenCall → Bool
+reply_in seen here w at reply None = false
+reply_in seen here w at reply (Some call) = nat_lt call.begun at && (nat_le at here.moment && answers_in seen here w at call.call reply call.effect)
 
-abbrev pub replies_in : Known → List (Option Sight) → ℕ → Mark → Bool
-replies_in t seen now (End w n reply at) = reply_in seen now w at reply (open_in t w)
-replies_in t seen now mark = true
+abbrev pub replies_in : Known → List (Option Sight) → Counted → ℕ → Mark → Bool
+replies_in t seen k now (End w n reply at) = reply_in seen (standing_in k t now w) w at reply (open_in t w)
+replies_in t seen k now mark = true

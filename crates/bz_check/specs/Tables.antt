@@ -1,5 +1,6 @@
 -- What a table of calls says, and which mark it lets follow.
-use Rattle.std.specs.Prelude.{◌==◌, ◌&&◌, ◌+◌, ◌-◌, ◌^◌, not, nat_lt, nat_le, min, if◌then◌else◌, ℕ, Bool, true, false, List, replicate, slice_set, get_or, Option, Some, None, is_some, is_none}
+use Rattle.std.specs.Prelude.{◌==◌, ◌&&◌, ◌+◌, ◌-◌, ◌^◌, not, nat_lt, nat_le, min, if◌then◌else◌, cond, ℕ, Bool, true, false, List, replicate, slice_set, get_or, Option, Some, None, is_some, is_none, count_by}
+use Rattle.std.specs.List.{range_with_len}
 use Rattle.bz_call.specs.declared.calls.Call.{Call}
 use Rattle.bz_mark.specs.declared.marks.Mark.{Mark}
 use Rattle.bz_mark.specs.declared.marks.Mark.TheVariants.{Begin, End, Load, Store, Cas, Ask, Fence, Evict, Cut, On, Ready, Effect}
@@ -33,6 +34,17 @@ begun_from cut (Some call) = if nat_le cut call.begun then Some call else None
 -- a worker's open call
 abbrev pub open_in : Known → ℕ → Option OpenCall
 open_in t w = begun_from t.cut (caller_at t w).last
+
+-- another worker than this one has an open call
+abbrev pub is_other_in : Known → ℕ → ℕ → Bool
+is_other_in t w v = not (v == w) && is_some (open_in t v)
+
+abbrev pub one_if : Bool → ℕ
+one_if other = cond other 1 0
+
+-- how many of so many workers have an open call, beside this one
+abbrev pub others_in : Known → ℕ → ℕ → ℕ
+others_in t workers w = count_by (λ v. is_other_in t w v) (range_with_len 1 workers)
 
 -- a call after its effect
 abbrev pub took : ℕ → Option OpenCall → Option OpenCall

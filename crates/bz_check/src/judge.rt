@@ -1,11 +1,14 @@
-//! The rules of truth and of calls, and replies as far as the map tells, judged in one pass over the marks.
+//! The rules of truth and of calls, and replies as far as the map and counts tell, judged in one pass over the marks.
 ghost use Rattle.std.specs.Prelude.{◌≡◌, ◌<◌, ◌+◌, ◌%◌, ◌^◌, ◌↔◌, ℕ, List, ◌∷◌, IfOk, OnOk, IsTrue, length};
+ghost use Rattle.bz_layout.specs.Config.{IsConfig};
+ghost use Rattle.bz_layout.specs.declared.config.Config.{Config as Numbers};
 ghost use Rattle.bz_call.specs.Map.{Map};
 ghost use Rattle.bz_mark.specs.declared.power.Power.{Power as PowerWord};
 ghost use Rattle.bz_mark.specs.declared.marks.Mark.{Mark as MarkWord};
 ghost use Rattle.bz_mark.specs.Laws.{IsImage, IsOfMemory, AreOfMemory};
 ghost use Rattle.bz_mark.specs.Moments.{IsInner};
 ghost use Rattle.bz_sound.specs.Calls.{map_after};
+ghost use Rattle.bz_check.specs.Counts.{Counts, CountsWithin};
 ghost use Rattle.bz_check.specs.Kept.{IsSized};
 ghost use Rattle.bz_check.specs.Replays.{Replays};
 ghost use Rattle.bz_check.specs.Knowing.{Knows, HasWorker, effect_changes, map_then, is_word, finds, fault_in, fault_by};
@@ -14,6 +17,7 @@ ghost use Rattle.bz_check.specs.Rules.{KeepsJudged, FollowsJudged};
 ghost use Rattle.bz_check.specs.Sights.{seen_after};
 ghost use Rattle.bz_check.specs.Verdicts.{TellsFirst, IsVerdict, chosen};
 
+use crate::counter::Counter;
 use crate::pairs::{changes, step};
 use crate::replay::Replay;
 use crate::replies::is_right;
@@ -21,6 +25,7 @@ use crate::sights::Sights;
 use crate::table::Table;
 use crate::verdict::{JudgeRule, Verdict, first};
 use bz_key::{Key, Payload};
+use bz_layout::Config;
 use bz_mark::{Journal, Mark, Power};
 use bz_oom::Memory;
 use std::alloc::Global;
@@ -89,16 +94,17 @@ fn fault_of(
     table: &Table,
     map: &BTreeMap<Key, Payload>,
     sights: &Sights,
+    counter: &Counter,
     now: u32,
     mark: &Mark,
 ) -> Option<JudgeRule>
     requires { length table.now.callers ≡ 256 }
-    ensures { result ≡ fault_in replay.now table.now map.now.entries sights.now now mark.now }
+    ensures { result ≡ fault_in replay.now table.now map.now.entries sights.now counter.now now mark.now }
 {
     let found = is_found(replay, mark);
     let changes = is_change(table, map, mark);
     let follows = table.may_follow(changes, mark);
-    let right = is_right(table, sights, now, mark);
+    let right = is_right(table, sights, counter, now, mark);
     rule_of(found, follows, right)
 }
 
@@ -175,6 +181,7 @@ fn judge_mark(
     table: &mut Table,
     map: &mut BTreeMap<Key, Payload>,
     sights: &mut Sights,
+    counter: &mut Counter,
     now: u32,
     mark: &Mark,
 ) -> Result<Option<JudgeRule>, Memory>
@@ -182,20 +189,23 @@ fn judge_mark(
     requires workers { length table.old.callers ≡ 256 }
     requires named { IsOfMemory (length replay.old.cached) mark.now }
     requires few { now + 1 < 2 ^ 32 }
+    requires counted { CountsWithin now counter.old }
     ensures words { (start : List ℕ) (past : List MarkWord) → now ≡ length past → IsImage start → IsOfMemory (length start) mark.now → Replays start past replay.old → OnOk result (Replays start (mark.now ∷ past) replay.new) }
     ensures calls { (at_start : PowerWord) (past : List MarkWord) → now ≡ length past → Knows at_start past table.old → OnOk result (Knows at_start (mark.now ∷ past) table.new) }
     ensures pairs { (at_start : PowerWord) (past : List MarkWord) (at : Map) → Knows at_start past table.old → Holds (map_after at past) map.old.entries → OnOk result (Holds (map_after at (mark.now ∷ past)) map.new.entries) }
     ensures seen { (at_start : PowerWord) (past : List MarkWord) (at : Map) → Knows at_start past table.old → Holds (map_after at past) map.old.entries → sights.old ≡ seen_after at past → OnOk result (sights.new ≡ seen_after at (mark.now ∷ past)) }
-    ensures fault { (start : List ℕ) (at_start : PowerWord) (past : List MarkWord) (at : Map) → now ≡ length past → IsImage start → AreOfMemory (length start) past → Replays start past replay.old → Knows at_start past table.old → Holds (map_after at past) map.old.entries →
-        sights.old ≡ seen_after at past →
-        IfOk result (λ fault. TellsFirst (FollowsJudged at_start start at past mark.now) fault) }
+    ensures counts { (c : Numbers) (past : List MarkWord) → now ≡ length past → Counts c past counter.old → OnOk result (Counts c (mark.now ∷ past) counter.new) }
+    ensures fault { (c : Numbers) (start : List ℕ) (at_start : PowerWord) (past : List MarkWord) (at : Map) → IsConfig c → now ≡ length past → IsImage start → AreOfMemory (length start) past → Replays start past replay.old →
+        Knows at_start past table.old → Holds (map_after at past) map.old.entries → sights.old ≡ seen_after at past → Counts c past counter.old →
+        IfOk result (λ fault. TellsFirst (FollowsJudged c at_start start at past mark.now) fault) }
 {
     names_worker(mark);
-    let fault = fault_of(replay, table, map, sights, now, mark);
+    let fault = fault_of(replay, table, map, sights, counter, now, mark);
     sights.see(table, map, mark)?;
     step_map(table, map, mark)?;
     replay.take(now, mark)?;
     table.take(now, mark);
+    counter.take(now, mark);
     Ok(fault)
 }
 
@@ -226,19 +236,21 @@ fn verdict_at(broken: Option<JudgeRule>, inner: bool, moment: u32) -> Option<Ver
     }
 }
 
-/// Judges the rules of truth and of calls, and replies as far as the map tells, and nothing else: the least moment up to which the marks
-/// break one of the three, and the first of them that is broken there. Where its call has no Effect, nothing is asked of a page but that
-/// its moment lies within the call, and of a Full nothing of what is spent. The power at the start and the map there are given.
+/// Judges the rules of truth and of calls, and replies as far as the map and counts tell, and nothing else: the least moment up to which
+/// the marks break one of the three, and the first of them that is broken there. Where its call has no Effect, nothing is asked of what a
+/// page shows, and nothing of the cause of a Full but where descriptors are spent. The power at the start and the map there are given.
 pub fn judge_truth_calls_and_plain_replies(
     alloc: Global,
+    config: &Config,
     power: Power,
     map: BTreeMap<Key, Payload>,
     journal: &Journal,
 ) -> Result<Verdict, Memory>
+    requires config { IsConfig config.now }
     requires lines { length journal.now.start % 8 ≡ 0 }
     requires size { length journal.now.start < 2 ^ 32 }
     requires marks { AreOfMemory (length journal.now.start) journal.now.past }
-    ensures { (at : Map) → Holds at map.entries → IfOk result (λ verdict. IsVerdict (KeepsJudged power journal.now.start at) journal.now.past verdict) }
+    ensures { (at : Map) → Holds at map.entries → IfOk result (λ verdict. IsVerdict (KeepsJudged config.now power journal.now.start at) journal.now.past verdict) }
 {
     let start = journal.start();
     is_image(start);
@@ -246,10 +258,19 @@ pub fn judge_truth_calls_and_plain_replies(
     let mut table = Table::open(alloc, power)?;
     let mut pairs = map;
     let mut sights = Sights::none(alloc);
+    let mut counter = Counter::open(alloc, config)?;
     let mut broken: Option<JudgeRule> = None;
     for i in 0..journal.length() {
         let mark = journal.mark(i);
-        let fault = judge_mark(&mut replay, &mut table, &mut pairs, &mut sights, i, &mark)?;
+        let fault = judge_mark(
+            &mut replay,
+            &mut table,
+            &mut pairs,
+            &mut sights,
+            &mut counter,
+            i,
+            &mark,
+        )?;
         let next = first(broken, fault);
         broken = next;
         let inner = is_inner(journal, i + 1);

@@ -7,12 +7,12 @@ pub fn sound_keeps_all_rules()
     ensures { SoundKeepsAllRules }
 {}
 
-/// A right reply is right as far as the map tells; without a page and a Full the two are one.
+/// A right reply is right as far as the map and counts tell; without a page, and without a Full of slots or of the height, the two are one.
 pub fn replies_by_the_map()
     ensures { RepliesByTheMap }
 {}
 
-/// By the rules of truth and of calls, and by replies as far as the map tells, one verdict is right of a journal.
+/// By the rules of truth and of calls, and by replies as far as the map and counts tell, one verdict is right of a journal.
 pub fn one_verdict()
     ensures { OneVerdict }
 {}

@@ -2,6 +2,7 @@
 #![tactic(auto)]
 
 mod asks;
+mod counter;
 mod judge;
 pub mod laws;
 mod pairs;

@@ -1,11 +1,12 @@
-//! Whether the reply of an End is right, as far as the map tells.
+//! Whether the reply of an End is right, as far as the map and counts tell.
 ghost use Rattle.std.specs.Prelude.{◌≡◌, ◌-◌, Some, None, length};
 ghost use Rattle.bz_check.specs.Answers.{reply_by, same_reply, tells, answers_so, is_payload, stays_in, is_write_in};
-ghost use Rattle.bz_check.specs.Sights.{found_of, is_read_in, may_read_in, is_effective_in, answers_in, reply_in, replies_in};
+ghost use Rattle.bz_check.specs.Sights.{found_of, is_read_in, paged_in, may_page_in, may_be_full_in, may_read_in, is_effective_in, answers_in, reply_in, replies_in};
 
+use crate::counter::{Counter, Standing};
 use crate::sights::{Sight, Sights};
 use crate::table::{OpenCall, Table};
-use bz_call::{Call, Reply};
+use bz_call::{Call, Reply, Spent};
 use bz_key::Payload;
 use bz_mark::Mark;
 
@@ -141,14 +142,47 @@ fn is_write(call: &Call) -> bool
     }
 }
 
-/// Whether a call that took no effect is answered so. Nothing is asked of a page, and of a Full that its End is the moment and its
-/// call one that may change a map.
-fn may_read(now: u32, w: u8, at: u32, before: Option<Sight>, call: &Call, reply: &Reply) -> bool
-    ensures { result ≡ may_read_in now w at before call.now reply.now }
+/// Whether a call asks for a page, and gets the next number behind a load of this worker.
+fn is_paged(here: &Standing, w: u8, before: Option<Sight>, call: &Call, page: u32) -> bool
+    ensures { result ≡ may_page_in here.now w before call.now page }
+{
+    let Some(sight) = before else {
+        return false;
+    };
+    let loaded = sight.load && sight.w == w;
+    let right = loaded && page == here.page;
+    match *call {
+        Call::Page(_) => right,
+        _ => false,
+    }
+}
+
+/// Whether the End of a Full is its moment, its call may change a map, and descriptors are spent where it says so.
+fn is_full(here: &Standing, at: u32, call: &Call, spent: Spent) -> bool
+    ensures { result ≡ may_be_full_in here.now at call.now spent }
+{
+    let writes = is_write(call);
+    let may = at == here.moment && writes;
+    match spent {
+        Spent::Swaps => may && here.spent,
+        _ => may,
+    }
+}
+
+/// Whether a call that took no effect is answered so.
+fn may_read(
+    here: &Standing,
+    w: u8,
+    at: u32,
+    before: Option<Sight>,
+    call: &Call,
+    reply: &Reply,
+) -> bool
+    ensures { result ≡ may_read_in here.now w at before call.now reply.now }
 {
     match *reply {
-        Reply::Page { page: _, next: _ } => true,
-        Reply::Full(_) => at == now && is_write(call),
+        Reply::Page { page, next: _ } => is_paged(here, w, before, call, page),
+        Reply::Full(spent) => is_full(here, at, call, spent),
         _ => is_read(w, before, call, reply),
     }
 }
@@ -180,41 +214,55 @@ fn earlier(moment: u32) -> u32
 }
 
 /// Whether a call that is answered at this moment is answered so.
-fn is_answered(sights: &Sights, now: u32, w: u8, at: u32, call: &OpenCall, reply: &Reply) -> bool
-    ensures { result ≡ answers_in sights.now now w at call.now.call reply.now call.now.effect }
+fn is_answered(
+    sights: &Sights,
+    here: &Standing,
+    w: u8,
+    at: u32,
+    call: &OpenCall,
+    reply: &Reply,
+) -> bool
+    ensures { result ≡ answers_in sights.now here.now w at call.now.call reply.now call.now.effect }
 {
     match call.effect {
         Some(effect) => is_effective(at, effect, sights.at(effect), &call.call, reply),
-        None => may_read(now, w, at, sights.at(earlier(at)), &call.call, reply),
+        None => may_read(here, w, at, sights.at(earlier(at)), &call.call, reply),
     }
 }
 
-/// Whether a reply to a worker's open call is right, where so many marks stand before the End.
+/// Whether a reply to a worker's open call is right.
 fn is_reply(
     sights: &Sights,
-    now: u32,
+    here: &Standing,
     w: u8,
     at: u32,
     reply: &Reply,
     last: Option<OpenCall>,
 ) -> bool
-    ensures { result ≡ reply_in sights.now now w at reply.now last }
+    ensures { result ≡ reply_in sights.now here.now w at reply.now last }
 {
     let Some(call) = last else {
         return false;
     };
-    let answered = is_answered(sights, now, w, at, &call, reply);
-    call.begun < at && (at <= now && answered)
+    let answered = is_answered(sights, here, w, at, &call, reply);
+    call.begun < at && (at <= here.moment && answered)
 }
 
-/// Whether a mark that is an End has a right reply, as far as the map tells.
-pub(crate) fn is_right(table: &Table, sights: &Sights, now: u32, mark: &Mark) -> bool
+/// Whether a mark that is an End has a right reply, as far as the map and counts tell.
+pub(crate) fn is_right(
+    table: &Table,
+    sights: &Sights,
+    counter: &Counter,
+    now: u32,
+    mark: &Mark,
+) -> bool
     requires { length table.now.callers ≡ 256 }
-    ensures { result ≡ replies_in table.now sights.now now mark.now }
+    ensures { result ≡ replies_in table.now sights.now counter.now now mark.now }
 {
     match *mark {
         Mark::End { w, n: _, reply, at } => {
-            is_reply(sights, now, w, at, &reply, table.open_call(w))
+            let here = counter.standing(table, now, w);
+            is_reply(sights, &here, w, at, &reply, table.open_call(w))
         }
         _ => true,
     }

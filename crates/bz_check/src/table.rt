@@ -1,6 +1,6 @@
 //! Which calls are open, what the power is, and which mark is the newest.
-ghost use Rattle.std.specs.Prelude.{◌≡◌, ◌+◌, ◌<◌, ◌^◌, IfOk, length};
-ghost use Rattle.bz_check.specs.Tables.{no_calls, with_begin, with_end, with_effect_of, calls_after, table_after, may_follow_in, may_begin_in, open_in, has_number_in, may_act_in, may_effect_in, is_on_in, is_recovering_in, is_off_in, after_fence_in, after_recovering_in, took};
+ghost use Rattle.std.specs.Prelude.{◌≡◌, ◌+◌, ◌<◌, ◌≤◌, ◌^◌, IfOk, length};
+ghost use Rattle.bz_check.specs.Tables.{no_calls, with_begin, with_end, with_effect_of, calls_after, table_after, may_follow_in, may_begin_in, open_in, one_if, is_other_in, others_in, has_number_in, may_act_in, may_effect_in, is_on_in, is_recovering_in, is_off_in, after_fence_in, after_recovering_in, took};
 
 use crate::replay::WORKERS;
 use bz_call::Call;
@@ -172,6 +172,31 @@ impl Table {
             Some(call)
         } else {
             None
+        }
+    }
+
+    /// How many of so many workers have an open call, beside this one.
+    pub(crate) fn others(&self, workers: u8, w: u8) -> u8
+        requires { length self.now.callers ≡ 256 }
+        ensures { result ≡ others_in self.now workers w }
+    {
+        let mut count = 0u8;
+        for i in 0..workers {
+            count += self.other(i + 1, w);
+        }
+        count
+    }
+
+    /// One where a worker has an open call and is not this one, or else none.
+    fn other(&self, v: u8, w: u8) -> u8
+        requires { length self.now.callers ≡ 256 }
+        ensures few { result ≤ 1 }
+        ensures is { result ≡ one_if (is_other_in self.now w v) }
+    {
+        if v != w && self.open_call(v).is_some() {
+            1
+        } else {
+            0
         }
     }
 

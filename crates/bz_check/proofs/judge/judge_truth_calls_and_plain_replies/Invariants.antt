@@ -2,6 +2,7 @@ use Rattle.std.proofs.Common.{◌≡◌}
 use Rattle.bz_call.specs.Map.{Map}
 use Rattle.bz_mark.specs.Moments.{at_moment}
 use Rattle.bz_sound.specs.Calls.{map_after}
+use Rattle.bz_check.specs.Counts.{Counts}
 use Rattle.bz_check.specs.Knowing.{Knows}
 use Rattle.bz_check.specs.Pairs.{Holds}
 use Rattle.bz_check.specs.Replays.{Replays}
@@ -16,5 +17,6 @@ invariant-loop-i l = record {
   knows : Knows l.fn.power (at_moment l.i l.journal.past) l.table;
   holds : (at : Map) → Holds at l.fn.map.entries → Holds (map_after at (at_moment l.i l.journal.past)) l.pairs.entries;
   sees : (at : Map) → Holds at l.fn.map.entries → l.sights ≡ seen_after at (at_moment l.i l.journal.past);
-  goes : (at : Map) → Holds at l.fn.map.entries → Goes (KeepsJudged l.fn.power l.journal.start at) l.journal.past l.i l.broken;
+  counts : Counts l.config (at_moment l.i l.journal.past) l.counter;
+  goes : (at : Map) → Holds at l.fn.map.entries → Goes (KeepsJudged l.config l.fn.power l.journal.start at) l.journal.past l.i l.broken;
 }
