@@ -1,6 +1,6 @@
 -- A task that makes no change goes on as it begins, but for a look-up in a leaf: one that takes slots by its contract, and the others by what
 -- they may end with.
-use Rattle.std.proofs.Common.{◌≡◌, ℕ, zero, suc, ◌<◌, Option, Some, None, arith, refl, subst}
+use Rattle.std.proofs.Common.{◌≡◌, ℕ, zero, suc, ◌<◌, Bool, true, false, Option, Some, None, arith, refl, sym, subst, ◌∙◌}
 use Rattle.bz_ascent.specs.FromBelow.Duties.{asks_below, end_below, needs_below}
 use Rattle.bz_ascent.specs.FromBelow.SplitBelow.{SplitBelow}
 use Rattle.bz_consol.specs.Duties as consol
@@ -26,6 +26,17 @@ use Rattle.bz_fork.specs.declared.split_inner.SplitInner.{SplitInner}
 use Rattle.bz_freeze.specs.Facts.{freeze_end}
 use Rattle.bz_freeze.specs.declared.phase.FreezePhase.{FreezePhase}
 use Rattle.bz_freeze.specs.declared.phase.FreezePhase.TheVariants as freeze
+use Rattle.bz_inner.specs.JoinDuties.{joining_of, asks_joining}
+use Rattle.bz_inner.specs.JoinFacts.{joining_asks, joining_end, joining_needs}
+use Rattle.bz_inner.specs.Joinings.{Joining}
+use Rattle.bz_inner.specs.LowerDuties.{lowering_of}
+use Rattle.bz_inner.specs.LowerFacts.{Lowering, WasNotLone, lower_end, lower_facts, lower_means}
+use Rattle.bz_inner.specs.declared.join_phase.JoinPhase.{JoinPhase}
+use Rattle.bz_inner.specs.declared.join_phase.JoinPhase.TheVariants as join
+use Rattle.bz_inner.specs.declared.lower.Lower.{Lower}
+use Rattle.bz_inner.specs.declared.lower_phase.LowerPhase.{LowerPhase}
+use Rattle.bz_inner.specs.declared.lower_phase.LowerPhase.TheVariants as lower
+use Rattle.bz_inner.specs.declared.merge_inner.MergeInner.{MergeInner}
 use Rattle.bz_layout.specs.declared.config.Config.{Config}
 use Rattle.bz_leaf.specs.Duties as leaf
 use Rattle.bz_leaf.specs.Facts.{leaf_end}
@@ -41,8 +52,10 @@ use Rattle.bz_merge.specs.declared.merge.Merge.{Merge}
 use Rattle.bz_merge.specs.declared.phase.MergePhase.{MergePhase}
 use Rattle.bz_merge.specs.declared.phase.MergePhase.TheVariants as merge_phase
 use Rattle.bz_task.specs.Requests.{Hears, EndsAtOnce}
+use Rattle.bz_task.specs.Scene.{Scene, Waiting}
 use Rattle.bz_task.specs.declared.path.Path.{Path}
 use Rattle.bz_task.specs.declared.todo.Outcome.{Outcome}
+use Rattle.bz_task.specs.declared.todo.Outcome.TheVariants.{NeedsRoom}
 use Rattle.bz_task.specs.declared.todo.Seen.{Seen}
 use Rattle.bz_task.specs.declared.todo.Seen.TheVariants.{Start}
 use Rattle.bz_any_task.specs.Duties.{asks_of}
@@ -86,6 +99,11 @@ merge-takes : (c : Config) (r : Plan) (p : MergePhase) → Hears (merge_asks c r
 merge-takes c r merge_phase.Fresh h = omega arith
 merge-takes c r p h = absurd h
 
+joining-takes : (c : Config) (r : Joining) (p : JoinPhase) → Hears (joining_asks c r p) Start → 0 < joining_needs p
+joining-takes c r join.Fresh h = omega arith
+joining-takes c r (join.Writing write.Fresh) h = omega arith
+joining-takes c r p h = absurd h
+
 pub copy-begins : (t u : Consolidate) → Hears (consol.asks_of t) Start → AtOnce (consol.end_of u) (consol.needs_of t) → consol.end_of u ≡ None
 copy-begins t u h f = goes-on (consol.end_of u) (consol.needs_of t) (copy-takes t.config (consol.renewal_of t) t.phase h) f
 
@@ -103,6 +121,9 @@ crown-begins t u h f = goes-on (end_crown u) (needs_crown t) (crown-takes t.conf
 
 pub merge-begins : (t u : Merge) → Hears (merge.asks_of t) Start → AtOnce (merge.end_of u) (merge.needs_of t) → merge.end_of u ≡ None
 merge-begins t u h f = goes-on (merge.end_of u) (merge.needs_of t) (merge-takes t.config (merge.merging_of t) t.phase h) f
+
+pub joining-begins : (t u : MergeInner) → Hears (asks_joining t) Start → AtOnce (joining_end u.phase) (joining_needs t.phase) → joining_end u.phase ≡ None
+joining-begins t u h f = goes-on (joining_end u.phase) (joining_needs t.phase) (joining-takes t.config (joining_of t) t.phase h) f
 
 -- the others may end with a path or a view, or with their swap, and none of these comes at once
 seek-goes : (path : Path) (p : Way) → AtOnce (seek_end path p) 0 → seek_end path p ≡ None
@@ -126,3 +147,17 @@ freeze-begins freeze.Done f = absurd (f _ refl)
 freeze-begins freeze.Restart f = absurd (f _ refl)
 freeze-begins freeze.Full f = absurd (f _ refl)
 freeze-begins p f = refl
+
+-- a lowering ends at once only where the path shows no root with one child
+not-both : (b : Bool) → b ≡ true → b ≡ false → ⊥
+not-both b t f = let e : true ≡ false = sym t ∙ f in cc
+
+lower-goes : (lone : Bool) (r : Lowering) (p : LowerPhase) (s : Scene) → lone ≡ true → AtOnce (lower_end p) 0 → ((r.lone ≡ false) × WasNotLone r.upper.slot s.past → lone ≡ false) → lower_facts r p Waiting s → lower_end p ≡ None
+lower-goes lone r lower.Done s e f m k = absurd (f _ refl)
+lower-goes lone r lower.Restart s e f m k = absurd (f _ refl)
+lower-goes lone r lower.NotLone s e f m k = absurd (not-both lone e (m k.1))
+lower-goes lone r lower.NoSwap s e f m k = absurd (f _ refl)
+lower-goes lone r p s e f m k = refl
+
+pub lower-begins : (t u : Lower) (s : Scene) → t.lone ≡ true → AtOnce (lower_end u.phase) 0 → ((o : Outcome) (s : Scene) → lower_means (lowering_of u) o s → lower_means (lowering_of t) o s) → lower_facts (lowering_of u) u.phase Waiting s → lower_end u.phase ≡ None
+lower-begins t u s e f m k = lower-goes t.lone (lowering_of u) u.phase s e f (λ none. (m NeedsRoom s none).0) k

@@ -7,6 +7,9 @@ use Rattle.bz_descend.specs.Facts.{descend_means}
 use Rattle.bz_find.specs.Facts.{find_means}
 use Rattle.bz_fork.specs.Facts.{fork_means}
 use Rattle.bz_freeze.specs.Facts.{freeze_means}
+use Rattle.bz_inner.specs.JoinFacts.{joining_means}
+use Rattle.bz_inner.specs.LowerDuties.{lowering_of}
+use Rattle.bz_inner.specs.LowerFacts.{Lowering as Lowers, lower_means}
 use Rattle.bz_insert.specs.Facts.{insert_means}
 use Rattle.bz_leaf.specs.Facts.{leaf_means}
 use Rattle.bz_merge.specs.Facts.{merge_means}
@@ -24,7 +27,7 @@ use Rattle.bz_any_task.specs.Duties.{wants_of, means_of, view_of}
 use Rattle.bz_any_task.specs.Ends.{TakesNothing, TakesOneSwap, EndsWithPath, EndsWithKey, EndsWithView, EndsInRoom, EndsOrNeedsRoom, IsEndOf}
 use Rattle.bz_any_task.specs.Kinds.{kind_of, is_look, is_renewal}
 use Rattle.bz_any_task.specs.declared.running.AnyTask.{AnyTask}
-use Rattle.bz_any_task.specs.declared.running.AnyTask.TheVariants.{Seeking, Finding, Reading, Inserting, Updating, Deleting, Freezing, Consolidating, Splitting, SplittingBelow, SplittingInner, SplittingInnerRoot, Merging}
+use Rattle.bz_any_task.specs.declared.running.AnyTask.TheVariants.{Seeking, Finding, Reading, Inserting, Updating, Deleting, Freezing, Consolidating, Splitting, SplittingBelow, SplittingInner, SplittingInnerRoot, Merging, MergingInner, Lowering}
 
 pub looks-take-nothing : (t : AnyTask) → is_look (kind_of t) ≡ true → TakesNothing t
 unfolding kind_of wants_of view_of
@@ -125,6 +128,20 @@ by-merge upper lower st leaf NeedsRoom s m = tt
 by-merge upper lower st leaf (Full spent) s m = tt
 by-merge upper lower st leaf o s m = absurd m
 
+by-joining : (upper middle lower : Link) (o : Outcome) (s : Scene) → joining_means upper middle lower o s → EndsOrNeedsRoom o
+by-joining upper middle lower Done s m = tt
+by-joining upper middle lower Restart s m = tt
+by-joining upper middle lower NeedsRoom s m = tt
+by-joining upper middle lower (Full spent) s m = tt
+by-joining upper middle lower o s m = absurd m
+
+by-lower : (r : Lowers) (o : Outcome) (s : Scene) → lower_means r o s → EndsOrNeedsRoom o
+by-lower r Done s m = tt
+by-lower r Restart s m = tt
+by-lower r NeedsRoom s m = tt
+by-lower r (Full spent) s m = tt
+by-lower r o s m = absurd m
+
 pub ends-so : (t : AnyTask) (o : Outcome) (s : Scene) → means_of t o s → IsEndOf (kind_of t) o
 unfolding kind_of view_of
 ends-so (Seeking t) o s m = by-seek t.key o s m
@@ -140,3 +157,5 @@ ends-so (SplittingBelow t a) o s m = by-below t.upper t.lower t.halves.left.0 t.
 ends-so (SplittingInner t a) o s m = by-fork t.upper t.middle o s m
 ends-so (SplittingInnerRoot t a) o s m = by-crown t.upper o s m
 ends-so (Merging t) o s m = by-merge t.upper t.lower t.status t.leaf.0 o s m
+ends-so (MergingInner t) o s m = by-joining t.upper t.middle t.lower o s m
+ends-so (Lowering t) o s m = by-lower (lowering_of t) o s m

@@ -23,7 +23,7 @@ use Rattle.bz_task.specs.declared.view.KeyView.{KeyView}
 use Rattle.bz_any_task.specs.Duties.{view_of}
 use Rattle.bz_any_task.specs.LookingUp.{ForWay, ForKey, NoLook, look_of, reads_asked, IsReadOrEnd, EndsAs, LooksUpBriefly}
 use Rattle.bz_any_task.specs.declared.running.AnyTask.{AnyTask}
-use Rattle.bz_any_task.specs.declared.running.AnyTask.TheVariants.{Seeking, Finding, Reading, Inserting, Updating, Deleting, Freezing, Consolidating, Splitting, SplittingBelow, SplittingInner, SplittingInnerRoot, Merging}
+use Rattle.bz_any_task.specs.declared.running.AnyTask.TheVariants.{Seeking, Finding, Reading, Inserting, Updating, Deleting, Freezing, Consolidating, Splitting, SplittingBelow, SplittingInner, SplittingInnerRoot, Merging, MergingInner, Lowering}
 
 a-read : (a : ℕ) (todo : Todo) → Some (Read a) ≡ Some todo → IsReadOrEnd todo
 a-read a todo e = let q : Read a ≡ todo = cc in subst IsReadOrEnd q tt
@@ -130,3 +130,5 @@ others-briefly (SplittingBelow x a) no_seek no_find = none-briefly (SplittingBel
 others-briefly (SplittingInner x a) no_seek no_find = none-briefly (SplittingInner x a) refl refl
 others-briefly (SplittingInnerRoot x a) no_seek no_find = none-briefly (SplittingInnerRoot x a) refl refl
 others-briefly (Merging x) no_seek no_find = none-briefly (Merging x) refl refl
+others-briefly (MergingInner x) no_seek no_find = none-briefly (MergingInner x) refl refl
+others-briefly (Lowering x) no_seek no_find = none-briefly (Lowering x) refl refl

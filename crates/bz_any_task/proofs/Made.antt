@@ -31,7 +31,7 @@ use Rattle.bz_word.specs.Statuses.{status}
 use Rattle.bz_any_task.specs.Duties.{ascent_of}
 use Rattle.bz_any_task.specs.MadeFor.{HasFoot, WasLeafOf, LackedWords, WasCrowded, WasSmallLeafOf, IsCopyFor, AreHalvesFor, HasComeTo, HasComeBelow, HasComeToRoot, IsMadeFor, IsMergeOf, IsMergeFor, IsSmallMerge}
 use Rattle.bz_any_task.specs.declared.running.AnyTask.{AnyTask}
-use Rattle.bz_any_task.specs.declared.running.AnyTask.TheVariants.{Seeking, Finding, Reading, Inserting, Updating, Deleting, Freezing, Consolidating, Splitting, SplittingBelow, SplittingInner, SplittingInnerRoot, Merging}
+use Rattle.bz_any_task.specs.declared.running.AnyTask.TheVariants.{Seeking, Finding, Reading, Inserting, Updating, Deleting, Freezing, Consolidating, Splitting, SplittingBelow, SplittingInner, SplittingInnerRoot, Merging, MergingInner, Lowering}
 use Rattle.bz_any_task.proofs.Ascending.{same-ascent}
 
 abbrev pub Kept : AnyTask → AnyTask → Type 0
@@ -157,6 +157,8 @@ made-stays (SplittingBelow t a) key words p q m n = record { halves = halves-sta
 made-stays (SplittingInner t a) key words p q m n = record { come = come-stays p q n key t.middle.slot a m.come; below = m.below }
 made-stays (SplittingInnerRoot t a) key words p q m n = record { come = come-stays p q n key t.upper.slot a m.come; root = m.root }
 made-stays (Merging t) key words p q m n = absurd m
+made-stays (MergingInner t) key words p q m n = absurd m
+made-stays (Lowering t) key words p q m n = absurd m
 
 pub merge-stays : (t : AnyTask) (key : List ℕ) (p q : Past) → IsMergeFor t key p → Continues p q → IsMergeFor t key q
 unfolding IsMergeFor

@@ -14,7 +14,7 @@ use Rattle.bz_any_task.specs.GoingUp.{MayBeSplit, IsSplitAt, GoesUp}
 use Rattle.bz_any_task.specs.Hearing.{IsLookup}
 use Rattle.bz_any_task.specs.MadeFor.{WasCrowded, IsMadeFor}
 use Rattle.bz_any_task.specs.declared.running.AnyTask.{AnyTask}
-use Rattle.bz_any_task.specs.declared.running.AnyTask.TheVariants.{Seeking, Finding, Reading, Inserting, Updating, Deleting, Freezing, Consolidating, Splitting, SplittingBelow, SplittingInner, SplittingInnerRoot, Merging}
+use Rattle.bz_any_task.specs.declared.running.AnyTask.TheVariants.{Seeking, Finding, Reading, Inserting, Updating, Deleting, Freezing, Consolidating, Splitting, SplittingBelow, SplittingInner, SplittingInnerRoot, Merging, MergingInner, Lowering}
 use Rattle.bz_any_task.proofs.Ascending.{same-ascent}
 use Rattle.bz_any_task.proofs.Made.{stands-on-crowded}
 use Rattle.bz_any_task.proofs.Statements.{Ends}
@@ -39,6 +39,8 @@ is-rising (SplittingBelow t b) a e = subst (IsRising (SplittingBelow t b)) (same
 is-rising (SplittingInner t b) a e = subst (IsRising (SplittingInner t b)) (same-ascent b a e) (record { wants = refl; knows = λ s f. f.1 })
 is-rising (SplittingInnerRoot t b) a e = subst (IsRising (SplittingInnerRoot t b)) (same-ascent b a e) (record { wants = refl; knows = λ s f. f.1 })
 is-rising (Merging t) a e = absurd (cc)
+is-rising (MergingInner t) a e = absurd (cc)
+is-rising (Lowering t) a e = absurd (cc)
 
 pub rises-on : (t : AnyTask) → Ends t → (a up : Ascent) (s : Scene) → ascent_of t ≡ Some a → IsOneUp a up → s.past.config ≡ config_of t → IsScene s → facts_of t Waiting s → end_of t ≡ Some NeedsRoom → IsAscent up s.past
 rises-on t ends a up s is one same good f e =

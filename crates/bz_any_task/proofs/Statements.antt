@@ -2,6 +2,9 @@
 use Rattle.std.proofs.Common.{◌≡◌, ◌+◌, ◌≤◌, true, Some, arith, refl}
 use Rattle.bz_consol.specs.Duties as consol
 use Rattle.bz_consol.specs.declared.consolidate.Consolidate.{Consolidate}
+use Rattle.bz_inner.specs.JoinFacts.{joining_needs}
+use Rattle.bz_inner.specs.declared.join_phase.JoinPhase.{JoinPhase}
+use Rattle.bz_inner.specs.declared.join_phase.JoinPhase.TheVariants as join
 use Rattle.bz_insert.specs.Facts.{insert_made, insert_publishes}
 use Rattle.bz_insert.specs.declared.phase.InsertPhase.{InsertPhase}
 use Rattle.bz_insert.specs.declared.phase.InsertPhase.TheVariants.{Publish}
@@ -17,13 +20,20 @@ use Rattle.bz_mutate.specs.declared.update_phase.UpdatePhase.TheVariants.{Replac
 use Rattle.bz_task.specs.Scene.{Scene, Waiting, HasFilled}
 use Rattle.bz_layout.specs.declared.swaps.TheConstants.{DELETE_SWAPS, INSERT_SWAPS, UPDATE_SWAPS}
 use Rattle.bz_task.specs.declared.todo.Outcome.{Outcome}
+use Rattle.bz_writer.specs.declared.phase.WritePhase.TheVariants as write
 use Rattle.bz_any_task.specs.Duties.{made_of, change_swaps, needs_of, wants_of, end_of, publishing_of, facts_of, means_of, view_of}
 use Rattle.bz_any_task.specs.declared.running.AnyTask.{AnyTask}
-use Rattle.bz_any_task.specs.declared.running.AnyTask.TheVariants.{Seeking, Finding, Reading, Inserting, Updating, Deleting, Freezing, Consolidating, Splitting, SplittingBelow, SplittingInner, SplittingInnerRoot, Merging}
+use Rattle.bz_any_task.specs.declared.running.AnyTask.TheVariants.{Seeking, Finding, Reading, Inserting, Updating, Deleting, Freezing, Consolidating, Splitting, SplittingBelow, SplittingInner, SplittingInnerRoot, Merging, MergingInner, Lowering}
 
 -- what its end means
 abbrev pub Ends : AnyTask → Type 0
 Ends t = (s : Scene) (outcome : Outcome) → facts_of t Waiting s → end_of t ≡ Some outcome → means_of t outcome s × HasFilled s
+
+-- a merge of inner nodes takes two slots
+joining-few : (p : JoinPhase) → joining_needs p ≤ MERGE_SLOTS
+joining-few join.Fresh = omega arith
+joining-few (join.Writing write.Fresh) = omega arith
+joining-few p = omega arith
 
 -- what a task still is to take is no more than what it takes in all
 pub takes-few : ((t : Consolidate) → consol.needs_of t ≤ CONSOLIDATION_SLOTS) → ((t : Merge) → merge.needs_of t ≤ MERGE_SLOTS) → (t : AnyTask) → needs_of t ≤ SPLIT_SLOTS → needs_of t ≤ wants_of t
@@ -41,6 +51,8 @@ takes-few one merging (SplittingBelow t a) few = few
 takes-few one merging (SplittingInner t a) few = few
 takes-few one merging (SplittingInnerRoot t a) few = few
 takes-few one merging (Merging t) few = merging t
+takes-few one merging (MergingInner t) few = joining-few t.phase
+takes-few one merging (Lowering t) few = omega arith
 
 -- and no more than a split takes
 pub wants-few : (t : AnyTask) → wants_of t ≤ SPLIT_SLOTS
@@ -58,6 +70,8 @@ wants-few (SplittingBelow t a) = omega arith
 wants-few (SplittingInner t a) = omega arith
 wants-few (SplittingInnerRoot t a) = omega arith
 wants-few (Merging t) = omega arith
+wants-few (MergingInner t) = omega arith
+wants-few (Lowering t) = omega arith
 
 -- the swap that makes a change is the last one of those that the change takes
 by-insert : (phase : InsertPhase) → insert_publishes phase ≡ true → insert_made phase + 1 ≡ INSERT_SWAPS

@@ -18,6 +18,8 @@ use Rattle.bz_descend.specs.SeekDuties.{seek_view}
 use Rattle.bz_find.specs.Duties.{find_view}
 use Rattle.bz_fork.specs.Duties.{fork_view}
 use Rattle.bz_freeze.specs.Duties.{freeze_view}
+use Rattle.bz_inner.specs.JoinDuties as joining
+use Rattle.bz_inner.specs.LowerDuties.{lower_view}
 use Rattle.bz_insert.specs.Duties.{insert_view}
 use Rattle.bz_leaf.specs.Duties.{leaf_view}
 use Rattle.bz_merge.specs.Duties.{merge_view}
@@ -27,7 +29,7 @@ use Rattle.bz_mutate.specs.DeleteDuties.{delete_view}
 use Rattle.bz_mutate.specs.UpdateDuties.{update_view}
 use Rattle.bz_any_task.specs.Ascending.{on_ascent}
 use Rattle.bz_any_task.specs.declared.running.AnyTask.{AnyTask}
-use Rattle.bz_any_task.specs.declared.running.AnyTask.TheVariants.{Seeking, Finding, Reading, Inserting, Updating, Deleting, Freezing, Consolidating, Splitting, SplittingBelow, SplittingInner, SplittingInnerRoot, Merging}
+use Rattle.bz_any_task.specs.declared.running.AnyTask.TheVariants.{Seeking, Finding, Reading, Inserting, Updating, Deleting, Freezing, Consolidating, Splitting, SplittingBelow, SplittingInner, SplittingInnerRoot, Merging, MergingInner, Lowering}
 
 -- whichever task it is, as its contract sees it
 unfoldable pub view_of : AnyTask → TaskView
@@ -44,6 +46,8 @@ view_of (SplittingBelow t a) = on_ascent a (below_view t)
 view_of (SplittingInner t a) = on_ascent a (fork_view t)
 view_of (SplittingInnerRoot t a) = on_ascent a (crown_view t)
 view_of (Merging t) = merge_view t
+view_of (MergingInner t) = joining.merge_view t
+view_of (Lowering t) = lower_view t
 
 abbrev pub config_of : AnyTask → Config
 config_of t = (view_of t).config
@@ -99,6 +103,8 @@ change_swaps (SplittingBelow t a) = 0
 change_swaps (SplittingInner t a) = 0
 change_swaps (SplittingInnerRoot t a) = 0
 change_swaps (Merging t) = 0
+change_swaps (MergingInner t) = 0
+change_swaps (Lowering t) = 0
 
 -- how many slots it takes from its begin to its end, if it takes any
 unfoldable pub wants_of : AnyTask → ℕ
@@ -115,6 +121,8 @@ wants_of (SplittingBelow t a) = SPLIT_SLOTS
 wants_of (SplittingInner t a) = SPLIT_SLOTS
 wants_of (SplittingInnerRoot t a) = SPLIT_SLOTS
 wants_of (Merging t) = MERGE_SLOTS
+wants_of (MergingInner t) = MERGE_SLOTS
+wants_of (Lowering t) = 0
 
 -- it is a delete, without whose record so few words of its leaf's block are live, as the leaf was viewed, that the leaf may be too small
 unfoldable pub leaves_few_of : AnyTask → Bool
@@ -131,6 +139,8 @@ leaves_few_of (SplittingBelow t a) = false
 leaves_few_of (SplittingInner t a) = false
 leaves_few_of (SplittingInnerRoot t a) = false
 leaves_few_of (Merging t) = false
+leaves_few_of (MergingInner t) = false
+leaves_few_of (Lowering t) = false
 
 -- how far up the way from the leaf it splits, if it does
 unfoldable pub ascent_of : AnyTask → Option Ascent
@@ -147,6 +157,8 @@ ascent_of (SplittingBelow t a) = Some a
 ascent_of (SplittingInner t a) = Some a
 ascent_of (SplittingInnerRoot t a) = Some a
 ascent_of (Merging t) = None
+ascent_of (MergingInner t) = None
+ascent_of (Lowering t) = None
 
 -- it makes no change of a key, and never publishes
 unfoldable pub makes_no_change : AnyTask → Bool
@@ -163,6 +175,8 @@ makes_no_change (SplittingBelow t a) = true
 makes_no_change (SplittingInner t a) = true
 makes_no_change (SplittingInnerRoot t a) = true
 makes_no_change (Merging t) = true
+makes_no_change (MergingInner t) = true
+makes_no_change (Lowering t) = true
 
 pub no-change-is-published : (t : AnyTask) → makes_no_change t ≡ true → publishing_of t ≡ false
 unfolding makes_no_change view_of
@@ -179,3 +193,24 @@ no-change-is-published (SplittingBelow t a) e = refl
 no-change-is-published (SplittingInner t a) e = refl
 no-change-is-published (SplittingInnerRoot t a) e = refl
 no-change-is-published (Merging t) e = refl
+no-change-is-published (MergingInner t) e = refl
+no-change-is-published (Lowering t) e = refl
+
+-- told to begin it goes on: it is no change, which ends where it has no room, no look-up of a key in a leaf, and no lowering of a root that has
+-- not one child, as the path shows it
+unfoldable pub goes_on : AnyTask → Bool
+goes_on (Seeking t) = true
+goes_on (Finding t) = false
+goes_on (Reading t) = true
+goes_on (Inserting t) = false
+goes_on (Updating t) = false
+goes_on (Deleting t) = false
+goes_on (Freezing t) = true
+goes_on (Consolidating t) = true
+goes_on (Splitting t) = true
+goes_on (SplittingBelow t a) = true
+goes_on (SplittingInner t a) = true
+goes_on (SplittingInnerRoot t a) = true
+goes_on (Merging t) = true
+goes_on (MergingInner t) = true
+goes_on (Lowering t) = t.lone

@@ -3,7 +3,7 @@ use Rattle.std.specs.Prelude.{◌≡◌, ◌≤◌}
 use Rattle.bz_task.specs.declared.todo.Outcome.{Outcome}
 use Rattle.bz_task.specs.declared.todo.Outcome.TheVariants.{Path, View, Key, Done, Restart, NeedsRoom, Full}
 use Rattle.bz_any_task.specs.Duties.{made_of, needs_of, swaps_of, wants_of}
-use Rattle.bz_any_task.specs.Kinds.{Kind, Seek, Find, ReadWhole, Insert, Update, Delete, Freeze, Copy, SplitRootLeaf, SplitLeaf, SplitNode, SplitRootNode, Merge}
+use Rattle.bz_any_task.specs.Kinds.{Kind, Seek, Find, ReadWhole, Insert, Update, Delete, Freeze, Copy, SplitRootLeaf, SplitLeaf, SplitNode, SplitRootNode, Merge, MergeNodes, LowerRoot}
 use Rattle.bz_any_task.specs.declared.running.AnyTask.{AnyTask}
 
 -- a look-up takes no slot and asks for no swap
@@ -64,3 +64,5 @@ IsEndOf (SplitLeaf a) = EndsOrNeedsRoom
 IsEndOf (SplitNode a) = EndsOrNeedsRoom
 IsEndOf (SplitRootNode a) = EndsInRoom
 IsEndOf Merge = EndsOrNeedsRoom
+IsEndOf MergeNodes = EndsOrNeedsRoom
+IsEndOf LowerRoot = EndsOrNeedsRoom

@@ -13,8 +13,8 @@ use Rattle.bz_task.specs.declared.todo.Seen.TheVariants.{Start}
 use Rattle.bz_task.specs.declared.todo.Todo.{Todo}
 use Rattle.bz_task.specs.declared.view.KeyView.{KeyView}
 use Rattle.bz_task.specs.declared.view.LeafView.{LeafView}
-use Rattle.bz_any_task.specs.Duties.{end_of, made_of, change_swaps, wants_of, ascent_of, means_of, makes_no_change, leaves_few_of, view_of}
-use Rattle.bz_any_task.specs.Kinds.{Find, Merge, kind_of}
+use Rattle.bz_any_task.specs.Duties.{end_of, made_of, change_swaps, wants_of, ascent_of, means_of, makes_no_change, leaves_few_of, goes_on, view_of}
+use Rattle.bz_any_task.specs.Kinds.{Merge, kind_of}
 use Rattle.bz_any_task.specs.MadeFor.{IsMadeFor, IsMergeFor, IsSmallMerge}
 use Rattle.bz_any_task.specs.declared.running.AnyTask.{AnyTask}
 
@@ -42,7 +42,7 @@ pub record HasHeard (old : AnyTask) (seen : Seen) (moment : ℕ) (free : FreeSlo
   pub merge_for : (key : List ℕ) (p : Past) → IsMergeFor old key p → IsMergeFor new key p
   pub small_for : (key : List ℕ) (p : Past) → IsSmallMerge old key p → IsSmallMerge new key p
   pub few : leaves_few_of new ≡ leaves_few_of old
-  -- told to begin it goes on, where it makes no change and is no look-up in a leaf
-  pub begins : seen ≡ Start → makes_no_change old ≡ true → kind_of old ≢ Find → end_of new ≡ None
+  -- told to begin it goes on, if it is one that does
+  pub begins : seen ≡ Start → goes_on old ≡ true → end_of new ≡ None
   -- a merge that ends because no neighbour has room has frozen nothing: none of its swaps has taken effect
   pub no_neighbour : kind_of old ≡ Merge → end_of new ≡ Some outcome.NeedsRoom → made_of old + effects_in seen ≡ 0

@@ -3,13 +3,13 @@ use Rattle.std.specs.Prelude.{◌≡◌, ◌<◌, ◌⊎◌, ℕ, ◌-◌, Bool,
 use Rattle.bz_ascent.specs.Ascents.{IsAtLeaf}
 use Rattle.bz_ascent.specs.declared.ascent.Ascent.{Ascent}
 use Rattle.bz_task.specs.declared.path.Path.{Path}
-use Rattle.bz_any_task.specs.Duties.{ascent_of}
+use Rattle.bz_any_task.specs.Duties.{ascent_of, goes_on}
 use Rattle.bz_any_task.specs.declared.running.AnyTask.{AnyTask}
-use Rattle.bz_any_task.specs.declared.running.AnyTask.TheVariants.{Seeking, Finding, Reading, Inserting, Updating, Deleting, Freezing, Consolidating, Splitting, SplittingBelow, SplittingInner, SplittingInnerRoot, Merging}
+use Rattle.bz_any_task.specs.declared.running.AnyTask.TheVariants.{Seeking, Finding, Reading, Inserting, Updating, Deleting, Freezing, Consolidating, Splitting, SplittingBelow, SplittingInner, SplittingInnerRoot, Merging, MergingInner, Lowering}
 
 -- the way to the leaf of a key, the key in its leaf, a leaf read whole; the changes of a record; the freeze and the copy of a leaf; the splits: of
 -- a root that is a leaf, of a leaf below a parent, of an inner node below a parent, and of a root that is one, each of the last three with how
--- far up the way from the leaf it is; and a merge
+-- far up the way from the leaf it is; the merge of a leaf, and of an inner node under the root; and the lowering of the root
 pub data Kind : Type 0 where
   Seek : Kind
   Find : Kind
@@ -24,6 +24,8 @@ pub data Kind : Type 0 where
   SplitNode : (a : Ascent) → Kind
   SplitRootNode : (a : Ascent) → Kind
   Merge : Kind
+  MergeNodes : Kind
+  LowerRoot : Kind
 
 unfoldable pub kind_of : AnyTask → Kind
 kind_of (Seeking t) = Seek
@@ -39,6 +41,8 @@ kind_of (SplittingBelow t a) = SplitLeaf a
 kind_of (SplittingInner t a) = SplitNode a
 kind_of (SplittingInnerRoot t a) = SplitRootNode a
 kind_of (Merging t) = Merge
+kind_of (MergingInner t) = MergeNodes
+kind_of (Lowering t) = LowerRoot
 
 -- the three that look up and do no more
 abbrev pub is_look : Kind → Bool
@@ -55,8 +59,11 @@ is_look (SplitLeaf a) = false
 is_look (SplitNode a) = false
 is_look (SplitRootNode a) = false
 is_look Merge = false
+is_look MergeNodes = false
+is_look LowerRoot = false
 
--- those that freeze a leaf, or put new nodes in the place of one, by one swap
+-- those that freeze a leaf, or put new nodes in the place of one, by one swap; but for the two that take a level away, which none but a call
+-- that has had its effect begins
 abbrev pub is_renewal : Kind → Bool
 is_renewal Seek = false
 is_renewal Find = false
@@ -71,6 +78,44 @@ is_renewal (SplitLeaf a) = true
 is_renewal (SplitNode a) = true
 is_renewal (SplitRootNode a) = true
 is_renewal Merge = false
+is_renewal MergeNodes = false
+is_renewal LowerRoot = false
+
+-- a task of such a kind goes on as it begins, whatever it was made of
+abbrev pub begins_on : Kind → Bool
+begins_on Seek = true
+begins_on Find = false
+begins_on ReadWhole = true
+begins_on Insert = false
+begins_on Update = false
+begins_on Delete = false
+begins_on Freeze = true
+begins_on Copy = true
+begins_on SplitRootLeaf = true
+begins_on (SplitLeaf a) = true
+begins_on (SplitNode a) = true
+begins_on (SplitRootNode a) = true
+begins_on Merge = true
+begins_on MergeNodes = true
+begins_on LowerRoot = false
+
+pub kinds-tell-what-goes-on : (t : AnyTask) → begins_on (kind_of t) ≡ true → goes_on t ≡ true
+unfolding kind_of goes_on
+kinds-tell-what-goes-on (Seeking t) e = refl
+kinds-tell-what-goes-on (Finding t) e = absurd (cc)
+kinds-tell-what-goes-on (Reading t) e = refl
+kinds-tell-what-goes-on (Inserting t) e = absurd (cc)
+kinds-tell-what-goes-on (Updating t) e = absurd (cc)
+kinds-tell-what-goes-on (Deleting t) e = absurd (cc)
+kinds-tell-what-goes-on (Freezing t) e = refl
+kinds-tell-what-goes-on (Consolidating t) e = refl
+kinds-tell-what-goes-on (Splitting t) e = refl
+kinds-tell-what-goes-on (SplittingBelow t a) e = refl
+kinds-tell-what-goes-on (SplittingInner t a) e = refl
+kinds-tell-what-goes-on (SplittingInnerRoot t a) e = refl
+kinds-tell-what-goes-on (Merging t) e = refl
+kinds-tell-what-goes-on (MergingInner t) e = refl
+kinds-tell-what-goes-on (Lowering t) e = absurd (cc)
 
 -- the level of the node to which an ascent has come: that of the leaf is 0
 abbrev pub level_of : Ascent → ℕ

@@ -16,4 +16,5 @@ pub mod FromCrown
 pub mod FromFork
 pub mod FromDescend
 pub mod FromInsert
+pub mod FromInner
 pub mod FromFind

@@ -14,7 +14,7 @@ use Rattle.bz_task.specs.declared.todo.Todo.TheVariants.{Read, Finish}
 use Rattle.bz_task.specs.declared.view.KeyView.{KeyView}
 use Rattle.bz_any_task.specs.Duties.{asks_of, end_of, change_of, facts_of}
 use Rattle.bz_any_task.specs.declared.running.AnyTask.{AnyTask}
-use Rattle.bz_any_task.specs.declared.running.AnyTask.TheVariants.{Seeking, Finding, Reading, Inserting, Updating, Deleting, Freezing, Consolidating, Splitting, SplittingBelow, SplittingInner, SplittingInnerRoot, Merging}
+use Rattle.bz_any_task.specs.declared.running.AnyTask.TheVariants.{Seeking, Finding, Reading, Inserting, Updating, Deleting, Freezing, Consolidating, Splitting, SplittingBelow, SplittingInner, SplittingInnerRoot, Merging, MergingInner, Lowering}
 
 -- what a task looks for without reading a leaf whole: the way to the leaf of a key, or the key in its leaf; other tasks look for neither
 pub data Look : Type 0 where
@@ -36,6 +36,8 @@ look_of (SplittingBelow t a) = NoLook
 look_of (SplittingInner t a) = NoLook
 look_of (SplittingInnerRoot t a) = NoLook
 look_of (Merging t) = NoLook
+look_of (MergingInner t) = NoLook
+look_of (Lowering t) = NoLook
 
 -- how many reads it has asked for; of no other task is this told
 unfoldable pub reads_asked : AnyTask → ℕ
@@ -52,6 +54,8 @@ reads_asked (SplittingBelow t a) = 0
 reads_asked (SplittingInner t a) = 0
 reads_asked (SplittingInnerRoot t a) = 0
 reads_asked (Merging t) = 0
+reads_asked (MergingInner t) = 0
+reads_asked (Lowering t) = 0
 
 -- the reads that are asked for by this
 abbrev pub reads_in : Todo → ℕ

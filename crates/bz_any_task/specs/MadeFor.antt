@@ -16,7 +16,7 @@ use Rattle.bz_task.specs.Scene.{Past}
 use Rattle.bz_task.specs.declared.path.Link.{Link}
 use Rattle.bz_task.specs.declared.view.LeafView.{LeafView}
 use Rattle.bz_any_task.specs.declared.running.AnyTask.{AnyTask}
-use Rattle.bz_any_task.specs.declared.running.AnyTask.TheVariants.{Seeking, Finding, Reading, Inserting, Updating, Deleting, Freezing, Consolidating, Splitting, SplittingBelow, SplittingInner, SplittingInnerRoot, Merging}
+use Rattle.bz_any_task.specs.declared.running.AnyTask.TheVariants.{Seeking, Finding, Reading, Inserting, Updating, Deleting, Freezing, Consolidating, Splitting, SplittingBelow, SplittingInner, SplittingInnerRoot, Merging, MergingInner, Lowering}
 
 -- at a moment since the look-up began the key's leaf was the one in this slot
 pub record WasLeafOf (key : List ℕ) (slot : ℕ) (p : Past) : Type 0 where
@@ -123,6 +123,8 @@ IsMadeFor (SplittingBelow t a) = λ key words p. AreHalvesAtFoot key t.lower.slo
 IsMadeFor (SplittingInner t a) = λ key words p. HasComeBelow key t.middle.slot a p
 IsMadeFor (SplittingInnerRoot t a) = λ key words p. HasComeToRoot key t.upper.slot a p
 IsMadeFor (Merging t) = λ key words p. ⊥
+IsMadeFor (MergingInner t) = λ key words p. ⊥
+IsMadeFor (Lowering t) = λ key words p. ⊥
 
 -- the task is a merge for this key, which stands in the place of a copy
 unfoldable pub IsMergeFor : AnyTask → List ℕ → Past → Type 0

@@ -41,6 +41,7 @@ use bz_descend::Seek;
 use bz_find::Find;
 use bz_fork::SplitInner;
 use bz_freeze::Freeze;
+use bz_inner::{Lower, MergeInner};
 use bz_insert::Insert;
 use bz_key::{Key, PageBuf, Payload};
 use bz_layout::{Config, ROOT_STATUS_AT, Slots};
@@ -65,6 +66,8 @@ pub enum AnyTask {
     SplittingInner(SplitInner, Ascent),
     SplittingInnerRoot(SplitInnerRoot, Ascent),
     Merging(Merge),
+    MergingInner(MergeInner),
+    Lowering(Lower),
 }
 
 impl AnyTask {
@@ -335,7 +338,7 @@ impl AnyTask {
     }
 
     /// Tells the task what came of its last act, and answers what it asks for next: `next`, and that one which makes no change makes none later.
-    #[tactic(auto, unfolding(crate::specs::Duties::view_of, crate::specs::Duties::change_swaps, crate::specs::Duties::wants_of, crate::specs::Duties::ascent_of, crate::specs::Duties::makes_no_change, crate::specs::MadeFor::IsMadeFor, crate::specs::MadeFor::IsMergeFor, crate::specs::MadeFor::IsSmallMerge, crate::specs::Kinds::kind_of))]
+    #[tactic(auto, unfolding(crate::specs::Duties::view_of, crate::specs::Duties::change_swaps, crate::specs::Duties::wants_of, crate::specs::Duties::ascent_of, crate::specs::Duties::makes_no_change, crate::specs::Duties::goes_on, crate::specs::MadeFor::IsMadeFor, crate::specs::MadeFor::IsMergeFor, crate::specs::MadeFor::IsSmallMerge, crate::specs::Kinds::kind_of))]
     pub fn hear(&mut self, seen: Seen, slots: &mut Slots, moment: u32) -> Todo
         requires hears { Hears (asks_of self.old) seen }
         requires known { IsKnown (config_of self.old) (facts_of self.old) (asks_of self.old) seen moment }
@@ -358,6 +361,8 @@ impl AnyTask {
             AnyTask::SplittingInner(task, _) => task.next(seen, slots, moment),
             AnyTask::SplittingInnerRoot(task, _) => task.next(seen, slots, moment),
             AnyTask::Merging(task) => task.next(seen, slots, moment),
+            AnyTask::MergingInner(task) => task.next(seen, slots, moment),
+            AnyTask::Lowering(task) => task.next(seen, slots, moment),
         }
     }
 
@@ -417,6 +422,8 @@ impl Task for AnyTask {
             AnyTask::SplittingInner(task, _) => task.publishes(),
             AnyTask::SplittingInnerRoot(task, _) => task.publishes(),
             AnyTask::Merging(task) => task.publishes(),
+            AnyTask::MergingInner(task) => task.publishes(),
+            AnyTask::Lowering(task) => task.publishes(),
         }
     }
 
@@ -436,6 +443,8 @@ impl Task for AnyTask {
             AnyTask::SplittingInner(task, _) => task.ended(),
             AnyTask::SplittingInnerRoot(task, _) => task.ended(),
             AnyTask::Merging(task) => task.ended(),
+            AnyTask::MergingInner(task) => task.ended(),
+            AnyTask::Lowering(task) => task.ended(),
         }
     }
 
@@ -455,6 +464,8 @@ impl Task for AnyTask {
             AnyTask::SplittingInner(task, _) => task.next(seen, slots, moment),
             AnyTask::SplittingInnerRoot(task, _) => task.next(seen, slots, moment),
             AnyTask::Merging(task) => task.next(seen, slots, moment),
+            AnyTask::MergingInner(task) => task.next(seen, slots, moment),
+            AnyTask::Lowering(task) => task.next(seen, slots, moment),
         }
     }
 
@@ -474,6 +485,8 @@ impl Task for AnyTask {
             AnyTask::SplittingInner(task, _) => task.learnt(),
             AnyTask::SplittingInnerRoot(task, _) => task.learnt(),
             AnyTask::Merging(task) => task.learnt(),
+            AnyTask::MergingInner(task) => task.learnt(),
+            AnyTask::Lowering(task) => task.learnt(),
         }
     }
 
@@ -493,6 +506,8 @@ impl Task for AnyTask {
             AnyTask::SplittingInner(task, _) => task.acted(),
             AnyTask::SplittingInnerRoot(task, _) => task.acted(),
             AnyTask::Merging(task) => task.acted(),
+            AnyTask::MergingInner(task) => task.acted(),
+            AnyTask::Lowering(task) => task.acted(),
         }
     }
 }

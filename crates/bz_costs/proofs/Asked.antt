@@ -13,6 +13,15 @@ use Rattle.bz_any_task.specs.FromFork.Duties.{fork_of}
 use Rattle.bz_any_task.specs.FromFork.Facts.{Fork, fork_asks, fork_swaps}
 use Rattle.bz_freeze.specs.Facts.{freeze_asks, freeze_swaps}
 use Rattle.bz_any_task.specs.FromInsert.Facts.{insert_asks, insert_swaps}
+use Rattle.bz_any_task.specs.FromInner.JoinDuties.{joining_of}
+use Rattle.bz_any_task.specs.FromInner.JoinFacts.{joining_asks, joining_swaps}
+use Rattle.bz_any_task.specs.FromInner.Joinings.{Joining}
+use Rattle.bz_any_task.specs.FromInner.JoinPhase.{JoinPhase}
+use Rattle.bz_any_task.specs.FromInner.JoinPhase.TheVariants as join
+use Rattle.bz_any_task.specs.FromInner.LowerDuties.{lowering_of}
+use Rattle.bz_any_task.specs.FromInner.LowerFacts.{Lowering as Lowers, lower_asks, lower_swaps}
+use Rattle.bz_any_task.specs.FromInner.LowerPhase.{LowerPhase}
+use Rattle.bz_any_task.specs.FromInner.LowerPhase.TheVariants as lower
 use Rattle.bz_layout.specs.declared.config.Config.{Config}
 use Rattle.bz_leaf.specs.Facts.{leaf_asks}
 use Rattle.bz_any_task.specs.FromMerge.Counts.{merge_swaps}
@@ -29,7 +38,7 @@ use Rattle.bz_task.specs.Requests.{swaps_in}
 use Rattle.bz_task.specs.declared.path.Link.{Link}
 use Rattle.bz_task.specs.declared.view.KeyView.{KeyView}
 use Rattle.bz_any_task.specs.Duties.{view_of}
-use Rattle.bz_any_task.specs.declared.running.AnyTask.TheVariants.{Seeking, Finding, Reading, Inserting, Updating, Deleting, Freezing, Consolidating, Splitting, SplittingBelow, SplittingInner, SplittingInnerRoot, Merging}
+use Rattle.bz_any_task.specs.declared.running.AnyTask.TheVariants.{Seeking, Finding, Reading, Inserting, Updating, Deleting, Freezing, Consolidating, Splitting, SplittingBelow, SplittingInner, SplittingInnerRoot, Merging, MergingInner, Lowering}
 use Rattle.bz_costs.specs.Laws.{AskedSwapsAreCounted}
 use Rattle.bz_descend.specs.declared.sight.Way.{Way as SeekPhase}
 use Rattle.bz_descend.specs.declared.sight.Way.TheVariants as seek
@@ -110,6 +119,15 @@ merge-counted : (c : Config) (r : Merge) (p : MergePhase) → swaps_in (merge_as
 merge-counted c r merge.Fresh = omega arith
 merge-counted c r p = omega arith
 
+joining-counted : (c : Config) (r : Joining) (p : JoinPhase) → swaps_in (joining_asks c r p) ≤ joining_swaps p
+joining-counted c r join.Fresh = omega arith
+joining-counted c r (join.Writing write.Fresh) = omega arith
+joining-counted c r p = omega arith
+
+lower-counted : (c : Config) (r : Lowers) (p : LowerPhase) → swaps_in (lower_asks c r p) ≤ lower_swaps p
+lower-counted c r lower.Fresh = omega arith
+lower-counted c r p = omega arith
+
 pub asked-counted : AskedSwapsAreCounted
 unfolding view_of
 asked-counted (Seeking t) = seek-counted t.config t.phase
@@ -125,3 +143,5 @@ asked-counted (SplittingBelow t a) = below-counted t.config (below_of t) t.phase
 asked-counted (SplittingInner t a) = fork-counted t.config (fork_of t) t.phase
 asked-counted (SplittingInnerRoot t a) = crown-counted t.config (crown_of t) t.phase
 asked-counted (Merging t) = merge-counted t.config (merging_of t) t.phase
+asked-counted (MergingInner t) = joining-counted t.config (joining_of t) t.phase
+asked-counted (Lowering t) = lower-counted t.config (lowering_of t) t.phase

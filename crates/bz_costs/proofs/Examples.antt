@@ -5,7 +5,7 @@ use Rattle.bz_costs.specs.Examples.{WeightsAreTold, CostsAreTold}
 
 pub weights-are-told : WeightsAreTold
 unfolding digits_in
-weights-are-told = record { seek = refl; find = refl; leaf = refl; insert = refl; update = refl; delete = refl; freeze = refl; copy = refl; merge = refl; root = refl; below = refl; inner = refl; inner_root = refl; lost_below = refl; lost_inner = refl }
+weights-are-told = record { seek = refl; find = refl; leaf = refl; insert = refl; update = refl; delete = refl; freeze = refl; copy = refl; merge = refl; root = refl; below = refl; inner = refl; inner_root = refl; joining = refl; lowering = refl; lost_below = refl; lost_inner = refl }
 
 pub costs-are-told : CostsAreTold
 unfolding digits_in

@@ -8,6 +8,12 @@ use Rattle.bz_any_task.specs.FromFind.Phases.{reads_of}
 use Rattle.bz_any_task.specs.FromFork.Facts.{fork_acts, fork_left, fork_needs, fork_swaps}
 use Rattle.bz_freeze.specs.Facts.{freeze_left, freeze_swaps}
 use Rattle.bz_any_task.specs.FromInsert.Facts.{insert_acts, insert_left, insert_swaps}
+use Rattle.bz_any_task.specs.FromInner.JoinFacts.{joining_acts, joining_left, joining_needs, joining_swaps}
+use Rattle.bz_any_task.specs.FromInner.JoinPhase.{JoinPhase}
+use Rattle.bz_any_task.specs.FromInner.JoinPhase.TheVariants as join
+use Rattle.bz_any_task.specs.FromInner.LowerFacts.{LOWER_ACTS, lower_left, lower_swaps}
+use Rattle.bz_any_task.specs.FromInner.LowerPhase.{LowerPhase}
+use Rattle.bz_any_task.specs.FromInner.LowerPhase.TheVariants as lower
 use Rattle.bz_layout.specs.declared.swaps.TheConstants.{DELETE_SWAPS, FREEZE_SWAPS, INSERT_SWAPS, MERGE_SWAPS, RENEWAL_SWAPS, UPDATE_SWAPS}
 use Rattle.bz_layout.specs.declared.thresholds.TheConstants.{CONSOLIDATION_SLOTS, MERGE_SLOTS, SPLIT_SLOTS}
 use Rattle.bz_leaf.specs.Facts.{leaf_acts, leaf_left}
@@ -17,7 +23,7 @@ use Rattle.bz_mutate.specs.DeleteFacts.{delete_left, delete_swaps}
 use Rattle.bz_mutate.specs.UpdateFacts.{update_acts, update_left, update_swaps}
 use Rattle.bz_below.specs.FromSplit.Facts.{split_acts, split_left, split_needs, split_swaps}
 use Rattle.bz_any_task.specs.Duties.{view_of}
-use Rattle.bz_any_task.specs.declared.running.AnyTask.TheVariants.{Seeking, Finding, Reading, Inserting, Updating, Deleting, Freezing, Consolidating, Splitting, SplittingBelow, SplittingInner, SplittingInnerRoot, Merging}
+use Rattle.bz_any_task.specs.declared.running.AnyTask.TheVariants.{Seeking, Finding, Reading, Inserting, Updating, Deleting, Freezing, Consolidating, Splitting, SplittingBelow, SplittingInner, SplittingInnerRoot, Merging, MergingInner, Lowering}
 use Rattle.bz_costs.specs.Resources.{Resource, Marks, Descriptors, Slots}
 use Rattle.bz_costs.specs.Laws.{TasksWeighLittle}
 use Rattle.bz_costs.specs.Weights.{weight}
@@ -99,6 +105,15 @@ merge-few true p = omega arith
 merge-few false merge.Fresh = omega arith
 merge-few false p = omega arith
 
+joining-few : (p : JoinPhase) → joining_left p ≤ joining_acts
+joining-few join.Fresh = omega arith
+joining-few (join.Writing write.Fresh) = omega arith
+joining-few p = omega arith
+
+lower-few : (p : LowerPhase) → lower_left p ≤ LOWER_ACTS
+lower-few lower.Fresh = omega arith
+lower-few p = omega arith
+
 insert-swaps : (p : InsertPhase) → insert_swaps p ≤ INSERT_SWAPS
 insert-swaps insert.Fresh = omega arith
 insert-swaps p = omega arith
@@ -141,6 +156,15 @@ merge-swaps : (p : MergePhase) → merge_swaps p ≤ MERGE_SWAPS
 merge-swaps merge.Fresh = omega arith
 merge-swaps p = omega arith
 
+joining-swaps : (p : JoinPhase) → joining_swaps p ≤ RENEWAL_SWAPS
+joining-swaps join.Fresh = omega arith
+joining-swaps (join.Writing write.Fresh) = omega arith
+joining-swaps p = omega arith
+
+lower-swaps : (p : LowerPhase) → lower_swaps p ≤ RENEWAL_SWAPS
+lower-swaps lower.Fresh = omega arith
+lower-swaps p = omega arith
+
 none : 0 ≤ 0
 none = omega arith
 
@@ -170,6 +194,11 @@ merge-needs : (p : MergePhase) → merge_needs p ≤ MERGE_SLOTS
 merge-needs merge.Fresh = omega arith
 merge-needs p = omega arith
 
+joining-needs : (p : JoinPhase) → joining_needs p ≤ MERGE_SLOTS
+joining-needs join.Fresh = omega arith
+joining-needs (join.Writing write.Fresh) = omega arith
+joining-needs p = omega arith
+
 -- fewer steps, swaps and slots weigh less, also where one swap is not counted any more
 lighter : (r : Resource) (left most swaps all now slots needs : ℕ) → left ≤ most → swaps ≤ all → needs ≤ slots → weight r left (swaps - now) needs ≤ weight r most all slots
 lighter Marks left most swaps all now slots needs l s n = omega (arith, l, s)
@@ -191,3 +220,5 @@ weigh-little r (SplittingBelow t a) w = lighter r _ _ _ _ _ _ _ w (below-swaps t
 weigh-little r (SplittingInner t a) w = lighter r _ _ _ _ _ _ _ (fork-few t.phase) (fork-swaps t.phase) (fork-needs t.phase)
 weigh-little r (SplittingInnerRoot t a) w = lighter r _ _ _ _ _ _ _ (crown-few t.phase) (crown-swaps t.phase) (crown-needs t.phase)
 weigh-little r (Merging t) w = lighter r _ _ _ _ _ _ _ (merge-few t.side.right t.phase) (merge-swaps t.phase) (merge-needs t.phase)
+weigh-little r (MergingInner t) w = lighter r _ _ _ _ _ _ _ (joining-few t.phase) (joining-swaps t.phase) (joining-needs t.phase)
+weigh-little r (Lowering t) w = lighter r _ _ _ _ _ _ _ (lower-few t.phase) (lower-swaps t.phase) none

@@ -4,7 +4,7 @@ use Rattle.bz_layout.specs.declared.config.Config.{Config}
 use Rattle.bz_costs.specs.Resources.{Marks, Descriptors, Slots}
 use Rattle.bz_costs.specs.Failing.{cost_of_lost_below, cost_of_lost_inner}
 use Rattle.bz_costs.specs.Solo.{rest_of_round, solo_most}
-use Rattle.bz_costs.specs.Most.{most_of_seek, most_of_find, most_of_leaf, most_of_insert, most_of_update, most_of_delete, most_of_freeze, most_of_copy, most_of_merge, most_of_root, most_of_below, most_of_inner, most_of_inner_root}
+use Rattle.bz_costs.specs.Most.{most_of_seek, most_of_find, most_of_leaf, most_of_insert, most_of_update, most_of_delete, most_of_freeze, most_of_copy, most_of_merge, most_of_joining, most_of_lowering, most_of_root, most_of_below, most_of_inner, most_of_inner_root}
 use Rattle.bz_costs.specs.Stretches.{cost_from, solo_stretch}
 
 -- a configuration of so many workers
@@ -26,6 +26,8 @@ pub record WeightsAreTold : Type 0 where
   pub below : most_of_below Marks ≡ 1385
   pub inner : most_of_inner Marks ≡ 867
   pub inner_root : most_of_inner_root Marks ≡ 738
+  pub joining : most_of_joining Marks ≡ 835
+  pub lowering : most_of_lowering Marks ≡ 130
   pub lost_below : cost_of_lost_below Marks ≡ 2
   pub lost_inner : cost_of_lost_inner Marks ≡ 130
 

@@ -10,6 +10,8 @@ use Rattle.bz_any_task.specs.FromFork.Facts.{fork_acts}
 use Rattle.bz_freeze.specs.Facts.{freeze_left}
 use Rattle.bz_freeze.specs.declared.phase.FreezePhase.TheVariants as freeze
 use Rattle.bz_any_task.specs.FromInsert.Facts.{insert_acts}
+use Rattle.bz_any_task.specs.FromInner.JoinFacts.{joining_acts}
+use Rattle.bz_any_task.specs.FromInner.LowerFacts.{LOWER_ACTS}
 use Rattle.bz_layout.specs.declared.swaps.TheConstants.{DELETE_SWAPS, FREEZE_SWAPS, INSERT_SWAPS, MERGE_SWAPS, RENEWAL_SWAPS, UPDATE_SWAPS}
 use Rattle.bz_layout.specs.declared.thresholds.TheConstants.{CONSOLIDATION_SLOTS, MERGE_SLOTS, SPLIT_SLOTS}
 use Rattle.bz_leaf.specs.Facts.{leaf_acts}
@@ -19,7 +21,7 @@ use Rattle.bz_mutate.specs.UpdateFacts.{update_acts}
 use Rattle.bz_mutate.specs.declared.delete_phase.DeletePhase.TheVariants as delete
 use Rattle.bz_below.specs.FromSplit.Facts.{split_acts}
 use Rattle.bz_any_task.specs.declared.running.AnyTask.{AnyTask}
-use Rattle.bz_any_task.specs.declared.running.AnyTask.TheVariants.{Seeking, Finding, Reading, Inserting, Updating, Deleting, Freezing, Consolidating, Splitting, SplittingBelow, SplittingInner, SplittingInnerRoot, Merging}
+use Rattle.bz_any_task.specs.declared.running.AnyTask.TheVariants.{Seeking, Finding, Reading, Inserting, Updating, Deleting, Freezing, Consolidating, Splitting, SplittingBelow, SplittingInner, SplittingInnerRoot, Merging, MergingInner, Lowering}
 use Rattle.bz_costs.specs.Resources.{Resource}
 use Rattle.bz_costs.specs.Weights.{weight}
 
@@ -67,6 +69,13 @@ most_of_inner r = weight r fork_acts RENEWAL_SWAPS SPLIT_SLOTS
 abbrev pub most_of_inner_root : Resource → ℕ
 most_of_inner_root r = weight r crown_acts RENEWAL_SWAPS SPLIT_SLOTS
 
+-- a merge of two inner nodes, and a lowering of the root
+abbrev pub most_of_joining : Resource → ℕ
+most_of_joining r = weight r joining_acts RENEWAL_SWAPS MERGE_SLOTS
+
+abbrev pub most_of_lowering : Resource → ℕ
+most_of_lowering r = weight r LOWER_ACTS RENEWAL_SWAPS 0
+
 abbrev pub most_of : Resource → AnyTask → ℕ
 most_of r (Seeking t) = most_of_seek r
 most_of r (Finding t) = most_of_find r
@@ -81,6 +90,8 @@ most_of r (SplittingBelow t a) = most_of_below r
 most_of r (SplittingInner t a) = most_of_inner r
 most_of r (SplittingInnerRoot t a) = most_of_inner_root r
 most_of r (Merging t) = most_of_merge r
+most_of r (MergingInner t) = most_of_joining r
+most_of r (Lowering t) = most_of_lowering r
 
 -- it has no more steps left than at its begin: of the split of a leaf below a parent this is to be known, since the number of loads in which
 -- it may read its parent anew is one that it keeps; of each other task it is always so

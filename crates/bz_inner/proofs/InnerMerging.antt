@@ -185,7 +185,7 @@ module _ (s : Scene) (y : Instant) (a b p ma mb mp i q m : ℕ) (ra rb rp : List
       (subst (λ n. Halves (children_of (words c (here s) m)) (children_of n) (children_of (durable c (here s) b)) (count_of n) sep) (sym left.words)
       (subst (λ n. Halves (children_of (words c (here s) m)) (children_of (node_of ra)) (children_of n) (count_of (node_of ra)) sep) (sym right.words) f.joined))
 
-  joins : JoinsInner c x z a b q m sep
+  pub joins : JoinsInner c x z a b q m sep
   joins = record {
     inside = stands-a.inside;
     inside_b = stands-b.inside;

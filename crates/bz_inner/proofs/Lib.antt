@@ -1,13 +1,13 @@
 mod Roots
-mod Lowering
+pub mod Lowering
 mod LowerViewing
 mod LowerStaying
 mod LowerGoing
-mod LowerActing
+pub mod LowerActing
 mod Relinks
 mod RootTurns
 mod StillOpen
-mod InnerMerging
+pub mod InnerMerging
 mod Separators
 mod NodesRead
 mod Meeting
@@ -17,7 +17,7 @@ mod JoinTelling
 mod JoinWeighing
 mod Choosing
 mod JoinMaking
-mod JoinPlans
+pub mod JoinPlans
 mod JoinLooking
 mod JoinActing
 mod JoinGoing

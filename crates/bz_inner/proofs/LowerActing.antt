@@ -56,7 +56,7 @@ module _ (r : Lowering) (s : Scene) (good : IsScene s) (v : HasLoneRoot r.upper 
   node : IsOpenLink r.upper.slot r.lower s.past
   node = record { guard = v.node.guard; thawed = thawed; under = v.node.under; parent = v.node.parent }
 
-  lowering : IsLowering r.upper r.lower s
+  pub lowering : IsLowering r.upper r.lower s
   lowering = record { under = v.under; node = node; slot = v.slot; one = v.one }
 
   upper-turns : IsTurnable r.upper s

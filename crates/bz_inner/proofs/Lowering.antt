@@ -137,7 +137,7 @@ module _ (s : Scene) (y : Instant) (upper lower : Link) (good : IsScene s) (f : 
   abbrev z : Image
   z = image_of y.image
 
-  lowers : LowersRoot c x z to
+  pub lowers : LowersRoot c x z to
   lowers = record {
     inner = subst (λ j. 0 < level_of (node c (resolve (here s).image) j)) (sym root-is) level;
     one = subst (λ j. count_of (node c (resolve (here s).image) j) ≡ 1) (sym root-is) one;

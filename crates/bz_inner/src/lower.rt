@@ -1,6 +1,6 @@
 //! The task that lowers the root.
 
-ghost use Rattle.std.specs.Prelude.{◌≡◌, ◌≢◌, ℕ, List, Some, slice_get};
+ghost use Rattle.std.specs.Prelude.{◌≡◌, ◌≢◌, ◌↔◌, ℕ, IsTrue, List, Some, slice_get};
 ghost use Rattle.bz_layout.specs.Config.{IsConfig};
 ghost use Rattle.bz_layout.specs.declared.swaps.TheConstants.{RENEWAL_SWAPS};
 ghost use Rattle.bz_task.specs.Contract.{IsBegun, MayHear, GoesOn, Learns};
@@ -40,6 +40,7 @@ impl Lower {
     pub fn new(config: &Config, path: Path) -> Lower
         ensures begun { IsBegun (⟦<Lower as Task>⟧.view result) config.now LOWER_ACTS RENEWAL_SWAPS 0 }
         ensures change { (⟦<Lower as Task>⟧.view result).change ≡ no_change }
+        ensures lone { IsTrue result.lone ↔ IsLone path }
         ensures slot { (upper : Link) → slice_get path.links 0 ≡ Some upper → ((⟦<Lower as Task>⟧.view result).basis).slot ≡ upper.slot }
         ensures facts { (key : List ℕ) (s : Scene) → s.past.config ≡ config.now → IsScene s → IsPath key path s.past → (⟦<Lower as Task>⟧.view result).facts Waiting s }
         ensures done { (upper lower : Link) (s : Scene) → slice_get path.links 0 ≡ Some upper → slice_get path.links 1 ≡ Some lower → (⟦<Lower as Task>⟧.view result).means Outcome.Done s → IsLone path × WasLowered upper lower s.past }

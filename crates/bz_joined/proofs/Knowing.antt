@@ -20,7 +20,7 @@ use Rattle.bz_task.specs.Scene.{Past, Scene, Waiting, Continues, IsScene}
 use Rattle.bz_task.specs.declared.path.Link.{Link}
 use Rattle.bz_task.specs.declared.todo.Outcome.TheVariants.{NeedsRoom}
 use Rattle.bz_rounds.specs.FromAlone.AnyTask.{AnyTask}
-use Rattle.bz_rounds.specs.FromAlone.AnyTask.TheVariants.{Seeking, Finding, Reading, Inserting, Updating, Deleting, Freezing, Consolidating, Splitting, SplittingBelow, SplittingInner, SplittingInnerRoot, Merging}
+use Rattle.bz_rounds.specs.FromAlone.AnyTask.TheVariants.{Seeking, Finding, Reading, Inserting, Updating, Deleting, Freezing, Consolidating, Splitting, SplittingBelow, SplittingInner, SplittingInnerRoot, Merging, MergingInner, Lowering}
 use Rattle.bz_rounds.specs.FromAlone.Duties.{end_of, facts_of, means_of, view_of}
 use Rattle.bz_rounds.specs.FromAlone.Kinds as kinds
 use Rattle.bz_rounds.specs.FromAlone.Kinds.{kind_of}
@@ -93,6 +93,8 @@ merges-know (Splitting t) key s good f is e m = absurd (cc)
 merges-know (SplittingBelow t a) key s good f is e m = absurd (cc)
 merges-know (SplittingInner t a) key s good f is e m = absurd (cc)
 merges-know (SplittingInnerRoot t a) key s good f is e m = absurd (cc)
+merges-know (MergingInner t) key s good f is e m = absurd (cc)
+merges-know (Lowering t) key s good f is e m = absurd (cc)
 
 -- what is known of moments stays
 module _ (p q : Past) (c : Continues p q) where
@@ -187,6 +189,8 @@ means-so (Splitting t) s f is e = absurd (cc)
 means-so (SplittingBelow t a) s f is e = absurd (cc)
 means-so (SplittingInner t a) s f is e = absurd (cc)
 means-so (SplittingInnerRoot t a) s f is e = absurd (cc)
+means-so (MergingInner t) s f is e = absurd (cc)
+means-so (Lowering t) s f is e = absurd (cc)
 
 pub tasks-try : UndisturbedTasksTryTheirNeighbours
 tasks-try t key s good f is e alone k m = undisturbed-lack key k.upper k.lower k.leaf s good alone k.was k.read (k.means s (means-so t s f is e)) m

@@ -29,7 +29,7 @@ use Rattle.bz_task.specs.Scene.{Scene, IsScene}
 use Rattle.bz_task.specs.Shown.{SameShownNode}
 use Rattle.bz_task.specs.declared.path.Link.{Link}
 use Rattle.bz_task.proofs.Proved.{frozen_nodes_stay, leaves_are_in_trees, ranges_stay, same_records_show_the_same, seen_leaves_are_whole}
-use Rattle.bz_rounds.specs.FromAlone.AnyTask.TheVariants.{Seeking, Finding, Reading, Inserting, Updating, Deleting, Freezing, Consolidating, Splitting, SplittingBelow, SplittingInner, SplittingInnerRoot, Merging}
+use Rattle.bz_rounds.specs.FromAlone.AnyTask.TheVariants.{Seeking, Finding, Reading, Inserting, Updating, Deleting, Freezing, Consolidating, Splitting, SplittingBelow, SplittingInner, SplittingInnerRoot, Merging, MergingInner, Lowering}
 use Rattle.bz_rounds.specs.FromAlone.Duties.{view_of}
 use Rattle.bz_rounds.specs.FromAlone.MadeFor.{WasLeafOf, IsMergeFor}
 use Rattle.bz_joined.specs.Neighbours.{WasMergeable, MergesLackSlotsRightly}
@@ -180,3 +180,5 @@ merges-lack (Splitting t) key s good o means = absurd (o)
 merges-lack (SplittingBelow t a) key s good o means = absurd (o)
 merges-lack (SplittingInner t a) key s good o means = absurd (o)
 merges-lack (SplittingInnerRoot t a) key s good o means = absurd (o)
+merges-lack (MergingInner t) key s good o means = absurd (o)
+merges-lack (Lowering t) key s good o means = absurd (o)

@@ -7,7 +7,7 @@ use Rattle.bz_task.specs.Instant.{Instant, form_at}
 use Rattle.bz_task.specs.Scene.{Scene, IsScene, here}
 use Rattle.bz_stage.specs.Laws.{LeavesALevel}
 use Rattle.bz_undisturbed.specs.Undisturbed.{IsUndisturbed}
-use Rattle.bz_undisturbed.specs.FromRunning.AnyTask.TheVariants.{Seeking, Finding, Reading, Inserting, Updating, Deleting, Freezing, Consolidating, Splitting, SplittingBelow, SplittingInner, SplittingInnerRoot, Merging}
+use Rattle.bz_undisturbed.specs.FromRunning.AnyTask.TheVariants.{Seeking, Finding, Reading, Inserting, Updating, Deleting, Freezing, Consolidating, Splitting, SplittingBelow, SplittingInner, SplittingInnerRoot, Merging, MergingInner, Lowering}
 use Rattle.bz_undisturbed.specs.FromRunning.Duties.{view_of}
 use Rattle.bz_undisturbed.specs.FromRunning.Kinds.{kind_of}
 use Rattle.bz_undisturbed.specs.FromRunning.MadeFor.{IsMadeFor}
@@ -52,3 +52,5 @@ undisturbed-left (SplittingInner t a) key words entries s y l m few =
 undisturbed-left (SplittingInnerRoot t a) key words entries s y l m few =
     has-split a key words s y l.good l.alone l.knows.1.0 (root-parts t a key words entries s y (own _ _ _ _ entries s y l) l.knows.1.0 m.come) (root-parts-leave t a key words entries s y (own _ _ _ _ entries s y l) l.knows.1.0 m.come)
 undisturbed-left (Merging t) key words entries s y l m few = absurd m
+undisturbed-left (MergingInner t) key words entries s y l m few = absurd m
+undisturbed-left (Lowering t) key words entries s y l m few = absurd m

@@ -9,7 +9,7 @@ use Rattle.bz_task.specs.declared.todo.Todo.{Todo}
 use Rattle.bz_task.specs.declared.view.LeafView.{LeafView}
 use Rattle.bz_undisturbed.specs.FromRunning.Duties.{view_of}
 use Rattle.bz_undisturbed.specs.FromRunning.MadeFor.{WasLeafOf, IsMadeFor}
-use Rattle.bz_undisturbed.specs.FromRunning.AnyTask.TheVariants.{Seeking, Finding, Reading, Inserting, Updating, Deleting, Freezing, Consolidating, Splitting, SplittingBelow, SplittingInner, SplittingInnerRoot, Merging}
+use Rattle.bz_undisturbed.specs.FromRunning.AnyTask.TheVariants.{Seeking, Finding, Reading, Inserting, Updating, Deleting, Freezing, Consolidating, Splitting, SplittingBelow, SplittingInner, SplittingInnerRoot, Merging, MergingInner, Lowering}
 use Rattle.bz_rounds.specs.Falls.{Falls, GivesRoom}
 use Rattle.bz_rounds.specs.Laws.{UndisturbedSwapsLowerTheStage}
 use Rattle.bz_rounds.specs.Undisturbed.{IsUndisturbedSwap}
@@ -51,3 +51,5 @@ undisturbed-swaps (SplittingBelow t a) key words entries s y l m few =
 undisturbed-swaps (SplittingInner t a) key words entries s y l m few = inner-halves t a key words entries s y (own _ _ _ _ entries s y l) l.knows.1.0 m.come
 undisturbed-swaps (SplittingInnerRoot t a) key words entries s y l m few = root-parts t a key words entries s y (own _ _ _ _ entries s y l) l.knows.1.0 m.come
 undisturbed-swaps (Merging t) key words entries s y l m few = absurd m
+undisturbed-swaps (MergingInner t) key words entries s y l m few = absurd m
+undisturbed-swaps (Lowering t) key words entries s y l m few = absurd m

@@ -17,7 +17,7 @@ use Rattle.bz_stage.specs.Laws.{LeavesALevel}
 use Rattle.bz_stage.specs.Stages.{stage_in}
 use Rattle.bz_undisturbed.specs.FromRunning.AnyTask.{AnyTask}
 use Rattle.bz_undisturbed.specs.FromRunning.Duties.{config_of, asks_of, facts_of}
-use Rattle.bz_undisturbed.specs.FromRunning.Kinds.{Kind, Seek, Find, ReadWhole, Insert, Update, Delete, Freeze, Copy, SplitRootLeaf, SplitLeaf, SplitNode, SplitRootNode, Merge, kind_of, level_of}
+use Rattle.bz_undisturbed.specs.FromRunning.Kinds.{Kind, Seek, Find, ReadWhole, Insert, Update, Delete, Freeze, Copy, SplitRootLeaf, SplitLeaf, SplitNode, SplitRootNode, Merge, MergeNodes, LowerRoot, kind_of, level_of}
 use Rattle.bz_undisturbed.specs.FromRunning.MadeFor.{HasComeTo, IsMadeFor}
 use Rattle.bz_rounds.specs.Falls.{Falls, GivesRoom}
 use Rattle.bz_rounds.specs.Undisturbed.{IsUndisturbedSwap}
@@ -57,6 +57,8 @@ IsLeft (SplitLeaf a) c x y key words = GivesRoom c x y key words
 IsLeft (SplitNode a) c x y key words = HasSplit c x y key words a
 IsLeft (SplitRootNode a) c x y key words = HasSplit c x y key words a
 IsLeft Merge c x y key words = Unit {0}
+IsLeft MergeNodes c x y key words = Unit {0}
+IsLeft LowerRoot c x y key words = Unit {0}
 
 abbrev pub UndisturbedSwapsLeave : Type 0
 UndisturbedSwapsLeave =

@@ -3,7 +3,7 @@ use Rattle.std.proofs.Common.{◌≡◌, ℕ, zero, suc, ◌+◌, ◌-◌, ◌*�
 use Rattle.bz_costs.specs.Resources.{Marks}
 use Rattle.bz_costs.specs.Laws.{TasksWeighLittle}
 use Rattle.bz_costs.specs.Solo.{rest_of_round, own_marks}
-use Rattle.bz_costs.specs.Most.{most_of, most_of_seek, most_of_find, most_of_leaf, most_of_insert, most_of_update, most_of_delete, most_of_freeze, most_of_copy, most_of_merge, most_of_root, most_of_below, most_of_inner, most_of_inner_root}
+use Rattle.bz_costs.specs.Most.{most_of, most_of_seek, most_of_find, most_of_leaf, most_of_insert, most_of_update, most_of_delete, most_of_freeze, most_of_copy, most_of_merge, most_of_joining, most_of_lowering, most_of_root, most_of_below, most_of_inner, most_of_inner_root}
 use Rattle.bz_costs.specs.Stretches.{cost_of_change, solo_stretch}
 use Rattle.bz_costs.specs.Weights.{weigh}
 use Rattle.bz_swap_machine.specs.Allowed.{for_worker, sum_below}
@@ -45,6 +45,8 @@ most_for (kinds.SplitLeaf a) = most_of_below Marks
 most_for (kinds.SplitNode a) = most_of_inner Marks
 most_for (kinds.SplitRootNode a) = most_of_inner_root Marks
 most_for kinds.Merge = most_of_merge Marks
+most_for kinds.MergeNodes = most_of_joining Marks
+most_for kinds.LowerRoot = most_of_lowering Marks
 
 most-is : (t : AnyTask) → most_of Marks t ≡ most_for (kind_of t)
 unfolding kind_of

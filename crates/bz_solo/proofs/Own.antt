@@ -201,8 +201,8 @@ module _ (r : Resource) (b : Laws r) (m n : SwapMemory) (w : ℕ) (e : Errand) (
           two : 0 < change_swaps t → 2 ≤ swaps_of t
           two l = elim (cases_lt 1 (swaps_of t)) [ inl more ↦ omega (arith, more) | inr less ↦ true-false (sym (own.laws.publishes_last entries (own_kinds.swapping-changes t l) less own.asks) ∙ hides) ]
 
-          go : (swaps_of t ≡ 0) ⊎ (0 < change_swaps t) → IsPaid r n w e t 1 0 more by q
-          go (inl z) = absurd (none z)
+          go : (is_look (kind_of t) ≡ true) ⊎ (0 < change_swaps t) → IsPaid r n w e t 1 0 more by q
+          go (inl look) = absurd (none (own.laws.looks look).swaps)
           go (inr l) =
               let change : own_kinds.is_change (kind_of t) ≡ true = own_kinds.swapping-change t l in
               let write : is_read e.call ≡ false = own_kinds.writes e.call (kind_of t) (paid.look quiet) (own_kinds.change-looks (kind_of t) change) in

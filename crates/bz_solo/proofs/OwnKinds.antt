@@ -8,7 +8,7 @@ use Rattle.bz_costs.specs.FromRunning.Kinds.{Kind, kind_of, is_look, is_renewal}
 use Rattle.bz_costs.specs.FromRunning.Laws.{AreLaws}
 use Rattle.bz_costs.specs.FromRunning.MadeFor.{IsMadeFor}
 use Rattle.bz_costs.specs.FromRunning.AnyTask.{AnyTask}
-use Rattle.bz_costs.specs.FromRunning.AnyTask.TheVariants.{Seeking, Finding, Reading, Inserting, Updating, Deleting, Merging}
+use Rattle.bz_costs.specs.FromRunning.AnyTask.TheVariants.{Seeking, Finding, Reading, Inserting, Updating, Deleting, Merging, MergingInner, Lowering}
 use Rattle.bz_task.specs.Scene.{Past}
 use Rattle.bz_task.specs.declared.todo.Outcome.{Outcome}
 use Rattle.bz_task.specs.declared.todo.Todo.TheVariants.{Swap, Finish}
@@ -100,6 +100,8 @@ making (Inserting t) key words p m = absurd m
 making (Updating t) key words p m = absurd m
 making (Deleting t) key words p m = absurd m
 making (Merging t) key words p m = absurd m
+making (MergingInner t) key words p m = absurd m
+making (Lowering t) key words p m = absurd m
 making t key words p m = record { silent = refl; once = refl; works = refl; renews = refl }
 
 -- a task that asks for a swap has not ended

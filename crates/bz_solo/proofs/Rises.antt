@@ -66,6 +66,8 @@ written-rises r q x e (kinds.SplitLeaf a) h = h.below
 written-rises r q x e (kinds.SplitNode a) h = h.inner (level_of a)
 written-rises r q x e (kinds.SplitRootNode a) h = h.inner (level_of a)
 written-rises r q x e kinds.Merge h = h.merged
+written-rises r q x e kinds.MergeNodes h = least 0
+written-rises r q x e kinds.LowerRoot h = least 0
 
 pub all-rises : (r : Resource) (q x : Prices) (e : Errand) (k : Kind) → IsNoMore q x → coming r q e k ≤ coming r x e k
 all-rises r q x e k h = coming-rises r q x e k (written-rises r q x e k h)
@@ -156,3 +158,5 @@ next-pays r law e (kinds.SplitLeaf a) alone leaf stage = next-viewed (most_of_se
 next-pays r law e (kinds.SplitNode a) alone leaf stage = next-lost _ (most_of_seek r) (most_of_leaf r) (most_of_find r) (cost_of_change r) (cost_once_viewed r 0) _ (lost-few r (level_of a)) (viewed-least r law alone leaf stage)
 next-pays r law e (kinds.SplitRootNode a) alone leaf stage = next-lost _ (most_of_seek r) (most_of_leaf r) (most_of_find r) (cost_of_change r) (cost_once_viewed r 0) _ (lost-few r (level_of a)) (viewed-least r law alone leaf stage)
 next-pays r law e kinds.Merge alone leaf stage = least _
+next-pays r law e kinds.MergeNodes alone leaf stage = least _
+next-pays r law e kinds.LowerRoot alone leaf stage = least _

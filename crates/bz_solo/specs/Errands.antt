@@ -65,3 +65,5 @@ may_swap_twice (kinds.SplitLeaf a) = false
 may_swap_twice (kinds.SplitNode a) = false
 may_swap_twice (kinds.SplitRootNode a) = false
 may_swap_twice kinds.Merge = true
+may_swap_twice kinds.MergeNodes = true
+may_swap_twice kinds.LowerRoot = true

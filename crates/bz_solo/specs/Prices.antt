@@ -85,6 +85,8 @@ coming_to_read r (kinds.SplitLeaf a) = 0
 coming_to_read r (kinds.SplitNode a) = 0
 coming_to_read r (kinds.SplitRootNode a) = 0
 coming_to_read r kinds.Merge = 0
+coming_to_read r kinds.MergeNodes = 0
+coming_to_read r kinds.LowerRoot = 0
 
 -- of one that has a change to make
 abbrev pub coming_to_write : Resource → Prices → Errand → Kind → ℕ
@@ -101,6 +103,8 @@ coming_to_write r q e (kinds.SplitLeaf a) = q.below
 coming_to_write r q e (kinds.SplitNode a) = q.inner (level_of a)
 coming_to_write r q e (kinds.SplitRootNode a) = q.inner (level_of a)
 coming_to_write r q e kinds.Merge = q.merged
+coming_to_write r q e kinds.MergeNodes = 0
+coming_to_write r q e kinds.LowerRoot = 0
 
 -- and of one that has had it: a delete may look its leaf up once more, and have it merged
 abbrev pub coming_after : Resource → Kind → ℕ
@@ -117,6 +121,8 @@ coming_after r (kinds.SplitLeaf a) = 0
 coming_after r (kinds.SplitNode a) = 0
 coming_after r (kinds.SplitRootNode a) = 0
 coming_after r kinds.Merge = 0
+coming_after r kinds.MergeNodes = 0
+coming_after r kinds.LowerRoot = 0
 
 abbrev pub coming : Resource → Prices → Errand → Kind → ℕ
 coming r q e kind = if e.effected then coming_after r kind else if is_read e.call then coming_to_read r kind else coming_to_write r q e kind

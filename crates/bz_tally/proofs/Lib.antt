@@ -7,6 +7,8 @@ pub mod HalvingBelow
 pub mod HalvingInner
 pub mod Lasts
 pub mod LeafWords
+pub mod LevelSwaps
+pub mod Levels
 pub mod Links
 pub mod Lives
 pub mod Merges

@@ -5,12 +5,13 @@ use Rattle.bz_tally.proofs.Deletes.{deletes-take-one, deletes-tell-few}
 use Rattle.bz_tally.proofs.HalvingBelow.{halves-below}
 use Rattle.bz_tally.proofs.HalvingInner.{halves-inner}
 use Rattle.bz_tally.proofs.Lasts.{merges-count-at-last}
+use Rattle.bz_tally.proofs.LevelSwaps.{inner-merged, root-lowered}
 use Rattle.bz_tally.proofs.Merges.{merges-count}
 use Rattle.bz_tally.proofs.PartingRoot.{root-parts}
 use Rattle.bz_tally.proofs.RootHalving.{root-halves}
 use Rattle.bz_tally.proofs.Tasks.{leaves-come-and-go, swaps-count}
 use Rattle.bz_tally.specs.Deletes.{DeletesTakeOneRecord, DeletesTellFew}
-use Rattle.bz_tally.specs.Laws.{ChangesKeepTheLeaves, CopiesKeepTheLeaves, InnerRootSplitsKeepTheLeaves, InnerSplitsKeepTheLeaves, LeafSplitsCount, LeavesComeAndGo, MergesCount, MergesCountAtLast, RootLeafSplitsCount, SwapsCount}
+use Rattle.bz_tally.specs.Laws.{ChangesKeepTheLeaves, CopiesKeepTheLeaves, InnerMergesKeepTheLeaves, InnerRootSplitsKeepTheLeaves, InnerSplitsKeepTheLeaves, LeafSplitsCount, LeavesComeAndGo, LoweringsKeepTheLeaves, MergesCount, MergesCountAtLast, RootLeafSplitsCount, SwapsCount}
 
 -- the swaps of inserts, updates, deletes and freezes leave the number
 pub changes_keep_the_leaves : ChangesKeepTheLeaves
@@ -35,6 +36,13 @@ root_leaf_splits_count = root-halves
 -- that of the split of an inner root leaves the number
 pub inner_root_splits_keep_the_leaves : InnerRootSplitsKeepTheLeaves
 inner_root_splits_keep_the_leaves = root-parts
+
+-- so do that of a merge of two inner nodes, and that of a lowering of the root
+pub inner_merges_keep_the_leaves : InnerMergesKeepTheLeaves
+inner_merges_keep_the_leaves = inner-merged
+
+pub lowerings_keep_the_leaves : LoweringsKeepTheLeaves
+lowerings_keep_the_leaves = root-lowered
 
 -- that of a merge's link takes one away, and its freezes leave the number
 pub merges_count : MergesCount

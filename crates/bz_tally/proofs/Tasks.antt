@@ -17,7 +17,7 @@ use Rattle.bz_any_task.specs.FromMerge.MergePhase.TheVariants.{Swap}
 use Rattle.bz_node.specs.declared.image.NodeImage.{NodeImage}
 use Rattle.bz_any_task.specs.Duties.{view_of}
 use Rattle.bz_any_task.specs.declared.running.AnyTask.{AnyTask}
-use Rattle.bz_any_task.specs.declared.running.AnyTask.TheVariants.{Seeking, Finding, Reading, Inserting, Updating, Deleting, Freezing, Consolidating, Splitting, SplittingBelow, SplittingInner, SplittingInnerRoot, Merging}
+use Rattle.bz_any_task.specs.declared.running.AnyTask.TheVariants.{Seeking, Finding, Reading, Inserting, Updating, Deleting, Freezing, Consolidating, Splitting, SplittingBelow, SplittingInner, SplittingInnerRoot, Merging, MergingInner, Lowering}
 use Rattle.bz_word.specs.declared.entry.Entry.{Entry}
 use Rattle.bz_task.specs.Instant.{Instant}
 use Rattle.bz_task.specs.Scene.{Scene}
@@ -29,6 +29,7 @@ use Rattle.bz_tally.proofs.Changes.{changes-keep}
 use Rattle.bz_tally.proofs.Copies.{copies}
 use Rattle.bz_tally.proofs.HalvingBelow.{halves-below}
 use Rattle.bz_tally.proofs.HalvingInner.{halves-inner}
+use Rattle.bz_tally.proofs.LevelSwaps.{inner-merged, root-lowered}
 use Rattle.bz_tally.proofs.Merges.{merges-count}
 use Rattle.bz_tally.proofs.PartingRoot.{root-parts}
 use Rattle.bz_tally.proofs.RootHalving.{root-halves}
@@ -84,6 +85,8 @@ swaps-count (SplittingBelow t a) entries s y w = halves-below t entries s y (rec
 swaps-count (SplittingInner t a) entries s y w = halves-inner t entries s y (record { config = w.config; good = w.good; knows = w.knows.0; asks = w.asks; stand = w.stand; leads = w.leads })
 swaps-count (SplittingInnerRoot t a) entries s y w = root-parts t entries s y (record { config = w.config; good = w.good; knows = w.knows.0; asks = w.asks; stand = w.stand; leads = w.leads })
 swaps-count (Merging t) entries s y w = merges-count t entries s y (record { config = w.config; good = w.good; knows = w.knows; asks = w.asks; stand = w.stand; leads = w.leads })
+swaps-count (MergingInner t) entries s y w = inner-merged t entries s y (record { config = w.config; good = w.good; knows = w.knows; asks = w.asks; stand = w.stand; leads = w.leads })
+swaps-count (Lowering t) entries s y w = root-lowered t entries s y (record { config = w.config; good = w.good; knows = w.knows; asks = w.asks; stand = w.stand; leads = w.leads })
 
 -- of a merge: it keeps them, or takes one away
 merge-cases : (t : Merge) (phase : MergePhase) (s : Scene) (y : Instant) → MergeCounts t phase s y → KeepsTheLeaves s y ⊎ (Renews (Merging t) s y ⊎ (Grows (Merging t) s y ⊎ Shrinks (Merging t) s y))
@@ -104,6 +107,8 @@ come-and-go (Freezing t) s y h = inl h
 come-and-go (Consolidating t) s y h = inr (inl (record { slot = t.link.slot; is = refl; renews = h }))
 come-and-go (SplittingInner t a) s y h = inl h
 come-and-go (SplittingInnerRoot t a) s y h = inl h
+come-and-go (MergingInner t) s y h = inl h
+come-and-go (Lowering t) s y h = inl h
 
 pub leaves-come-and-go : LeavesComeAndGo
 leaves-come-and-go t entries s y w = come-and-go t s y (swaps-count t entries s y w)

@@ -8,6 +8,12 @@ use Rattle.bz_any_task.specs.FromCrown.Duties.{asks_crown, facts_crown}
 use Rattle.bz_any_task.specs.FromCrown.SplitInnerRoot.{SplitInnerRoot}
 use Rattle.bz_any_task.specs.FromFork.Duties.{asks_fork, facts_fork}
 use Rattle.bz_any_task.specs.FromFork.SplitInner.{SplitInner}
+use Rattle.bz_any_task.specs.FromInner.JoinDuties.{asks_joining, joining_of}
+use Rattle.bz_any_task.specs.FromInner.JoinFacts.{joining_facts}
+use Rattle.bz_any_task.specs.FromInner.Lower.{Lower}
+use Rattle.bz_any_task.specs.FromInner.LowerDuties.{asks_lower, lowering_of}
+use Rattle.bz_any_task.specs.FromInner.LowerFacts.{lower_facts}
+use Rattle.bz_any_task.specs.FromInner.MergeInner.{MergeInner}
 use Rattle.bz_freeze.specs.Facts.{freeze_asks, freeze_facts}
 use Rattle.bz_freeze.specs.declared.freeze.Freeze.{Freeze}
 use Rattle.bz_insert.specs.Duties as insert
@@ -58,6 +64,13 @@ InnerRootSplitsKeepTheLeaves = (t : SplitInnerRoot) (entries : List Entry) (s : 
 
 abbrev pub InnerSplitsKeepTheLeaves : Type 0
 InnerSplitsKeepTheLeaves = (t : SplitInner) (entries : List Entry) (s : Scene) (y : Instant) → IsOwnSwap t.config (asks_fork t) (facts_fork t) entries s y → KeepsTheLeaves s y
+
+-- nor do those of the two tasks by which a level goes: the merge of two inner nodes, and the lowering of the root
+abbrev pub InnerMergesKeepTheLeaves : Type 0
+InnerMergesKeepTheLeaves = (t : MergeInner) (entries : List Entry) (s : Scene) (y : Instant) → IsOwnSwap t.config (asks_joining t) (joining_facts (joining_of t) t.phase) entries s y → KeepsTheLeaves s y
+
+abbrev pub LoweringsKeepTheLeaves : Type 0
+LoweringsKeepTheLeaves = (t : Lower) (entries : List Entry) (s : Scene) (y : Instant) → IsOwnSwap t.config (asks_lower t) (lower_facts (lowering_of t) t.phase) entries s y → KeepsTheLeaves s y
 
 -- of a merge the two freezes leave the number, and the swap of the link takes one away
 abbrev pub MergeCounts : Merge → MergePhase → Scene → Instant → Type 0

@@ -11,7 +11,7 @@ use Rattle.bz_rivals.proofs.Proved.{rivals_fall}
 use Rattle.bz_any_task.specs.Duties.{asks_of, change_of}
 use Rattle.bz_any_task.specs.LookingUp.{ForWay, ForKey, NoLook, look_of, reads_asked, IsReadOrEnd}
 use Rattle.bz_any_task.specs.declared.running.AnyTask.{AnyTask}
-use Rattle.bz_any_task.specs.declared.running.AnyTask.TheVariants.{Seeking, Finding, Reading as ReadsLeaf, Inserting, Updating, Deleting, Freezing, Consolidating, Splitting, SplittingBelow, SplittingInner, SplittingInnerRoot, Merging}
+use Rattle.bz_any_task.specs.declared.running.AnyTask.TheVariants.{Seeking, Finding, Reading as ReadsLeaf, Inserting, Updating, Deleting, Freezing, Consolidating, Splitting, SplittingBelow, SplittingInner, SplittingInnerRoot, Merging, MergingInner, Lowering}
 use Rattle.bz_swap.specs.Solo.{allowed_while, allowed_to_all, left_to}
 use Rattle.bz_swap.specs.SwapMemory.{SwapMemory, Doing, Reading, doing_of}
 use Rattle.bz_swap.proofs.Proved.{solo_steps_are_allowed}
@@ -122,6 +122,8 @@ none-made (SplittingBelow t a) l = absurd (l refl)
 none-made (SplittingInner t a) l = absurd (l refl)
 none-made (SplittingInnerRoot t a) l = absurd (l refl)
 none-made (Merging t) l = absurd (l refl)
+none-made (MergingInner t) l = absurd (l refl)
+none-made (Lowering t) l = absurd (l refl)
 
 -- and is told of none
 no-swap : (asks : Option Todo) (s : Scene) → ((todo : Todo) → asks ≡ Some todo → IsReadOrEnd todo) → Tells asks Waiting (Swapped false) s → ⊥

@@ -20,10 +20,13 @@ mod Changing
 mod Named
 mod OwnFreezes
 mod Merging
-mod Tasks
 mod OwnSwaps
 mod Restarts
 mod Trees
+mod Thawed
+mod LoweringRoot
+mod MergingInner
+mod Tasks
 mod Leads
 mod Ways
 mod Brief

@@ -65,7 +65,7 @@ module _ (s : Scene) (good : IsScene s) (link : Link) (g : IsGuarded s.past link
   keeps : (u : IsUnderNode s.past link g.guarded) → KeepsFront s.past.config (s.past.at g.guarded) (here s) u.parent
   keeps u = fronts_stay s.past.config s.past.at s.past.since s.past.now g.guarded s.past.now u.parent good.history (record { since = g.since; order = omega (arith, g.order, g.now); until = omega arith }) u.reached
 
-  inner-now : (u : IsUnderNode s.past link g.guarded) → 0 < (page_at s.past.config (here s) u.parent).level
+  pub inner-now : (u : IsUnderNode s.past link g.guarded) → 0 < (page_at s.past.config (here s) u.parent).level
   inner-now u = subst (λ z. 0 < (header z).level) (sym ((keeps u).front HEADER_AT (λ e. omega (arith, e)) (omega arith))) u.child.inner
 
   pub guard-now : IsRead s.past.config (here s) link.guard

@@ -6,7 +6,9 @@ use Rattle.bz_undisturbed.proofs.Deleting.{deletes-go-on}
 use Rattle.bz_undisturbed.proofs.Finding.{finds-go-on}
 use Rattle.bz_undisturbed.proofs.Freezing.{freezes-go-on}
 use Rattle.bz_undisturbed.proofs.Leads.{paths-lead}
+use Rattle.bz_undisturbed.proofs.LoweringRoot.{lowerings-go-on}
 use Rattle.bz_undisturbed.proofs.Merging.{merges-go-on}
+use Rattle.bz_undisturbed.proofs.MergingInner.{inner-merges-go-on}
 use Rattle.bz_undisturbed.proofs.OwnSwaps.{own-counted}
 use Rattle.bz_undisturbed.proofs.Quiet.{undisturbed, never-fall, quiet-times, read-values}
 use Rattle.bz_undisturbed.proofs.Reading.{readings-go-on}
@@ -22,7 +24,7 @@ use Rattle.bz_undisturbed.proofs.Ways.{paths-read-few}
 use Rattle.bz_undisturbed.specs.Brief.{BriefLookUpsGoOn, GetsAreBrief, LookUpsAreBrief, WaysAreBrief}
 use Rattle.bz_undisturbed.specs.Changes.{InsertsGoOn, MergesGoOn, UpdatesGoOn}
 use Rattle.bz_undisturbed.specs.Counts.{OwnSwapsAreCounted}
-use Rattle.bz_undisturbed.specs.Laws.{ConsolidationsGoOn, DeletesGoOn, FreezesGoOn, InnerRootSplitsGoOn, InnerSplitsGoOn, RootSplitsGoOn, SplitsBelowGoOn}
+use Rattle.bz_undisturbed.specs.Laws.{ConsolidationsGoOn, DeletesGoOn, FreezesGoOn, InnerMergesGoOn, InnerRootSplitsGoOn, InnerSplitsGoOn, LoweringsGoOn, RootSplitsGoOn, SplitsBelowGoOn}
 use Rattle.bz_undisturbed.specs.Lookups.{FindsGoOn, ReadingsGoOn, SeeksGoOn}
 use Rattle.bz_undisturbed.specs.Quiet.{EffectsNeverFall, UndisturbedTimesAreQuiet, QuietTimesStay, ReadValuesStand}
 use Rattle.bz_undisturbed.specs.Reads.{PathsReadFew}
@@ -85,6 +87,14 @@ inner_splits_go_on = inner-splits-go-on
 -- so does that of an inner root
 pub inner_root_splits_go_on : InnerRootSplitsGoOn
 inner_root_splits_go_on = inner-root-splits-go-on
+
+-- so does the merge of two inner nodes under the root
+pub inner_merges_go_on : InnerMergesGoOn
+inner_merges_go_on = inner-merges-go-on
+
+-- so does the lowering of the root
+pub lowerings_go_on : LoweringsGoOn
+lowerings_go_on = lowerings-go-on
 
 -- a descent goes on
 pub seeks_go_on : SeeksGoOn

@@ -20,6 +20,14 @@ use Rattle.bz_any_task.specs.FromFind.FindPhase.TheVariants as find
 use Rattle.bz_any_task.specs.FromFork.Facts.{fork_differs}
 use Rattle.bz_any_task.specs.FromFork.ForkPhase.{ForkPhase}
 use Rattle.bz_any_task.specs.FromFork.ForkPhase.TheVariants as fork
+use Rattle.bz_any_task.specs.FromInner.JoinDuties.{joining_of}
+use Rattle.bz_any_task.specs.FromInner.JoinFacts.{joining_differs}
+use Rattle.bz_any_task.specs.FromInner.Joinings.{Joining}
+use Rattle.bz_any_task.specs.FromInner.JoinPhase.{JoinPhase}
+use Rattle.bz_any_task.specs.FromInner.JoinPhase.TheVariants as join
+use Rattle.bz_any_task.specs.FromInner.LowerFacts.{lower_differs}
+use Rattle.bz_any_task.specs.FromInner.LowerPhase.{LowerPhase}
+use Rattle.bz_any_task.specs.FromInner.LowerPhase.TheVariants as lower
 use Rattle.bz_leaf.specs.Facts.{leaf_differs}
 use Rattle.bz_leaf.specs.declared.phase.LeafPhase.{LeafPhase}
 use Rattle.bz_leaf.specs.declared.phase.LeafPhase.TheVariants as leaf
@@ -103,6 +111,19 @@ of-merge r merge.Fresh (Was v) d = tt
 of-merge r phase (Was v) d = tt
 of-merge r phase seen d = absurd d
 
+of-joining : (r : Joining) (phase : JoinPhase) (seen : Seen) → joining_differs r phase seen → IsOfRead seen
+unfolding IsOfRead
+of-joining r join.Fresh (Was v) d = tt
+of-joining r (join.Writing write.Fresh) (Was v) d = tt
+of-joining r phase (Was v) d = tt
+of-joining r phase seen d = absurd d
+
+of-lower : (st : ℕ) (phase : LowerPhase) (seen : Seen) → lower_differs st phase seen → IsOfRead seen
+unfolding IsOfRead
+of-lower st lower.Fresh (Was v) d = tt
+of-lower st phase (Was v) d = tt
+of-lower st phase seen d = absurd d
+
 of-read : (t : AnyTask) (seen : Seen) → differs_of t seen → IsOfRead seen
 unfolding view_of
 of-read (running.Seeking t) seen d = of-seek t.phase seen d
@@ -118,6 +139,8 @@ of-read (running.SplittingBelow t a) seen d = of-below t.lower t.phase seen d
 of-read (running.SplittingInner t a) seen d = of-fork t.upper t.middle t.lower t.phase seen d
 of-read (running.SplittingInnerRoot t a) seen d = of-crown t.upper t.lower t.phase seen d
 of-read (running.Merging t) seen d = of-merge (merging_of t) t.phase seen d
+of-read (running.MergingInner t) seen d = of-joining (joining_of t) t.phase seen d
+of-read (running.Lowering t) seen d = of-lower t.lower.status t.phase seen d
 
 -- the answer to a read comes while its task waits
 waits : (asked : Option Todo) (stage : Stage) (seen : Seen) (s : Scene) → IsOfRead seen → Tells asked stage seen s → stage ≡ Waiting

@@ -1,13 +1,15 @@
 -- Whichever task it is, by the law of its own kind.
 use Rattle.bz_any_task.specs.Duties.{view_of}
-use Rattle.bz_any_task.specs.declared.running.AnyTask.TheVariants.{Seeking, Finding, Reading, Inserting, Updating, Deleting, Freezing, Consolidating, Splitting, SplittingBelow, SplittingInner, SplittingInnerRoot, Merging}
+use Rattle.bz_any_task.specs.declared.running.AnyTask.TheVariants.{Seeking, Finding, Reading, Inserting, Updating, Deleting, Freezing, Consolidating, Splitting, SplittingBelow, SplittingInner, SplittingInnerRoot, Merging, MergingInner, Lowering}
 use Rattle.bz_undisturbed.specs.Tasks.{UndisturbedTasksGoOn}
 use Rattle.bz_undisturbed.proofs.Changing.{inserts-go-on, updates-go-on}
 use Rattle.bz_undisturbed.proofs.Consolidating.{consolidations-go-on}
 use Rattle.bz_undisturbed.proofs.Deleting.{deletes-go-on}
 use Rattle.bz_undisturbed.proofs.Finding.{finds-go-on}
 use Rattle.bz_undisturbed.proofs.Freezing.{freezes-go-on}
+use Rattle.bz_undisturbed.proofs.LoweringRoot.{lowerings-go-on}
 use Rattle.bz_undisturbed.proofs.Merging.{merges-go-on}
+use Rattle.bz_undisturbed.proofs.MergingInner.{inner-merges-go-on}
 use Rattle.bz_undisturbed.proofs.Reading.{readings-go-on}
 use Rattle.bz_undisturbed.proofs.Seeking.{seeks-go-on}
 use Rattle.bz_undisturbed.proofs.Splitting.{root-splits-go-on}
@@ -30,3 +32,5 @@ undisturbed-tasks-go-on (SplittingBelow t up) s same good f a = splits-below-go-
 undisturbed-tasks-go-on (SplittingInner t up) s same good f a = inner-splits-go-on t s same good f.0 a
 undisturbed-tasks-go-on (SplittingInnerRoot t up) s same good f a = inner-root-splits-go-on t s same good f.0 a
 undisturbed-tasks-go-on (Merging t) s same good f a = merges-go-on t s same good f a
+undisturbed-tasks-go-on (MergingInner t) s same good f a = inner-merges-go-on t s same good f a
+undisturbed-tasks-go-on (Lowering t) s same good f a = lowerings-go-on t s same good f a

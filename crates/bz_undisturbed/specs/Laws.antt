@@ -7,6 +7,12 @@ use Rattle.bz_any_task.specs.FromCrown.Duties.{asks_crown, facts_crown, differs_
 use Rattle.bz_any_task.specs.FromCrown.SplitInnerRoot.{SplitInnerRoot}
 use Rattle.bz_any_task.specs.FromFork.Duties.{asks_fork, facts_fork, differs_fork}
 use Rattle.bz_any_task.specs.FromFork.SplitInner.{SplitInner}
+use Rattle.bz_any_task.specs.FromInner.JoinDuties.{asks_joining, joining_of}
+use Rattle.bz_any_task.specs.FromInner.JoinFacts.{joining_facts, joining_differs}
+use Rattle.bz_any_task.specs.FromInner.Lower.{Lower}
+use Rattle.bz_any_task.specs.FromInner.LowerDuties.{asks_lower, lowering_of}
+use Rattle.bz_any_task.specs.FromInner.LowerFacts.{lower_facts, lower_differs}
+use Rattle.bz_any_task.specs.FromInner.MergeInner.{MergeInner}
 use Rattle.bz_freeze.specs.Facts.{freeze_asks, freeze_facts}
 use Rattle.bz_freeze.specs.declared.freeze.Freeze.{Freeze}
 use Rattle.bz_mutate.specs.DeleteDuties as delete
@@ -36,3 +42,10 @@ InnerSplitsGoOn = (t : SplitInner) → GoesOnUndisturbed 0 t.config (asks_fork t
 
 abbrev pub InnerRootSplitsGoOn : Type 0
 InnerRootSplitsGoOn = (t : SplitInnerRoot) → GoesOnUndisturbed 0 t.config (asks_crown t) (facts_crown t) (differs_crown t)
+
+-- the merge of two inner nodes under the root, and the lowering of the root
+abbrev pub InnerMergesGoOn : Type 0
+InnerMergesGoOn = (t : MergeInner) → GoesOnUndisturbed 0 t.config (asks_joining t) (joining_facts (joining_of t) t.phase) (joining_differs (joining_of t) t.phase)
+
+abbrev pub LoweringsGoOn : Type 0
+LoweringsGoOn = (t : Lower) → GoesOnUndisturbed 0 t.config (asks_lower t) (lower_facts (lowering_of t) t.phase) (lower_differs t.lower.status t.phase)

@@ -21,7 +21,7 @@ use Rattle.bz_mark.specs.declared.marks.Mark.TheVariants.{Begin, End, Load, Stor
 use Rattle.bz_any_task.specs.Duties.{config_of, asks_of, swaps_of, needs_of, wants_of, facts_of, makes_no_change}
 use Rattle.bz_any_task.specs.Hearing.{IsLookup}
 use Rattle.bz_any_task.specs.Kinds as kinds
-use Rattle.bz_any_task.specs.Kinds.{is_renewal, kind_of}
+use Rattle.bz_any_task.specs.Kinds.{is_look, is_renewal, kind_of}
 use Rattle.bz_any_task.specs.Laws.{AreLaws}
 use Rattle.bz_any_task.specs.LookingUp.{ForWay, look_of, reads_asked, LooksUpBriefly}
 use Rattle.bz_any_task.specs.declared.running.AnyTask.{AnyTask}
@@ -281,7 +281,7 @@ module _ (p : Parts) (k : IsAwake p) (w : ℕ) (call : Call) (may : MayBegin p w
         covered = none-unfilled (k.story.took w) (k.story.filled w) (needs_of task) (omega (arith, laws.few, laws.most)) at-rest.filled;
         solitary = solitary-begun;
         alone = record { others = 0; made = 0; counted = omega arith; stands = λ ends. absurd (cc ends) };
-        meant = record { within = within-of task (λ a e. absurd (let other : kinds.Seek ≡ kinds.SplitLeaf a = sym kind ∙ e in cc other)); fit = record { words = few; thawed = λ froze. absurd (true≢false (sym froze)) }; look = λ quiet. subst (IsLookOf call) (sym kind) (seeks call); meant = λ quiet. inl (record { slots = wants; swaps = inl swaps }); later = λ at is. ap is_renewal kind; small = λ merge. absurd (let other : kinds.Seek ≡ kinds.Merge = sym kind ∙ merge in cc other); copied = λ copy. absurd (let other : kinds.Seek ≡ kinds.Copy = sym kind ∙ copy in cc other) };
+        meant = record { within = within-of task (λ a e. absurd (let other : kinds.Seek ≡ kinds.SplitLeaf a = sym kind ∙ e in cc other)); fit = record { words = few; thawed = λ froze. absurd (true≢false (sym froze)) }; look = λ quiet. subst (IsLookOf call) (sym kind) (seeks call); meant = λ quiet. inl (record { slots = wants; swaps = inl (ap is_look kind) }); later = λ at is. ap is_renewal kind; small = λ merge. absurd (let other : kinds.Seek ≡ kinds.Merge = sym kind ∙ merge in cc other); copied = λ copy. absurd (let other : kinds.Seek ≡ kinds.Copy = sym kind ∙ copy in cc other) };
         merges = λ solitary. record { looking = λ quiet seek. omega arith; deleting = λ quiet delete on. absurd (cc (kind, delete)); merging = λ at is deletes. absurd (cc is) };
         exact = λ solitary room. inl (record { quiet = refl; looks = seek-seeks (kind_of task) kind; thawed = refl; same_taken = refl; same_left = refl; first = refl; alone = omega arith });
         paid = λ r counted. s.solo.rounds.begin r p.access w (errand_of fresh) task (used_in r mid w) (bound_in r mid w) 2 here.past here.past (begun here.past refl) (pays r counted);

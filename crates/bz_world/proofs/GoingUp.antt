@@ -13,15 +13,15 @@ use Rattle.bz_solo.specs.Prices.{coming}
 use Rattle.bz_solo.specs.Renewals.{IsAbove}
 use Rattle.bz_solo.specs.Rounds.{stage_now}
 use Rattle.bz_solo.specs.Sum.{Spares, IsClean}
-use Rattle.bz_any_task.specs.Duties.{ascent_of, wants_of, facts_of, makes_no_change, view_of}
+use Rattle.bz_any_task.specs.Duties.{ascent_of, wants_of, facts_of, makes_no_change, view_of, goes_on}
 use Rattle.bz_any_task.specs.Ends.{IsEndOf}
 use Rattle.bz_any_task.specs.GoingUp.{HasOneUp}
 use Rattle.bz_any_task.specs.Kinds as kinds
-use Rattle.bz_any_task.specs.Kinds.{is_look, ascent_in, level_of, kind_of, kinds-tell-the-ascent}
+use Rattle.bz_any_task.specs.Kinds.{begins_on, is_look, ascent_in, level_of, kind_of, kinds-tell-the-ascent, kinds-tell-what-goes-on}
 use Rattle.bz_any_task.specs.Laws.{AreLaws}
 use Rattle.bz_any_task.specs.MadeFor.{HasFoot, WasCrowded, IsMadeFor}
 use Rattle.bz_any_task.specs.declared.running.AnyTask.{AnyTask}
-use Rattle.bz_any_task.specs.declared.running.AnyTask.TheVariants.{Seeking, Finding, Reading, Inserting, Updating, Deleting, Freezing, Consolidating, Splitting, SplittingBelow, SplittingInner, SplittingInnerRoot, Merging}
+use Rattle.bz_any_task.specs.declared.running.AnyTask.TheVariants.{Seeking, Finding, Reading, Inserting, Updating, Deleting, Freezing, Consolidating, Splitting, SplittingBelow, SplittingInner, SplittingInnerRoot, Merging, MergingInner, Lowering}
 use Rattle.bz_stage.specs.Stages.{stage_in}
 use Rattle.bz_task.specs.Scene.{Past, Scene, IsScene, Waiting}
 use Rattle.bz_task.specs.declared.path.Path.{Path}
@@ -38,7 +38,7 @@ use Rattle.bz_world.proofs.Due.{looks-only}
 use Rattle.bz_world.proofs.Exactly.{again-ended}
 use Rattle.bz_world.proofs.SolitaryEnds.{other-ended}
 use Rattle.bz_world.proofs.MakingAnew.{renewal-meant}
-use Rattle.bz_world.proofs.Meant.{split-meant}
+use Rattle.bz_world.proofs.Meant.{inner-not-meant, lower-not-meant, split-meant}
 use Rattle.bz_world.proofs.Paid.{swaps-write, within-of}
 use Rattle.bz_world.proofs.Spared.{most_in, most-kind, task-paid}
 use Rattle.bz_world.proofs.TakingOn.{known-scene, lookup-taken, duly-other}
@@ -76,6 +76,8 @@ lacks-room called (SplittingInner t a) s none ends meant f =
     inr (record { at = a; is = refl; from = inr refl; ascent = f.1.0; below = m.below; key_is = m.come.key_is; foot = m.come.foot; view = m.come.view; leaf = m.come.leaf })
 lacks-room called (SplittingInnerRoot t a) s none ends meant f = absurd ends
 lacks-room called (Merging t) s none ends meant f = inl refl
+lacks-room called (MergingInner t) s none ends meant f = absurd (inner-not-meant called t s.past meant)
+lacks-room called (Lowering t) s none ends meant f = absurd (lower-not-meant called t s.past meant)
 
 -- the call is no solitary get, whose task ends by no want of room
 pub crowded-other : (p : Parts) (w : ℕ) (e : HasEnded p w NeedsRoom) → IsNotSolitary p.journal.past w e.on.serving.call
@@ -222,11 +224,8 @@ module _ (solo : UndisturbedLaws) (p : Parts) (w : ℕ) (task : AnyTask) (m : Mu
     | inr root ↦ cc (delete, root.0)
   ]
 
-  pub no-find : kind_of task ≢ kinds.Find
-  no-find find = elim m.up.above.kind [
-    | inl node ↦ absurd (let both : kinds.Find ≡ kinds.SplitNode m.up.above.up = sym find ∙ node.0 in cc both)
-    | inr root ↦ absurd (let both : kinds.Find ≡ kinds.SplitRootNode m.up.above.up = sym find ∙ root.0 in cc both)
-  ]
+  pub begins-up : goes_on task ≡ true
+  begins-up = elim m.up.above.kind [ inl node ↦ kinds-tell-what-goes-on task (ap begins_on node.0) | inr root ↦ kinds-tell-what-goes-on task (ap begins_on root.0) ]
 
   pub up-meant : IsMeant (record m.ends.on.serving { task = task; path = None }) now
   up-meant = renewal-meant p w m.ends.on m.ends.quiet write task up-within no-merge (λ copy. absurd (no-copy copy))

@@ -7,15 +7,17 @@ use Rattle.bz_call.specs.declared.calls.Call.TheVariants as call
 use Rattle.bz_layout.specs.Slots.{FreeSlots}
 use Rattle.bz_layout.specs.declared.thresholds.TheConstants.{MERGE_SLOTS, SPLIT_SLOTS}
 use Rattle.bz_record.specs.Records.{words_for, LacksRoom}
-use Rattle.bz_any_task.specs.Duties.{swaps_of, change_swaps, wants_of, publishing_of, view_of}
+use Rattle.bz_any_task.specs.Duties.{change_swaps, wants_of, publishing_of, view_of}
 use Rattle.bz_any_task.specs.Hearing.{HasHeard}
 use Rattle.bz_any_task.specs.Laws.{AreLaws}
 use Rattle.bz_solo.specs.Errands.{IsLookOf, may_swap_twice}
 use Rattle.bz_any_task.specs.Kinds as kinds
+use Rattle.bz_any_task.specs.FromInner.Lower.{Lower}
+use Rattle.bz_any_task.specs.FromInner.MergeInner.{MergeInner}
 use Rattle.bz_any_task.specs.Kinds.{Kind, is_look, is_renewal, kind_of}
 use Rattle.bz_any_task.specs.MadeFor.{IsMadeFor, IsMergeFor}
 use Rattle.bz_any_task.specs.declared.running.AnyTask.{AnyTask}
-use Rattle.bz_any_task.specs.declared.running.AnyTask.TheVariants.{Seeking, Finding, Reading, Inserting, Updating, Deleting, Freezing, Consolidating, Splitting, SplittingBelow, SplittingInner, SplittingInnerRoot, Merging}
+use Rattle.bz_any_task.specs.declared.running.AnyTask.TheVariants.{Seeking, Finding, Reading, Inserting, Updating, Deleting, Freezing, Consolidating, Splitting, SplittingBelow, SplittingInner, SplittingInnerRoot, Merging, MergingInner, Lowering}
 use Rattle.bz_task.specs.Outcomes.{IsView}
 use Rattle.bz_task.specs.Scene.{Past, Continues}
 use Rattle.bz_task.specs.declared.todo.Seen.{Seen}
@@ -40,8 +42,8 @@ meant-on called t p q laws on (inr (inl merges)) = inr (inl (laws.merge_for (key
 meant-on called t p q laws on (inr (inr made)) = inr (inr (laws.made_for (key_of called) (words_asked called) p q made on))
 
 -- once it was told something
-still-none : (old new : AnyTask) (seen : Seen) (moment : ℕ) (free : FreeSlots) (todo : Todo) (left : FreeSlots) → HasHeard old seen moment free todo new left → (swaps_of old ≡ 0) ⊎ (0 < change_swaps old) → (swaps_of new ≡ 0) ⊎ (0 < change_swaps new)
-still-none old new seen moment free todo left h (inl none) = inl (omega (arith, h.goes.fewer, none))
+still-none : (old new : AnyTask) (seen : Seen) (moment : ℕ) (free : FreeSlots) (todo : Todo) (left : FreeSlots) → HasHeard old seen moment free todo new left → (is_look (kind_of old) ≡ true) ⊎ (0 < change_swaps old) → (is_look (kind_of new) ≡ true) ⊎ (0 < change_swaps new)
+still-none old new seen moment free todo left h (inl look) = inl (ap is_look h.kind ∙ look)
 still-none old new seen moment free todo left h (inr some) = inr (subst (λ n. 0 < n) (sym h.swaps) some)
 
 pub meant-told : (called : Call) (p : Past) (old new : AnyTask) (seen : Seen) (moment : ℕ) (free : FreeSlots) (todo : Todo) (left : FreeSlots) → HasHeard old seen moment free todo new left → IsMeantFor called old p → IsMeantFor called new p
@@ -65,6 +67,25 @@ merges-want (SplittingBelow t a) key p m = absurd m
 merges-want (SplittingInner t a) key p m = absurd m
 merges-want (SplittingInnerRoot t a) key p m = absurd m
 merges-want (Merging t) key p m = refl
+merges-want (MergingInner t) key p m = absurd m
+merges-want (Lowering t) key p m = absurd m
+
+-- no task that takes a level away is one of a call without effect
+pub inner-not-meant : (called : Call) (t : MergeInner) (p : Past) → IsMeantFor called (MergingInner t) p → ⊥
+unfolding wants_of IsMergeFor IsMadeFor
+inner-not-meant called t p (inl none) = absurd (omega (arith, none.slots))
+inner-not-meant called t p (inr (inl merges)) = merges
+inner-not-meant called t p (inr (inr made)) = made
+
+neither : (false ≡ true) ⊎ (0 < 0) → ⊥
+neither (inl look) = true≢false (sym look)
+neither (inr some) = absurd (omega (arith, some))
+
+pub lower-not-meant : (called : Call) (t : Lower) (p : Past) → IsMeantFor called (Lowering t) p → ⊥
+unfolding kind_of change_swaps IsMergeFor IsMadeFor
+lower-not-meant called t p (inl none) = neither none.swaps
+lower-not-meant called t p (inr (inl merges)) = merges
+lower-not-meant called t p (inr (inr made)) = made
 
 -- a split was made for them
 pub split-meant : (called : Call) (t : AnyTask) (p : Past) → wants_of t ≡ SPLIT_SLOTS → IsMeantFor called t p → IsMadeFor t (key_of called) (words_asked called) p
@@ -147,8 +168,10 @@ publishing-kind (SplittingBelow t a) e = absurd (true≢false (sym e))
 publishing-kind (SplittingInner t a) e = absurd (true≢false (sym e))
 publishing-kind (SplittingInnerRoot t a) e = absurd (true≢false (sym e))
 publishing-kind (Merging t) e = refl
+publishing-kind (MergingInner t) e = refl
+publishing-kind (Lowering t) e = refl
 
--- a task that swaps, and makes nothing anew but by a merge, is a change or a merge
+-- a task that swaps, and makes nothing anew but by a merge, is a change, or a merge, or takes a level away
 pub swaps-or-merges : (k : Kind) → is_renewal k ≡ false → (is_look k ≡ true → ⊥) → may_swap_twice k ≡ true
 swaps-or-merges kinds.Seek r l = absurd (l refl)
 swaps-or-merges kinds.Find r l = absurd (l refl)
@@ -163,3 +186,5 @@ swaps-or-merges (kinds.SplitLeaf a) r l = absurd (true≢false r)
 swaps-or-merges (kinds.SplitNode a) r l = absurd (true≢false r)
 swaps-or-merges (kinds.SplitRootNode a) r l = absurd (true≢false r)
 swaps-or-merges kinds.Merge r l = refl
+swaps-or-merges kinds.MergeNodes r l = refl
+swaps-or-merges kinds.LowerRoot r l = refl

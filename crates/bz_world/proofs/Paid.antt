@@ -24,7 +24,7 @@ use Rattle.bz_any_task.specs.Hearing.{HasHeard}
 use Rattle.bz_any_task.specs.Kinds as kinds
 use Rattle.bz_any_task.specs.Kinds.{Kind, is_look, kind_of}
 use Rattle.bz_any_task.specs.declared.running.AnyTask.{AnyTask}
-use Rattle.bz_any_task.specs.declared.running.AnyTask.TheVariants.{Seeking, Finding, Reading, Inserting, Updating, Deleting, Freezing, Consolidating, Splitting, SplittingBelow, SplittingInner, SplittingInnerRoot, Merging}
+use Rattle.bz_any_task.specs.declared.running.AnyTask.TheVariants.{Seeking, Finding, Reading, Inserting, Updating, Deleting, Freezing, Consolidating, Splitting, SplittingBelow, SplittingInner, SplittingInnerRoot, Merging, MergingInner, Lowering}
 use Rattle.bz_sound.specs.Calls.{Open, open_call}
 use Rattle.bz_sound.specs.Memory.Moments.{IsAfterFence}
 use Rattle.bz_refinement.specs.Story.{Story, scene, and_then}
@@ -185,6 +185,8 @@ within-of (SplittingBelow t a) few = few a refl
 within-of (SplittingInner t a) few = tt
 within-of (SplittingInnerRoot t a) few = tt
 within-of (Merging t) few = tt
+within-of (MergingInner t) few = tt
+within-of (Lowering t) few = tt
 
 left-within : (t : AnyTask) (a : _) → kind_of t ≡ kinds.SplitLeaf a → IsWithinItsActs t → left_of t ≤ below_acts
 unfolding kind_of view_of
@@ -201,6 +203,8 @@ left-within (SplittingBelow t b) a e within = within
 left-within (SplittingInner t b) a e within = absurd (cc e)
 left-within (SplittingInnerRoot t b) a e within = absurd (cc e)
 left-within (Merging t) a e within = absurd (cc e)
+left-within (MergingInner t) a e within = absurd (cc e)
+left-within (Lowering t) a e within = absurd (cc e)
 
 pub within-told : (old new : AnyTask) (seen : Seen) (moment : ℕ) (free : FreeSlots) (todo : Todo) (left : FreeSlots) → HasHeard old seen moment free todo new left → IsWithinItsActs old → IsWithinItsActs new
 within-told old new seen moment free todo left h within = within-of new (λ a e. omega (arith, h.goes.nearer, left-within old a (sym h.kind ∙ e) within))

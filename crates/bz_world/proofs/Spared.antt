@@ -19,7 +19,7 @@ use Rattle.bz_solo.specs.FromAlone.Undisturbed.{IsUndisturbed}
 use Rattle.bz_call.specs.declared.replies.Spent.{Spent}
 use Rattle.bz_call.specs.declared.calls.Call.{Call}
 use Rattle.bz_call.specs.declared.calls.Call.TheVariants as call
-use Rattle.bz_solo.specs.FromCosts.Most.{most_of, most_of_seek, most_of_find, most_of_leaf, most_of_insert, most_of_update, most_of_delete, most_of_freeze, most_of_copy, most_of_merge, most_of_root, most_of_below, most_of_inner, most_of_inner_root}
+use Rattle.bz_solo.specs.FromCosts.Most.{most_of, most_of_seek, most_of_find, most_of_leaf, most_of_insert, most_of_update, most_of_delete, most_of_freeze, most_of_copy, most_of_merge, most_of_joining, most_of_lowering, most_of_root, most_of_below, most_of_inner, most_of_inner_root}
 use Rattle.bz_solo.specs.Errands.{Errand, words_asked, is_read, IsLookOf, may_swap_twice, after}
 use Rattle.bz_solo.specs.Prices.{Prices, coming}
 use Rattle.bz_solo.specs.FromCosts.Resources.{Resource}
@@ -32,7 +32,7 @@ use Rattle.bz_any_task.specs.Laws.{AreLaws}
 use Rattle.bz_task.specs.declared.todo.Outcome.TheVariants as outcome
 use Rattle.bz_task.specs.declared.view.KeyView.{KeyView}
 use Rattle.bz_any_task.specs.declared.running.AnyTask.{AnyTask}
-use Rattle.bz_any_task.specs.declared.running.AnyTask.TheVariants.{Seeking, Finding, Reading, Inserting, Updating, Deleting, Freezing, Consolidating, Splitting, SplittingBelow, SplittingInner, SplittingInnerRoot, Merging}
+use Rattle.bz_any_task.specs.declared.running.AnyTask.TheVariants.{Seeking, Finding, Reading, Inserting, Updating, Deleting, Freezing, Consolidating, Splitting, SplittingBelow, SplittingInner, SplittingInnerRoot, Merging, MergingInner, Lowering}
 use Rattle.bz_sound.specs.Memory.Replies.{IsWrite}
 use Rattle.bz_task.specs.Scene.{Past, Scene, here}
 use Rattle.bz_task.specs.declared.path.Path.{Path}
@@ -66,6 +66,8 @@ most_in r (kinds.SplitLeaf a) = most_of_below r
 most_in r (kinds.SplitNode a) = most_of_inner r
 most_in r (kinds.SplitRootNode a) = most_of_inner_root r
 most_in r kinds.Merge = most_of_merge r
+most_in r kinds.MergeNodes = most_of_joining r
+most_in r kinds.LowerRoot = most_of_lowering r
 
 pub most-kind : (r : Resource) (t : AnyTask) → most_of r t ≡ most_in r (kind_of t)
 unfolding kind_of
@@ -82,6 +84,8 @@ most-kind r (SplittingBelow t a) = refl
 most-kind r (SplittingInner t a) = refl
 most-kind r (SplittingInnerRoot t a) = refl
 most-kind r (Merging t) = refl
+most-kind r (MergingInner t) = refl
+most-kind r (Lowering t) = refl
 
 -- a task that asks for nothing yet has not ended
 no-end : (o : Option Outcome) (asked : Option Todo) → (IsSome o → asked ≡ Some Finish) → asked ≡ None → o ≡ None

@@ -12,7 +12,7 @@ use Rattle.bz_layout.specs.declared.thresholds.TheConstants.{SPLIT_SLOTS}
 use Rattle.bz_mark.specs.declared.marks.Mark.{Mark}
 use Rattle.bz_mark.specs.declared.marks.Mark.TheVariants.{End}
 use Rattle.bz_solo.specs.FromAlone.Counts.{HasOthers}
-use Rattle.bz_any_task.specs.Duties.{config_of, asks_of, end_of, made_of, needs_of, wants_of, facts_of, means_of, makes_no_change}
+use Rattle.bz_any_task.specs.Duties.{config_of, asks_of, end_of, made_of, needs_of, wants_of, facts_of, means_of, makes_no_change, goes_on}
 use Rattle.bz_any_task.specs.Hearing.{IsLookup}
 use Rattle.bz_any_task.specs.Laws.{AreLaws}
 use Rattle.bz_any_task.specs.declared.running.AnyTask.{AnyTask}
@@ -487,9 +487,9 @@ module _ (p : Parts) (w : ℕ) (task : AnyTask) (had : Option (List ℕ)) (asked
   }
 
   -- where the call is no solitary get
-  pub task-begins : UndisturbedLaws → IsNotSolitary p.journal.past w m.on.serving.call → asked ≡ None → makes_no_change task ≡ true → kind_of task ≢ kinds.Find → MustBegin taken w
+  pub task-begins : UndisturbedLaws → IsNotSolitary p.journal.past w m.on.serving.call → asked ≡ None → goes_on task ≡ true → MustBegin taken w
   unfolding taken-begins between between-tasks
-  task-begins solo other e silent kind = record { tell = taken-begins solo e; other = other; silent = silent; kind = kind }
+  task-begins solo other e goes = record { tell = taken-begins solo e; other = other; goes = goes }
 
   -- and the way to its leaf is known as before
   pub begins-knowing : (solo : UndisturbedLaws) (e : asked ≡ None) → ((way : Path) → m.on.serving.path ≡ Some way → IsPath (key_of m.on.serving.call) way (known p w m.on).past) → m.on.serving.effect ≡ None → m.on.serving.path ≢ None → path ≡ m.on.serving.path → (pays : IsSpared p w m.on task) → MustTellOf taken w Start
@@ -531,15 +531,15 @@ told-path (Some x) (Some y) seen moment free todo left h = ap (λ (z : OpenCall)
 told-path None slot seen moment free todo left h = absurd h
 told-path (Some x) None seen moment free todo left h = absurd h
 
--- a task that makes no change, and looks no key up in its leaf, does not end as it begins
-pub never-ends : (old slot : Option OpenCall) (moment : ℕ) (free : FreeSlots) (todo : Todo) (left : FreeSlots) → HasToldIn old Start moment free todo slot left → (x : OpenCall) → old ≡ Some x → makes_no_change x.task ≡ true → kind_of x.task ≢ kinds.Find → todo ≡ Finish → ⊥
-never-ends (Some y) (Some z) moment free todo left h x is silent kind ends =
+-- a task that goes on as it begins does not end then
+pub never-ends : (old slot : Option OpenCall) (moment : ℕ) (free : FreeSlots) (todo : Todo) (left : FreeSlots) → HasToldIn old Start moment free todo slot left → (x : OpenCall) → old ≡ Some x → goes_on x.task ≡ true → todo ≡ Finish → ⊥
+never-ends (Some y) (Some z) moment free todo left h x is goes ends =
     let same : y ≡ x = cc is in
-    let none : end_of z.task ≡ None = h.heard.begins refl (subst (λ (o : OpenCall). makes_no_change o.task ≡ true) (sym same) silent) (subst (λ (o : OpenCall). kind_of o.task ≢ kinds.Find) (sym same) kind) in
+    let none : end_of z.task ≡ None = h.heard.begins refl (subst (λ (o : OpenCall). goes_on o.task ≡ true) (sym same) goes) in
     let some : IsSome (end_of z.task) = h.laws.finish (h.heard.goes.asked ∙ ap Some ends) in
     cc (subst IsSome none some)
-never-ends None slot moment free todo left h x is silent kind ends = absurd h
-never-ends (Some y) None moment free todo left h x is silent kind ends = absurd h
+never-ends None slot moment free todo left h x is goes ends = absurd h
+never-ends (Some y) None moment free todo left h x is goes ends = absurd h
 
 -- where its task has ended the leaf may be read whole
 abbrev pub must-read-whole : (p : Parts) (w : ℕ) (todo : Todo) (m : MustStartOf p w todo) (outcome : Outcome) → end_of m.must.serving.task ≡ Some outcome → IsNotSolitary p.journal.past w m.must.serving.call → MustReadWhole p w

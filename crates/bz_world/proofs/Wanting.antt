@@ -12,7 +12,7 @@ use Rattle.bz_any_task.specs.Kinds as kinds
 use Rattle.bz_any_task.specs.Kinds.{kind_of}
 use Rattle.bz_any_task.specs.MadeFor.{IsMadeFor}
 use Rattle.bz_any_task.specs.declared.running.AnyTask.{AnyTask}
-use Rattle.bz_any_task.specs.declared.running.AnyTask.TheVariants.{Seeking, Finding, Reading, Inserting, Updating, Deleting, Freezing, Consolidating, Splitting, SplittingBelow, SplittingInner, SplittingInnerRoot, Merging}
+use Rattle.bz_any_task.specs.declared.running.AnyTask.TheVariants.{Seeking, Finding, Reading, Inserting, Updating, Deleting, Freezing, Consolidating, Splitting, SplittingBelow, SplittingInner, SplittingInnerRoot, Merging, MergingInner, Lowering}
 use Rattle.bz_sound.specs.Memory.Moments.{image_at}
 use Rattle.bz_refinement.specs.Laws.{ScenesAreSeen}
 use Rattle.bz_task.specs.Scene.{Past}
@@ -39,6 +39,8 @@ made-otherwise (SplittingBelow t a) key words p m e = absurd (cc e)
 made-otherwise (SplittingInner t a) key words p m e = absurd (cc e)
 made-otherwise (SplittingInnerRoot t a) key words p m e = absurd (cc e)
 made-otherwise (Merging t) key words p m e = absurd m
+made-otherwise (MergingInner t) key words p m e = absurd m
+made-otherwise (Lowering t) key words p m e = absurd m
 
 -- a leaf that was frozen and could be merged takes the slots of a merge
 module _ (p : Parts) (w : ℕ) (on : MustGoOn p w) (m : WasMergeable (key_of on.serving.call) (known p w on).past) where

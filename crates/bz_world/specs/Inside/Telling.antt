@@ -2,7 +2,7 @@
 use Rattle.std.specs.Prelude.{◌≡◌, ◌≢◌, ◌<◌, ℕ, true, List, Option, Some, None, get_or}
 use Rattle.bz_call.specs.Map.{key_of}
 use Rattle.bz_layout.specs.Slots.{FreeSlots}
-use Rattle.bz_any_task.specs.Duties.{config_of, asks_of, needs_of, facts_of, means_of, makes_no_change}
+use Rattle.bz_any_task.specs.Duties.{config_of, asks_of, needs_of, facts_of, means_of, goes_on}
 use Rattle.bz_any_task.specs.Hearing.{HasHeard}
 use Rattle.bz_solo.specs.FromAlone.Undisturbed.{IsUndisturbed}
 use Rattle.bz_solo.specs.Prices.{coming}
@@ -83,9 +83,8 @@ pub record MustStartOf (p : Parts) (w : ℕ) (todo : Todo) : Type 0 where
 pub record MustBegin (p : Parts) (w : ℕ) : Type 0 where
   pub tell : MustTell p w Start
   pub other : IsNotSolitary p.journal.past w tell.serving.call
-  -- it makes no change, and looks no key up in its leaf: so it does not end as it begins
-  pub silent : makes_no_change tell.serving.task ≡ true
-  pub kind : kind_of tell.serving.task ≢ kinds.Find
+  -- its task does not end as it begins
+  pub goes : goes_on tell.serving.task ≡ true
 
 -- the look-up of a call's key, whose path was found, has been told to begin, and asks for this
 pub record MustStartFound (p : Parts) (w : ℕ) (todo : Todo) : Type 0 where

@@ -11,7 +11,7 @@ go_on-requires-clause-room c = subst (λ (z : Parts). length z.journal.past < z.
 
 pub go_on-requires-clause-more : goal.go_on-requires-clause-more
 go_on-requires-clause-more c ends = never-ends (get_or c.args.parts.now.workers.items c.args.w None) (get_or c.tell-todo.new.parts.workers.items c.args.w None) (length c.args.parts.now.journal.past) c.args.parts.now.slots c.tell-todo.result c.tell-todo.new.parts.slots c.tell-todo.ensures.told
-    c.requires.begins.tell.serving c.requires.begins.tell.is c.requires.begins.silent c.requires.begins.kind ends
+    c.requires.begins.tell.serving c.requires.begins.tell.is c.requires.begins.goes ends
 
 pub tell-todo-requires : goal.tell-todo-requires
 tell-todo-requires c = c.requires.begins.tell

@@ -25,7 +25,7 @@ start-requires-clause-asks c = taken-asks c.args.parts.now c.args.w c.seek-task.
       within = within-of c.seek-task.result (λ a e. absurd (let other : kinds.Seek ≡ kinds.SplitLeaf a = sym c.seek-task.ensures.kind ∙ e in cc other));
       fit = record { words = c.requires.on.fit.words; thawed = c.requires.on.fit.thawed };
       look = λ quiet. subst (IsLookOf c.requires.on.serving.call) (sym c.seek-task.ensures.kind) (seeks c.requires.on.serving.call);
-      meant = λ quiet. inl (record { slots = c.seek-task.ensures.wants; swaps = inl c.seek-task.ensures.swaps });
+      meant = λ quiet. inl (record { slots = c.seek-task.ensures.wants; swaps = inl (ap is_look c.seek-task.ensures.kind) });
       later = λ at is. ap is_renewal c.seek-task.ensures.kind;
       small = λ merge. absurd (let other : kinds.Seek ≡ kinds.Merge = sym c.seek-task.ensures.kind ∙ merge in cc other);
       copied = λ copy. absurd (let other : kinds.Seek ≡ kinds.Copy = sym c.seek-task.ensures.kind ∙ copy in cc other);

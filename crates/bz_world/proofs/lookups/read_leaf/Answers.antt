@@ -12,7 +12,7 @@ use Rattle.bz_world.specs.Inside.Exact.{seeks}
 use Rattle.bz_world.specs.Inside.Meant.{IsMeant}
 use Rattle.bz_world.specs.Inside.Merging.{looks_on}
 use Rattle.bz_any_task.specs.Kinds as kinds
-use Rattle.bz_any_task.specs.Kinds.{is_look, is_renewal}
+use Rattle.bz_any_task.specs.Kinds.{begins_on, is_look, is_renewal, kinds-tell-what-goes-on}
 use Rattle.bz_solo.specs.Errands.{IsLookOf}
 use Rattle.bz_world.proofs.TakingOn.{task-begins, lookup-taken, looks-right, none-wanted, slot-is, call-is, known-scene, went-anew}
 use Rattle.bz_world.proofs.lookups.read_leaf.Goals as goal
@@ -37,14 +37,14 @@ begin_task-requires-clause-begins c = task-begins c.args.parts.now c.args.w c.re
       merging = λ at is deletes. let s = c.requires.path.stands solitary at is deletes in record { after_begin = s.0.after_begin; by_now = s.0.by_now; merging = λ may. inl (record { standing = s.0.standing may; task = inr (record { looks = ap looks_on c.read_leaf-task.ensures.kind; alone = s.1 may }) }) };
     }))
     c.set_task.new.slot (c.set_task.ensures ∙ ap (λ (z : Option OpenCall). with_task z c.read_leaf-task.result (Some c.args.path)) (slot-is c.args.parts.now c.args.w c.requires.path.on c.index_mut.result.now c.index_mut.ensures.value))
-    c.requires.path.on.between.call_open.told c.start_laws.ensures.solo c.requires.path.other refl c.read_leaf-task.ensures.silent (λ e. cc (c.read_leaf-task.ensures.kind, e))
+    c.requires.path.on.between.call_open.told c.start_laws.ensures.solo c.requires.path.other refl (kinds-tell-what-goes-on c.read_leaf-task.result (ap begins_on c.read_leaf-task.ensures.kind))
   where
     meant : IsMeant (record c.requires.path.on.serving { task = c.read_leaf-task.result; path = Some c.args.path }) (known c.args.parts.now c.args.w c.requires.path.on).past
     meant = record {
       within = within-of c.read_leaf-task.result (λ a e. absurd (let other : kinds.ReadWhole ≡ kinds.SplitLeaf a = sym c.read_leaf-task.ensures.kind ∙ e in cc other));
       fit = record { words = c.requires.path.on.fit.words; thawed = c.requires.path.on.fit.thawed };
       look = λ quiet. subst (IsLookOf c.requires.path.on.serving.call) (sym c.read_leaf-task.ensures.kind) (c.requires.path.look quiet);
-      meant = λ quiet. inl (record { slots = c.read_leaf-task.ensures.wants; swaps = inl c.read_leaf-task.ensures.swaps });
+      meant = λ quiet. inl (record { slots = c.read_leaf-task.ensures.wants; swaps = inl (ap is_look c.read_leaf-task.ensures.kind) });
       later = λ at is. ap is_renewal c.read_leaf-task.ensures.kind;
       small = λ merge. absurd (let other : kinds.ReadWhole ≡ kinds.Merge = sym c.read_leaf-task.ensures.kind ∙ merge in cc other);
       copied = λ copy. absurd (let other : kinds.ReadWhole ≡ kinds.Copy = sym c.read_leaf-task.ensures.kind ∙ copy in cc other);

@@ -6,6 +6,7 @@ use Rattle.std.specs.Vec.{with_item}
 use Rattle.bz_any_task.specs.Duties.{facts_of}
 use Rattle.bz_any_task.specs.Hearing.{IsLookup}
 use Rattle.bz_any_task.specs.Kinds as kinds
+use Rattle.bz_any_task.specs.Kinds.{begins_on, kinds-tell-what-goes-on}
 use Rattle.bz_any_task.specs.MadeFor.{IsMadeFor}
 use Rattle.bz_task.specs.Outcomes.{IsPath, IsView}
 use Rattle.bz_task.specs.Scene.{Scene, IsScene, Waiting}
@@ -30,7 +31,7 @@ begin_task-requires-clause-begins c = task-begins (record c.args.parts.now { pag
     (needs-split c.start_laws.ensures.scenes c.answer_laws.ensures c.args.parts.now c.args.w c.args.view.now c.requires.split.anew.answer (key_of c.requires.split.anew.answer.on.serving.call) refl c.requires.split.frozen c.requires.split.many)
     facts made (below-spares c.start_laws.ensures.solo c.args.parts.now c.args.w c.args.path c.args.view.now c.requires.split))
     c.set_task.new.slot (c.set_task.ensures ∙ ap (λ (z : Option OpenCall). with_task z c.split_below-task.result None) (slot-is (record c.args.parts.now { page = c.split_below-task.new.page }) c.args.w (anew-pages c.args.parts.now c.args.w c.args.path c.args.view.now c.split_below-task.new.page c.requires.split.anew).answer.on c.index_mut.result.now c.index_mut.ensures.value))
-    c.requires.split.anew.answer.on.between.call_open.told c.start_laws.ensures.solo c.requires.split.anew.answer.other refl c.split_below-task.ensures.silent (λ find. cc (c.split_below-task.ensures.kind.is, find))
+    c.requires.split.anew.answer.on.between.call_open.told c.start_laws.ensures.solo c.requires.split.anew.answer.other refl (kinds-tell-what-goes-on c.split_below-task.result (ap begins_on c.split_below-task.ensures.kind.is))
   where
     key : c.key_of.result ≡ key_of c.requires.split.anew.answer.on.serving.call
     key = c.key_of.ensures ∙ ap key_of (sym (call-is c.args.parts.now c.args.w c.requires.split.anew.answer.on c.index.result.now c.called-call.result c.index.ensures c.called-call.ensures))

@@ -1,17 +1,19 @@
-use Rattle.std.proofs.Common.{sym, subst, refl, ap}
+use Rattle.std.proofs.Common.{sym, subst, refl, ap, arith}
 use Rattle.bz_task.specs.Contract.{MayHear}
+use Rattle.bz_task.specs.OwnActs.{gained}
 use Rattle.bz_task.specs.Requests.{Hears}
 use Rattle.bz_ascent.specs.FromBelow.Duties.{below_view}
 use Rattle.bz_fork.specs.Duties.{fork_view}
 use Rattle.bz_crown.specs.Duties.{crown_view}
-use Rattle.bz_any_task.specs.Duties.{asks_of, change_swaps, wants_of, ascent_of, makes_no_change, leaves_few_of, view_of}
+use Rattle.bz_inner.specs.LowerDuties.{lower_view}
+use Rattle.bz_any_task.specs.Duties.{asks_of, change_swaps, wants_of, ascent_of, makes_no_change, leaves_few_of, goes_on, view_of}
 use Rattle.bz_any_task.specs.Hearing.{HasHeard}
 use Rattle.bz_any_task.specs.Kinds.{kind_of}
 use Rattle.bz_any_task.specs.LookingUp.{look_of, reads_asked, HasCounted}
 use Rattle.bz_any_task.specs.MadeFor.{IsMadeFor, IsMergeFor, IsSmallMerge}
-use Rattle.bz_any_task.specs.declared.running.AnyTask.TheVariants.{Seeking, Finding, Reading, Inserting, Updating, Deleting, Freezing, Consolidating, Splitting, SplittingBelow, SplittingInner, SplittingInnerRoot, Merging}
+use Rattle.bz_any_task.specs.declared.running.AnyTask.TheVariants.{Seeking, Finding, Reading, Inserting, Updating, Deleting, Freezing, Consolidating, Splitting, SplittingBelow, SplittingInner, SplittingInnerRoot, Merging, MergingInner, Lowering}
 use Rattle.bz_any_task.proofs.Ascending.{hears-on-ascent, goes-on-ascent, learns-on-ascent}
-use Rattle.bz_any_task.proofs.Beginning.{hears-start, copy-begins, split-begins, below-begins, fork-begins, crown-begins, merge-begins, seek-begins, leaf-begins, freeze-begins}
+use Rattle.bz_any_task.proofs.Beginning.{hears-start, copy-begins, split-begins, below-begins, fork-begins, crown-begins, merge-begins, joining-begins, lower-begins, seek-begins, leaf-begins, freeze-begins}
 use Rattle.bz_any_task.proofs.Counting.{seek-counts, find-counts, none-counts}
 use Rattle.bz_any_task.proofs.Lacking.{no-change, no-merge, merge-lacks}
 use Rattle.bz_any_task.proofs.Made.{freeze-kept, copy-kept, split-kept, below-kept, fork-kept, crown-kept, merge-kept, small-kept, few-kept}
@@ -69,8 +71,16 @@ pub next-requires-in-Merging : goal.next-requires-in-Merging
 unfolding view_of
 next-requires-in-Merging c = subst (λ t. MayHear (view_of t) c.args.seen c.args.moment c.args.slots.now) c.in-Merging.is (record { hears = c.requires.hears; known = c.requires.known; memory = c.requires.memory })
 
+pub next-requires-in-MergingInner : goal.next-requires-in-MergingInner
+unfolding view_of
+next-requires-in-MergingInner c = subst (λ t. MayHear (view_of t) c.args.seen c.args.moment c.args.slots.now) c.in-MergingInner.is (record { hears = c.requires.hears; known = c.requires.known; memory = c.requires.memory })
+
+pub next-requires-in-Lowering : goal.next-requires-in-Lowering
+unfolding view_of
+next-requires-in-Lowering c = subst (λ t. MayHear (view_of t) c.args.seen c.args.moment c.args.slots.now) c.in-Lowering.is (record { hears = c.requires.hears; known = c.requires.known; memory = c.requires.memory })
+
 pub returns-in-Inserting : goal.returns-in-Inserting
-unfolding view_of change_swaps wants_of ascent_of makes_no_change leaves_few_of look_of kind_of IsMadeFor IsMergeFor IsSmallMerge
+unfolding view_of change_swaps wants_of ascent_of makes_no_change leaves_few_of goes_on look_of kind_of IsMadeFor IsMergeFor IsSmallMerge
 returns-in-Inserting c = record {
   heard = subst (λ t. HasHeard t c.args.seen c.args.moment c.args.slots.now c.next-in-Inserting.result (Inserting c.next-in-Inserting.new.self) c.next-in-Inserting.new.slots) (sym c.in-Inserting.is) (let e = c.next-in-Inserting.ensures in record {
     goes = e.goes;
@@ -83,7 +93,7 @@ returns-in-Inserting c = record {
     merge_for = λ key p m. absurd m;
     small_for = λ key p m. absurd m;
     few = refl;
-    begins = λ start silent other. absurd (no-change silent);
+    begins = λ start on. absurd (no-change on);
     no_neighbour = λ is lacks. absurd (no-merge _ refl is);
     learns = e.learns;
   });
@@ -91,7 +101,7 @@ returns-in-Inserting c = record {
 }
 
 pub returns-in-Updating : goal.returns-in-Updating
-unfolding view_of change_swaps wants_of ascent_of makes_no_change leaves_few_of look_of kind_of IsMadeFor IsMergeFor IsSmallMerge
+unfolding view_of change_swaps wants_of ascent_of makes_no_change leaves_few_of goes_on look_of kind_of IsMadeFor IsMergeFor IsSmallMerge
 returns-in-Updating c = record {
   heard = subst (λ t. HasHeard t c.args.seen c.args.moment c.args.slots.now c.next-in-Updating.result (Updating c.next-in-Updating.new.self) c.next-in-Updating.new.slots) (sym c.in-Updating.is) (let e = c.next-in-Updating.ensures in record {
     goes = e.goes;
@@ -104,7 +114,7 @@ returns-in-Updating c = record {
     merge_for = λ key p m. absurd m;
     small_for = λ key p m. absurd m;
     few = refl;
-    begins = λ start silent other. absurd (no-change silent);
+    begins = λ start on. absurd (no-change on);
     no_neighbour = λ is lacks. absurd (no-merge _ refl is);
     learns = e.learns;
   });
@@ -112,7 +122,7 @@ returns-in-Updating c = record {
 }
 
 pub returns-in-Consolidating : goal.returns-in-Consolidating
-unfolding view_of change_swaps wants_of ascent_of makes_no_change leaves_few_of look_of kind_of IsMadeFor IsMergeFor IsSmallMerge
+unfolding view_of change_swaps wants_of ascent_of makes_no_change leaves_few_of goes_on look_of kind_of IsMadeFor IsMergeFor IsSmallMerge
 returns-in-Consolidating c = record {
   heard = subst (λ t. HasHeard t c.args.seen c.args.moment c.args.slots.now c.next-in-Consolidating.result (Consolidating c.next-in-Consolidating.new.self) c.next-in-Consolidating.new.slots) (sym c.in-Consolidating.is) (let e = c.next-in-Consolidating.ensures in record {
     goes = e.goes;
@@ -125,7 +135,7 @@ returns-in-Consolidating c = record {
     merge_for = λ key p m. absurd m;
     small_for = λ key p m. absurd m;
     few = refl;
-    begins = λ start silent other. copy-begins c.in-Consolidating.task c.next-in-Consolidating.new.self (hears-start c.args.self.now (Consolidating c.in-Consolidating.task) c.args.seen c.in-Consolidating.is start c.requires.hears) (λ o. e.goes.begins o start);
+    begins = λ start on. copy-begins c.in-Consolidating.task c.next-in-Consolidating.new.self (hears-start c.args.self.now (Consolidating c.in-Consolidating.task) c.args.seen c.in-Consolidating.is start c.requires.hears) (λ o. e.goes.begins o start);
     no_neighbour = λ is lacks. absurd (no-merge _ refl is);
     learns = e.learns;
   });
@@ -133,7 +143,7 @@ returns-in-Consolidating c = record {
 }
 
 pub returns-in-Splitting : goal.returns-in-Splitting
-unfolding view_of change_swaps wants_of ascent_of makes_no_change leaves_few_of look_of kind_of IsMadeFor IsMergeFor IsSmallMerge
+unfolding view_of change_swaps wants_of ascent_of makes_no_change leaves_few_of goes_on look_of kind_of IsMadeFor IsMergeFor IsSmallMerge
 returns-in-Splitting c = record {
   heard = subst (λ t. HasHeard t c.args.seen c.args.moment c.args.slots.now c.next-in-Splitting.result (Splitting c.next-in-Splitting.new.self) c.next-in-Splitting.new.slots) (sym c.in-Splitting.is) (let e = c.next-in-Splitting.ensures in record {
     goes = e.goes;
@@ -146,7 +156,7 @@ returns-in-Splitting c = record {
     merge_for = λ key p m. absurd m;
     small_for = λ key p m. absurd m;
     few = refl;
-    begins = λ start silent other. split-begins c.in-Splitting.task c.next-in-Splitting.new.self (hears-start c.args.self.now (Splitting c.in-Splitting.task) c.args.seen c.in-Splitting.is start c.requires.hears) (λ o. e.goes.begins o start);
+    begins = λ start on. split-begins c.in-Splitting.task c.next-in-Splitting.new.self (hears-start c.args.self.now (Splitting c.in-Splitting.task) c.args.seen c.in-Splitting.is start c.requires.hears) (λ o. e.goes.begins o start);
     no_neighbour = λ is lacks. absurd (no-merge _ refl is);
     learns = e.learns;
   });
@@ -154,7 +164,7 @@ returns-in-Splitting c = record {
 }
 
 pub returns-in-SplittingBelow : goal.returns-in-SplittingBelow
-unfolding view_of change_swaps wants_of ascent_of makes_no_change leaves_few_of look_of kind_of IsMadeFor IsMergeFor IsSmallMerge
+unfolding view_of change_swaps wants_of ascent_of makes_no_change leaves_few_of goes_on look_of kind_of IsMadeFor IsMergeFor IsSmallMerge
 returns-in-SplittingBelow c = record {
   heard = subst (λ t. HasHeard t c.args.seen c.args.moment c.args.slots.now c.next-in-SplittingBelow.result (SplittingBelow c.next-in-SplittingBelow.new.self c.in-SplittingBelow.field-1) c.next-in-SplittingBelow.new.slots) (sym c.in-SplittingBelow.is) (let e = c.next-in-SplittingBelow.ensures in record {
     goes = goes-on-ascent c.in-SplittingBelow.field-1 (below_view c.in-SplittingBelow.task) (below_view c.next-in-SplittingBelow.new.self) e.goes;
@@ -167,7 +177,7 @@ returns-in-SplittingBelow c = record {
     merge_for = λ key p m. absurd m;
     small_for = λ key p m. absurd m;
     few = refl;
-    begins = λ start silent other. below-begins c.in-SplittingBelow.task c.next-in-SplittingBelow.new.self (hears-start c.args.self.now (SplittingBelow c.in-SplittingBelow.task c.in-SplittingBelow.field-1) c.args.seen c.in-SplittingBelow.is start c.requires.hears) (λ o. e.goes.begins o start);
+    begins = λ start on. below-begins c.in-SplittingBelow.task c.next-in-SplittingBelow.new.self (hears-start c.args.self.now (SplittingBelow c.in-SplittingBelow.task c.in-SplittingBelow.field-1) c.args.seen c.in-SplittingBelow.is start c.requires.hears) (λ o. e.goes.begins o start);
     no_neighbour = λ is lacks. absurd (no-merge _ refl is);
     learns = learns-on-ascent c.in-SplittingBelow.field-1 (below_view c.in-SplittingBelow.task) (below_view c.next-in-SplittingBelow.new.self) c.args.seen c.args.moment c.args.slots.now c.next-in-SplittingBelow.new.slots e.goes.meant e.learns;
   });
@@ -175,7 +185,7 @@ returns-in-SplittingBelow c = record {
 }
 
 pub returns-in-SplittingInner : goal.returns-in-SplittingInner
-unfolding view_of change_swaps wants_of ascent_of makes_no_change leaves_few_of look_of kind_of IsMadeFor IsMergeFor IsSmallMerge
+unfolding view_of change_swaps wants_of ascent_of makes_no_change leaves_few_of goes_on look_of kind_of IsMadeFor IsMergeFor IsSmallMerge
 returns-in-SplittingInner c = record {
   heard = subst (λ t. HasHeard t c.args.seen c.args.moment c.args.slots.now c.next-in-SplittingInner.result (SplittingInner c.next-in-SplittingInner.new.self c.in-SplittingInner.field-1) c.next-in-SplittingInner.new.slots) (sym c.in-SplittingInner.is) (let e = c.next-in-SplittingInner.ensures in record {
     goes = goes-on-ascent c.in-SplittingInner.field-1 (fork_view c.in-SplittingInner.task) (fork_view c.next-in-SplittingInner.new.self) e.goes;
@@ -188,7 +198,7 @@ returns-in-SplittingInner c = record {
     merge_for = λ key p m. absurd m;
     small_for = λ key p m. absurd m;
     few = refl;
-    begins = λ start silent other. fork-begins c.in-SplittingInner.task c.next-in-SplittingInner.new.self (hears-start c.args.self.now (SplittingInner c.in-SplittingInner.task c.in-SplittingInner.field-1) c.args.seen c.in-SplittingInner.is start c.requires.hears) (λ o. e.goes.begins o start);
+    begins = λ start on. fork-begins c.in-SplittingInner.task c.next-in-SplittingInner.new.self (hears-start c.args.self.now (SplittingInner c.in-SplittingInner.task c.in-SplittingInner.field-1) c.args.seen c.in-SplittingInner.is start c.requires.hears) (λ o. e.goes.begins o start);
     no_neighbour = λ is lacks. absurd (no-merge _ refl is);
     learns = learns-on-ascent c.in-SplittingInner.field-1 (fork_view c.in-SplittingInner.task) (fork_view c.next-in-SplittingInner.new.self) c.args.seen c.args.moment c.args.slots.now c.next-in-SplittingInner.new.slots e.goes.meant e.learns;
   });
@@ -196,7 +206,7 @@ returns-in-SplittingInner c = record {
 }
 
 pub returns-in-SplittingInnerRoot : goal.returns-in-SplittingInnerRoot
-unfolding view_of change_swaps wants_of ascent_of makes_no_change leaves_few_of look_of kind_of IsMadeFor IsMergeFor IsSmallMerge
+unfolding view_of change_swaps wants_of ascent_of makes_no_change leaves_few_of goes_on look_of kind_of IsMadeFor IsMergeFor IsSmallMerge
 returns-in-SplittingInnerRoot c = record {
   heard = subst (λ t. HasHeard t c.args.seen c.args.moment c.args.slots.now c.next-in-SplittingInnerRoot.result (SplittingInnerRoot c.next-in-SplittingInnerRoot.new.self c.in-SplittingInnerRoot.field-1) c.next-in-SplittingInnerRoot.new.slots) (sym c.in-SplittingInnerRoot.is) (let e = c.next-in-SplittingInnerRoot.ensures in record {
     goes = goes-on-ascent c.in-SplittingInnerRoot.field-1 (crown_view c.in-SplittingInnerRoot.task) (crown_view c.next-in-SplittingInnerRoot.new.self) e.goes;
@@ -209,7 +219,7 @@ returns-in-SplittingInnerRoot c = record {
     merge_for = λ key p m. absurd m;
     small_for = λ key p m. absurd m;
     few = refl;
-    begins = λ start silent other. crown-begins c.in-SplittingInnerRoot.task c.next-in-SplittingInnerRoot.new.self (hears-start c.args.self.now (SplittingInnerRoot c.in-SplittingInnerRoot.task c.in-SplittingInnerRoot.field-1) c.args.seen c.in-SplittingInnerRoot.is start c.requires.hears) (λ o. e.goes.begins o start);
+    begins = λ start on. crown-begins c.in-SplittingInnerRoot.task c.next-in-SplittingInnerRoot.new.self (hears-start c.args.self.now (SplittingInnerRoot c.in-SplittingInnerRoot.task c.in-SplittingInnerRoot.field-1) c.args.seen c.in-SplittingInnerRoot.is start c.requires.hears) (λ o. e.goes.begins o start);
     no_neighbour = λ is lacks. absurd (no-merge _ refl is);
     learns = learns-on-ascent c.in-SplittingInnerRoot.field-1 (crown_view c.in-SplittingInnerRoot.task) (crown_view c.next-in-SplittingInnerRoot.new.self) c.args.seen c.args.moment c.args.slots.now c.next-in-SplittingInnerRoot.new.slots e.goes.meant e.learns;
   });
@@ -217,7 +227,7 @@ returns-in-SplittingInnerRoot c = record {
 }
 
 pub returns-in-Merging : goal.returns-in-Merging
-unfolding view_of change_swaps wants_of ascent_of makes_no_change leaves_few_of look_of kind_of IsMadeFor IsMergeFor IsSmallMerge
+unfolding view_of change_swaps wants_of ascent_of makes_no_change leaves_few_of goes_on look_of kind_of IsMadeFor IsMergeFor IsSmallMerge
 returns-in-Merging c = record {
   heard = subst (λ t. HasHeard t c.args.seen c.args.moment c.args.slots.now c.next-in-Merging.result (Merging c.next-in-Merging.new.self) c.next-in-Merging.new.slots) (sym c.in-Merging.is) (let e = c.next-in-Merging.ensures in record {
     goes = e.goes;
@@ -230,15 +240,60 @@ returns-in-Merging c = record {
     merge_for = merge-kept c.in-Merging.task c.next-in-Merging.new.self e.goes.basis;
     small_for = small-kept c.in-Merging.task c.next-in-Merging.new.self e.goes.basis;
     few = refl;
-    begins = λ start silent other. merge-begins c.in-Merging.task c.next-in-Merging.new.self (hears-start c.args.self.now (Merging c.in-Merging.task) c.args.seen c.in-Merging.is start c.requires.hears) (λ o. e.goes.begins o start);
+    begins = λ start on. merge-begins c.in-Merging.task c.next-in-Merging.new.self (hears-start c.args.self.now (Merging c.in-Merging.task) c.args.seen c.in-Merging.is start c.requires.hears) (λ o. e.goes.begins o start);
     no_neighbour = λ is lacks. merge-lacks c.in-Merging.task c.next-in-Merging.new.self c.args.seen e.goes.fewer (subst (λ z. Hears (asks_of z) c.args.seen) c.in-Merging.is c.requires.hears) lacks;
     learns = e.learns;
   });
   counts = none-counts c.args.self.now (Merging c.next-in-Merging.new.self) c.next-in-Merging.result (ap look_of c.in-Merging.is) refl;
 }
 
+pub returns-in-MergingInner : goal.returns-in-MergingInner
+unfolding view_of change_swaps wants_of ascent_of makes_no_change leaves_few_of goes_on look_of kind_of IsMadeFor IsMergeFor IsSmallMerge
+returns-in-MergingInner c = record {
+  heard = subst (λ t. HasHeard t c.args.seen c.args.moment c.args.slots.now c.next-in-MergingInner.result (MergingInner c.next-in-MergingInner.new.self) c.next-in-MergingInner.new.slots) (sym c.in-MergingInner.is) (let e = c.next-in-MergingInner.ensures in record {
+    goes = e.goes;
+    swaps = refl;
+    wants = refl;
+    ascent = refl;
+    kind = refl;
+    silent = refl;
+    made_for = λ key words p m. absurd m;
+    merge_for = λ key p m. absurd m;
+    small_for = λ key p m. absurd m;
+    few = refl;
+    begins = λ start on. joining-begins c.in-MergingInner.task c.next-in-MergingInner.new.self (hears-start c.args.self.now (MergingInner c.in-MergingInner.task) c.args.seen c.in-MergingInner.is start c.requires.hears) (λ o. e.goes.begins o start);
+    no_neighbour = λ is lacks. absurd (no-merge _ refl is);
+    learns = e.learns;
+  });
+  counts = none-counts c.args.self.now (MergingInner c.next-in-MergingInner.new.self) c.next-in-MergingInner.result (ap look_of c.in-MergingInner.is) refl;
+}
+
+pub returns-in-Lowering : goal.returns-in-Lowering
+unfolding view_of change_swaps wants_of ascent_of makes_no_change leaves_few_of goes_on look_of kind_of IsMadeFor IsMergeFor IsSmallMerge
+returns-in-Lowering c = record {
+  heard = subst (λ t. HasHeard t c.args.seen c.args.moment c.args.slots.now c.next-in-Lowering.result (Lowering c.next-in-Lowering.new.self) c.next-in-Lowering.new.slots) (sym c.in-Lowering.is) (let e = c.next-in-Lowering.ensures in record {
+    goes = e.goes;
+    swaps = refl;
+    wants = refl;
+    ascent = refl;
+    kind = refl;
+    silent = refl;
+    made_for = λ key words p m. absurd m;
+    merge_for = λ key p m. absurd m;
+    small_for = λ key p m. absurd m;
+    few = refl;
+    begins = λ start on. (
+        let m : MayHear (lower_view c.in-Lowering.task) c.args.seen c.args.moment c.args.slots.now = subst (λ t. MayHear (view_of t) c.args.seen c.args.moment c.args.slots.now) c.in-Lowering.is (record { hears = c.requires.hears; known = c.requires.known; memory = c.requires.memory }) in
+        let k = m.known in
+        lower-begins c.in-Lowering.task c.next-in-Lowering.new.self (gained k.scene c.args.slots.now c.next-in-Lowering.new.slots) on (λ o. e.goes.begins o start) e.goes.meant (e.learns k.stage k.scene k.now k.config k.good (λ some. absurd (omega (arith, some))) k.holds k.tells));
+    no_neighbour = λ is lacks. absurd (no-merge _ refl is);
+    learns = e.learns;
+  });
+  counts = none-counts c.args.self.now (Lowering c.next-in-Lowering.new.self) c.next-in-Lowering.result (ap look_of c.in-Lowering.is) refl;
+}
+
 pub returns-in-Seeking : goal.returns-in-Seeking
-unfolding view_of change_swaps wants_of ascent_of makes_no_change leaves_few_of kind_of IsMadeFor IsMergeFor IsSmallMerge look_of reads_asked
+unfolding view_of change_swaps wants_of ascent_of makes_no_change leaves_few_of goes_on kind_of IsMadeFor IsMergeFor IsSmallMerge look_of reads_asked
 returns-in-Seeking c = record {
   heard = subst (λ t. HasHeard t c.args.seen c.args.moment c.args.slots.now c.next.result (Seeking c.next.new.self) c.next.new.slots) (sym c.in-Seeking.is) (let e = c.next.ensures in record {
     goes = e.goes;
@@ -251,7 +306,7 @@ returns-in-Seeking c = record {
     merge_for = λ key p m. absurd m;
     small_for = λ key p m. absurd m;
     few = refl;
-    begins = λ start silent other. seek-begins c.next.new.self (λ o. e.goes.begins o start);
+    begins = λ start on. seek-begins c.next.new.self (λ o. e.goes.begins o start);
     no_neighbour = λ is lacks. absurd (no-merge _ refl is);
     learns = e.learns;
   });
@@ -260,7 +315,7 @@ returns-in-Seeking c = record {
 }
 
 pub returns-in-Finding : goal.returns-in-Finding
-unfolding view_of change_swaps wants_of ascent_of makes_no_change leaves_few_of kind_of IsMadeFor IsMergeFor IsSmallMerge look_of reads_asked
+unfolding view_of change_swaps wants_of ascent_of makes_no_change leaves_few_of goes_on kind_of IsMadeFor IsMergeFor IsSmallMerge look_of reads_asked
 returns-in-Finding c = record {
   heard = subst (λ t. HasHeard t c.args.seen c.args.moment c.args.slots.now c.next-in-Finding.result (Finding c.next-in-Finding.new.self) c.next-in-Finding.new.slots) (sym c.in-Finding.is) (let e = c.next-in-Finding.ensures in record {
     goes = e.goes;
@@ -273,7 +328,7 @@ returns-in-Finding c = record {
     merge_for = λ key p m. absurd m;
     small_for = λ key p m. absurd m;
     few = refl;
-    begins = λ start silent other. absurd (other refl);
+    begins = λ start on. absurd (no-change on);
     no_neighbour = λ is lacks. absurd (no-merge _ refl is);
     learns = e.learns;
   });
@@ -282,7 +337,7 @@ returns-in-Finding c = record {
 }
 
 pub returns-in-Reading : goal.returns-in-Reading
-unfolding view_of change_swaps wants_of ascent_of makes_no_change leaves_few_of kind_of IsMadeFor IsMergeFor IsSmallMerge look_of
+unfolding view_of change_swaps wants_of ascent_of makes_no_change leaves_few_of goes_on kind_of IsMadeFor IsMergeFor IsSmallMerge look_of
 returns-in-Reading c = record {
   heard = subst (λ t. HasHeard t c.args.seen c.args.moment c.args.slots.now c.next-in-Reading.result (Reading c.next-in-Reading.new.self) c.next-in-Reading.new.slots) (sym c.in-Reading.is) (let e = c.next-in-Reading.ensures in record {
     goes = e.goes;
@@ -295,7 +350,7 @@ returns-in-Reading c = record {
     merge_for = λ key p m. absurd m;
     small_for = λ key p m. absurd m;
     few = refl;
-    begins = λ start silent other. leaf-begins c.next-in-Reading.new.self (λ o. e.goes.begins o start);
+    begins = λ start on. leaf-begins c.next-in-Reading.new.self (λ o. e.goes.begins o start);
     no_neighbour = λ is lacks. absurd (no-merge _ refl is);
     learns = e.learns;
   });
@@ -303,7 +358,7 @@ returns-in-Reading c = record {
 }
 
 pub returns-in-Deleting : goal.returns-in-Deleting
-unfolding view_of change_swaps wants_of ascent_of makes_no_change leaves_few_of kind_of IsMadeFor IsMergeFor IsSmallMerge look_of
+unfolding view_of change_swaps wants_of ascent_of makes_no_change leaves_few_of goes_on kind_of IsMadeFor IsMergeFor IsSmallMerge look_of
 returns-in-Deleting c = record {
   heard = subst (λ t. HasHeard t c.args.seen c.args.moment c.args.slots.now c.next-in-Deleting.result (Deleting c.next-in-Deleting.new.self) c.next-in-Deleting.new.slots) (sym c.in-Deleting.is) (let e = c.next-in-Deleting.ensures in record {
     goes = e.goes;
@@ -316,7 +371,7 @@ returns-in-Deleting c = record {
     merge_for = λ key p m. absurd m;
     small_for = λ key p m. absurd m;
     few = few-kept c.in-Deleting.task c.next-in-Deleting.new.self e.goes.change e.goes.basis;
-    begins = λ start silent other. absurd (no-change silent);
+    begins = λ start on. absurd (no-change on);
     no_neighbour = λ is lacks. absurd (no-merge _ refl is);
     learns = e.learns;
   });
@@ -324,7 +379,7 @@ returns-in-Deleting c = record {
 }
 
 pub returns-in-Freezing : goal.returns-in-Freezing
-unfolding view_of change_swaps wants_of ascent_of makes_no_change leaves_few_of kind_of IsMadeFor IsMergeFor IsSmallMerge look_of
+unfolding view_of change_swaps wants_of ascent_of makes_no_change leaves_few_of goes_on kind_of IsMadeFor IsMergeFor IsSmallMerge look_of
 returns-in-Freezing c = record {
   heard = subst (λ t. HasHeard t c.args.seen c.args.moment c.args.slots.now c.next-in-Freezing.result (Freezing c.next-in-Freezing.new.self) c.next-in-Freezing.new.slots) (sym c.in-Freezing.is) (let e = c.next-in-Freezing.ensures in record {
     goes = e.goes;
@@ -337,7 +392,7 @@ returns-in-Freezing c = record {
     merge_for = λ key p m. absurd m;
     small_for = λ key p m. absurd m;
     few = refl;
-    begins = λ start silent other. freeze-begins c.next-in-Freezing.new.self.phase (λ o. e.goes.begins o start);
+    begins = λ start on. freeze-begins c.next-in-Freezing.new.self.phase (λ o. e.goes.begins o start);
     no_neighbour = λ is lacks. absurd (no-merge _ refl is);
     learns = e.learns;
   });

@@ -58,3 +58,11 @@ returns-in-SplittingInnerRoot c = subst (λ t. ActsWell (view_of t)) (sym c.in-S
 pub returns-in-Merging : goal.returns-in-Merging
 unfolding view_of
 returns-in-Merging c = subst (λ t. ActsWell (view_of t)) (sym c.in-Merging.is) c.acted-in-Merging.ensures
+
+pub returns-in-MergingInner : goal.returns-in-MergingInner
+unfolding view_of
+returns-in-MergingInner c = subst (λ t. ActsWell (view_of t)) (sym c.in-MergingInner.is) c.acted-in-MergingInner.ensures
+
+pub returns-in-Lowering : goal.returns-in-Lowering
+unfolding view_of
+returns-in-Lowering c = subst (λ t. ActsWell (view_of t)) (sym c.in-Lowering.is) c.acted-in-Lowering.ensures

@@ -4,7 +4,7 @@ use Rattle.bz_ascent.specs.FromBelow.Duties.{below_view}
 use Rattle.bz_fork.specs.Duties.{fork_view}
 use Rattle.bz_crown.specs.Duties.{crown_view}
 use Rattle.bz_any_task.specs.Duties.{view_of}
-use Rattle.bz_any_task.specs.declared.running.AnyTask.TheVariants.{Seeking, Finding, Reading, Inserting, Updating, Deleting, Freezing, Consolidating, Splitting, SplittingBelow, SplittingInner, SplittingInnerRoot, Merging}
+use Rattle.bz_any_task.specs.declared.running.AnyTask.TheVariants.{Seeking, Finding, Reading, Inserting, Updating, Deleting, Freezing, Consolidating, Splitting, SplittingBelow, SplittingInner, SplittingInnerRoot, Merging, MergingInner, Lowering}
 use Rattle.bz_any_task.proofs.Ascending.{hears-on-ascent, goes-on-ascent, learns-on-ascent}
 use Rattle.bz_any_task.proofs.running.AnyTaskTask.next.Goals as goal
 
@@ -59,6 +59,14 @@ next-requires-in-SplittingInnerRoot c = hears-on-ascent c.in-SplittingInnerRoot.
 pub next-requires-in-Merging : goal.next-requires-in-Merging
 unfolding view_of
 next-requires-in-Merging c = subst (λ t. MayHear (view_of t) c.args.seen c.args.moment c.args.slots.now) c.in-Merging.is c.requires
+
+pub next-requires-in-MergingInner : goal.next-requires-in-MergingInner
+unfolding view_of
+next-requires-in-MergingInner c = subst (λ t. MayHear (view_of t) c.args.seen c.args.moment c.args.slots.now) c.in-MergingInner.is c.requires
+
+pub next-requires-in-Lowering : goal.next-requires-in-Lowering
+unfolding view_of
+next-requires-in-Lowering c = subst (λ t. MayHear (view_of t) c.args.seen c.args.moment c.args.slots.now) c.in-Lowering.is c.requires
 
 pub returns-in-Seeking : goal.returns-in-Seeking
 unfolding view_of
@@ -149,4 +157,18 @@ unfolding view_of
 returns-in-Merging c = record {
   goes = subst (λ t. GoesOn (view_of t) (view_of (Merging c.next-in-Merging.new.self)) c.args.seen c.args.slots.now c.next-in-Merging.new.slots c.next-in-Merging.result) (sym c.in-Merging.is) c.next-in-Merging.ensures.goes;
   learns = subst (λ t. Learns (view_of t) (view_of (Merging c.next-in-Merging.new.self)) c.args.seen c.args.moment c.args.slots.now c.next-in-Merging.new.slots) (sym c.in-Merging.is) c.next-in-Merging.ensures.learns;
+}
+
+pub returns-in-MergingInner : goal.returns-in-MergingInner
+unfolding view_of
+returns-in-MergingInner c = record {
+  goes = subst (λ t. GoesOn (view_of t) (view_of (MergingInner c.next-in-MergingInner.new.self)) c.args.seen c.args.slots.now c.next-in-MergingInner.new.slots c.next-in-MergingInner.result) (sym c.in-MergingInner.is) c.next-in-MergingInner.ensures.goes;
+  learns = subst (λ t. Learns (view_of t) (view_of (MergingInner c.next-in-MergingInner.new.self)) c.args.seen c.args.moment c.args.slots.now c.next-in-MergingInner.new.slots) (sym c.in-MergingInner.is) c.next-in-MergingInner.ensures.learns;
+}
+
+pub returns-in-Lowering : goal.returns-in-Lowering
+unfolding view_of
+returns-in-Lowering c = record {
+  goes = subst (λ t. GoesOn (view_of t) (view_of (Lowering c.next-in-Lowering.new.self)) c.args.seen c.args.slots.now c.next-in-Lowering.new.slots c.next-in-Lowering.result) (sym c.in-Lowering.is) c.next-in-Lowering.ensures.goes;
+  learns = subst (λ t. Learns (view_of t) (view_of (Lowering c.next-in-Lowering.new.self)) c.args.seen c.args.moment c.args.slots.now c.next-in-Lowering.new.slots) (sym c.in-Lowering.is) c.next-in-Lowering.ensures.learns;
 }
