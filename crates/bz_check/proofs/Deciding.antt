@@ -1,15 +1,13 @@
 -- A verdict, mark by mark: which rule is broken first so far, and what is known at the moments before.
 use Rattle.std.specs.Prelude.{◌≡◌, ◌<◌, ◌≤◌, ◌+◌, ◌↔◌, nat_le, ℕ, List, ◌∷◌, length, Option, Some, None, IfSome}
-use Rattle.std.proofs.Common.{arith, refl, sym, ap, ◌∙◌, subst, inl, inr, true, false, Bool}
+use Rattle.std.proofs.Common.{arith, refl, sym, ap, ◌∙◌, subst, inl, inr, true, false}
 use Rattle.std.proofs.lemmas.Bool.{cases_lt}
 use Rattle.std.proofs.lemmas.Bool.Decides.{nat_tests}
 use Rattle.bz_mark.specs.declared.marks.Mark.{Mark}
 use Rattle.bz_mark.specs.Moments.{at_moment, mark_at, IsInner}
 use Rattle.bz_mark.proofs.MomentLaws.{at_moment-next, at_moment-now}
 use Rattle.bz_check.specs.declared.verdict.JudgeRule.{JudgeRule}
-use Rattle.bz_check.specs.declared.verdict.Verdict.{Verdict}
-use Rattle.bz_check.specs.declared.verdict.Verdict.TheVariants.{Sound, Broken}
-use Rattle.bz_check.specs.Verdicts.{place_of, IsFirstBroken, TellsFirst, earlier_of, first_of, IsVerdict, chosen}
+use Rattle.bz_check.specs.Verdicts.{place_of, IsFirstBroken, TellsFirst, earlier_of, first_of}
 
 -- one mark more keeps a rule exactly where the marks before it keep it and the mark does
 abbrev pub IsByMarks : (JudgeRule → List Mark → Type 0) → (List Mark → Mark → JudgeRule → Type 0) → Type 0
@@ -61,7 +59,7 @@ pub record Went (Keeps : JudgeRule → List Mark → Type 0) (past : List Mark) 
   pub tells : TellsFirst (λ kept. Keeps kept (at_moment moment past)) broken
 
 -- where all is kept, or the moment is inner
-whole_if_outer : (Keeps : JudgeRule → List Mark → Type 0) (past : List Mark) (moment : ℕ) (broken : Option JudgeRule) → TellsFirst (λ kept. Keeps kept (at_moment moment past)) broken → IfSome broken (λ rule. IsInner moment past)
+pub whole_if_outer : (Keeps : JudgeRule → List Mark → Type 0) (past : List Mark) (moment : ℕ) (broken : Option JudgeRule) → TellsFirst (λ kept. Keeps kept (at_moment moment past)) broken → IfSome broken (λ rule. IsInner moment past)
     → (IsInner moment past → ⊥) → (kept : JudgeRule) → Keeps kept (at_moment moment past)
 whole_if_outer Keeps past moment None tells waits outer = tells
 whole_if_outer Keeps past moment (Some rule) tells waits outer = absurd (outer waits)
@@ -95,36 +93,6 @@ pub goes_inner : (Keeps : JudgeRule → List Mark → Type 0) (past : List Mark)
 goes_inner Keeps past moment None w inner = record { within = w.within; before = w.before; tells = w.tells; waits = tt }
 goes_inner Keeps past moment (Some rule) w inner = record { within = w.within; before = w.before; tells = w.tells; waits = inner }
 
--- the verdicts
-pub verdict_broken : (Keeps : JudgeRule → List Mark → Type 0) (past : List Mark) (moment : ℕ) (rule : JudgeRule) → Went Keeps past moment (Some rule) → (IsInner moment past → ⊥) → IsVerdict Keeps past (Broken rule moment)
-verdict_broken Keeps past moment rule w outer = record { within = w.within; outer = outer; before = w.before; this = w.tells }
-
-no_mark : (past : List Mark) (moment : ℕ) → length past ≤ moment → IsInner moment past → ⊥
+-- the last moment is not inner
+pub no_mark : (past : List Mark) (moment : ℕ) → length past ≤ moment → IsInner moment past → ⊥
 no_mark past moment le inner = omega (arith, inner.0)
-
-pub verdict_sound : (Keeps : JudgeRule → List Mark → Type 0) (past : List Mark) (moment : ℕ) (broken : Option JudgeRule) → length past ≤ moment → Goes Keeps past moment broken → IsVerdict Keeps past Sound
-verdict_sound Keeps past moment broken le g =
-    let e : moment ≡ length past = omega (arith, g.within) in
-    let all : (kept : JudgeRule) → Keeps kept (at_moment moment past) = whole_if_outer Keeps past moment broken g.tells g.waits (no_mark past moment le) in
-    subst (λ (marks : List Mark). (kept : JudgeRule) → Keeps kept marks) (ap (λ (n : ℕ). at_moment n past) e ∙ at_moment-now past) all
-
--- by what is chosen at a moment
-no_verdict : (v : Verdict) → None ≡ Some v → ⊥
-no_verdict v e = cc
-
-some_verdict : (v w : Verdict) → Some v ≡ Some w → v ≡ w
-some_verdict v w e = cc
-
-not_both : false ≡ true → ⊥
-not_both e = cc
-
-pub goes_chosen : (Keeps : JudgeRule → List Mark → Type 0) (past : List Mark) (moment : ℕ) (broken : Option JudgeRule) (inner : Bool) → None ≡ chosen broken inner moment → (inner ≡ true → IsInner moment past) → Went Keeps past moment broken → Goes Keeps past moment broken
-goes_chosen Keeps past moment None inner e is w = goes_whole Keeps past moment w
-goes_chosen Keeps past moment (Some rule) true e is w = goes_inner Keeps past moment (Some rule) w (is refl)
-goes_chosen Keeps past moment (Some rule) false e is w = absurd (no_verdict (Broken rule moment) e)
-
-pub verdict_chosen : (Keeps : JudgeRule → List Mark → Type 0) (past : List Mark) (moment : ℕ) (broken : Option JudgeRule) (inner : Bool) (verdict : Verdict) → Some verdict ≡ chosen broken inner moment → (IsInner moment past → inner ≡ true) → Went Keeps past moment broken → IsVerdict Keeps past verdict
-verdict_chosen Keeps past moment None inner verdict e is w = absurd (no_verdict verdict (sym e))
-verdict_chosen Keeps past moment (Some rule) true verdict e is w = absurd (no_verdict verdict (sym e))
-verdict_chosen Keeps past moment (Some rule) false verdict e is w =
-    subst (IsVerdict Keeps past) (sym (some_verdict verdict (Broken rule moment) e)) (verdict_broken Keeps past moment rule w (λ inner. not_both (is inner)))

@@ -39,7 +39,7 @@ sound_keeps_all_rules c at_start log = (
 )
 
 -- what marks keep, the marks before a moment keep
-front : (Keeps : JudgeRule → List Mark → Type 0) (Follows : List Mark → Mark → JudgeRule → Type 0) (rule : JudgeRule) (k : ℕ) (past : List Mark) → IsByMarks Keeps Follows → Keeps rule past → Keeps rule (drop k past)
+pub front : (Keeps : JudgeRule → List Mark → Type 0) (Follows : List Mark → Mark → JudgeRule → Type 0) (rule : JudgeRule) (k : ℕ) (past : List Mark) → IsByMarks Keeps Follows → Keeps rule past → Keeps rule (drop k past)
 front Keeps Follows rule zero past by h = h
 front Keeps Follows rule (suc k) [] by h = h
 front Keeps Follows rule (suc k) (mark ∷ past) by h = front Keeps Follows rule k past by ((by rule past mark).0 h).1

@@ -1,17 +1,17 @@
 mod Tests
 mod Settling
 mod Restoring
-mod Replaying
-mod Deciding
+pub mod Replaying
+pub mod Deciding
 mod Knowing
-mod Following
-mod Mapping
+pub mod Following
+pub mod Mapping
 mod Answering
 mod Seeing
 mod Counting
 mod Replying
-mod Judging
-mod Passing
-mod LawProofs
-mod PlainLaws
+pub mod Judging
+pub mod Passing
+pub mod LawProofs
+pub mod PlainLaws
 mod ExampleProofs

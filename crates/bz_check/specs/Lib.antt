@@ -11,5 +11,6 @@ pub mod Replies
 pub mod Answers
 pub mod Sights
 pub mod Knowing
+pub mod Passes
 pub mod Laws
 pub mod Example

@@ -1,5 +1,5 @@
 -- What a verdict says of a journal, by what it means that marks keep a rule. The newest mark stands first.
-use Rattle.std.specs.Prelude.{◌<◌, ◌≤◌, nat_le, if◌then◌else◌, ℕ, Bool, true, false, List, length, Option, Some, None}
+use Rattle.std.specs.Prelude.{◌<◌, ◌≤◌, nat_le, if◌then◌else◌, ℕ, List, length, Option, Some, None}
 use Rattle.bz_mark.specs.declared.marks.Mark.{Mark}
 use Rattle.bz_mark.specs.Moments.{at_moment, IsInner}
 use Rattle.bz_check.specs.declared.verdict.JudgeRule.{JudgeRule}
@@ -45,9 +45,3 @@ pub record BreaksFirst (Keeps : JudgeRule → List Mark → Type 0) (past : List
 abbrev pub IsVerdict : (JudgeRule → List Mark → Type 0) → List Mark → Verdict → Type 0
 IsVerdict Keeps past Sound = (rule : JudgeRule) → Keeps rule past
 IsVerdict Keeps past (Broken rule moment) = BreaksFirst Keeps past rule moment
-
--- the verdict at a moment, where a rule is broken and the moment is no inner one
-abbrev pub chosen : Option JudgeRule → Bool → ℕ → Option Verdict
-chosen None inner moment = None
-chosen (Some rule) true moment = None
-chosen (Some rule) false moment = Some (Broken rule moment)

@@ -1,21 +1,20 @@
-//! The rules of truth and of calls, and replies as far as the map and counts tell, judged in one pass over the marks.
-ghost use Rattle.std.specs.Prelude.{◌≡◌, ◌<◌, ◌+◌, ◌%◌, ◌^◌, ◌↔◌, ℕ, List, ◌∷◌, IfOk, OnOk, IsTrue, length};
+//! One mark judged by the rules of truth and of calls, and its reply as far as the map and counts tell.
+ghost use Rattle.std.specs.Prelude.{◌≡◌, ◌<◌, ◌+◌, ◌^◌, ℕ, List, ◌∷◌, IfOk, OnOk, length};
 ghost use Rattle.bz_layout.specs.Config.{IsConfig};
 ghost use Rattle.bz_layout.specs.declared.config.Config.{Config as Numbers};
 ghost use Rattle.bz_call.specs.Map.{Map};
 ghost use Rattle.bz_mark.specs.declared.power.Power.{Power as PowerWord};
 ghost use Rattle.bz_mark.specs.declared.marks.Mark.{Mark as MarkWord};
 ghost use Rattle.bz_mark.specs.Laws.{IsImage, IsOfMemory, AreOfMemory};
-ghost use Rattle.bz_mark.specs.Moments.{IsInner};
 ghost use Rattle.bz_sound.specs.Calls.{map_after};
 ghost use Rattle.bz_check.specs.Counts.{Counts, CountsWithin};
 ghost use Rattle.bz_check.specs.Kept.{IsSized};
 ghost use Rattle.bz_check.specs.Replays.{Replays};
 ghost use Rattle.bz_check.specs.Knowing.{Knows, HasWorker, effect_changes, map_then, is_word, finds, fault_in, fault_by};
 ghost use Rattle.bz_check.specs.Pairs.{Holds};
-ghost use Rattle.bz_check.specs.Rules.{KeepsJudged, FollowsJudged};
+ghost use Rattle.bz_check.specs.Rules.{FollowsJudged};
 ghost use Rattle.bz_check.specs.Sights.{seen_after};
-ghost use Rattle.bz_check.specs.Verdicts.{TellsFirst, IsVerdict, chosen};
+ghost use Rattle.bz_check.specs.Verdicts.{TellsFirst};
 
 use crate::counter::Counter;
 use crate::pairs::{changes, step};
@@ -23,10 +22,9 @@ use crate::replay::Replay;
 use crate::replies::is_right;
 use crate::sights::Sights;
 use crate::table::Table;
-use crate::verdict::{JudgeRule, Verdict, first};
+use crate::verdict::JudgeRule;
 use bz_key::{Key, Payload};
-use bz_layout::Config;
-use bz_mark::{Journal, Mark, Power};
+use bz_mark::Mark;
 use bz_oom::Memory;
 use std::alloc::Global;
 use std::collections::BTreeMap;
@@ -166,17 +164,8 @@ fn names_worker(mark: &Mark)
     }
 }
 
-/// A start is an image of a memory.
-fn is_image(start: &[u64])
-    requires lines { length start.now % 8 ≡ 0 }
-    requires size { length start.now < 2 ^ 32 }
-    ensures { IsImage start.now }
-{
-    let _count = start.len();
-}
-
 /// Takes a mark, with so many marks before it, and answers the first rule that it breaks, if it breaks one.
-fn judge_mark(
+pub(crate) fn judge_mark(
     replay: &mut Replay,
     table: &mut Table,
     map: &mut BTreeMap<Key, Payload>,
@@ -207,77 +196,4 @@ fn judge_mark(
     table.take(now, mark);
     counter.take(now, mark);
     Ok(fault)
-}
-
-/// Whether a moment is an inner one: the next mark is an Effect.
-fn is_inner(journal: &Journal, moment: u32) -> bool
-    ensures { IsTrue result ↔ IsInner moment journal.now.past }
-{
-    if moment >= journal.length() {
-        return false;
-    }
-    match journal.mark(moment) {
-        Mark::Effect { w: _, n: _ } => true,
-        _ => false,
-    }
-}
-
-/// The verdict at a moment, if there is one: a rule is broken, and the moment is no inner one.
-fn verdict_at(broken: Option<JudgeRule>, inner: bool, moment: u32) -> Option<Verdict>
-    ensures { result ≡ chosen broken inner moment }
-{
-    let Some(rule) = broken else {
-        return None;
-    };
-    if inner {
-        None
-    } else {
-        Some(Verdict::Broken { rule, moment })
-    }
-}
-
-/// Judges the rules of truth and of calls, and replies as far as the map and counts tell, and nothing else: the least moment up to which
-/// the marks break one of the three, and the first of them that is broken there. Where its call has no Effect, nothing is asked of what a
-/// page shows, and nothing of the cause of a Full but where descriptors are spent. The power at the start and the map there are given.
-pub fn judge_truth_calls_and_plain_replies(
-    alloc: Global,
-    config: &Config,
-    power: Power,
-    map: BTreeMap<Key, Payload>,
-    journal: &Journal,
-) -> Result<Verdict, Memory>
-    requires config { IsConfig config.now }
-    requires lines { length journal.now.start % 8 ≡ 0 }
-    requires size { length journal.now.start < 2 ^ 32 }
-    requires marks { AreOfMemory (length journal.now.start) journal.now.past }
-    ensures { (at : Map) → Holds at map.entries → IfOk result (λ verdict. IsVerdict (KeepsJudged config.now power journal.now.start at) journal.now.past verdict) }
-{
-    let start = journal.start();
-    is_image(start);
-    let mut replay = Replay::open(alloc, start)?;
-    let mut table = Table::open(alloc, power)?;
-    let mut pairs = map;
-    let mut sights = Sights::none(alloc);
-    let mut counter = Counter::open(alloc, config)?;
-    let mut broken: Option<JudgeRule> = None;
-    for i in 0..journal.length() {
-        let mark = journal.mark(i);
-        let fault = judge_mark(
-            &mut replay,
-            &mut table,
-            &mut pairs,
-            &mut sights,
-            &mut counter,
-            i,
-            &mark,
-        )?;
-        let next = first(broken, fault);
-        broken = next;
-        let inner = is_inner(journal, i + 1);
-        match verdict_at(broken, inner, i + 1) {
-            Some(verdict) => return Ok(verdict),
-            None => {}
-        }
-    }
-    Ok(Verdict::Sound)
 }

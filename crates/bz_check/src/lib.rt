@@ -6,6 +6,7 @@ mod counter;
 mod judge;
 pub mod laws;
 mod pairs;
+mod pass;
 mod replay;
 mod replies;
 mod settle;
@@ -13,5 +14,5 @@ mod sights;
 mod table;
 mod verdict;
 
-pub use judge::judge_truth_calls_and_plain_replies;
-pub use verdict::{JudgeRule, Verdict};
+pub use pass::Pass;
+pub use verdict::{JudgeRule, Verdict, first};

@@ -62,6 +62,13 @@ impl Replay {
         self.cached.get(a as usize).copied()
     }
 
+    /// The durable words.
+    pub(crate) fn durable(&self) -> &[u64]
+        ensures { result.now ≡ self.now.durable }
+    {
+        &self.durable
+    }
+
     fn store(&mut self, a: u32, v: u64) -> Result<(), Memory>
         requires { a < length self.old.cached }
         ensures { OnOk result (self.new ≡ with_store self.old a v) }

@@ -1,5 +1,5 @@
 //! Whether the reply of an End is right, as far as the map and counts tell.
-ghost use Rattle.std.specs.Prelude.{◌≡◌, ◌-◌, Some, None, length};
+ghost use Rattle.std.specs.Prelude.{◌≡◌, Some, None, length};
 ghost use Rattle.bz_check.specs.Answers.{reply_by, same_reply, tells, answers_so, is_payload, stays_in, is_write_in};
 ghost use Rattle.bz_check.specs.Sights.{found_of, is_read_in, paged_in, may_page_in, may_be_full_in, may_read_in, is_effective_in, answers_in, reply_in, replies_in};
 
@@ -206,13 +206,6 @@ fn is_effective(at: u32, effect: u32, here: Option<Sight>, call: &Call, reply: &
     at == effect && answers
 }
 
-/// The moment before.
-fn earlier(moment: u32) -> u32
-    ensures { result ≡ moment - 1 }
-{
-    if moment == 0 { 0 } else { moment - 1 }
-}
-
 /// Whether a call that is answered at this moment is answered so.
 fn is_answered(
     sights: &Sights,
@@ -226,7 +219,14 @@ fn is_answered(
 {
     match call.effect {
         Some(effect) => is_effective(at, effect, sights.at(effect), &call.call, reply),
-        None => may_read(here, w, at, sights.at(earlier(at)), &call.call, reply),
+        None => may_read(
+            here,
+            w,
+            at,
+            sights.at(at.saturating_sub(1)),
+            &call.call,
+            reply,
+        ),
     }
 }
 

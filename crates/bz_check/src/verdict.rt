@@ -43,7 +43,7 @@ fn place(rule: JudgeRule) -> u8
 }
 
 /// The first one of two rules that are broken, if any are.
-pub(crate) fn first(one: Option<JudgeRule>, other: Option<JudgeRule>) -> Option<JudgeRule>
+pub fn first(one: Option<JudgeRule>, other: Option<JudgeRule>) -> Option<JudgeRule>
     ensures { result ≡ first_of one other }
 {
     let Some(a) = one else {

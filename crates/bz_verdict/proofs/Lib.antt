@@ -1,0 +1,3 @@
+mod Pairing
+mod Going
+mod LawProofs

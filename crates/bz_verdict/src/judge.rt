@@ -1,0 +1,106 @@
+//! The five rules, with replies as far as the map and counts tell, judged in one pass over the marks.
+ghost use Rattle.std.specs.Prelude.{◌≡◌, ◌↔◌, ◌%◌, ◌<◌, ◌^◌, ◌||◌, ◌&&◌, IfOk, IsTrue, None, length, slice_index};
+ghost use Rattle.bz_content.specs.Content.{image_fault};
+ghost use Rattle.bz_layout.specs.Addresses.{words_of};
+ghost use Rattle.bz_layout.specs.Config.{IsConfig};
+ghost use Rattle.bz_mark.specs.Laws.{IsImage, AreOfMemory};
+ghost use Rattle.bz_mark.specs.Moments.{IsInner};
+ghost use Rattle.bz_check.specs.Verdicts.{IsVerdict};
+ghost use Rattle.bz_verdict.specs.Rules.{KeepsSeen, may_change_image};
+
+use crate::image::moment_rule;
+use crate::maps::map_held;
+use bz_check::{JudgeRule, Pass, Verdict, first};
+use bz_layout::Config;
+use bz_mark::{Journal, Mark, Power};
+use bz_oom::Memory;
+use std::alloc::Global;
+
+/// Whether a moment is an inner one: the next mark is an Effect.
+fn is_inner(journal: &Journal, moment: u32) -> bool
+    ensures { IsTrue result ↔ IsInner moment journal.now.past }
+{
+    if moment >= journal.length() {
+        return false;
+    }
+    match journal.mark(moment) {
+        Mark::Effect { w: _, n: _ } => true,
+        _ => false,
+    }
+}
+
+/// Whether the durable words or the map may have changed, where this mark came last.
+fn is_changed(stale: bool, mark: &Mark) -> bool
+    ensures { result ≡ (stale || may_change_image mark.now) }
+{
+    if stale {
+        return true;
+    }
+    match *mark {
+        Mark::Fence { w: _ } => true,
+        Mark::Evict { a: _ } => true,
+        Mark::Effect { w: _, n: _ } => true,
+        _ => false,
+    }
+}
+
+/// Whether a change is left that was not looked at: at an inner moment none is.
+fn is_left(changed: bool, inner: bool) -> bool
+    ensures { result ≡ (changed && inner) }
+{
+    changed && inner
+}
+
+/// A start is an image of a memory.
+fn is_image(start: &[u64])
+    requires lines { length start.now % 8 ≡ 0 }
+    requires size { length start.now < 2 ^ 32 }
+    ensures { IsImage start.now }
+{
+    let _count = start.len();
+}
+
+/// Judges the rules of truth, calls, shape and content, and replies as far as the map and counts tell: the least moment, those before an
+/// Effect left out, up to which one of the five is broken, and the first of them that is broken there. Where a call has no Effect, nothing
+/// is asked of what a page shows, and nothing of the cause of a Full but where descriptors are spent. The start must be well formed. The
+/// power at the start is given.
+pub fn judge_all_but_pages_and_causes(
+    alloc: Global,
+    config: &Config,
+    power: Power,
+    journal: &Journal,
+) -> Result<Verdict, Memory>
+    requires config { IsConfig config.now }
+    requires size { length journal.now.start ≡ words_of config.now }
+    requires start { image_fault config.now (slice_index journal.now.start) ≡ None }
+    requires marks { AreOfMemory (length journal.now.start) journal.now.past }
+    ensures { IfOk result (λ verdict. IsVerdict (KeepsSeen config.now power journal.now.start) journal.now.past verdict) }
+{
+    let start = journal.start();
+    is_image(start);
+    let map = map_held(alloc, start)?;
+    let mut pass = Pass::open(alloc, config, power, map, start)?;
+    let mut broken: Option<JudgeRule> = None;
+    let mut stale = false;
+    for i in 0..journal.length() {
+        let mark = journal.mark(i);
+        let fault = pass.take(i, &mark)?;
+        let next = first(broken, fault);
+        broken = next;
+        let inner = is_inner(journal, i + 1);
+        let changed = is_changed(stale, &mark);
+        let told = moment_rule(alloc, config, &pass, inner, broken, changed)?;
+        match told {
+            Some(rule) => {
+                return Ok(Verdict::Broken {
+                    rule,
+                    moment: i + 1,
+                });
+            }
+            None => {}
+        }
+        let left = is_left(changed, inner);
+        stale = left;
+    }
+    Ok(Verdict::Sound)
+}

@@ -1,0 +1,7 @@
+//! Laws of verdicts. Each function does nothing: its contract is the law.
+ghost use Rattle.bz_verdict.specs.Laws.{SoundIsTold};
+
+/// Of a sound journal no other verdict is right than that it is sound.
+pub fn sound_is_told()
+    ensures { SoundIsTold }
+{}

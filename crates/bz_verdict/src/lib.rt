@@ -1,0 +1,9 @@
+//! Journals judged by their marks and by the images between them.
+#![tactic(auto)]
+
+mod image;
+mod judge;
+pub mod laws;
+mod maps;
+
+pub use judge::judge_all_but_pages_and_causes;
