@@ -25,6 +25,7 @@ use Rattle.bz_swap.specs.Inside.Kept.{IsRunning}
 use Rattle.bz_swap.proofs.Readable.{agree-published, index-target, value_is}
 use Rattle.bz_swap.proofs.Readies.{published-begun, begun-descriptor}
 use Rattle.bz_swap.proofs.Shown.{shows, begun-running}
+use Rattle.bz_swap.proofs.StatusAsks.{asked-current}
 use Rattle.bz_swap.proofs.Values.{all-listed, listed-past}
 use Rattle.bz_swap_machine.proofs.Lasting.{lasts-durable}
 
@@ -112,6 +113,7 @@ held p r phase =
           let cached = plain-raw p.store.swaps p.store.cached a out (r.words.cached.kinds a out) _ refl (sound.private a unnamed) in
           let durable = plain-raw p.store.swaps p.store.durable a out (r.words.durable.kinds a out) _ refl (sound.private_durable a _ (lasts-durable _ _) unnamed) in
           (cached.0, value_is p r a ∙ ap (λ x. resolved r.entries (status_at p.store.swaps p.store.durable) a x) durable.1));
+      asks = λ w s t lies lies' here there. asked-current p r w s lies here ∙ sym (asked-current p r w t lies' there);
     }
 
 pub holds : (phase : Phase) (p : Parts) → (phase ≢ Recovering → IsHeld (seen p)) → HoldsIn phase (seen p)

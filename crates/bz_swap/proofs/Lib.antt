@@ -49,6 +49,7 @@ pub mod SettledWords
 pub mod Shown
 pub mod Spellings
 pub mod Starting
+pub mod StatusAsks
 pub mod StepLies
 pub mod StepOwners
 pub mod Stepped

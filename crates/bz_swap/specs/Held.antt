@@ -1,15 +1,20 @@
 -- What holds of a swap memory at every moment outside a recovery time.
-use Rattle.std.specs.Prelude.{All, ◌≡◌, ℕ, ◌^◌, ◌<◌, ◌≤◌, true, false, slice_index}
+use Rattle.std.specs.Prelude.{All, ◌≡◌, ◌≢◌, ℕ, ◌^◌, ◌/◌, ◌<◌, ◌≤◌, true, false, get_or, slice_index, [], None}
 use Rattle.bz_word.specs.declared.entry.Entry.{Entry}
 use Rattle.bz_word.specs.declared.kind.WordKind.TheVariants.{Value}
 use Rattle.bz_swap_cells.specs.Store.{IsOutside, kind_at, status_word, status_at}
 use Rattle.bz_layout.specs.Addresses.{swap_address}
+use Rattle.bz_swap_cells.specs.FromPm.State.{ask_for}
 use Rattle.bz_swap_cells.specs.FromPm.Words.{IsMemory}
 use Rattle.bz_swap.specs.declared.phase.Phase.{Phase}
 use Rattle.bz_swap.specs.declared.phase.Phase.TheVariants.{Opened, Running, Recovering}
 use Rattle.bz_swap.specs.Lawful.{IsLawful}
 use Rattle.bz_swap.specs.SwapMemory.{SwapMemory, memory_words, value_at, entries_of, is_named}
 use Rattle.bz_swap.specs.Starts.{IsAddress}
+
+-- worker w has asked, since its last fence, for the line that holds a descriptor's status
+abbrev pub HasAskedForStatus : SwapMemory → ℕ → ℕ → Type 0
+HasAskedForStatus m w s = ask_for (get_or m.past.asks w []) (swap_address s / 8) ≢ None
 
 pub record IsHeld (m : SwapMemory) : Type 0 where
   -- a durable word for each cached one, in whole lines
@@ -27,6 +32,8 @@ pub record IsHeld (m : SwapMemory) : Type 0 where
   pub targets : (s : ℕ) → All (λ (e : Entry). IsAddress m e.target) (entries_of m s)
   -- a private word is plain, in the caches and in the memory itself, where it is its value
   pub private : (a : ℕ) → IsOutside m.swaps a → is_named m a ≡ false → (slice_index m.cached a < 2 ^ 61) × (value_at m a ≡ slice_index m.durable a)
+  -- between two fences a worker asks for at most one line that holds a descriptor's status
+  pub asks : (w s t : ℕ) → s < m.swaps → t < m.swaps → HasAskedForStatus m w s → HasAskedForStatus m w t → s ≡ t
 
 abbrev pub HoldsIn : Phase → SwapMemory → Type 0
 HoldsIn Opened m = IsHeld m
