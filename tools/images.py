@@ -2,8 +2,9 @@
 tools/draw-image, tools/trace-page and tools/try-pages share it. It is written from that page alone, so it tries it."""
 import struct
 
-HEAD_BYTES, MAGIC, VERSION = 20, b"BZIMAGE\n", 1
-SUPERBLOCK_WORDS, DESCRIPTOR_WORDS, NODE_WORDS, FIRST_META, RECORD_WORDS = 16, 16, 128, 10, 118
+HEAD_BYTES, MAGIC, VERSION = 20, b"BZIMAGE\n", 2
+SUPERBLOCK_WORDS, DESCRIPTOR_WORDS, NODE_WORDS, FENCE_WORDS, FIRST_META, RECORD_WORDS = 16, 16, 256, 8, 18, 238
+LOW_FENCE, HIGH_FENCE = 2, 10
 MOST_NODES, MOST_SWAPS, MOST_LEVELS = 16384, 65536, 12
 SUCCEEDED = 2
 # how a tree is drawn: the sizes of boxes, and colours
@@ -121,8 +122,8 @@ class Node:
         if self.count + self.block > RECORD_WORDS:
             raise Refused(f"slot {slot}: {self.count} metadata words and a block of {self.block} words")
         low, high = bits(header, 8, 15), bits(header, 16, 23)
-        self.low = unpacked(words[2:6], low) if low else None
-        self.high = unpacked(words[6:10], high) if high else None
+        self.low = unpacked(words[LOW_FENCE : LOW_FENCE + FENCE_WORDS], low) if low else None
+        self.high = unpacked(words[HIGH_FENCE : HIGH_FENCE + FENCE_WORDS], high) if high else None
         self.records = [Record(words, words[FIRST_META + i], self.level) for i in range(self.count)]
         self.visible = sorted((r for r in self.records if r.visible), key=lambda r: r.key)
 
@@ -130,7 +131,7 @@ class Node:
         return sum(1 + r.size for r in self.visible)
 
     def runs(self):
-        """The colours of its 128 words: those of live records, those of others, and the free ones."""
+        """The colours of its 256 words: those of live records, those of others, and the free ones."""
         colours = ["front"] * FIRST_META + ["free"] * (NODE_WORDS - FIRST_META)
         for i in range(NODE_WORDS - self.block, NODE_WORDS):
             colours[i] = "dead"

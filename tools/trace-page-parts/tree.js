@@ -42,7 +42,7 @@ class TreeNode {
     this.level = this.low[1] & 255;
     if (this.count + this.block > layout.recordWords) throw new NoTree(`slot ${slot} has ${this.count} metadata words and a block of ${this.block}`);
     this.lowFence = this.bytes(2, this.low[1] >>> 8 & 255);
-    this.highFence = this.bytes(6, this.low[1] >>> 16 & 255);
+    this.highFence = this.bytes(layout.highFence, this.low[1] >>> 16 & 255);
     this.records = Array.from({ length: this.count }, (_, i) => this.record(layout.firstMeta + i));
     this.visible = this.records.filter((one) => one.visible).sort((one, other) => (one.key < other.key ? -1 : one.key > other.key ? 1 : 0));
   }

@@ -59,7 +59,7 @@ function nameOfWord(place) {
     return at < 14 ? `${["target", "expected", "new"][(at - 2) % 3]} of entry ${Math.floor((at - 2) / 3)}` : `word ${at}`;
   }
   if (at < 2) return ["status", "header"][at];
-  if (at < layout.firstMeta) return `${at < 6 ? "low" : "high"} fence ${(at - 2) % 4}`;
+  if (at < layout.firstMeta) return `${at < layout.highFence ? "low" : "high"} fence ${(at - layout.highFence + layout.fenceWords) % layout.fenceWords}`;
   return `word ${at}`;
 }
 

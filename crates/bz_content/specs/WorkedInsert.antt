@@ -14,25 +14,25 @@ word_at (w ∷ words) a = if a == w.0 then w.1 else word_at words a
 
 -- the superblock
 abbrev pub super : List (ℕ × ℕ)
-super = (0, 1) ∷ (1, 1) ∷ (3, 16) ∷ (4, 64) ∷ []
+super = (0, 2) ∷ (1, 1) ∷ (3, 16) ∷ (4, 64) ∷ []
 
 -- status word and metadata word of the root leaf
 abbrev pub leaf : ℕ → ℕ → List (ℕ × ℕ)
-leaf status meta = (1040, status) ∷ (1050, meta) ∷ []
+leaf status meta = (1040, status) ∷ (1058, meta) ∷ []
 
 -- the words of the record: the key `a` and the payload `1`, packed
 abbrev pub pair : List (ℕ × ℕ)
-pair = (1166, 0x0061000000000000) ∷ (1167, 0x0031000000000000) ∷ []
+pair = (1294, 0x0061000000000000) ∷ (1295, 0x0031000000000000) ∷ []
 
 -- the images at first, reserved, published and after a delete
 abbrev pub at_first : ℕ → ℕ
 at_first = word_at super
 
 abbrev pub reserved : ℕ → ℕ
-reserved = word_at (super ++ leaf 0x0010080200000001 0x0000007E00010002 ++ pair)
+reserved = word_at (super ++ leaf 0x0010080200000001 0x000000FE00010002 ++ pair)
 
 abbrev pub published : ℕ → ℕ
-published = word_at (super ++ leaf 0x0010080000000002 0x1000007E00010002 ++ pair)
+published = word_at (super ++ leaf 0x0010080000000002 0x100000FE00010002 ++ pair)
 
 abbrev pub deleted : ℕ → ℕ
 deleted = word_at (super ++ leaf 0x0010080200000003 0x0000000000010002 ++ pair)
@@ -40,7 +40,7 @@ deleted = word_at (super ++ leaf 0x0010080200000003 0x0000000000010002 ++ pair)
 -- the publishing swap in descriptor 1, with this status
 abbrev pub publishing : ℕ → List (ℕ × ℕ)
 publishing status =
-    (32, status) ∷ (33, 2) ∷ (34, 1040) ∷ (35, 0x0010080200000001) ∷ (36, 0x0010080000000002) ∷ (37, 1050) ∷ (38, 0x0000007E00010002) ∷ (39, 0x1000007E00010002) ∷ []
+    (32, status) ∷ (33, 2) ∷ (34, 1040) ∷ (35, 0x0010080200000001) ∷ (36, 0x0010080000000002) ∷ (37, 1058) ∷ (38, 0x000000FE00010002) ∷ (39, 0x100000FE00010002) ∷ []
 
 -- the image while its pointers stand in both words, undecided and once it has succeeded
 abbrev pub undecided : ℕ → ℕ

@@ -13,36 +13,36 @@ with_workers workers = record { nodes = 64; swaps = 64; workers = workers; marks
 
 -- the greatest weight of each task, and of the splits that find no room
 pub record WeightsAreTold : Type 0 where
-  pub seek : most_of_seek Marks ≡ 367
-  pub find : most_of_find Marks ≡ 601
-  pub leaf : most_of_leaf Marks ≡ 131
-  pub insert : most_of_insert Marks ≡ 269
-  pub update : most_of_update Marks ≡ 269
+  pub seek : most_of_seek Marks ≡ 730
+  pub find : most_of_find Marks ≡ 2157
+  pub leaf : most_of_leaf Marks ≡ 259
+  pub insert : most_of_insert Marks ≡ 279
+  pub update : most_of_update Marks ≡ 279
   pub delete : most_of_delete Marks ≡ 129
   pub freeze : most_of_freeze Marks ≡ 129
-  pub copy : most_of_copy Marks ≡ 290
-  pub merge : most_of_merge Marks ≡ 1094
-  pub root : most_of_root Marks ≡ 610
-  pub below : most_of_below Marks ≡ 1385
-  pub inner : most_of_inner Marks ≡ 867
-  pub inner_root : most_of_inner_root Marks ≡ 738
-  pub joining : most_of_joining Marks ≡ 835
+  pub copy : most_of_copy Marks ≡ 450
+  pub merge : most_of_merge Marks ≡ 1798
+  pub root : most_of_root Marks ≡ 1090
+  pub below : most_of_below Marks ≡ 2633
+  pub inner : most_of_inner Marks ≡ 1603
+  pub inner_root : most_of_inner_root Marks ≡ 1346
+  pub joining : most_of_joining Marks ≡ 1539
   pub lowering : most_of_lowering Marks ≡ 130
   pub lost_below : cost_of_lost_below Marks ≡ 2
-  pub lost_inner : cost_of_lost_inner Marks ≡ 130
+  pub lost_inner : cost_of_lost_inner Marks ≡ 258
 
 -- what is still to come by the stage, a whole stretch, and what the worker may do in all, of one worker, of eight, and of as many as there
 -- may be
 pub record CostsAreTold : Type 0 where
-  pub last_round : cost_from Marks 0 ≡ 3268
-  pub one_more : cost_from Marks 1 ≡ 6850
-  pub two_more : cost_from Marks 2 ≡ 8818
-  pub top : cost_from Marks 11 ≡ 32380
-  pub rest : rest_of_round Marks ≡ 3268
-  pub stretch : solo_stretch Marks ≡ 33608
+  pub last_round : cost_from Marks 0 ≡ 7331
+  pub one_more : cost_from Marks 1 ≡ 15871
+  pub two_more : cost_from Marks 2 ≡ 20622
+  pub top : cost_from Marks 11 ≡ 74991
+  pub rest : rest_of_round Marks ≡ 7331
+  pub stretch : solo_stretch Marks ≡ 78266
   -- the most descriptors and slots that a stretch takes
   pub descriptors : solo_stretch Descriptors ≡ 19
   pub slots : solo_stretch Slots ≡ 36
-  pub one : solo_most (with_workers 1) ≡ 38927
-  pub eight : solo_most (with_workers 8) ≡ 281358
-  pub most : solo_most (with_workers 64) ≡ 2220806
+  pub one : solo_most (with_workers 1) ≡ 87648
+  pub eight : solo_most (with_workers 8) ≡ 642685
+  pub most : solo_most (with_workers 64) ≡ 5082981

@@ -7,6 +7,7 @@ use Rattle.std.proofs.lemmas.Slice.Eq.{bytes_eq-Decides}
 use Rattle.bz_image.specs.declared.image.Head.{Head}
 use Rattle.bz_image.specs.declared.fault.ImageFault.{ImageFault}
 use Rattle.bz_image.specs.declared.fault.ImageFault.TheVariants.{Short, Magic, Version, Sizes, Long, Memory}
+use Rattle.bz_image.specs.declared.form.TheConstants.{VERSION}
 use Rattle.bz_image.specs.Form.{magic, AreSizes}
 use Rattle.bz_image.specs.Reads.{number_at, sizes_fit, head_of}
 use Rattle.bz_image.specs.Faults.{HasMagic, BreaksHead, IsHead}
@@ -16,8 +17,8 @@ use Rattle.bz_image.proofs.HeadLemmas.{head_by, by_good, Good}
 abbrev breaks_by : ℕ → Bool → ℕ → ℕ → ℕ → ImageFault → Type 0
 breaks_by long is_magic version nodes swaps Short = ¬ (20 ≤ long)
 breaks_by long is_magic version nodes swaps Magic = (20 ≤ long) × (is_magic ≡ false)
-breaks_by long is_magic version nodes swaps Version = (20 ≤ long) × (is_magic ≡ true) × ¬ (version ≡ 1)
-breaks_by long is_magic version nodes swaps Sizes = (20 ≤ long) × (is_magic ≡ true) × (version ≡ 1) × ¬ AreSizes nodes swaps
+breaks_by long is_magic version nodes swaps Version = (20 ≤ long) × (is_magic ≡ true) × ¬ (version ≡ VERSION)
+breaks_by long is_magic version nodes swaps Sizes = (20 ≤ long) × (is_magic ≡ true) × (version ≡ VERSION) × ¬ AreSizes nodes swaps
 breaks_by long is_magic version nodes swaps Long = ⊥
 breaks_by long is_magic version nodes swaps Memory = ⊥
 
@@ -90,7 +91,7 @@ head_found bytes Long breaks = absurd breaks
 head_found bytes Memory breaks = absurd breaks
 
 -- bytes of another version are no head
-pub version_is : (bytes : List ℕ) → 20 ≤ length bytes → bytes_eq (take 8 bytes) magic ≡ true → ¬ (number_at 8 bytes ≡ 1) → head_of bytes ≡ Err Version
+pub version_is : (bytes : List ℕ) → 20 ≤ length bytes → bytes_eq (take 8 bytes) magic ≡ true → ¬ (number_at 8 bytes ≡ VERSION) → head_of bytes ≡ Err Version
 version_is bytes enough good other = parts_found bytes Version (enough, good, other)
 
 -- the head that bytes tell
@@ -114,7 +115,7 @@ good_is_head bytes head good = (
 )
 
 -- sizes that were read of a head, and are none or are some
-module _ (bytes : List ℕ) (nodes swaps : ℕ) (enough : 20 ≤ length bytes) (good : bytes_eq (take 8 bytes) magic ≡ true) (known : number_at 8 bytes ≡ 1) (n : nodes ≡ number_at 12 bytes) (s : swaps ≡ number_at 16 bytes) where
+module _ (bytes : List ℕ) (nodes swaps : ℕ) (enough : 20 ≤ length bytes) (good : bytes_eq (take 8 bytes) magic ≡ true) (known : number_at 8 bytes ≡ VERSION) (n : nodes ≡ number_at 12 bytes) (s : swaps ≡ number_at 16 bytes) where
   pub sizes_refused : ¬ AreSizes nodes swaps → head_of bytes ≡ Err Sizes
   sizes_refused none = parts_found bytes Sizes (
     enough,

@@ -10,6 +10,7 @@ use Rattle.byteorder.specs.Numbers.{little_number-reads_back, little_from-append
 use Rattle.bz_image.specs.declared.image.Head.{Head}
 use Rattle.bz_image.specs.declared.fault.ImageFault.{ImageFault}
 use Rattle.bz_image.specs.declared.fault.ImageFault.TheVariants.{Short, Magic, Version}
+use Rattle.bz_image.specs.declared.form.TheConstants.{VERSION}
 use Rattle.bz_image.specs.Form.{magic, bytes_of_head, AreSizes}
 use Rattle.bz_image.specs.Reads.{number_at, sizes_of, head_of}
 use Rattle.bz_image.specs.Laws.{AreBytes}
@@ -19,9 +20,9 @@ use Rattle.bz_image.proofs.WordLemmas.{bytes_again, bytes-drop}
 abbrev pub head_by : ℕ → Bool → ℕ → ℕ → ℕ → Result Head ImageFault
 head_by long is_magic version nodes swaps =
     if nat_lt long 20 then Err Short
-    else if is_magic then (if version == 1 then sizes_of nodes swaps else Err Version) else Err Magic
+    else if is_magic then (if version == VERSION then sizes_of nodes swaps else Err Version) else Err Magic
 
-pub by_good : (long : ℕ) (is_magic : Bool) (version nodes swaps : ℕ) → 20 ≤ long → is_magic ≡ true → version ≡ 1 → AreSizes nodes swaps → head_by long is_magic version nodes swaps ≡ Ok (record { nodes = nodes; swaps = swaps })
+pub by_good : (long : ℕ) (is_magic : Bool) (version nodes swaps : ℕ) → 20 ≤ long → is_magic ≡ true → version ≡ VERSION → AreSizes nodes swaps → head_by long is_magic version nodes swaps ≡ Ok (record { nodes = nodes; swaps = swaps })
 by_good long is_magic version nodes swaps enough good known fit =
     grind (arith, nat_tests, fit.some_nodes, fit.nodes_fit, fit.some_swaps, fit.swaps_fit)
 
@@ -31,15 +32,15 @@ head_reads nodes swaps rest fit =
     let bytes : List ℕ = bytes_of_head nodes swaps ++ rest in
     let n : number_at 12 (bytes_of_head nodes swaps ++ rest) ≡ nodes = little_number-reads_back 4 nodes (little_bytes 4 swaps ++ rest) (omega (arith, fit.nodes_fit)) in
     let s : number_at 16 (bytes_of_head nodes swaps ++ rest) ≡ swaps = little_number-reads_back 4 swaps rest (omega (arith, fit.swaps_fit)) in
-    ap (λ (i : ℕ). head_by (length (bytes_of_head nodes swaps ++ rest)) true 1 i (number_at 16 (bytes_of_head nodes swaps ++ rest))) n
-    ∙ ap (λ (i : ℕ). head_by (length (bytes_of_head nodes swaps ++ rest)) true 1 nodes i) s
-    ∙ by_good (length (bytes_of_head nodes swaps ++ rest)) true 1 nodes swaps (omega arith) refl refl fit
+    ap (λ (i : ℕ). head_by (length (bytes_of_head nodes swaps ++ rest)) true VERSION i (number_at 16 (bytes_of_head nodes swaps ++ rest))) n
+    ∙ ap (λ (i : ℕ). head_by (length (bytes_of_head nodes swaps ++ rest)) true VERSION nodes i) s
+    ∙ by_good (length (bytes_of_head nodes swaps ++ rest)) true VERSION nodes swaps (omega arith) refl refl fit
 
 -- what a good head says of the bytes
 pub record Good (bytes : List ℕ) (head : Head) : Type 0 where
   pub enough : 20 ≤ length bytes
   pub is_magic : bytes_eq (take 8 bytes) magic ≡ true
-  pub version : number_at 8 bytes ≡ 1
+  pub version : number_at 8 bytes ≡ VERSION
   pub nodes : number_at 12 bytes ≡ head.nodes
   pub swaps : number_at 16 bytes ≡ head.swaps
   pub fit : AreSizes head.nodes head.swaps
@@ -47,7 +48,7 @@ pub record Good (bytes : List ℕ) (head : Head) : Type 0 where
 record By (long : ℕ) (is_magic : Bool) (version nodes swaps : ℕ) (head : Head) : Type 0 where
   enough : 20 ≤ long
   good : is_magic ≡ true
-  known : version ≡ 1
+  known : version ≡ VERSION
   nodes_are : nodes ≡ head.nodes
   swaps_are : swaps ≡ head.swaps
   some_nodes : 1 ≤ nodes
@@ -98,11 +99,11 @@ more_bytes place bytes front back first next =
 pub head_again : (bytes : List ℕ) (head : Head) → AreBytes bytes → Good bytes head → take 20 bytes ≡ bytes_of_head head.nodes head.swaps
 head_again bytes head are good =
     let first : take 8 bytes ≡ magic = grind (arith, bytes_eq-Decides, good.is_magic) in
-    let version : take 4 (drop 8 bytes) ≡ little_bytes 4 1 = four_again 8 1 bytes (omega (arith, good.enough)) are good.version in
+    let version : take 4 (drop 8 bytes) ≡ little_bytes 4 VERSION = four_again 8 VERSION bytes (omega (arith, good.enough)) are good.version in
     let nodes : take 4 (drop 12 bytes) ≡ little_bytes 4 head.nodes = four_again 12 head.nodes bytes (omega (arith, good.enough)) are good.nodes in
     let swaps : take 4 (drop 16 bytes) ≡ little_bytes 4 head.swaps = four_again 16 head.swaps bytes (omega (arith, good.enough)) are good.swaps in
-    let twelve : take 12 bytes ≡ magic ++ little_bytes 4 1 = more_bytes 8 bytes _ _ first version in
-    let sixteen : take 16 bytes ≡ (magic ++ little_bytes 4 1) ++ little_bytes 4 head.nodes = more_bytes 12 bytes _ _ twelve nodes in
+    let twelve : take 12 bytes ≡ magic ++ little_bytes 4 VERSION = more_bytes 8 bytes _ _ first version in
+    let sixteen : take 16 bytes ≡ (magic ++ little_bytes 4 VERSION) ++ little_bytes 4 head.nodes = more_bytes 12 bytes _ _ twelve nodes in
     more_bytes 16 bytes _ _ sixteen swaps
 
 -- a number that is read from a place on

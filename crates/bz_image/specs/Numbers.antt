@@ -3,6 +3,6 @@ use Rattle.std.specs.Prelude.{◌≡◌}
 use Rattle.bz_image.specs.declared.form.TheConstants.{VERSION, HEAD_BYTES, WORD_BYTES}
 
 pub record NumbersOfFormats : Type 0 where
-  pub version : VERSION ≡ 1
+  pub version : VERSION ≡ 2
   pub head_bytes : HEAD_BYTES ≡ 20
   pub word_bytes : WORD_BYTES ≡ 8

@@ -8,7 +8,7 @@ use bz_layout::{NODE_WORDS, SUPERBLOCK_WORDS, SWAP_WORDS};
 pub(crate) const MAGIC: [u8; 8] = [b'B', b'Z', b'I', b'M', b'A', b'G', b'E', b'\n'];
 
 /// The version of the form.
-pub const VERSION: u32 = 1;
+pub const VERSION: u32 = 2;
 
 /// The first byte of the version.
 pub(crate) const VERSION_AT: usize = 8;

@@ -43,7 +43,7 @@ told-stored c r i Took s f t = go (nat_lt (i + 1) (size_of r)) refl
         let last : i + 1 ≡ size_of r = grind (arith, nat_tests, f.1.0) in
         (f.0, (omega (arith, f.1.1.fits.some), subst (λ z. HasReserved r z 0 s) last f.1.1))
 
--- a line is one of at most two
+-- a line is one of a few
 pub ready-flush : (c : Config) (r : NewRecord) (n : ℕ) (stage : Stage) (s : Scene) → s.past.config ≡ c → insert_facts r (Flush n) stage s → IsReady c r (Flush n)
 ready-flush c r n Waiting s e f = (f.1.1.fits, subst (λ z. r.slot < z.nodes) e f.1.1.reserved.leaf.leaf.slot, omega (arith, f.1.0, f.1.1.fits.some, f.1.1.fits.few))
 ready-flush c r n Took s e f = (f.1.1.fits, subst (λ z. r.slot < z.nodes) e f.1.1.reserved.leaf.leaf.slot, omega (arith, f.1.0, f.1.1.fits.some, f.1.1.fits.few))

@@ -158,6 +158,6 @@ IsEndOfInsert outcome = ⊥
 abbrev pub IsReady : Config → NewRecord → InsertPhase → Type 0
 IsReady c r Reserve = Fits r × (r.slot < c.nodes)
 IsReady c r (Store i) = Fits r × (r.slot < c.nodes) × (i < size_of r)
-IsReady c r (Flush n) = Fits r × (r.slot < c.nodes) × (n < 2)
+IsReady c r (Flush n) = Fits r × (r.slot < c.nodes) × (n < RECORD_LINES)
 IsReady c r Publish = Fits r × (r.slot < c.nodes)
 IsReady c r phase = Unit {0}

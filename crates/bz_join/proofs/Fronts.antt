@@ -3,7 +3,7 @@ use Rattle.std.proofs.Common.{◌≡◌, ℕ, zero, suc, ◌+◌, ◌≤◌, Lis
 use Rattle.std.specs.Prelude.{Some, None, slice_index}
 use Rattle.bz_key.specs.Packing.{packed_len, unpacked_key}
 use Rattle.bz_key.proofs.UnpackingLaws.{unpacked_key-sound}
-use Rattle.bz_layout.specs.declared.sizes.TheConstants.{NODE_WORDS, HEADER_AT, LOW_FENCE_AT}
+use Rattle.bz_layout.specs.declared.sizes.TheConstants.{NODE_WORDS, HEADER_AT, LOW_FENCE_AT, FENCE_WORDS}
 use Rattle.bz_node.specs.Reading.{part}
 use Rattle.bz_slotted.specs.Page.{words_at, page}
 use Rattle.bz_slotted.specs.ReadingLaws.{node_of}
@@ -20,7 +20,7 @@ unfolding unpacked_key
 no-bytes words = refl
 
 -- what stands at a fence's place
-fence-read : (words : List ℕ) (at len : ℕ) (bound : Option (List ℕ)) → at + 4 ≤ length words → IsFence (node_of words) at len bound → unpacked_key len (part words at (packed_len len)) ≡ bound
+fence-read : (words : List ℕ) (at len : ℕ) (bound : Option (List ℕ)) → at + FENCE_WORDS ≤ length words → IsFence (node_of words) at len bound → unpacked_key len (part words at (packed_len len)) ≡ bound
 fence-read words at len None within f = (λ t. unpacked_key (f.0 t) (part words at (packed_len (f.0 t)))) ∙ no-bytes (part words at (packed_len 0))
 fence-read words at len (Some key) within f =
     let u = unpacked_key-sound len (words_at (node_of words) at (packed_len len)) key f in ap (unpacked_key len) (sym (part-at words at (packed_len len) (omega (arith, within, u.0.fits, u.1)))) ∙ f

@@ -7,10 +7,10 @@ pub const KEY_BYTES: usize = LONGEST;
 pub const PAYLOAD_BYTES: usize = LONGEST;
 
 /// The most pairs that a page holds.
-pub const PAGE_PAIRS: usize = 59;
+pub const PAGE_PAIRS: usize = 119;
 
 /// The places of the array that a key or a payload is kept in.
-pub(crate) const LONGEST: usize = 28;
+pub(crate) const LONGEST: usize = 56;
 
 /// The most bytes that the spelling of a key or a payload takes.
 pub const SPELLED_BYTES: usize = 3 * LONGEST;

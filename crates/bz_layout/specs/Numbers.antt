@@ -15,7 +15,7 @@ pub record MapNumbers : Type 0 where
   pub nodes_at : NODES_AT ≡ 3
   pub swaps_at : SWAPS_AT ≡ 4
   pub superblock_used : SUPERBLOCK_USED ≡ 5
-  pub format : FORMAT ≡ 1
+  pub format : FORMAT ≡ 2
   pub first_root : FIRST_ROOT ≡ 1
   pub swap_words : SWAP_WORDS ≡ 16
   pub swap_status_at : SWAP_STATUS_AT ≡ 0
@@ -26,28 +26,28 @@ pub record MapNumbers : Type 0 where
 
 -- a node and its parts
 pub record NodeNumbers : Type 0 where
-  pub node_words : NODE_WORDS ≡ 128
-  pub node_lines : NODE_LINES ≡ 16
+  pub node_words : NODE_WORDS ≡ 256
+  pub node_lines : NODE_LINES ≡ 32
   pub status_at : STATUS_AT ≡ 0
   pub header_at : HEADER_AT ≡ 1
   pub low_fence_at : LOW_FENCE_AT ≡ 2
-  pub high_fence_at : HIGH_FENCE_AT ≡ 6
-  pub fence_words : FENCE_WORDS ≡ 4
-  pub meta_at : META_AT ≡ 10
-  pub shared_words : SHARED_WORDS ≡ 118
+  pub high_fence_at : HIGH_FENCE_AT ≡ 10
+  pub fence_words : FENCE_WORDS ≡ 8
+  pub meta_at : META_AT ≡ 18
+  pub shared_words : SHARED_WORDS ≡ 238
 
 -- records, thresholds and levels
 pub record TreeNumbers : Type 0 where
-  pub payload_words : PAYLOAD_WORDS ≡ 4
-  pub leaf_record_words : LEAF_RECORD_WORDS ≡ 9
-  pub record_words : RECORD_WORDS ≡ 8
-  pub record_lines : RECORD_LINES ≡ 2
-  pub inner_record_words : INNER_RECORD_WORDS ≡ 6
+  pub payload_words : PAYLOAD_WORDS ≡ 8
+  pub leaf_record_words : LEAF_RECORD_WORDS ≡ 17
+  pub record_words : RECORD_WORDS ≡ 16
+  pub record_lines : RECORD_LINES ≡ 3
+  pub inner_record_words : INNER_RECORD_WORDS ≡ 10
   pub least_record_words : LEAST_RECORD_WORDS ≡ 2
-  pub max_pairs : MAX_PAIRS ≡ 59
-  pub split_above : SPLIT_ABOVE ≡ 72
-  pub merge_below : MERGE_BELOW ≡ 32
-  pub inner_limit : INNER_LIMIT ≡ 112
+  pub max_pairs : MAX_PAIRS ≡ 119
+  pub split_above : SPLIT_ABOVE ≡ 144
+  pub merge_below : MERGE_BELOW ≡ 64
+  pub inner_limit : INNER_LIMIT ≡ 228
   pub max_levels : MAX_LEVELS ≡ 12
   pub consolidation_slots : CONSOLIDATION_SLOTS ≡ 1
   pub merge_slots : MERGE_SLOTS ≡ 2
@@ -57,12 +57,12 @@ pub record TreeNumbers : Type 0 where
 pub record SupplyNumbers : Type 0 where
   pub slots_per_call : SLOTS_PER_CALL ≡ 64
   pub swaps_per_call : SWAPS_PER_CALL ≡ 64
-  pub marks_per_call : MARKS_PER_CALL ≡ 65536
+  pub marks_per_call : MARKS_PER_CALL ≡ 131072
   pub recovery_acts_per_word : RECOVERY_ACTS_PER_WORD ≡ 4
   pub marks_per_power_on : MARKS_PER_POWER_ON ≡ 8
-  pub find_reads_per_record : FIND_READS_PER_RECORD ≡ 5
-  pub find_reads_besides : FIND_READS_BESIDES ≡ 8
-  pub descend_reads_per_record : DESCEND_READS_PER_RECORD ≡ 5
+  pub find_reads_per_record : FIND_READS_PER_RECORD ≡ 9
+  pub find_reads_besides : FIND_READS_BESIDES ≡ 12
+  pub descend_reads_per_record : DESCEND_READS_PER_RECORD ≡ 9
   pub descend_reads_besides : DESCEND_READS_BESIDES ≡ 4
   pub descend_reads_at_root : DESCEND_READS_AT_ROOT ≡ 3
 

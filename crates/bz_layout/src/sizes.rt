@@ -28,7 +28,7 @@ pub const SWAPS_AT: u32 = 4;
 pub const SUPERBLOCK_USED: u32 = 5;
 
 /// What the word at `FORMAT_AT` holds.
-pub const FORMAT: u64 = 1;
+pub const FORMAT: u64 = 2;
 
 /// The root pointer of fresh memory: slot 0, plus 1 as each pointer.
 pub const FIRST_ROOT: u64 = 1;
@@ -52,10 +52,10 @@ pub const ENTRY_WORDS: u32 = 3;
 pub const MAX_ENTRIES: u32 = 4;
 
 /// The words of a node.
-pub const NODE_WORDS: u32 = 128;
+pub const NODE_WORDS: u32 = 256;
 
 /// The lines of a node.
-pub const NODE_LINES: u32 = 16;
+pub const NODE_LINES: u32 = 32;
 
 /// The word of a node with its status.
 pub const STATUS_AT: u32 = 0;
@@ -67,13 +67,13 @@ pub const HEADER_AT: u32 = 1;
 pub const LOW_FENCE_AT: u32 = 2;
 
 /// The first word of a node's high fence.
-pub const HIGH_FENCE_AT: u32 = 6;
+pub const HIGH_FENCE_AT: u32 = 10;
 
 /// The words of a fence, which hold a key of the greatest length at 7 bytes a word.
-pub const FENCE_WORDS: u32 = 4;
+pub const FENCE_WORDS: u32 = 8;
 
 /// The first metadata word of a node.
-pub const META_AT: u32 = 10;
+pub const META_AT: u32 = 18;
 
 /// The words that the metadata and the block of a node share.
-pub const SHARED_WORDS: u32 = 118;
+pub const SHARED_WORDS: u32 = 238;

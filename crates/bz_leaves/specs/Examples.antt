@@ -15,4 +15,4 @@ pub record LeavesAreTold : Type 0 where
   -- a frozen leaf is one still
   pub frozen : leaves_in small (tree_with ((1040, 0x1010080000000002) ∷ [])) ≡ 2
   -- the right leaf alone as the root: the left one is no leaf of the tree any longer
-  pub alone : leaves_in small (tree_with ((1, 3) ∷ (1297, 0) ∷ (1298, 0) ∷ [])) ≡ 1
+  pub alone : leaves_in small (tree_with ((1, 3) ∷ (1553, 0) ∷ (1554, 0) ∷ [])) ≡ 1

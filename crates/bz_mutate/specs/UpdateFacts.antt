@@ -183,7 +183,7 @@ pub record IsNamed (c : Config) (v : KeyView) (r : NewRecord) (f : FoundRecord) 
 abbrev pub IsReady : Config → KeyView → NewRecord → UpdatePhase → Type 0
 IsReady c v r (Grow f) = IsNamed c v r f
 IsReady c v r (Store f i) = IsNamed c v r f × (i < size_of r)
-IsReady c v r (Flush f n) = IsNamed c v r f × (n < 2)
+IsReady c v r (Flush f n) = IsNamed c v r f × (n < RECORD_LINES)
 IsReady c v r (Replace f) = IsNamed c v r f
 IsReady c v r phase = Unit {0}
 

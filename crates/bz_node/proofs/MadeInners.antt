@@ -7,7 +7,7 @@ use Rattle.std.proofs.lemmas.List.FromFn.{length-map-range_with_len, get_or-map-
 use Rattle.bz_key.specs.Packing.{packed, packed_len, unpacked, unpacked_key}
 use Rattle.bz_key.proofs.PackingLaws.{length-packed, unpacked-packed}
 use Rattle.bz_key.proofs.UnpackingLaws.{unpacked_key-complete}
-use Rattle.bz_layout.specs.declared.sizes.TheConstants.{NODE_WORDS}
+use Rattle.bz_layout.specs.declared.sizes.TheConstants.{META_AT, NODE_WORDS}
 use Rattle.bz_word.specs.declared.meta.Extent.{Extent}
 use Rattle.bz_word.specs.declared.meta.Meta.TheVariants.{Visible}
 use Rattle.bz_node.specs.declared.child.Child.{Child}
@@ -123,7 +123,7 @@ inner_read children low high level each low_ok high_ok small fits =
     let place = meta_made W xs front.size node.room metas in
     let count : count_in W ≡ length children = count_made level low high es fits ∙ length-map children child_entry in
     let none : Extent = record { offset = 0; key = 0; total = 0 } in
-    let extent_is = λ (i : ℕ) (within : i < count_in W). extent_said (get_or W (10 + i) 0) (get_or xs i none) (place i none within).1 in
+    let extent_is = λ (i : ℕ) (within : i < count_in W). extent_said (get_or W (META_AT + i) 0) (get_or xs i none) (place i none within).1 in
     record {
       front = front;
       places = places_made level low high es low_ok high_ok fits entries small;

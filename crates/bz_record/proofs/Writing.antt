@@ -4,6 +4,7 @@ use Rattle.std.specs.Prelude.{slice_index}
 use Rattle.std.proofs.lemmas.Bool.{cases_lt, cases_eq}
 use Rattle.bz_layout.specs.Slots.{FreeSlots}
 use Rattle.bz_layout.specs.declared.config.Config.{Config}
+use Rattle.bz_layout.specs.declared.sizes.TheConstants.{NODE_WORDS}
 use Rattle.bz_layout.proofs.Laws.{addresses_fit}
 use Rattle.bz_task.specs.OwnActs.{Stores, Flushes, gained}
 use Rattle.bz_task.specs.Requests.{IsReadable}
@@ -71,7 +72,7 @@ written-no-slot r s free w = record { mine = λ i l. gained-mine s free free (ad
 may-flush : (r : NewRecord) (line : ℕ) (s : Scene) → IsScene s → Fits r → r.slot < s.past.config.nodes → line_in s.past.config r 0 + line ≤ line_in s.past.config r (size_of r - 1) → IsReadable s (8 * (line_in s.past.config r 0 + line))
 may-flush r line s good f l h = record {
   outside = inr (omega (arith, f.room.fits));
-  within = omega (arith, h, f.some, (addresses_fit s.past.config good.config).node_words r.slot 127 l (omega arith), f.room.fits);
+  within = omega (arith, h, f.some, (addresses_fit s.past.config good.config).node_words r.slot (NODE_WORDS - 1) l (omega arith), f.room.fits);
 }
 
 pub written : RecordsAreWritten

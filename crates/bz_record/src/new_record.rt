@@ -3,7 +3,7 @@
 ghost use Rattle.std.specs.Prelude.{◌≡◌, ◌+◌, ◌<◌, ◌≤◌, ◌^◌, ◌∷◌, [], true, false, slice_index};
 ghost use Rattle.bz_layout.specs.Config.{IsConfig};
 ghost use Rattle.bz_layout.specs.declared.sizes.TheConstants.{META_AT, NODE_WORDS};
-ghost use Rattle.bz_layout.specs.declared.thresholds.TheConstants.{RECORD_WORDS};
+ghost use Rattle.bz_layout.specs.declared.thresholds.TheConstants.{RECORD_WORDS, RECORD_LINES};
 ghost use Rattle.bz_word.specs.Statuses.{status, IsStatus};
 ghost use Rattle.bz_record.specs.Records.{words_in, size_of, offset_of, place_of, address_of, HasRoom, LacksRoom, Fits};
 ghost use Rattle.bz_record.specs.Writing.{first_line, last_line};
@@ -87,13 +87,13 @@ impl NewRecord {
         self.address(config, 0) / LINE_WORDS
     }
 
-    /// The last one, which is the same or the next.
+    /// The last one, fewer than `RECORD_LINES` further.
     pub fn last_line(&self, config: &Config) -> u32
         requires config { IsConfig config.now }
         requires slot { self.now.slot < config.now.nodes }
         requires fits { Fits self.now }
         ensures line { result ≡ last_line config.now self.now }
-        ensures near { result ≤ first_line config.now self.now + 1 }
+        ensures near { result < first_line config.now self.now + RECORD_LINES }
     {
         self.address(config, self.size() - 1) / LINE_WORDS
     }

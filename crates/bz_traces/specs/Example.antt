@@ -21,4 +21,4 @@ begun_insert = record {
 abbrev pub TwoLinesAreThese : Type 0
 TwoLinesAreThese =
     lines_of sizes begun_insert ≡
-    codes "{\"format\":1,\"nodes\":16,\"start\":[[0,1],[1,1],[3,16],[4,64]],\"swaps\":64}" ∷ codes "{\"call\":[\"insert\",\"a\",\"1\"],\"mark\":\"begin\",\"n\":1,\"w\":1}" ∷ []
+    codes "{\"format\":2,\"nodes\":16,\"start\":[[0,2],[1,1],[3,16],[4,64]],\"swaps\":64}" ∷ codes "{\"call\":[\"insert\",\"a\",\"1\"],\"mark\":\"begin\",\"n\":1,\"w\":1}" ∷ []

@@ -8,12 +8,12 @@ use bz_mark::{Journal, Mark};
 use std::alloc::Global;
 use std::test::Fail;
 
-const CALLS: &[u8] = b"{\"format\":1,\"nodes\":1,\"start\":[[0,1],[1,1],[3,1],[4,1]],\"swaps\":1}
+const CALLS: &[u8] = b"{\"format\":2,\"nodes\":1,\"start\":[[0,2],[1,1],[3,1],[4,1]],\"swaps\":1}
 {\"call\":[\"insert\",\"a\",\"1\"],\"mark\":\"begin\",\"n\":1,\"w\":1}
 {\"at\":1,\"mark\":\"end\",\"n\":1,\"reply\":[\"page\",[[\"a\",\"%20\"]],null],\"w\":1}
 ";
 
-const ACTS: &[u8] = b"{\"format\":1,\"nodes\":1,\"start\":[[3,1]],\"swaps\":1}
+const ACTS: &[u8] = b"{\"format\":2,\"nodes\":1,\"start\":[[3,1]],\"swaps\":1}
 {\"a\":16,\"mark\":\"load\",\"v\":18446744073709551615,\"w\":1}
 {\"a\":17,\"found\":3,\"mark\":\"cas\",\"new\":2,\"old\":1,\"w\":64}
 {\"line\":2,\"mark\":\"ask\",\"w\":1}
@@ -22,7 +22,7 @@ const ACTS: &[u8] = b"{\"format\":1,\"nodes\":1,\"start\":[[3,1]],\"swaps\":1}
 {\"mark\":\"cut\"}
 ";
 
-const HEAD: &[u8] = b"{\"format\":1,\"nodes\":1,\"start\":[[0,1],[1,1],[3,1],[4,1]],\"swaps\":1}\n";
+const HEAD: &[u8] = b"{\"format\":2,\"nodes\":1,\"start\":[[0,2],[1,1],[3,1],[4,1]],\"swaps\":1}\n";
 
 const BROKEN: [&[u8]; 12] = [
     b"{\"mark\":\"cut\"}",
@@ -43,7 +43,7 @@ const BROKEN: [&[u8]; 12] = [
 /// byte in its place.
 const CHANGED: [(&str, &str); 3] = [
     (
-        r#"{"format":1,"nodes":1,"start":[[3,1]],"swaps":1}"#,
+        r#"{"format":2,"nodes":1,"start":[[3,1]],"swaps":1}"#,
         "................................+...............",
     ),
     (
@@ -71,7 +71,7 @@ fn calls_and_pages_are_written(rt: HostRuntime) -> Result<(), Fail> {
     let key = Key::of(b"a")?;
     let payload = Payload::of(b"1")?;
     let blank = Payload::of(b" ")?;
-    let mut journal = Journal::open(alloc, &[1, 1, 0, 1, 1, 0, 0, 0], 2, 1, 1)?;
+    let mut journal = Journal::open(alloc, &[2, 1, 0, 1, 1, 0, 0, 0], 2, 1, 1)?;
     let page = journal.add_page(&[(key, blank)]);
     let call = Call::Insert(key, payload);
     let reply = Reply::Page { page, next: None };

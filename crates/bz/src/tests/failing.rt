@@ -1,4 +1,4 @@
-//! A source and a sink that fail at each of their calls, over forty keys rising.
+//! A source and a sink that fail at each of their calls, over eighty keys rising.
 use super::bench::{same, same_at, status};
 use bz_io::{FailSink, FailSource, MemSink, MemSource};
 use std::alloc::Global;
@@ -10,11 +10,11 @@ use std::thread::Threads;
 // How many bytes a source gives or a sink takes in a call.
 const PIECE: usize = 64;
 
-// Forty inserts in the order of their keys, the last of which splits the root leaf, and what they print.
+// Eighty inserts in the order of their keys, the last of which splits the root leaf, and what they print.
 fn rising(alloc: Global) -> Result<(String, String), Fail> {
-    let mut input = format!(in alloc; "memory 16 128\n")?;
+    let mut input = format!(in alloc; "memory 16 256\n")?;
     let mut output = String::new(alloc);
-    for before in 0..40u32 {
+    for before in 0..80u32 {
         let number = before + 1;
         input.push_str(&format!(in alloc; "w 1 insert k{number:02} v\n")?)?;
         output.push_str(&format!(in alloc; "w1.{number} insert k{number:02} v = inserted\n")?)?;
@@ -41,7 +41,7 @@ fn expect_read_fault<R: Threads + Wait + Abort + Sync>(
 // What a sink has taken of an output that fails at this call.
 fn taken_before(output: &[u8], call: u64) -> &[u8] {
     let taken = match call {
-        1..20 => (64 * (call - 1)) as usize,
+        1..39 => (64 * (call - 1)) as usize,
         _ => output.len(),
     };
     &output[..taken.min(output.len())]
@@ -66,13 +66,13 @@ fn expect_write_fault<R: Threads + Wait + Abort + Sync>(
 #[test]
 fn a_source_and_a_sink_fail_at_each_call(rt: HostRuntime) -> Result<(), Fail> {
     let (input, output) = rising(rt.alloc())?;
-    same(&rt, (input.len(), output.len()), (704, 1_191));
-    // eleven reads give all of the input, and the next one its end
-    for call in 1..13u64 {
+    same(&rt, (input.len(), output.len()), (1_384, 2_391));
+    // twenty-two reads give all of the input, and the next one its end
+    for call in 1..24u64 {
         expect_read_fault(&rt, rt.alloc(), input.as_bytes(), call)?;
     }
-    // nineteen writes take all of the output
-    for call in 1..20u64 {
+    // thirty-eight writes take all of the output
+    for call in 1..39u64 {
         let (input, output) = (input.as_bytes(), output.as_bytes());
         expect_write_fault(&rt, rt.alloc(), input, output, call)?;
     }

@@ -10,16 +10,16 @@ use std::test::Fail;
 use std::thread::Threads;
 
 /// The bytes of the image of one node slot and one descriptor.
-const SIZE: usize = 1_300;
+const SIZE: usize = 2_324;
 
 /// The image of fresh memory.
 fn smallest() -> [u8; SIZE] {
     let mut file = [0u8; SIZE];
     file[..20].copy_from_slice(&[
-        0x42, 0x5A, 0x49, 0x4D, 0x41, 0x47, 0x45, 0x0A, 1, 0, 0, 0, 1, 0, 0, 0, 1, 0, 0, 0,
+        0x42, 0x5A, 0x49, 0x4D, 0x41, 0x47, 0x45, 0x0A, 2, 0, 0, 0, 1, 0, 0, 0, 1, 0, 0, 0,
     ]);
-    // the words 0, 1, 3 and 4 are 1
-    file[20] = 1;
+    // the word 0 is 2, and the words 1, 3 and 4 are 1
+    file[20] = 2;
     file[28] = 1;
     file[44] = 1;
     file[52] = 1;
@@ -110,8 +110,8 @@ fn of_word(word: usize, byte: usize) -> &'static str {
         33 if byte >= 4 => "fault: image shape level 0\n",
         33 if byte == 1 || byte == 2 => "fault: image shape fence 0\n",
         33 => "fault: image shape status 0\n",
-        34..42 => "fault: image shape fence 0\n",
-        42..160 => "fault: image shape status 0\n",
+        34..50 => "fault: image shape fence 0\n",
+        50..288 => "fault: image shape status 0\n",
         _ => ASKED,
     }
 }
@@ -182,7 +182,7 @@ fn failing_dump<R: Threads + Wait + Abort + Sync>(
 fn taken_before(file: &[u8], call: u64) -> &[u8] {
     let taken = match call {
         1 => 0,
-        2..22 => (20 + 64 * (call - 2)) as usize,
+        2..38 => (20 + 64 * (call - 2)) as usize,
         _ => file.len(),
     };
     &file[..taken.min(file.len())]
@@ -191,12 +191,12 @@ fn taken_before(file: &[u8], call: u64) -> &[u8] {
 #[test]
 fn a_source_and_a_sink_fail_at_each_call(rt: HostRuntime) -> Result<(), Fail> {
     // the head of an image is read and written alone; the end of a script is a read too
-    for call in 1..25u64 {
-        let want = if call < 24 { 1 } else { 0 };
+    for call in 1..41u64 {
+        let want = if call < 40 { 1 } else { 0 };
         same_at(&rt, failing_load(&rt, rt.alloc(), call)?, want, call);
     }
-    for call in 1..23u64 {
-        let want = if call < 22 { 4 } else { 0 };
+    for call in 1..39u64 {
+        let want = if call < 38 { 4 } else { 0 };
         same_at(&rt, failing_dump(&rt, rt.alloc(), call)?, want, call);
     }
     Ok(())
@@ -228,7 +228,7 @@ fn recovered<R: Threads + Wait + Abort + Sync>(
     input.extend_from_slice(b"memory 16 64\n")?;
     let mut source = MemSource::of(alloc, &input)?;
     let mut report = MemSink::open(alloc, 100)?;
-    let mut sink = MemSink::open(alloc, 24_724)?;
+    let mut sink = MemSink::open(alloc, 41_108)?;
     load_over(rt, alloc, &mut source, &mut report, &mut sink)?;
     Ok(Vec::from_slice(alloc, sink.bytes())?)
 }
@@ -240,7 +240,7 @@ fn dumped<R: Threads + Wait + Abort + Sync>(
     script: &str,
 ) -> Result<Vec<u8>, Fail> {
     let mut source = MemSource::of(alloc, script.as_bytes())?;
-    let mut sink = MemSink::open(alloc, 24_724)?;
+    let mut sink = MemSink::open(alloc, 41_108)?;
     let got = status(rt, alloc, &["dump"], &mut source, &mut sink);
     same(rt, got, 0);
     Ok(Vec::from_slice(alloc, sink.bytes())?)

@@ -71,7 +71,7 @@ memory 16 64/ =>
 memory 16384 65536/run alone/ =>
 memory 16 64/w 1 insert a 1/w 1 get a/run alone/ => w1.1 insert a 1 = inserted/w1.2 get a = value 1/
 memory 16 64/w 1 insert a 1/w 1 insert a 2/w 1 get a/run alone/ => w1.1 insert a 1 = inserted/w1.2 insert a 2 = exists/w1.3 get a = value 1/
-memory 16 64/w 1 insert abcdefghijklmnopqrstuvwxyz01 1/run alone/ => w1.1 insert abcdefghijklmnopqrstuvwxyz01 1 = inserted/
+memory 16 64/w 1 insert abcdefghijklmnopqrstuvwxyzABCDEFGHIJKLMNOPQRSTUVWXYZ0123 1/run alone/ => w1.1 insert abcdefghijklmnopqrstuvwxyzABCDEFGHIJKLMNOPQRSTUVWXYZ0123 1 = inserted/
 memory 1 2/w 64 insert a%20b %/w 64 get a%20b/w 64 get %00/run alone/ => w64.1 insert a%20b % = inserted/w64.2 get a%20b = value %/w64.3 get %00 = missing/
 memory 16 64/w 1 insert a 1/w 1 delete a/w 1 get a/w 1 update a 2/w 1 delete a/run alone/ => w1.1 insert a 1 = inserted/w1.2 delete a = deleted 1/w1.3 get a = missing/w1.4 update a 2 = missing/w1.5 delete a = missing/
 memory 16 64/w 1 upsert a 1/w 1 upsert a 22/w 1 update a %/w 1 get a/run alone/ => w1.1 upsert a 1 = inserted/w1.2 upsert a 22 = updated 1/w1.3 update a % = updated 22/w1.4 get a = value %/
@@ -105,8 +105,8 @@ memory 16 64/w 65 get a/ => fault: line 2: bad worker/
 memory 16 64/w 0 get A%41/ => fault: line 2: bad worker/
 memory 16 64/w 1 get/ => fault: line 2: wrong number of words/
 memory 16 64/w 1 get a%2f/ => fault: line 2: bad key/
-memory 16 64/w 1 insert abcdefghijklmnopqrstuvwxyz012 1/run alone/ => fault: line 2: bad key/
-memory 16 64/w 1 insert a abcdefghijklmnopqrstuvwxyz012/ => fault: line 2: bad payload/
+memory 16 64/w 1 insert abcdefghijklmnopqrstuvwxyzABCDEFGHIJKLMNOPQRSTUVWXYZ01234 1/run alone/ => fault: line 2: bad key/
+memory 16 64/w 1 insert a abcdefghijklmnopqrstuvwxyzABCDEFGHIJKLMNOPQRSTUVWXYZ01234/ => fault: line 2: bad payload/
 memory 16 64/w 1 get a/memory 16 64/run fast/ => fault: line 3: wrong order/
 memory 16 64/w 1 get a/run alone => fault: line 3: line feed expected/
  => fault: line 1: memory expected/";
@@ -318,9 +318,9 @@ fn more_calls_than_may_begin_meet_the_limit(rt: HostRuntime) -> Result<(), Fail>
 
 // The inserts of a full leaf, and what they print.
 fn full_leaf(alloc: Global) -> Result<(String, String), Fail> {
-    let mut input = format!(in alloc; "memory 1 128\n")?;
+    let mut input = format!(in alloc; "memory 1 256\n")?;
     let mut output = String::new(alloc);
-    for number in 1..40u32 {
+    for number in 1..80u32 {
         input.push_str(&format!(in alloc; "w 1 insert k{number:02} v\n")?)?;
         output.push_str(&format!(in alloc; "w1.{number} insert k{number:02} v = inserted\n")?)?;
     }
@@ -370,7 +370,7 @@ fn more_marks_than_fit_meet_the_limit(rt: HostRuntime) -> Result<(), Fail> {
     let (input, output) = many_gets(alloc, 50_000)?;
     let length = expect_start_of_report(&rt, alloc, &["run"], &input, &output)?;
     // at least all of the inserts
-    assert!(rt; length > 39 * 27);
+    assert!(rt; length > 79 * 27);
     Ok(())
 }
 
@@ -398,7 +398,7 @@ fn the_words_say_the_limit_on_marks(rt: HostRuntime) -> Result<(), Fail> {
 
 // So many inserts of different keys, each two digits and this text, and what they print: the last one finds no room.
 fn inserts(alloc: Global, count: u32, text: &str) -> Result<(String, String), Fail> {
-    let mut input = format!(in alloc; "memory 1 128\n")?;
+    let mut input = format!(in alloc; "memory 1 256\n")?;
     let mut output = String::new(alloc);
     for before in 0..count {
         let number = before + 1;
@@ -422,24 +422,24 @@ fn expect_full<R: Threads + Wait + Abort + Sync>(
 ) -> Result<(), Fail> {
     let (mut input, mut output) = inserts(alloc, count, text)?;
     input.push_str(&format!(in alloc;
-        "w 2 insert 07{text}\nw 2 insert a %\nw 2 page 9\nrun alone\n"
+        "w 2 insert 07{text}\nw 2 insert a %\nw 2 page a\nrun alone\n"
     )?)?;
     output.push_str(&format!(in alloc;
-        "w2.1 insert 07{text} = exists\nw2.2 insert a % = full nodes\nw2.3 page 9 = page end\n"
+        "w2.1 insert 07{text} = exists\nw2.2 insert a % = full nodes\nw2.3 page a = page end\n"
     )?)?;
     expect_run(rt, alloc, &["run"], input.as_bytes(), &output, 0)
 }
 
 #[test]
 fn an_insert_without_room_is_answered_full(rt: HostRuntime) -> Result<(), Fail> {
-    // Records of three, of two, and of nine words, where a leaf has 118.
-    expect_full(&rt, rt.alloc(), 40, " v")?;
-    expect_full(&rt, rt.alloc(), 60, " %")?;
+    // Records of three, of two, and of seventeen words, where a leaf has 238.
+    expect_full(&rt, rt.alloc(), 80, " v")?;
+    expect_full(&rt, rt.alloc(), 120, " %")?;
     expect_full(
         &rt,
         rt.alloc(),
-        14,
-        "cdefghijklmnopqrstuvwxyz01 abcdefghijklmnopqrstuvwxyz01",
+        15,
+        "cdefghijklmnopqrstuvwxyzABCDEFGHIJKLMNOPQRSTUVWXYZ0123 abcdefghijklmnopqrstuvwxyzABCDEFGHIJKLMNOPQRSTUVWXYZ0123",
     )
 }
 

@@ -240,7 +240,7 @@ fn written<R: Threads + Wait + Sync + Abort>(
     input: &[u8],
 ) -> Result<Vec<u8>, Fail> {
     let mut source = MemSource::of(alloc, input)?;
-    let mut sink = MemSink::open(alloc, 24_724)?;
+    let mut sink = MemSink::open(alloc, 41_108)?;
     let got = status(rt, alloc, &[word], &mut source, &mut sink);
     same_at(rt, got, 0, word);
     Ok(Vec::from_slice(alloc, sink.bytes())?)

@@ -26,20 +26,20 @@ fn expect_trace<R: Threads + Wait + Abort + Sync>(
 
 #[test]
 fn a_trace_tells_the_memory_and_then_each_mark(rt: HostRuntime) -> Result<(), Fail> {
-    let empty = b"{\"format\":1,\"nodes\":1,\"start\":[[0,1],[1,1],[3,1],[4,1]],\"swaps\":1}\n";
+    let empty = b"{\"format\":2,\"nodes\":1,\"start\":[[0,2],[1,1],[3,1],[4,1]],\"swaps\":1}\n";
     expect_run(&rt, rt.alloc(), &["trace"], b"memory 1 1\n", empty, 0)?;
     expect_trace(
         &rt,
         rt.alloc(),
         b"memory 16 64\nw 1 insert a 1\nw 1 get a\nrun alone\n",
-        "{\"format\":1,\"nodes\":16,\"start\":[[0,1],[1,1],[3,16],[4,64]],\"swaps\":64}\n{\"call\":[\"insert\",\"a\",\"1\"],\"mark\":\"begin\",\"n\":1,\"w\":1}\n{\"a\":2,\"mark\":\"load\",\"v\":0,\"w\":1}\n",
+        "{\"format\":2,\"nodes\":16,\"start\":[[0,2],[1,1],[3,16],[4,64]],\"swaps\":64}\n{\"call\":[\"insert\",\"a\",\"1\"],\"mark\":\"begin\",\"n\":1,\"w\":1}\n{\"a\":2,\"mark\":\"load\",\"v\":0,\"w\":1}\n",
         "\"mark\":\"end\",\"n\":2,\"reply\":[\"value\",\"1\"],\"w\":1}\n",
     )?;
     expect_trace(
         &rt,
         rt.alloc(),
         b"memory 1 1\npower\n",
-        "{\"format\":1,\"nodes\":1,\"start\":[[0,1],[1,1],[3,1],[4,1]],\"swaps\":1}\n{\"mark\":\"cut\"}\n{\"mark\":\"on\"}\n",
+        "{\"format\":2,\"nodes\":1,\"start\":[[0,2],[1,1],[3,1],[4,1]],\"swaps\":1}\n{\"mark\":\"cut\"}\n{\"mark\":\"on\"}\n",
         "{\"mark\":\"ready\"}\n",
     )
 }

@@ -134,9 +134,9 @@ pub record CutsAreRefused : Type 0 where
   pub off_begin : IsRefused power.Off (Begin 1 1 (Get a_key) ∷ [])
   pub off_cut : IsRefused power.Off (Cut ∷ [])
 
--- worker 1 begins a swap in descriptor 1, and stores into slot 1, which begins at address 1168
+-- worker 1 begins a swap in descriptor 1, and stores into slot 1, which begins at address 1296
 abbrev pub begun_swap : List Mark
-begun_swap = Store 1 1168 5 ∷ Store 1 32 1 ∷ Begin 1 1 (Insert a_key one) ∷ []
+begun_swap = Store 1 1296 5 ∷ Store 1 32 1 ∷ Begin 1 1 (Insert a_key one) ∷ []
 
 -- what is counted since the last On: a descriptor that is taken and a slot that is used stay so over the cut, and are free
 -- again when the power is on; the stores of recovery count for nothing
@@ -145,7 +145,7 @@ pub record CountsBeginAnew : Type 0 where
   pub stored : is_stored_into small 1 (since_on begun_swap) ≡ true
   pub taken_off : is_taken 1 (since_on (Cut ∷ begun_swap)) ≡ true
   pub free_again : is_taken 1 (since_on (Store 0 32 1 ∷ On ∷ Cut ∷ begun_swap)) ≡ false
-  pub unused_again : is_stored_into small 1 (since_on (Store 0 1168 5 ∷ On ∷ Cut ∷ begun_swap)) ≡ false
+  pub unused_again : is_stored_into small 1 (since_on (Store 0 1296 5 ∷ On ∷ Cut ∷ begun_swap)) ≡ false
   -- the image by which slots are reached is that of the last On
   pub at_start : image_at_on start (Cut ∷ took_effect) ≡ slice_index start
   pub at_on : image_at_on start (Load 0 32 2 ∷ On ∷ kept) ≡ image_after start took_effect

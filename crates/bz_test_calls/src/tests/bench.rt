@@ -87,7 +87,7 @@ pub(crate) fn open(
         nodes,
         swaps,
         workers,
-        marks: 1 << 17,
+        marks: 1 << 18,
         calls: 1_024,
         pages: 64,
     };

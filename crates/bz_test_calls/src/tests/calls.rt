@@ -9,7 +9,7 @@ use std::process::Abort;
 
 // A payload of so many bytes, which are this one.
 fn filled(rt: &impl Abort, byte: u8, length: usize) -> Payload {
-    let bytes = [byte; 28];
+    let bytes = [byte; 56];
     payload(rt, bytes.get(..length).unwrap_or(&[]))
 }
 
@@ -49,7 +49,7 @@ fn first_comes(rt: &impl Abort, world: &mut World, b: Key, old: Payload) {
     is_missing(rt, world, b);
     shows(rt, world, 0, key(rt, b"a"), &[]);
     answers(rt, world, Call::Insert(b, old), Answer::Inserted);
-    for other in [0, 7, 8, 28] {
+    for other in [0, 7, 8, 56] {
         exchange(rt, world, b, old, filled(rt, b'n', other));
     }
 }
@@ -76,7 +76,7 @@ fn first_goes(rt: &impl Abort, world: &mut World, b: Key, c: Key, old: Payload) 
 
 // Three keys come, of payloads of this length, and one goes.
 fn is_a_map(rt: &impl Abort, world: &mut World, length: usize) {
-    let (a, b, c) = (key(rt, b"a"), key(rt, b"b"), key(rt, &[b'c'; 28]));
+    let (a, b, c) = (key(rt, b"a"), key(rt, b"b"), key(rt, &[b'c'; 56]));
     let old = filled(rt, b'o', length);
     first_comes(rt, world, b, old);
     others_come(rt, world, (a, b, c), old);
@@ -90,7 +90,7 @@ fn answers_as_a_map(rt: &impl Abort, alloc: Global, length: usize) {
 
 #[test]
 fn calls_answer_as_a_map_does(rt: HostRuntime) {
-    for length in [0, 7, 8, 28] {
+    for length in [0, 7, 8, 56] {
         answers_as_a_map(&rt, rt.alloc(), length);
     }
 }

@@ -5,6 +5,7 @@ ghost use Rattle.std.specs.Prelude.{◌<◌, IfSome};
 use super::bench::durable;
 use super::map::{Map, number_of, place_of};
 use bz_key::{Key, Payload};
+use bz_layout::{META_AT, NODE_WORDS, PAYLOAD_WORDS};
 use bz_word::{Meta, Status, WordKind, kind_of};
 use bz_world::World;
 
@@ -38,9 +39,9 @@ fn resolve(world: &World, a: u32) -> u64 {
     }
 }
 
-// Four words from an address on.
-fn words(world: &World, at: u32) -> [u64; 4] {
-    let mut words = [0; 4];
+// As many words from an address on as a key or a payload has at most.
+fn words(world: &World, at: u32) -> [u64; PAYLOAD_WORDS as usize] {
+    let mut words = [0; PAYLOAD_WORDS as usize];
     for (i, word) in words.iter_mut().enumerate() {
         *word = resolve(world, at.saturating_add(i as u32));
     }
@@ -79,7 +80,7 @@ fn record(world: &World, at: u32, key: u32, total: u32) -> Option<(usize, u32)>
 fn slot_of(world: &World, pointer: u64) -> u32 {
     let slot = pointer.saturating_sub(1).min(0xFFFF) as u32;
     let first = world.config().swaps.saturating_mul(16).saturating_add(16);
-    first.saturating_add(slot.saturating_mul(128))
+    first.saturating_add(slot.saturating_mul(NODE_WORDS))
 }
 
 // Where the root's slot begins.
@@ -93,7 +94,7 @@ pub(crate) fn decode(world: &World) -> Option<Map> {
     let status = Status::unpack(resolve(world, node))?;
     let mut map = [0; 6];
     for i in 0..status.count {
-        let a = node.saturating_add(10).saturating_add(i);
+        let a = node.saturating_add(META_AT).saturating_add(i);
         if let Meta::Visible(extent) = Meta::unpack(resolve(world, a))? {
             let at = node.saturating_add(extent.offset);
             let (place, number) = record(world, at, extent.key, extent.total)?;

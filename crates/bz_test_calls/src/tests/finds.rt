@@ -21,9 +21,9 @@ const NODE: u32 = 32;
 // What the metadata word of a visible record has besides its place and its lengths.
 const VISIBLE: u64 = 1 << 60;
 
-// The loads of a get besides those of the records: three on the way to the leaf, status and header, four words of a payload, and the
-// status again.
-const BESIDES: u32 = 10;
+// The loads of a get besides those of the records: three on the way to the leaf, status and header, eight words of a payload, and
+// the status again.
+const BESIDES: u32 = 14;
 
 // How long the keys of a leaf are and how many words they take, how many records it has, how many of them are sorted, and the
 // binary digits of that.
@@ -40,42 +40,42 @@ const CASES: [Case; 6] = [
     Case {
         length: 1,
         words: 1,
-        count: 39,
-        sorted: 39,
-        digits: 6,
+        count: 79,
+        sorted: 79,
+        digits: 7,
     },
     Case {
         length: 1,
         words: 1,
-        count: 39,
-        sorted: 19,
-        digits: 5,
-    },
-    Case {
-        length: 7,
-        words: 1,
-        count: 39,
+        count: 79,
         sorted: 39,
         digits: 6,
     },
     Case {
-        length: 8,
-        words: 2,
-        count: 29,
-        sorted: 9,
-        digits: 4,
+        length: 7,
+        words: 1,
+        count: 79,
+        sorted: 79,
+        digits: 7,
     },
     Case {
-        length: 28,
-        words: 4,
-        count: 19,
+        length: 8,
+        words: 2,
+        count: 59,
         sorted: 19,
         digits: 5,
     },
     Case {
-        length: 28,
-        words: 4,
-        count: 19,
+        length: 56,
+        words: 8,
+        count: 23,
+        sorted: 23,
+        digits: 5,
+    },
+    Case {
+        length: 56,
+        words: 8,
+        count: 23,
         sorted: 0,
         digits: 0,
     },
@@ -83,9 +83,9 @@ const CASES: [Case; 6] = [
 
 // A key of this length: the number, and then copies of `a`.
 fn key_of(rt: &impl Abort, number: u8, length: u8) -> Key {
-    let mut bytes = [b'a'; 28];
+    let mut bytes = [b'a'; 56];
     bytes[0] = number;
-    assert!(rt; length <= 28);
+    assert!(rt; length <= 56);
     Key::of(&bytes[..length as usize]).expect(rt, "a key")
 }
 
@@ -103,7 +103,7 @@ fn is_deleted(i: u8) -> bool {
 fn put_key(words: &mut Vec<u64>, at: u32, key: &Key)
     ensures { length words.new.items ≡ length words.old.items }
 {
-    for i in 0..4usize {
+    for i in 0..8usize {
         if i < key.words() {
             put(words, at.saturating_add(i as u32), key.word(i));
         }
@@ -184,7 +184,7 @@ fn dead_from(world: &World, sorted: u8, from: u32) -> u32 {
     dead
 }
 
-// A get is answered so, and loads at most as many words as the bound says: five for each record after the sorted ones and for each
+// A get is answered so, and loads at most as many words as the bound says: nine for each record after the sorted ones and for each
 // binary digit of their number, one for each of these that it meets deleted, and those besides.
 fn gets(rt: &impl Abort, world: &mut World, case: &Case, key: Key, answer: Answer) {
     let from = marks(world);
@@ -193,7 +193,7 @@ fn gets(rt: &impl Abort, world: &mut World, case: &Case, key: Key, answer: Answe
     same(rt, got, Some(answer));
     let records = u32::from(case.count.saturating_sub(case.sorted)) + u32::from(case.digits);
     let dead = dead_from(world, case.sorted, from);
-    holds(rt, acts <= (5 * records + BESIDES).saturating_add(dead));
+    holds(rt, acts <= (9 * records + BESIDES).saturating_add(dead));
 }
 
 // What a get of the key of a record is answered.

@@ -62,8 +62,8 @@ fn gets_cost_what_their_look_ups_read(rt: HostRuntime) {
     for (count, step, sums) in [
         (10, 1, (180, 260)),
         (10, 7, (180, 260)),
-        (100, 1, (2_170, 2_226)),
-        (100, 37, (2_905, 3_219)),
+        (100, 1, (3_960, 4_624)),
+        (100, 37, (3_770, 4_236)),
     ] {
         same(&rt, of_gets(&rt, rt.alloc(), count, step), sums);
     }

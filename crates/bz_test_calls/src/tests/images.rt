@@ -21,25 +21,25 @@ type Written = (u32, u64);
 // key `a`; and slot 2, which begins at `m`, with the key `z`.
 const TREE: [Written; 20] = [
     (1, 2),
-    (176, 0x0020_0C00_0000_0000),
-    (177, 0x0200_0001),
-    (186, 0x1000_007F_0000_0007),
-    (187, 0x1000_007D_0001_0008),
-    (301, 0x006D_0000_0000_0000),
-    (302, 3),
-    (303, 1),
+    (304, 0x0020_0C00_0000_0000),
+    (305, 0x0200_0001),
+    (322, 0x1000_00FF_0000_0007),
+    (323, 0x1000_00FD_0001_0008),
+    (557, 0x006D_0000_0000_0000),
+    (558, 3),
+    (559, 1),
     (48, 0x0010_0800_0000_0002),
     (49, 0x0001_0000),
-    (54, 0x006D_0000_0000_0000),
-    (58, 0x1000_007E_0001_0002),
-    (174, 0x0061_0000_0000_0000),
-    (175, 0x0031_0000_0000_0000),
-    (304, 0x0010_0800_0000_0002),
-    (305, 0x0100),
-    (306, 0x006D_0000_0000_0000),
-    (314, 0x1000_007E_0001_0002),
-    (430, 0x007A_0000_0000_0000),
-    (431, 0x0032_0000_0000_0000),
+    (58, 0x006D_0000_0000_0000),
+    (66, 0x1000_00FE_0001_0002),
+    (302, 0x0061_0000_0000_0000),
+    (303, 0x0031_0000_0000_0000),
+    (560, 0x0010_0800_0000_0002),
+    (561, 0x0100),
+    (562, 0x006D_0000_0000_0000),
+    (578, 0x1000_00FE_0001_0002),
+    (814, 0x007A_0000_0000_0000),
+    (815, 0x0032_0000_0000_0000),
 ];
 
 // The two words of slot 0 before and after the swap that makes the record of `a` visible.
@@ -47,9 +47,9 @@ const OLD: u64 = 0x0010_0802_0000_0001;
 
 const NEW: u64 = 0x0010_0800_0000_0002;
 
-const RESERVED: u64 = 0x0000_007E_0001_0002;
+const RESERVED: u64 = 0x0000_00FE_0001_0002;
 
-const VISIBLE: u64 = 0x1000_007E_0001_0002;
+const VISIBLE: u64 = 0x1000_00FE_0001_0002;
 
 // That swap in the first descriptor, but for its status.
 const SWAP: [Written; 7] = [
@@ -57,7 +57,7 @@ const SWAP: [Written; 7] = [
     (18, 48),
     (19, OLD),
     (20, NEW),
-    (21, 58),
+    (21, 66),
     (22, RESERVED),
     (23, VISIBLE),
 ];
@@ -139,7 +139,7 @@ fn booted(rt: &impl Abort, alloc: Global, state: State) -> World {
     let config = numbers(rt, alloc);
     let mut words = tree(rt, alloc, &config);
     write(&mut words, &SWAP);
-    write(&mut words, &[(16, state.0), (48, state.1), (58, state.2)]);
+    write(&mut words, &[(16, state.0), (48, state.1), (66, state.2)]);
     World::boot(alloc, &config, &words).expect(rt, "a world")
 }
 
@@ -204,25 +204,25 @@ fn is_refused(rt: &impl Abort, alloc: Global, rule: ShapeRule, place: u32, writt
 
 // A rule, the place of the fault, and the word that makes it.
 const FAULTS: [(ShapeRule, u32, Written); 10] = [
-    (ShapeRule::Super, 0, (0, 2)),
-    (ShapeRule::Word, 60, (60, 3 << 62)),
+    (ShapeRule::Super, 0, (0, 1)),
+    (ShapeRule::Word, 68, (68, 3 << 62)),
     (ShapeRule::Root, 0, (1, 4)),
-    (ShapeRule::Twice, 0, (302, 1)),
+    (ShapeRule::Twice, 0, (558, 1)),
     (ShapeRule::Level, 0, (49, 0x0001_0001)),
     (ShapeRule::Fence, 0, (49, 0x0002_0000)),
-    (ShapeRule::Status, 0, (60, 1)),
-    (ShapeRule::Record, 0, (58, 0x1000_007D_0001_0002)),
-    (ShapeRule::Key, 0, (174, 0x007A << 48)),
-    (ShapeRule::Child, 1, (302, 4)),
+    (ShapeRule::Status, 0, (68, 1)),
+    (ShapeRule::Record, 0, (66, 0x1000_00FD_0001_0002)),
+    (ShapeRule::Key, 0, (302, 0x007A << 48)),
+    (ShapeRule::Child, 1, (558, 4)),
 ];
 
 // Two records of slot 2 in the wrong order.
 const UNSORTED: [Written; 5] = [
-    (304, 0x0020_1000_0000_0002),
-    (305, 0x0200_0100),
-    (315, 0x1000_007C_0001_0002),
-    (428, 0x0079 << 48),
-    (429, 0x0033 << 48),
+    (560, 0x0020_1000_0000_0002),
+    (561, 0x0200_0100),
+    (579, 0x1000_00FC_0001_0002),
+    (812, 0x0079 << 48),
+    (813, 0x0033 << 48),
 ];
 
 #[test]

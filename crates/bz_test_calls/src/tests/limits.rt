@@ -44,8 +44,8 @@ const EVENTS: [(Event, Applied); 5] = [
     (Event::Step(5), Applied::NoWorker),
     (Event::Step(2), Applied::Idle),
     (Event::Step(0), Applied::Idle),
-    (Event::Evict(272), Applied::NoWord),
-    (Event::Evict(271), Applied::Evicted),
+    (Event::Evict(400), Applied::NoWord),
+    (Event::Evict(399), Applied::Evicted),
 ];
 
 // Begins that it refuses, among others; and then each other worker may begin a call.
@@ -96,7 +96,7 @@ const FULL: [(Event, Applied); 4] = [
     (Event::Step(1), Applied::Limit),
     (Event::Step(5), Applied::NoWorker),
     (Event::Evict(0), Applied::Limit),
-    (Event::Evict(272), Applied::NoWord),
+    (Event::Evict(400), Applied::NoWord),
 ];
 
 // Its calls are used up, and then its journal.

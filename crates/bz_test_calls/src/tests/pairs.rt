@@ -126,7 +126,7 @@ fn crowd(rt: &impl Abort, world: &mut World, long: Payload) {
     }
     let last = Call::Insert(numbered(rt, 3), payload(rt, b""));
     makes(rt, world, last, Answer::Inserted);
-    for _ in 0..19 {
+    for _ in 0..43 {
         let update = Call::Update(numbered(rt, 0), long);
         makes(rt, world, update, Answer::Updated(long));
     }
@@ -154,7 +154,8 @@ fn the_call_without_the_last_words_copies_the_leaf(rt: HostRuntime) {
         Call::Insert(numbered(&rt, 4), payload(&rt, b"1")),
         Call::Update(numbered(&rt, 1), payload(&rt, b"2")),
     ];
-    for acts in 0..1_100 {
+    for turn in 0..367 {
+        let acts = 3 * turn;
         let ends = crowded(&rt, rt.alloc(), &calls, long, acts, acts);
         both_end(&rt, &ends, Answer::Inserted, Answer::Updated(long), MOST);
     }
@@ -167,7 +168,8 @@ fn a_stopped_copy_holds_nobody_up(rt: HostRuntime) {
         Call::Update(numbered(&rt, 1), long),
         Call::Insert(numbered(&rt, 4), payload(&rt, b"1")),
     ];
-    for acts in 0..1_100 {
+    for turn in 0..367 {
+        let acts = 3 * turn;
         let ends = crowded(&rt, rt.alloc(), &calls, long, acts, MOST);
         both_end(&rt, &ends, Answer::Updated(long), Answer::Inserted, 1_800);
     }

@@ -162,13 +162,13 @@ fn recovery_cut_at_will(rt: &impl Abort, alloc: Global, kind: u32, acts: u32) ->
 fn a_recovery_that_is_cut_begins_anew(rt: HostRuntime) {
     for kind in 0..3 {
         let acts = recovery_cut_at_will(&rt, rt.alloc(), kind, 56);
-        holds(&rt, acts >= 500 && acts < 1_000);
+        holds(&rt, acts >= 1_000 && acts < 2_000);
     }
 }
 
 // Updates of a key, one after the other, until no slot is left for a copy: how many were made.
 fn updates(rt: &impl Abort, world: &mut World, update: &Call) -> u32 {
-    for made in 0..200 {
+    for made in 0..400 {
         match whole(world, 1, *update) {
             Some(Answer::Updated(_)) => {}
             answer => {
@@ -177,7 +177,7 @@ fn updates(rt: &impl Abort, world: &mut World, update: &Call) -> u32 {
             }
         }
     }
-    200
+    400
 }
 
 // So many updates of a key are made until no slot is left; then the power fails, and the recovery goes to its end.
@@ -196,7 +196,7 @@ fn use_up(rt: &impl Abort, world: &mut World) {
         Some(Answer::Inserted),
     );
     let update = Call::Update(k, v);
-    for made in [114, 57, 57] {
+    for made in [234, 117, 117] {
         used_up(rt, world, &update, made);
     }
 }

@@ -44,10 +44,10 @@ impl Random {
     }
 }
 
-// A payload of up to 28 bytes, mostly a short one.
+// A payload of up to 56 bytes, mostly a short one.
 fn some_payload(rt: &impl Abort, random: &mut Random) -> Payload {
-    let bytes = [b'a' + random.below(26); 28];
-    let most = [1, 2, 8, 29][random.below(4) as usize];
+    let bytes = [b'a' + random.below(26); 56];
+    let most = [1, 2, 8, 57][random.below(4) as usize];
     let length = random.below(most);
     payload(rt, bytes.get(..length as usize).unwrap_or(&[]))
 }

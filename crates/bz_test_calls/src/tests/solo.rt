@@ -31,7 +31,7 @@ fn crowd(rt: &impl Abort, world: &mut World) {
     }
     let short = Call::Insert(numbered(rt, 5), payload(rt, b"1"));
     answers(rt, world, short, Answer::Inserted);
-    for _ in 0..18 {
+    for _ in 0..42 {
         let update = Call::Update(numbered(rt, 0), long);
         answers(rt, world, update, Answer::Updated(long));
     }
@@ -108,7 +108,7 @@ fn found_beside(rt: &impl Abort, alloc: Global, full: bool, stops: u32, step: u3
     found
 }
 
-// The insert into an empty leaf takes seventy-three acts. Into a full one, which is copied for it, it takes some five hundred and fifty.
+// The insert into an empty leaf takes seventy-three acts. Into a full one, which is copied for it, it takes some nine hundred and ninety.
 #[test]
 fn a_get_beside_a_stopped_insert_ends_alone(rt: HostRuntime) {
     for (full, stops, step) in [(false, 200, 1), (true, 40, 40)] {

@@ -19,9 +19,9 @@ fn has_left(rt: &impl Abort, world: &World, left: u32) {
     same(rt, world.left(), left);
 }
 
-// Thirty-nine small records.
+// Seventy-nine small records.
 fn fills(rt: &impl Abort, world: &mut World, v: Payload) {
-    for number in 1..40 {
+    for number in 1..80 {
         let insert = Call::Insert(numbered(rt, number), v);
         answers(rt, world, insert, Answer::Inserted);
     }
@@ -51,16 +51,16 @@ fn is_read(rt: &impl Abort, world: &mut World, first: Key, past: Key, v: Payload
 // It is filled, and then takes no more.
 fn is_filled(rt: &impl Abort, world: &mut World) {
     let v = payload(rt, b"v");
-    let (first, past) = (numbered(rt, 1), numbered(rt, 40));
+    let (first, past) = (numbered(rt, 1), numbered(rt, 80));
     fills(rt, world, v);
     changes_nothing(rt, world, first, past, v);
     is_read(rt, world, first, past, v);
-    same(rt, page_length(world), 39);
+    same(rt, page_length(world), 79);
 }
 
 #[test]
-fn a_leaf_has_room_for_thirty_nine_small_records(rt: HostRuntime) {
-    in_world(&rt, rt.alloc(), 1, 128, 1, |world| is_filled(&rt, world));
+fn a_leaf_has_room_for_seventy_nine_small_records(rt: HostRuntime) {
+    in_world(&rt, rt.alloc(), 1, 256, 1, |world| is_filled(&rt, world));
 }
 
 // So many updates of a key.
@@ -86,17 +86,17 @@ fn has_no_slot(rt: &impl Abort, world: &mut World, k: Key, v: Payload) {
 fn takes_updates(rt: &impl Abort, world: &mut World) {
     let (k, v) = (key(rt, b"a"), payload(rt, b"v"));
     answers(rt, world, Call::Insert(k, v), Answer::Inserted);
-    updates(rt, world, k, v, 228);
+    updates(rt, world, k, v, 468);
     has_no_slot(rt, world, k, v);
 }
 
 #[test]
-fn each_slot_takes_fifty_seven_updates_of_a_small_record(rt: HostRuntime) {
+fn each_slot_takes_a_hundred_and_seventeen_updates_of_a_small_record(rt: HostRuntime) {
     in_world(
         &rt,
         rt.alloc(),
         4,
-        512,
+        1_024,
         1,
         |world| takes_updates(&rt, world),
     );

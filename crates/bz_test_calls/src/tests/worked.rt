@@ -12,48 +12,48 @@ const DIRTY: u64 = 1 << 63;
 // The words of the root leaf of a memory of 16 nodes and 64 swaps.
 const STATUS: u32 = 1_040;
 
-const META: u32 = 1_050;
+const META: u32 = 1_058;
 
 // After the first swap of the insert: the leaf, and the swap's descriptor.
 const RESERVED: [(u32, u64); 10] = [
     (STATUS, 0x0010_0802_0000_0001),
-    (META, 0x0000_007E_0001_0002),
+    (META, 0x0000_00FE_0001_0002),
     (16, 2),
     (17, 2),
     (18, 1_040),
     (19, 0),
     (20, 0x0010_0802_0000_0001),
-    (21, 1_050),
+    (21, 1_058),
     (22, 0),
-    (23, 0x0000_007E_0001_0002),
+    (23, 0x0000_00FE_0001_0002),
 ];
 
 // After its second swap: the leaf and the record.
 const PUBLISHED: [(u32, u64); 4] = [
     (STATUS, 0x0010_0800_0000_0002),
-    (META, 0x1000_007E_0001_0002),
-    (1_166, 0x0061_0000_0000_0000),
-    (1_167, 0x0031_0000_0000_0000),
+    (META, 0x1000_00FE_0001_0002),
+    (1_294, 0x0061_0000_0000_0000),
+    (1_295, 0x0031_0000_0000_0000),
 ];
 
 // After the first swap of an update with 22, whose record stands below that of the insert.
 const TAKEN: [(u32, u64); 2] = [
     (STATUS, 0x0010_1002_0000_0003),
-    (META, 0x1000_007E_0001_0002),
+    (META, 0x1000_00FE_0001_0002),
 ];
 
 // After its second swap.
 const MOVED: [(u32, u64); 4] = [
     (STATUS, 0x0010_1002_0000_0004),
-    (META, 0x1000_007C_0001_0003),
-    (1_164, 0x0061_0000_0000_0000),
-    (1_165, 0x0032_3200_0000_0000),
+    (META, 0x1000_00FC_0001_0003),
+    (1_292, 0x0061_0000_0000_0000),
+    (1_293, 0x0032_3200_0000_0000),
 ];
 
 // After the first swap of an update with 12345678 in its place, whose record has two words more: the leaf, and the swap's descriptor.
 const GROWN: [(u32, u64); 7] = [
     (STATUS, 0x0010_1403_0000_0003),
-    (META, 0x1000_007E_0001_0002),
+    (META, 0x1000_00FE_0001_0002),
     (48, 2),
     (49, 1),
     (50, 1_040),
@@ -64,10 +64,10 @@ const GROWN: [(u32, u64); 7] = [
 // After its second swap.
 const REPLACED: [(u32, u64); 5] = [
     (STATUS, 0x0010_1402_0000_0004),
-    (META, 0x1000_007B_0001_0009),
-    (1_163, 0x0061_0000_0000_0000),
-    (1_164, 0x0031_3233_3435_3637),
-    (1_165, 0x0038_0000_0000_0000),
+    (META, 0x1000_00FB_0001_0009),
+    (1_291, 0x0061_0000_0000_0000),
+    (1_292, 0x0031_3233_3435_3637),
+    (1_293, 0x0038_0000_0000_0000),
 ];
 
 // After a delete in place of the update.
@@ -111,7 +111,7 @@ fn ends(rt: &impl Abort, world: &mut World, answer: Answer, words: &[(u32, u64)]
 
 // Fresh memory.
 const FRESH: [(u32, u64); 7] = [
-    (0, 1),
+    (0, 2),
     (1, 1),
     (2, 0),
     (3, 16),
@@ -124,14 +124,14 @@ const FRESH: [(u32, u64); 7] = [
 fn insert(rt: &impl Abort, world: &mut World) {
     has(rt, world, &FRESH);
     begins(rt, world, Call::Insert(key(rt, b"a"), payload(rt, b"1")));
-    after_first(rt, world, (1_166, 0x0061_0000_0000_0000), &RESERVED);
+    after_first(rt, world, (1_294, 0x0061_0000_0000_0000), &RESERVED);
     ends(rt, world, Answer::Inserted, &PUBLISHED);
 }
 
 // An update of a with 22.
 fn update(rt: &impl Abort, world: &mut World) {
     begins(rt, world, Call::Update(key(rt, b"a"), payload(rt, b"22")));
-    after_first(rt, world, (1_164, 0x0061_0000_0000_0000), &TAKEN);
+    after_first(rt, world, (1_292, 0x0061_0000_0000_0000), &TAKEN);
     ends(rt, world, Answer::Updated(payload(rt, b"1")), &MOVED);
 }
 
@@ -139,7 +139,7 @@ fn update(rt: &impl Abort, world: &mut World) {
 fn grow(rt: &impl Abort, world: &mut World) {
     let update = Call::Update(key(rt, b"a"), payload(rt, b"12345678"));
     begins(rt, world, update);
-    after_first(rt, world, (1_163, 0x0061_0000_0000_0000), &GROWN);
+    after_first(rt, world, (1_291, 0x0061_0000_0000_0000), &GROWN);
     ends(rt, world, Answer::Updated(payload(rt, b"1")), &REPLACED);
 }
 

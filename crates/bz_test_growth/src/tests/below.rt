@@ -65,7 +65,7 @@ fn count_pairs(rt: &impl Abort, world: &mut World) -> usize {
     sum(&walk(rt, world))
 }
 
-// In which order the keys from 1 to 99 come.
+// In which order the keys from 1 to 199 come.
 #[derive(Clone, Copy)]
 enum Order {
     Rising,
@@ -77,17 +77,17 @@ enum Order {
 fn number_at(order: Order, place: u32) -> u32 {
     match order {
         Order::Rising => place,
-        Order::Falling => 100u32.saturating_sub(place),
-        Order::Shuffled => place % 99 * 37 % 99 + 1,
+        Order::Falling => 200u32.saturating_sub(place),
+        Order::Shuffled => place % 199 * 37 % 199 + 1,
     }
 }
 
 // The keys are inserted, and are there.
 fn comes(rt: &impl Abort, world: &mut World, order: Order) {
-    for place in 1..100 {
+    for place in 1..200 {
         inserts(rt, world, number_at(order, place));
     }
-    for number in 1..100 {
+    for number in 1..200 {
         has(rt, world, number);
     }
 }
@@ -99,39 +99,39 @@ fn pages_of(rt: &impl Abort, alloc: Global, nodes: u32, swaps: u32, order: Order
     walk(rt, &mut world)
 }
 
-const RISEN: [usize; 12] = [20, 20, 20, 39, 0, 0, 0, 0, 0, 0, 0, 0];
+const RISEN: [usize; 12] = [40, 40, 40, 79, 0, 0, 0, 0, 0, 0, 0, 0];
 
-// Each leaf is split when it has thirty-nine records, and keeps twenty of them.
+// Each leaf is split when it has seventy-nine records, and keeps forty of them.
 #[test]
 fn keys_rising(rt: HostRuntime) {
-    let lengths = pages_of(&rt, rt.alloc(), 10, 204, Order::Rising);
+    let lengths = pages_of(&rt, rt.alloc(), 10, 404, Order::Rising);
     same(&rt, lengths, RISEN);
 }
 
-const FALLEN: [usize; 12] = [23, 19, 19, 19, 19, 0, 0, 0, 0, 0, 0, 0];
+const FALLEN: [usize; 12] = [43, 39, 39, 39, 39, 0, 0, 0, 0, 0, 0, 0];
 
-// The first leaf is split, and its right half keeps nineteen.
+// The first leaf is split, and its right half keeps thirty-nine.
 #[test]
 fn keys_falling(rt: HostRuntime) {
-    let lengths = pages_of(&rt, rt.alloc(), 13, 206, Order::Falling);
+    let lengths = pages_of(&rt, rt.alloc(), 13, 406, Order::Falling);
     same(&rt, lengths, FALLEN);
 }
 
 #[test]
 fn keys_shuffled(rt: HostRuntime) {
-    let lengths = pages_of(&rt, rt.alloc(), 16, 256, Order::Shuffled);
-    same(&rt, sum(&lengths), 99);
+    let lengths = pages_of(&rt, rt.alloc(), 16, 456, Order::Shuffled);
+    same(&rt, sum(&lengths), 199);
 }
 
 // Two leaves, of which the right one is full.
 fn right_full(rt: &impl Abort, alloc: Global) -> World {
-    let mut world = open(alloc, 16, 256, 2).expect(rt, "a world");
-    for number in 1..61 {
-        if number != 10 && number != 30 {
+    let mut world = open(alloc, 16, 320, 2).expect(rt, "a world");
+    for number in 1..121 {
+        if number != 10 && number != 50 {
             inserts(rt, &mut world, number);
         }
     }
-    inserts(rt, &mut world, 61);
+    inserts(rt, &mut world, 121);
     world
 }
 
@@ -148,7 +148,7 @@ fn is_inserted(rt: &impl Abort, ended: Option<Answer>, acts: u32) {
 
 // Worker 1 stops after so many acts of an insert; worker 2 makes its own; and then worker 1 makes the rest.
 fn race(rt: &impl Abort, world: &mut World, acts: u32, other: u32) {
-    begins(rt, world, 1, 62);
+    begins(rt, world, 1, 122);
     let (_, first) = steps(world, 1, acts);
     begins(rt, world, 2, other);
     let (_, second) = steps(world, 2, MOST);
@@ -161,33 +161,33 @@ fn race(rt: &impl Abort, world: &mut World, acts: u32, other: u32) {
 fn beside(rt: &impl Abort, alloc: Global, acts: u32, other: u32) {
     let mut world = right_full(rt, alloc);
     race(rt, &mut world, acts, other);
-    same_at(rt, count_pairs(rt, &mut world), 61, other);
+    same_at(rt, count_pairs(rt, &mut world), 121, other);
 }
 
 #[test]
 fn a_stopped_split_holds_nobody_up(rt: HostRuntime) {
     for turn in 0..9 {
-        for other in [30, 63, 10] {
-            beside(&rt, rt.alloc(), 113 * turn, other);
+        for other in [50, 123, 10] {
+            beside(&rt, rt.alloc(), 190 * turn, other);
         }
     }
 }
 
 // Two leaves below one parent become full.
 fn fills_both(rt: &impl Abort, world: &mut World) {
-    for number in 1..41 {
+    for number in 1..81 {
         inserts(rt, world, 2 * number);
     }
-    for number in 1..20 {
+    for number in 1..40 {
         inserts(rt, world, 2 * number + 1);
-        inserts(rt, world, 2 * number + 41);
+        inserts(rt, world, 2 * number + 81);
     }
 }
 
 // Both are split at once.
 fn splits_both(rt: &impl Abort, world: &mut World) {
     begins(rt, world, 1, 1);
-    begins(rt, world, 2, 90);
+    begins(rt, world, 2, 170);
     let mut first = None;
     let mut second = None;
     for _ in 0..MOST {
@@ -205,5 +205,5 @@ fn two_splits_below_one_parent(rt: HostRuntime) {
     let mut world = open(rt.alloc(), 10, 400, 2).expect(&rt, "a world");
     fills_both(&rt, &mut world);
     splits_both(&rt, &mut world);
-    same(&rt, count_pairs(&rt, &mut world), 80);
+    same(&rt, count_pairs(&rt, &mut world), 160);
 }

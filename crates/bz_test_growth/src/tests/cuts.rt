@@ -24,24 +24,24 @@ enum Kind {
 fn keys_of(kind: Kind) -> u8 {
     match kind {
         Kind::Copy => 1,
-        Kind::RootSplit => 19,
-        Kind::Split => 29,
+        Kind::RootSplit => 23,
+        Kind::Split => 35,
     }
 }
 
 // The call.
 fn call_of(rt: &impl Abort, kind: Kind) -> Call {
-    let long = payload(rt, &[b'v'; 28]);
+    let long = payload(rt, &[b'v'; 56]);
     match kind {
         Kind::Copy => Call::Update(numbered(rt, 1), long),
-        Kind::RootSplit => Call::Insert(numbered(rt, 20), long),
-        Kind::Split => Call::Insert(numbered(rt, 30), long),
+        Kind::RootSplit => Call::Insert(numbered(rt, 24), long),
+        Kind::Split => Call::Insert(numbered(rt, 36), long),
     }
 }
 
-// Inserts the keys with the numbers from 1 to this one, in records of six words.
+// Inserts the keys with the numbers from 1 to this one, in records of ten words.
 fn inserts(rt: &impl Abort, world: &mut World, last: u8) {
-    let long = payload(rt, &[b'v'; 28]);
+    let long = payload(rt, &[b'v'; 56]);
     for number in 0..last {
         let call = Call::Insert(numbered(rt, number.saturating_add(1)), long);
         same(rt, whole(world, 1, call), Some(Answer::Inserted));
@@ -50,8 +50,8 @@ fn inserts(rt: &impl Abort, world: &mut World, last: u8) {
 
 // Updates the first key, until its leaf has no room.
 fn updates(rt: &impl Abort, world: &mut World) {
-    let long = payload(rt, &[b'v'; 28]);
-    for _ in 0..22 {
+    let long = payload(rt, &[b'v'; 56]);
+    for _ in 0..25 {
         let call = Call::Update(numbered(rt, 1), long);
         same(rt, whole(world, 1, call), Some(Answer::Updated(long)));
     }

@@ -2,6 +2,7 @@
 
 use super::bench::durable;
 use bz_key::Key;
+use bz_layout::{FENCE_WORDS, META_AT, NODE_WORDS};
 use bz_word::{Header, Meta, Status, WordKind, kind_of};
 use bz_world::World;
 
@@ -35,9 +36,9 @@ pub(super) fn resolve(world: &World, a: u32) -> u64 {
     }
 }
 
-/// Four words from an address on.
-pub(super) fn words(world: &World, at: u32) -> [u64; 4] {
-    let mut words = [0; 4];
+/// As many words from an address on as a key has at most.
+pub(super) fn words(world: &World, at: u32) -> [u64; FENCE_WORDS as usize] {
+    let mut words = [0; FENCE_WORDS as usize];
     for (i, word) in words.iter_mut().enumerate() {
         *word = resolve(world, at.saturating_add(i as u32));
     }
@@ -48,7 +49,7 @@ pub(super) fn words(world: &World, at: u32) -> [u64; 4] {
 fn slot_of(world: &World, pointer: u64) -> u32 {
     let slot = pointer.saturating_sub(1).min(0xFFFF) as u32;
     let first = world.config().swaps.saturating_mul(16).saturating_add(16);
-    first.saturating_add(slot.saturating_mul(128))
+    first.saturating_add(slot.saturating_mul(NODE_WORDS))
 }
 
 /// Where the root's slot begins.
@@ -78,7 +79,7 @@ fn note(world: &World, at: u32, length: u32, seen: &mut [bool; 100]) -> Option<(
 fn note_leaf(world: &World, node: u32, seen: &mut [bool; 100]) -> Option<()> {
     let status = Status::unpack(resolve(world, node))?;
     for i in 0..status.count {
-        let a = node.saturating_add(10).saturating_add(i);
+        let a = node.saturating_add(META_AT).saturating_add(i);
         if let Meta::Visible(extent) = Meta::unpack(resolve(world, a))? {
             note(world, node.saturating_add(extent.offset), extent.key, seen)?;
         }
@@ -88,7 +89,7 @@ fn note_leaf(world: &World, node: u32, seen: &mut [bool; 100]) -> Option<()> {
 
 /// Where the slot begins of the child with this number in its parent; none where there is no such record.
 pub(super) fn child_of(world: &World, node: u32, number: u32) -> Option<u32> {
-    let a = node.saturating_add(10).saturating_add(number);
+    let a = node.saturating_add(META_AT).saturating_add(number);
     let Meta::Visible(extent) = Meta::unpack(resolve(world, a))? else {
         return None;
     };

@@ -14,8 +14,8 @@ use std::process::Abort;
 /// More acts than any of these calls makes.
 pub(super) const MOST: u32 = 10_000;
 
-// How many keys make a tree of three levels, in whatever order: an inner node has at most twenty children, and a leaf nineteen records.
-const MANY: u32 = 400;
+// How many keys make a tree of three levels, in whatever order: an inner node has at most 24 children, and a leaf 23 records.
+const MANY: u32 = 560;
 
 /// A world of these workers with room for so many keys.
 pub(super) fn open(rt: &impl Abort, alloc: Global, workers: u32) -> World {
@@ -30,12 +30,12 @@ pub(super) fn open(rt: &impl Abort, alloc: Global, workers: u32) -> World {
     World::open(alloc, &config).expect(rt, "a world")
 }
 
-/// A key of twenty-eight bytes, of which the last three are digits.
+/// A key of fifty-six bytes, of which the last three are digits.
 pub(super) fn long(rt: &impl Abort, number: u32) -> Key {
-    let mut bytes = [b'k'; 28];
-    bytes[25] = digit(number / 100);
-    bytes[26] = digit(number / 10);
-    bytes[27] = digit(number);
+    let mut bytes = [b'k'; 56];
+    bytes[53] = digit(number / 100);
+    bytes[54] = digit(number / 10);
+    bytes[55] = digit(number);
     key(rt, &bytes)
 }
 
@@ -140,23 +140,23 @@ fn beside(
     [before, decode_root(&world)]
 }
 
-// Twenty leaves below one root, of which the last is full: the root is split into eleven and nine, and a root stands over them.
+// Twenty-four leaves below one root, of which the last is full: the root is split into thirteen and eleven, and a root stands over them.
 #[test]
 fn a_stopped_split_of_an_inner_root(rt: HostRuntime) {
     for turn in 0..16 {
         for other in [0, 500] {
-            let roots = beside(&rt, rt.alloc(), 209, 150 * turn, other);
-            same(&rt, roots, [Some((1, 20)), Some((2, 2))]);
+            let roots = beside(&rt, rt.alloc(), 299, 250 * turn, other);
+            same(&rt, roots, [Some((1, 24)), Some((2, 2))]);
         }
     }
 }
 
-// Two nodes below the root, of which the last has twenty leaves: it is split, and the root has three.
+// Two nodes below the root, of which the last has twenty-four leaves: it is split, and the root has three.
 #[test]
 fn a_stopped_split_of_an_inner_node(rt: HostRuntime) {
     for turn in 0..16 {
         for other in [0, 500] {
-            let roots = beside(&rt, rt.alloc(), 319, 200 * turn, other);
+            let roots = beside(&rt, rt.alloc(), 455, 330 * turn, other);
             same(&rt, roots, [Some((2, 2)), Some((2, 3))]);
         }
     }

@@ -10,7 +10,7 @@ use super::neighbours::evict_written;
 use super::random::Random;
 use bz_call::Call;
 use bz_key::Key;
-use bz_layout::Config;
+use bz_layout::{Config, META_AT};
 use bz_mark::Mark;
 use bz_word::{Header, Meta, Status};
 use bz_world::{Applied, Event, World};
@@ -20,12 +20,12 @@ use std::process::Abort;
 // Which keys are there, by their numbers.
 type Keys = [bool; 1_000];
 
-// The number of a key of twenty-eight bytes, of which the last three are digits.
+// The number of a key of fifty-six bytes, of which the last three are digits.
 fn number_of(key: &Key) -> Option<usize>
     ensures { IfSome result (λ number. number < 1000) }
 {
     let mut number = 0usize;
-    for digit in key.bytes().get(25..28)? {
+    for digit in key.bytes().get(53..56)? {
         number = 10 * (number % 100) + (*digit as usize).checked_sub(48)?.min(9);
     }
     if number < 1_000 { Some(number) } else { None }
@@ -35,10 +35,10 @@ fn number_of(key: &Key) -> Option<usize>
 fn note_leaf(world: &World, node: u32, keys: &mut Keys) -> Option<()> {
     let status = Status::unpack(resolve(world, node))?;
     for i in 0..status.count {
-        let a = node.saturating_add(10).saturating_add(i);
+        let a = node.saturating_add(META_AT).saturating_add(i);
         if let Meta::Visible(extent) = Meta::unpack(resolve(world, a))? {
             let read = words(world, node.saturating_add(extent.offset));
-            let key = Key::from_words(28, &read)?;
+            let key = Key::from_words(56, &read)?;
             let noted = keys.get_mut(number_of(&key)?)?;
             if *noted {
                 return None;
@@ -225,12 +225,12 @@ fn run(rt: &impl Abort, alloc: Global, growth: Growth) {
 #[test]
 fn random_runs_over_a_tree_that_grows_or_shrinks(rt: HostRuntime) {
     let rows = [
-        // the root has twenty leaves, and is split
-        (209, 4, 1, 2),
-        // the second of two nodes has twenty leaves, and is split
-        (319, 3, 1, 3),
+        // the root has twenty-four leaves, and is split
+        (299, 3, 1, 2),
+        // the second of two nodes has twenty-four leaves, and is split
+        (455, 2, 1, 3),
         // deletes, after which leaves are merged
-        (319, 3, 6, 1),
+        (455, 2, 6, 1),
     ];
     for (keys, step, deletes, widest) in rows {
         let growth = Growth {

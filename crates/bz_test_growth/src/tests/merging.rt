@@ -23,7 +23,7 @@ fn delete(rt: &impl Abort, number: u32) -> Call {
     Call::Delete(numbered(rt, number))
 }
 
-// A tree of the keys from 1 to this one, three live words each. Put in as they rise they make leaves of twenty.
+// A tree of the keys from 1 to this one, three live words each. Put in as they rise they make leaves of forty.
 fn grown(rt: &impl Abort, alloc: Global, nodes: u32, swaps: u32, last: u32) -> World {
     let mut world = open(alloc, nodes, swaps, 2).expect(rt, "a world");
     for number in 0..last {
@@ -82,7 +82,7 @@ fn leaves(rt: &impl Abort, world: &mut World, pairs: u32) -> [usize; 4] {
     children
 }
 
-// Of three leaves of twenty keys, the last of which has so many more, these keys are deleted. How long the leaves are then.
+// Of three leaves of forty keys, the last of which has so many more, these keys are deleted. How long the leaves are then.
 fn after(rt: &impl Abort, alloc: Global, last: u32, first: u32, end: u32) -> [usize; 4] {
     let mut world = grown(rt, alloc, 32, 400, last);
     deletes(rt, &mut world, first, end);
@@ -94,13 +94,13 @@ fn after(rt: &impl Abort, alloc: Global, last: u32, first: u32, end: u32) -> [us
 #[test]
 fn a_leaf_is_merged_with_a_neighbour_that_has_room(rt: HostRuntime) {
     for (last, first, end, lengths) in [
-        (60, 1, 15, [5, 20, 20, 0]),
-        (60, 1, 16, [24, 20, 0, 0]),
-        (60, 21, 36, [20, 24, 0, 0]),
-        (61, 21, 36, [24, 21, 0, 0]),
-        (61, 21, 37, [23, 21, 0, 0]),
-        (60, 45, 60, [20, 24, 0, 0]),
-        (62, 43, 62, [20, 22, 0, 0]),
+        (120, 1, 31, [9, 40, 40, 0]),
+        (120, 1, 32, [48, 40, 0, 0]),
+        (120, 41, 72, [40, 48, 0, 0]),
+        (121, 41, 72, [48, 41, 0, 0]),
+        (121, 41, 73, [47, 41, 0, 0]),
+        (120, 89, 120, [40, 48, 0, 0]),
+        (122, 83, 122, [40, 42, 0, 0]),
     ] {
         let found = after(&rt, rt.alloc(), last, first, end);
         same(&rt, found, lengths);
@@ -110,10 +110,10 @@ fn a_leaf_is_merged_with_a_neighbour_that_has_room(rt: HostRuntime) {
 // What the root is after deletes at both ends, how long the first leaf, and what an insert is answered.
 type Left = ((u32, u32), usize, Answer);
 
-// Ten keys are deleted at each end of forty.
+// Of eighty keys twenty are deleted at the right end, and nineteen at the left one.
 fn shrinks(rt: &impl Abort, world: &mut World, (root, leaf, told): Left) {
-    deletes(rt, world, 31, 40);
-    deletes(rt, world, 1, 10);
+    deletes(rt, world, 61, 80);
+    deletes(rt, world, 1, 19);
     same(rt, lengths(rt, world)[0], leaf);
     same(rt, decode_root(world), Some(root));
     same(rt, whole(world, 1, insert(rt, 1)), Some(told));
@@ -121,45 +121,45 @@ fn shrinks(rt: &impl Abort, world: &mut World, (root, leaf, told): Left) {
 
 // Where there are so many slots.
 fn leaves_one(rt: &impl Abort, alloc: Global, nodes: u32, left: Left) {
-    let mut world = grown(rt, alloc, nodes, 128, 40);
+    let mut world = grown(rt, alloc, nodes, 256, 80);
     shrinks(rt, &mut world, left);
 }
 
-// Forty keys, ten deleted at each end: one leaf of twenty below a parent with one child.
+// They leave one leaf of forty-one below a parent with one child.
 #[test]
 fn deletes_at_both_ends_leave_one_leaf(rt: HostRuntime) {
     // with one slot left both leaves stay frozen, and are not copied
-    leaves_one(&rt, rt.alloc(), 5, ((1, 2), 10, Answer::FullNodes));
-    leaves_one(&rt, rt.alloc(), 6, ((1, 1), 20, Answer::Inserted));
+    leaves_one(&rt, rt.alloc(), 5, ((1, 2), 21, Answer::FullNodes));
+    leaves_one(&rt, rt.alloc(), 6, ((1, 1), 41, Answer::Inserted));
 }
 
-// A tree in which the delete of the tenth key merges both leaves, where there are descriptors enough.
+// A tree in which the delete of the nineteenth key merges both leaves, where there are descriptors enough.
 fn ready_with(rt: &impl Abort, alloc: Global, swaps: u32) -> World {
-    let mut world = grown(rt, alloc, 16, swaps, 40);
-    deletes(rt, &mut world, 31, 40);
-    deletes(rt, &mut world, 1, 9);
+    let mut world = grown(rt, alloc, 16, swaps, 80);
+    deletes(rt, &mut world, 61, 80);
+    deletes(rt, &mut world, 1, 18);
     world
 }
 
 fn ready(rt: &impl Abort, alloc: Global) -> World {
-    ready_with(rt, alloc, 160)
+    ready_with(rt, alloc, 280)
 }
 
 // The last delete leaves the leaves so, where there are so many descriptors.
 fn merges_with(rt: &impl Abort, alloc: Global, swaps: u32, left: [usize; 4]) {
     let mut world = ready_with(rt, alloc, swaps);
-    same_at(rt, whole(&mut world, 1, delete(rt, 10)), gone(rt), swaps);
+    same_at(rt, whole(&mut world, 1, delete(rt, 19)), gone(rt), swaps);
     same_at(rt, lengths(rt, &mut world), left, swaps);
 }
 
-// Forty inserts took two descriptors each, the split of the root two, and nineteen deletes one each. The last delete takes one, and its
+// Eighty inserts took two descriptors each, the split of the root two, and thirty-eight deletes one each. The last delete takes one, and its
 // merge three.
 #[test]
 fn a_merge_without_descriptors_is_dropped(rt: HostRuntime) {
-    merges_with(&rt, rt.alloc(), 102, [10, 10, 0, 0]);
-    merges_with(&rt, rt.alloc(), 103, [10, 10, 0, 0]);
-    merges_with(&rt, rt.alloc(), 104, [10, 10, 0, 0]);
-    merges_with(&rt, rt.alloc(), 105, [20, 0, 0, 0]);
+    merges_with(&rt, rt.alloc(), 201, [21, 20, 0, 0]);
+    merges_with(&rt, rt.alloc(), 202, [21, 20, 0, 0]);
+    merges_with(&rt, rt.alloc(), 203, [21, 20, 0, 0]);
+    merges_with(&rt, rt.alloc(), 204, [41, 0, 0, 0]);
 }
 
 // What a delete of a key that is there answers, and an insert of another.
@@ -196,29 +196,29 @@ fn counted(rt: &impl Abort, world: &mut World) -> u64 {
 fn beside(rt: &impl Abort, alloc: Global, acts: u32, call: Call) {
     let mut world = ready(rt, alloc);
     let answer = answer_of(rt, &call);
-    stops(rt, &mut world, 10, acts, (call, answer));
+    stops(rt, &mut world, 19, acts, (call, answer));
     counted(rt, &mut world);
 }
 
 // Another worker changes either leaf while it is stopped.
 fn beside_each(rt: &impl Abort, alloc: Global, acts: u32) {
     beside(rt, alloc, acts, insert(rt, 5));
-    beside(rt, alloc, acts, insert(rt, 35));
-    beside(rt, alloc, acts, delete(rt, 20));
+    beside(rt, alloc, acts, insert(rt, 70));
     beside(rt, alloc, acts, delete(rt, 30));
+    beside(rt, alloc, acts, delete(rt, 50));
 }
 
 #[test]
 fn a_stopped_merge_holds_nobody_up(rt: HostRuntime) {
     for turn in 0..25 {
-        beside_each(&rt, rt.alloc(), 41 * turn);
+        beside_each(&rt, rt.alloc(), 61 * turn);
     }
 }
 
-// Three leaves of eleven keys: the first one has its neighbour to the right, and the last one that to the left, which is the same.
+// Three leaves of twenty-two keys: the first one has its neighbour to the right, and the last one that to the left, which is the same.
 fn three_small(rt: &impl Abort, alloc: Global) -> World {
-    let mut world = grown(rt, alloc, 32, 400, 60);
-    for (first, last) in [(12, 20), (32, 40), (52, 60)] {
+    let mut world = grown(rt, alloc, 32, 400, 120);
+    for (first, last) in [(23, 40), (63, 80), (103, 120)] {
         deletes(rt, &mut world, first, last);
     }
     world
@@ -227,28 +227,28 @@ fn three_small(rt: &impl Abort, alloc: Global) -> World {
 // A delete in the first leaf is stopped after so many acts, while another one in the last leaf is made whole: one of the two merges.
 fn merge_at_once(rt: &impl Abort, alloc: Global, acts: u32) {
     let mut world = three_small(rt, alloc);
-    stops(rt, &mut world, 1, acts, (delete(rt, 41), gone(rt)));
+    stops(rt, &mut world, 1, acts, (delete(rt, 81), gone(rt)));
     is_one_merge(rt, &mut world);
 }
 
 // The middle leaf is merged with one of the others.
 fn is_one_merge(rt: &impl Abort, world: &mut World) {
     let found = lengths(rt, world);
-    let right = found == [10, 21, 0, 0];
-    holds(rt, right || found == [21, 10, 0, 0]);
-    has_pairs(rt, world, 31);
+    let right = found == [21, 43, 0, 0];
+    holds(rt, right || found == [43, 21, 0, 0]);
+    has_pairs(rt, world, 64);
 }
 
 #[test]
 fn two_merges_that_want_one_leaf(rt: HostRuntime) {
     for turn in 0..25 {
-        merge_at_once(&rt, rt.alloc(), 31 * turn);
+        merge_at_once(&rt, rt.alloc(), 47 * turn);
     }
 }
 
 // So many acts of it, and at times each word becomes durable. Whether it has ended.
 fn makes(rt: &impl Abort, world: &mut World, acts: u32) -> bool {
-    holds(rt, begin(world, 1, delete(rt, 10)));
+    holds(rt, begin(world, 1, delete(rt, 19)));
     let ended = steps(world, 1, acts).1.is_some();
     if acts % 2 == 0 {
         evict_all(world);
@@ -261,7 +261,7 @@ fn is_whole(rt: &impl Abort, world: &mut World, ended: bool) {
     restart(rt, world);
     holds(rt, recover(world, MOST));
     let count = counted(rt, world);
-    holds(rt, count == 20 || !ended && count == 21);
+    holds(rt, count == 41 || !ended && count == 42);
 }
 
 // Its power fails after so many acts. Whether it had ended.
@@ -275,7 +275,7 @@ fn cut_after(rt: &impl Abort, alloc: Global, acts: u32) -> bool {
 
 // Both leaves are merged, or may be still.
 fn merges_at_last(rt: &impl Abort, world: &mut World, acts: u32) {
-    whole(world, 1, delete(rt, 10));
+    whole(world, 1, delete(rt, 19));
     let gone = Some(Answer::Deleted(payload(rt, b"v")));
     same_at(rt, whole(world, 1, delete(rt, 30)), gone, acts);
     same_at(rt, decode_root(world), Some((1, 1)), acts);
@@ -285,11 +285,11 @@ fn merges_at_last(rt: &impl Abort, world: &mut World, acts: u32) {
 fn a_merge_that_is_cut_is_whole_or_nothing(rt: HostRuntime) {
     let mut made = 0u32;
     for turn in 0..200 {
-        let acts = 7 * turn;
+        let acts = 11 * turn;
         if cut_after(&rt, rt.alloc(), acts) {
             made = acts;
             break;
         }
     }
-    holds(&rt, made >= 400 && made < 1_200);
+    holds(&rt, made >= 600 && made < 2_000);
 }

@@ -9,15 +9,15 @@ use bz_world::{Event, World};
 use std::alloc::Global;
 use std::process::Abort;
 
-// Two nodes below the root with twenty leaves each. The first one's last leaf but one is full, and so is the second one's last leaf.
-// Even numbers rising make leaves of ten records, eleven below the first node and twenty below the second; odd numbers split the
-// first nine of them, and fill the tenth.
+// Two nodes below the root with twenty-four leaves each. The first one's last leaf but one is full, and so is the second one's last leaf.
+// Even numbers rising make leaves of twelve records, thirteen below the first node and twenty-four below the second; odd numbers
+// split the first eleven of them, and fill the twelfth.
 fn two_full(rt: &impl Abort, alloc: Global) -> World {
     let mut world = open(rt, alloc, 2);
-    for number in 1..320 {
+    for number in 1..456 {
         inserts(rt, &mut world, 1, 2 * number);
     }
-    for number in 1..100 {
+    for number in 1..144 {
         inserts(rt, &mut world, 1, 2 * number + 1);
     }
     world
@@ -54,11 +54,11 @@ fn go_on(world: &mut World, w: u8, evicts: bool, ended: &mut Option<Answer>) {
 fn take_turns(rt: &impl Abort, world: &mut World, acts: u32, evicts: bool) {
     let mut first = None;
     let mut second = None;
-    holds(rt, begin(world, 1, insert(rt, 201)));
+    holds(rt, begin(world, 1, insert(rt, 289)));
     for _ in 0..acts {
         go_on(world, 1, evicts, &mut first);
     }
-    holds(rt, begin(world, 2, insert(rt, 640)));
+    holds(rt, begin(world, 2, insert(rt, 912)));
     for _ in 0..MOST {
         go_on(world, 1, evicts, &mut first);
         go_on(world, 2, evicts, &mut second);
@@ -70,15 +70,15 @@ fn take_turns(rt: &impl Abort, world: &mut World, acts: u32, evicts: bool) {
 // Both nodes are split then.
 fn split_at_once(rt: &impl Abort, alloc: Global, acts: u32, evicts: bool) {
     let mut world = two_full(rt, alloc);
-    same(rt, widths(&world), Some([20, 20]));
+    same(rt, widths(&world), Some([24, 24]));
     take_turns(rt, &mut world, acts, evicts);
     same_at(rt, decode_root(&world), Some((2, 4)), acts);
-    same_at(rt, count_pairs(rt, &mut world, 2), 420, acts);
+    same_at(rt, count_pairs(rt, &mut world, 2), 600, acts);
 }
 
 #[test]
 fn two_neighbours_are_split_at_once(rt: HostRuntime) {
     for turn in 0..4 {
-        split_at_once(&rt, rt.alloc(), 650 * turn, turn % 2 == 1);
+        split_at_once(&rt, rt.alloc(), 1_000 * turn, turn % 2 == 1);
     }
 }

@@ -176,8 +176,8 @@ fn run(rt: &impl Abort, alloc: Global, plan: Plan) -> Outcome {
 
 #[test]
 fn calls_over_trees_that_grow_or_shrink_end_alone(rt: HostRuntime) {
-    // the root has twenty leaves, and is split; or leaves are merged after deletes
-    for (keys, step, deletes) in [(209, 4, 1), (120, 1, 6)] {
+    // the root has twenty-four leaves, and is split; or leaves are merged after deletes
+    for (keys, step, deletes) in [(299, 3, 1), (120, 1, 6)] {
         let plan = Plan {
             nodes: 800,
             swaps: 3_000,
@@ -202,7 +202,7 @@ fn calls_over_trees_that_grow_or_shrink_end_alone(rt: HostRuntime) {
 #[test]
 fn calls_that_find_nothing_left_end_alone(rt: HostRuntime) {
     // no slots are left, or no descriptors
-    for (nodes, swaps) in [(36, 3_000), (800, 300)] {
+    for (nodes, swaps) in [(26, 3_000), (800, 300)] {
         let plan = Plan {
             nodes,
             swaps,

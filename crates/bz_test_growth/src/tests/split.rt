@@ -44,8 +44,8 @@ fn holds_up_to(rt: &impl Abort, world: &World, last: usize) {
 }
 
 // The numbers from 1 on, rising.
-fn rising() -> [u8; 41] {
-    let mut numbers = [0; 41];
+fn rising() -> [u8; 81] {
+    let mut numbers = [0; 81];
     let mut next = 1u8;
     for number in &mut numbers {
         *number = next;
@@ -67,40 +67,40 @@ fn finds(rt: &impl Abort, world: &mut World, numbers: &[u8]) {
     }
 }
 
-// The forty keys go into four slots, with as many descriptors as they take; each is there, and the two pages are so long.
+// The eighty keys go into four slots, with as many descriptors as they take; each is there, and the two pages are so long.
 fn splits(rt: &impl Abort, alloc: Global, numbers: &[u8], lengths: [usize; 2]) {
-    let mut world = open(alloc, 4, 82, 1).expect(rt, "a world");
+    let mut world = open(alloc, 4, 162, 1).expect(rt, "a world");
     inserts(rt, &mut world, numbers);
     finds(rt, &mut world, numbers);
     same(rt, walk(rt, &mut world, numbered(rt, 1)), lengths);
-    holds_up_to(rt, &world, 40);
+    holds_up_to(rt, &world, 80);
 }
 
 #[test]
-fn forty_keys_rising(rt: HostRuntime) {
+fn eighty_keys_rising(rt: HostRuntime) {
     let numbers = rising();
-    splits(&rt, rt.alloc(), numbers.get(..40).unwrap_or(&[]), [20, 20]);
+    splits(&rt, rt.alloc(), numbers.get(..80).unwrap_or(&[]), [40, 40]);
 }
 
 #[test]
-fn forty_keys_falling(rt: HostRuntime) {
+fn eighty_keys_falling(rt: HostRuntime) {
     let mut numbers = rising();
     numbers.reverse();
-    splits(&rt, rt.alloc(), numbers.get(1..).unwrap_or(&[]), [21, 19]);
+    splits(&rt, rt.alloc(), numbers.get(1..).unwrap_or(&[]), [41, 39]);
 }
 
-// The fortieth key does not go into so few slots, of which it takes none.
+// The eightieth key does not go into so few slots, of which it takes none.
 fn lacks_nodes(rt: &impl Abort, alloc: Global, nodes: u32) {
-    let mut world = open(alloc, nodes, 128, 1).expect(rt, "a world");
-    rises(rt, &mut world, 39);
+    let mut world = open(alloc, nodes, 256, 1).expect(rt, "a world");
+    rises(rt, &mut world, 79);
     is_full(rt, &mut world);
-    holds_up_to(rt, &world, 39);
+    holds_up_to(rt, &world, 79);
 }
 
 // Its leaf is full.
 fn is_full(rt: &impl Abort, world: &mut World) {
     let v = payload(rt, b"v");
-    let (first, last) = (numbered(rt, 1), numbered(rt, 40));
+    let (first, last) = (numbered(rt, 1), numbered(rt, 80));
     answers(rt, world, Call::Insert(last, v), Answer::FullNodes);
     answers(rt, world, Call::Insert(first, v), Answer::Exists);
     answers(rt, world, Call::Get(last), Answer::Missing);
@@ -114,9 +114,9 @@ fn a_split_takes_three_slots(rt: HostRuntime) {
     }
 }
 
-// A key has its payload put to itself, forty times.
+// A key has its payload put to itself, eighty times.
 fn updates(rt: &impl Abort, world: &mut World, key: Key) {
-    for _ in 0..40 {
+    for _ in 0..80 {
         let v = payload(rt, b"v");
         answers(rt, world, Call::Update(key, v), Answer::Updated(v));
     }
@@ -136,22 +136,22 @@ fn changes(rt: &impl Abort, world: &mut World, key: Key) {
 #[test]
 fn leaves_below_a_parent_change_and_are_copied(rt: HostRuntime) {
     let mut world = open(rt.alloc(), 6, 400, 1).expect(&rt, "a world");
-    rises(&rt, &mut world, 40);
+    rises(&rt, &mut world, 80);
     changes(&rt, &mut world, numbered(&rt, 1));
-    holds_up_to(&rt, &world, 40);
+    holds_up_to(&rt, &world, 80);
 }
 
-// Nineteen records of six words each fill the root leaf but for four words.
+// Twenty-three records of ten words each fill the root leaf but for eight words.
 fn fills(rt: &impl Abort, world: &mut World) {
-    for number in rising().get(1..20).unwrap_or(&[]) {
-        let call = Call::Insert(numbered(rt, *number), payload(rt, &[b'v'; 28]));
+    for number in rising().get(1..24).unwrap_or(&[]) {
+        let call = Call::Insert(numbered(rt, *number), payload(rt, &[b'v'; 56]));
         answers(rt, world, call, Answer::Inserted);
     }
 }
 
-// A worker begins to insert the key with this number, with a record of six words.
+// A worker begins to insert the key with this number, with a record of ten words.
 fn begins(rt: &impl Abort, world: &mut World, w: u8, number: u8) {
-    let call = Call::Insert(numbered(rt, number), payload(rt, &[b'v'; 28]));
+    let call = Call::Insert(numbered(rt, number), payload(rt, &[b'v'; 56]));
     holds(rt, begin(world, w, call));
 }
 
@@ -175,13 +175,13 @@ fn beside(rt: &impl Abort, alloc: Global, acts: u32, first: u8, second: u8) {
     let mut world = open(alloc, 16, 256, 2).expect(rt, "a world");
     fills(rt, &mut world);
     stops(rt, &mut world, acts, first, second);
-    holds_up_to(rt, &world, 21);
+    holds_up_to(rt, &world, 25);
 }
 
 #[test]
 fn a_stopped_split_holds_nobody_up(rt: HostRuntime) {
     for turn in 0..18 {
-        beside(&rt, rt.alloc(), 50 * turn, 21, 1);
-        beside(&rt, rt.alloc(), 50 * turn, 1, 21);
+        beside(&rt, rt.alloc(), 90 * turn, 25, 1);
+        beside(&rt, rt.alloc(), 90 * turn, 1, 25);
     }
 }

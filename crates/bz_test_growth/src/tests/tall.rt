@@ -1,7 +1,7 @@
 //! Tall trees, made word by word, with a full leaf below inner nodes that are all full. Of the tallest one an insert there is answered
 //! Full(Height). Of one that is a level lower it splits the leaf and every node above it, and no insert alone costs more.
 //!
-//! On the path of the least key the inner node of each level has a first child, which the path goes on to, and nineteen more.
+//! On the path of the least key the inner node of each level has a first child, which the path goes on to, and twenty-three more.
 //! Below each of these hangs a chain of inner nodes with one child, down to an empty leaf. A node of the path comes right before
 //! its chains, and these before the next node of the path.
 
@@ -11,12 +11,25 @@ ghost use Rattle.bz_layout.specs.Config.{IsConfig};
 
 use super::bench::{Answer, applies, begin, has_pairs, holds, key, payload, same, steps};
 use bz_call::Call;
-use bz_layout::{Config, MAX_LEVELS, NODE_WORDS, SPLIT_SLOTS};
+use bz_layout::{
+    Config, FENCE_WORDS, HIGH_FENCE_AT, LOW_FENCE_AT, MAX_LEVELS, META_AT, NODE_WORDS, SPLIT_SLOTS,
+};
 use bz_world::{Applied, Event, World};
 use std::alloc::Global;
 use std::process::Abort;
 
-const CHAINS: u32 = 19;
+const CHAINS: u32 = 23;
+
+// The bytes of a key, of which a fence and a record have as many words as there are.
+const KEY_LENGTH: u32 = 56;
+
+// The records of the leaf, and the words of each but for its metadata word: those of a key, and one of a payload.
+const RECORDS: u32 = 23;
+
+const RECORD: u32 = FENCE_WORDS + 1;
+
+// Seven bytes `x`.
+const FILLER: u64 = 0x78_78_78_78_78_78_78;
 
 // A bound of keys: none, or the first key of this chain below the path's node of this level.
 type Bound = Option<(u32, u32)>;
@@ -30,20 +43,31 @@ fn put(words: &mut Vec<u64>, at: u32, word: u64)
     }
 }
 
-// The four words of the key of a chain: a letter for the level, one for the chain, and then `x`.
+// The words of a key behind the first one.
+fn put_filler(words: &mut Vec<u64>, at: u32)
+    ensures { length words.new.items ≡ length words.old.items }
+{
+    for i in 1..FENCE_WORDS {
+        put(words, at.saturating_add(i), FILLER);
+    }
+}
+
+// The words of the key of a chain: a letter for the level, one for the chain, and then `x`.
 fn put_key(words: &mut Vec<u64>, at: u32, level: u32, chain: u32)
     ensures { length words.new.items ≡ length words.old.items }
 {
-    let letters = u64::from(level.min(20)) << 48 | u64::from(chain.min(20)) << 40;
+    let letters = u64::from(level.min(20)) << 48 | u64::from(chain.min(25)) << 40;
     put(words, at, 0x61_61_78_78_78_78_78 + letters);
-    for i in 1..4 {
-        put(words, at.saturating_add(i), 0x78_78_78_78_78_78_78);
-    }
+    put_filler(words, at);
 }
 
 // The lengths of a bound.
 fn length_of(bound: Bound) -> u64 {
-    if bound.is_some() { 28 } else { 0 }
+    if bound.is_some() {
+        u64::from(KEY_LENGTH)
+    } else {
+        0
+    }
 }
 
 // The header and the fences of a node.
@@ -58,10 +82,10 @@ fn put_front(words: &mut Vec<u64>, node: u32, level: u32, count: u32, low: Bound
         u64::from(level.min(20)) | lengths | sorted,
     );
     if let Some((level, chain)) = low {
-        put_key(words, node.saturating_add(2), level, chain);
+        put_key(words, node.saturating_add(LOW_FENCE_AT), level, chain);
     }
     if let Some((level, chain)) = high {
-        put_key(words, node.saturating_add(6), level, chain);
+        put_key(words, node.saturating_add(HIGH_FENCE_AT), level, chain);
     }
 }
 
@@ -69,11 +93,11 @@ fn put_front(words: &mut Vec<u64>, node: u32, level: u32, count: u32, low: Bound
 fn put_meta(words: &mut Vec<u64>, node: u32, number: u32, offset: u32, lengths: u64)
     ensures { length words.new.items ≡ length words.old.items }
 {
-    let at = node.saturating_add(10).saturating_add(number);
+    let at = node.saturating_add(META_AT).saturating_add(number);
     put(
         words,
         at,
-        1 << 60 | u64::from(offset.min(127)) << 32 | lengths,
+        1 << 60 | u64::from(offset.min(NODE_WORDS - 1)) << 32 | lengths,
     );
 }
 
@@ -84,7 +108,7 @@ fn put_status(words: &mut Vec<u64>, node: u32, count: u32, block: u32)
     put(
         words,
         node,
-        u64::from(count.min(99)) << 52 | u64::from(block.min(118)) << 42,
+        u64::from(count.min(99)) << 52 | u64::from(block.min(NODE_WORDS)) << 42,
     );
 }
 
@@ -100,15 +124,16 @@ fn put_first(words: &mut Vec<u64>, node: u32, child: u32)
     );
 }
 
-// A child with a key, in five words before those of the children before.
+// A child with a key, in nine words before those of the children before.
 fn put_child(words: &mut Vec<u64>, node: u32, level: u32, chain: u32, child: u32)
     ensures { length words.new.items ≡ length words.old.items }
 {
-    let offset = (NODE_WORDS - 1).saturating_sub(chain.saturating_mul(5));
-    put_meta(words, node, chain, offset, 28 << 16 | 35);
+    let offset = (NODE_WORDS - 1).saturating_sub(chain.saturating_mul(RECORD));
+    let lengths = u64::from(KEY_LENGTH) << 16 | u64::from(KEY_LENGTH) + 7;
+    put_meta(words, node, chain, offset, lengths);
     let at = node.saturating_add(offset);
     put_key(words, at, level, chain);
-    put(words, at.saturating_add(4), u64::from(child) + 1);
+    put(words, at.saturating_add(FENCE_WORDS), u64::from(child) + 1);
 }
 
 // Where a slot begins.
@@ -163,7 +188,7 @@ fn put_path(words: &mut Vec<u64>, config: &Config, slot: u32, level: u32, top: u
 {
     let node = node_at(config, slot);
     put_front(words, node, level, CHAINS + 1, None, above(level, top));
-    put_status(words, node, CHAINS + 1, 5 * CHAINS + 1);
+    put_status(words, node, CHAINS + 1, RECORD * CHAINS + 1);
     put_first(words, node, next_slot(slot, level));
     for chain in 1..=CHAINS {
         let first = slot
@@ -181,20 +206,29 @@ fn put_path(words: &mut Vec<u64>, config: &Config, slot: u32, level: u32, top: u
     }
 }
 
-// The leaf of the path: thirty-nine records of three words.
+// A record of the leaf: the key `a`, two digits and `x`, and the payload `v`.
+fn put_record(words: &mut Vec<u64>, node: u32, number: u32)
+    ensures { length words.new.items ≡ length words.old.items }
+{
+    let offset = (NODE_WORDS - RECORD).saturating_sub(number.saturating_mul(RECORD));
+    let lengths = u64::from(KEY_LENGTH) << 16 | u64::from(KEY_LENGTH) + 1;
+    put_meta(words, node, number, offset, lengths);
+    let digits = u64::from(number / 10 % 10) << 40 | u64::from(number % 10) << 32;
+    let at = node.saturating_add(offset);
+    put(words, at, 0x61_30_30_78_78_78_78 + digits);
+    put_filler(words, at);
+    put(words, at.saturating_add(FENCE_WORDS), 0x76 << 48);
+}
+
+// The leaf of the path: twenty-three records of ten words. A separator of it has ten words too.
 fn put_leaf(words: &mut Vec<u64>, config: &Config, slot: u32, top: u32)
     ensures { length words.new.items ≡ length words.old.items }
 {
     let node = node_at(config, slot);
-    put_front(words, node, 0, 39, None, above(0, top));
-    put_status(words, node, 39, 78);
-    for number in 0..39u32 {
-        let offset = (NODE_WORDS - 2).saturating_sub(number.saturating_mul(2));
-        put_meta(words, node, number, offset, 3 << 16 | 4);
-        let digits = u64::from(number / 10 % 10) << 40 | u64::from(number % 10) << 32;
-        let at = node.saturating_add(offset);
-        put(words, at, 0x61_30_30_00_00_00_00 + digits);
-        put(words, at.saturating_add(1), 0x76 << 48);
+    put_front(words, node, 0, RECORDS, None, above(0, top));
+    put_status(words, node, RECORDS, RECORD * RECORDS);
+    for number in 0..RECORDS {
+        put_record(words, node, number);
     }
 }
 
@@ -217,7 +251,7 @@ fn tall(rt: &impl Abort, alloc: Global, nodes: u32, top: u32) -> World {
         nodes,
         swaps: 64,
         workers: 1,
-        marks: 1 << 19,
+        marks: 1 << 20,
         calls: 16,
         pages: 1,
     };
@@ -239,7 +273,7 @@ fn over_tree(rt: &impl Abort, alloc: Global, config: &Config, top: u32) -> World
 // The power comes on, and the recovery goes to its end.
 fn while_recovering(rt: &impl Abort, world: &mut World) {
     applies(rt, world, Event::On, Applied::On);
-    for _ in 0..1 << 19 {
+    for _ in 0..1 << 20 {
         match world.apply(Event::Step(0)) {
             Applied::Stepped => {}
             other => {
@@ -252,7 +286,11 @@ fn while_recovering(rt: &impl Abort, world: &mut World) {
 
 // An insert into the full leaf is answered so, within so many acts.
 fn inserts(rt: &impl Abort, world: &mut World, most: u32, answer: Answer) {
-    let insert = Call::Insert(key(rt, b"a40"), payload(rt, b"v"));
+    let mut bytes = [b'x'; KEY_LENGTH as usize];
+    bytes[0] = b'a';
+    bytes[1] = b'4';
+    bytes[2] = b'0';
+    let insert = Call::Insert(key(rt, &bytes), payload(rt, b"v"));
     holds(rt, begin(world, 1, insert));
     same(rt, steps(world, 1, most).1, Some(answer));
 }
@@ -265,15 +303,15 @@ fn supply(world: &World) -> (u32, u32) {
 #[test]
 fn a_tree_of_the_greatest_height_takes_no_more_leaves(rt: HostRuntime) {
     // also where no slot is left
-    for nodes in [2_048, 1_266] {
+    for nodes in [2_048, 1_530] {
         let mut world = tall(&rt, rt.alloc(), nodes, MAX_LEVELS - 1);
-        has_pairs(&rt, &world, 39);
+        has_pairs(&rt, &world, u64::from(RECORDS));
         inserts(&rt, &mut world, 40_000, Answer::FullHeight);
     }
 }
 
 // The most acts of an insert that is alone.
-const WORST: u32 = 13_108;
+const WORST: u32 = 35_222;
 
 #[test]
 fn the_worst_insert_alone_takes_no_more_than_its_numbers(rt: HostRuntime) {
@@ -288,5 +326,5 @@ fn the_worst_insert_alone_takes_no_more_than_its_numbers(rt: HostRuntime) {
         left,
         now_left.saturating_add(SPLIT_SLOTS * (MAX_LEVELS - 1)),
     );
-    has_pairs(&rt, &world, 40);
+    has_pairs(&rt, &world, u64::from(RECORDS) + 1);
 }

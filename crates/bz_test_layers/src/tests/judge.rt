@@ -25,35 +25,35 @@ pub(crate) type Written = (usize, u64);
 /// The superblock; slot 1, the root, with the children 0 and 2, parted by `m`; slot 0, which ends at `m`, with the
 /// key `a`; and slot 2, which begins at `m`, with the key `z`.
 const TREE: [Written; 23] = [
-    (0, 1),
+    (0, 2),
     (1, 2),
     (3, 3),
     (4, 2),
-    (176, 0x0020_0C00_0000_0000),
-    (177, 0x0200_0001),
-    (186, 0x1000_007F_0000_0007),
-    (187, 0x1000_007D_0001_0008),
-    (301, 0x006D_0000_0000_0000),
-    (302, 3),
-    (303, 1),
+    (304, 0x0020_0C00_0000_0000),
+    (305, 0x0200_0001),
+    (322, 0x1000_00FF_0000_0007),
+    (323, 0x1000_00FD_0001_0008),
+    (557, 0x006D_0000_0000_0000),
+    (558, 3),
+    (559, 1),
     (48, 0x0010_0800_0000_0002),
     (49, 0x0001_0000),
-    (54, 0x006D_0000_0000_0000),
-    (58, 0x1000_007E_0001_0002),
-    (174, 0x0061_0000_0000_0000),
-    (175, 0x0031_0000_0000_0000),
-    (304, 0x0010_0800_0000_0002),
-    (305, 0x0100),
-    (306, 0x006D_0000_0000_0000),
-    (314, 0x1000_007E_0001_0002),
-    (430, 0x007A_0000_0000_0000),
-    (431, 0x0032_0000_0000_0000),
+    (58, 0x006D_0000_0000_0000),
+    (66, 0x1000_00FE_0001_0002),
+    (302, 0x0061_0000_0000_0000),
+    (303, 0x0031_0000_0000_0000),
+    (560, 0x0010_0800_0000_0002),
+    (561, 0x0100),
+    (562, 0x006D_0000_0000_0000),
+    (578, 0x1000_00FE_0001_0002),
+    (814, 0x007A_0000_0000_0000),
+    (815, 0x0032_0000_0000_0000),
 ];
 
 // Writes words of an image.
-fn write(words: &mut [u64; 432], written: &[Written]) {
+fn write(words: &mut [u64; 816], written: &[Written]) {
     for (place, word) in written {
-        if *place < 432 {
+        if *place < 816 {
             words[*place] = *word;
         }
     }
@@ -61,7 +61,7 @@ fn write(words: &mut [u64; 432], written: &[Written]) {
 
 // What is told of the tree with these words.
 fn judged(alloc: Global, written: &[Written]) -> Result<Shape, CheckError> {
-    let mut words = [0u64; 432];
+    let mut words = [0u64; 816];
     write(&mut words, &TREE);
     write(&mut words, written);
     check(alloc, &words, &SMALL)
@@ -87,16 +87,16 @@ const PUBLISHING: [Written; 9] = [
     (18, 48),
     (19, 0x0010_0802_0000_0001),
     (20, 0x0010_0800_0000_0002),
-    (21, 58),
-    (22, 0x0000_007E_0001_0002),
-    (23, 0x1000_007E_0001_0002),
+    (21, 66),
+    (22, 0x0000_00FE_0001_0002),
+    (23, 0x1000_00FE_0001_0002),
     (48, 0x4000_0000_0000_0000),
-    (58, 0x4000_0000_0000_0000),
+    (66, 0x4000_0000_0000_0000),
 ];
 
 // What is told of the tree while the swap has this status.
 fn judged_in_swap(alloc: Global, status: u64) -> Result<Shape, CheckError> {
-    let mut words = [0u64; 432];
+    let mut words = [0u64; 816];
     write(&mut words, &TREE);
     write(&mut words, &PUBLISHING);
     write(&mut words, &[(16, status)]);
@@ -124,10 +124,10 @@ fn accepts_trees(rt: HostRuntime) {
 
 /// Slot 2 with two records, of the keys `z` and `y`.
 const TWO_RECORDS: [Written; 4] = [
-    (304, 0x0020_1000_0000_0002),
-    (315, 0x1000_007C_0001_0002),
-    (428, 0x0079_0000_0000_0000),
-    (429, 0x0033_0000_0000_0000),
+    (560, 0x0020_1000_0000_0002),
+    (579, 0x1000_00FC_0001_0002),
+    (812, 0x0079_0000_0000_0000),
+    (813, 0x0033_0000_0000_0000),
 ];
 
 // The content of the tree with these words, and then these, if it is well formed.
@@ -136,7 +136,7 @@ fn content(
     written: &[Written],
     then: &[Written],
 ) -> Result<Vec<(Key, Payload)>, CheckError> {
-    let mut words = [0u64; 432];
+    let mut words = [0u64; 816];
     write(&mut words, &TREE);
     write(&mut words, written);
     write(&mut words, then);
@@ -176,11 +176,11 @@ fn gathers_the_pairs_in_the_order_of_keys(rt: HostRuntime) -> Result<(), Fail> {
 /// Slots 0 and 2 without records.
 const EMPTY_LEAVES: [Written; 8] = [
     (48, 0),
-    (58, 0),
-    (174, 0),
-    (175, 0),
-    (304, 0),
-    (314, 0),
-    (430, 0),
-    (431, 0),
+    (66, 0),
+    (302, 0),
+    (303, 0),
+    (560, 0),
+    (578, 0),
+    (814, 0),
+    (815, 0),
 ];

@@ -11,7 +11,7 @@ use bz_task::LeafView;
 use std::process::Abort;
 
 // A view of words that are to be a leaf between these bounds.
-fn view_of(rt: &impl Abort, words: &[u64; 128], low: Option<Key>, high: Option<Key>) -> LeafView
+fn view_of(rt: &impl Abort, words: &[u64; 256], low: Option<Key>, high: Option<Key>) -> LeafView
     ensures { IsLeafByItself result.image.0 }
 {
     let place = Place {
@@ -31,48 +31,48 @@ fn view_of(rt: &impl Abort, words: &[u64; 128], low: Option<Key>, high: Option<K
 }
 
 // A leaf of b, 1 and d, 2 and f, 3, all sorted.
-fn sorted_leaf() -> [u64; 128] {
-    let mut words = [0u64; 128];
+fn sorted_leaf() -> [u64; 256] {
+    let mut words = [0u64; 256];
     words[0] = 0x0030_1800_0000_0000;
     words[1] = 0x0000_0000_0300_0000;
-    words[10] = 0x1000_007E_0001_0002;
-    words[11] = 0x1000_007C_0001_0002;
-    words[12] = 0x1000_007A_0001_0002;
-    words[122] = 0x0066_0000_0000_0000;
-    words[123] = 0x0033_0000_0000_0000;
-    words[124] = 0x0064_0000_0000_0000;
-    words[125] = 0x0032_0000_0000_0000;
-    words[126] = 0x0062_0000_0000_0000;
-    words[127] = 0x0031_0000_0000_0000;
+    words[18] = 0x1000_00FE_0001_0002;
+    words[19] = 0x1000_00FC_0001_0002;
+    words[20] = 0x1000_00FA_0001_0002;
+    words[250] = 0x0066_0000_0000_0000;
+    words[251] = 0x0033_0000_0000_0000;
+    words[252] = 0x0064_0000_0000_0000;
+    words[253] = 0x0032_0000_0000_0000;
+    words[254] = 0x0062_0000_0000_0000;
+    words[255] = 0x0031_0000_0000_0000;
     words
 }
 
 // The same between the fences a and g.
-fn fenced_leaf() -> [u64; 128] {
+fn fenced_leaf() -> [u64; 256] {
     let mut words = sorted_leaf();
     words[1] = 0x0000_0000_0301_0100;
     words[2] = 0x0061_0000_0000_0000;
-    words[6] = 0x0067_0000_0000_0000;
+    words[10] = 0x0067_0000_0000_0000;
     words
 }
 
 // A leaf of the same pairs, none sorted: f, 3, then a deleted and a reserved record, then b, 1 and d, 2.
-fn mixed_leaf() -> [u64; 128] {
-    let mut words = [0u64; 128];
+fn mixed_leaf() -> [u64; 256] {
+    let mut words = [0u64; 256];
     words[0] = 0x0050_2804_0000_0000;
-    words[10] = 0x1000_007E_0001_0002;
-    words[11] = 0x0000_0000_0001_0002;
-    words[12] = 0x0000_007A_0001_0002;
-    words[13] = 0x1000_0078_0001_0002;
-    words[14] = 0x1000_0076_0001_0002;
-    words[118] = 0x0064_0000_0000_0000;
-    words[119] = 0x0032_0000_0000_0000;
-    words[120] = 0x0062_0000_0000_0000;
-    words[121] = 0x0031_0000_0000_0000;
-    words[122] = 0x0065_0000_0000_0000;
-    words[124] = 0x0063_0000_0000_0000;
-    words[126] = 0x0066_0000_0000_0000;
-    words[127] = 0x0033_0000_0000_0000;
+    words[18] = 0x1000_00FE_0001_0002;
+    words[19] = 0x0000_0000_0001_0002;
+    words[20] = 0x0000_00FA_0001_0002;
+    words[21] = 0x1000_00F8_0001_0002;
+    words[22] = 0x1000_00F6_0001_0002;
+    words[246] = 0x0064_0000_0000_0000;
+    words[247] = 0x0032_0000_0000_0000;
+    words[248] = 0x0062_0000_0000_0000;
+    words[249] = 0x0031_0000_0000_0000;
+    words[250] = 0x0065_0000_0000_0000;
+    words[252] = 0x0063_0000_0000_0000;
+    words[254] = 0x0066_0000_0000_0000;
+    words[255] = 0x0033_0000_0000_0000;
     words
 }
 
@@ -163,7 +163,7 @@ fn shows_the_pairs_from_a_key_on(rt: HostRuntime) {
 
 // An empty leaf leaves nothing in the buffer.
 fn shows_none(rt: &impl Abort, page: &mut PageBuf) {
-    let empty = view_of(rt, &[0; 128], None, None);
+    let empty = view_of(rt, &[0; 256], None, None);
     same(rt, collect(&empty, &key(rt, b"k"), page), None);
     holds(rt, page.pairs().is_empty());
 }

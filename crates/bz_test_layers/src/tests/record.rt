@@ -24,7 +24,7 @@ const SMALL: Config = Config {
 const INSERTED: FoundRecord = FoundRecord {
     place: 0,
     extent: Extent {
-        offset: 126,
+        offset: 254,
         key: 1,
         total: 2,
     },
@@ -77,15 +77,15 @@ fn the_swaps_of_the_worked_insert(rt: HostRuntime) {
         status: 0,
         new_status: 0x0010_0802_0000_0001,
         meta: 0,
-        new_meta: 0x0000_007E_0001_0002,
+        new_meta: 0x0000_00FE_0001_0002,
     };
     let published = RecordSwap {
         slot: 0,
         place: 0,
         status: 0x0010_0802_0000_0001,
         new_status: 0x0010_0800_0000_0002,
-        meta: 0x0000_007E_0001_0002,
-        new_meta: 0x1000_007E_0001_0002,
+        meta: 0x0000_00FE_0001_0002,
+        new_meta: 0x1000_00FE_0001_0002,
     };
     same(&rt, record.reservation(), reserved);
     same(&rt, record.publication(), published);
@@ -98,12 +98,12 @@ fn the_words_of_the_worked_insert(rt: HostRuntime) {
     assert!(rt; (record.slot as u32) < SMALL.nodes);
     same(&rt, record.size(), 2);
     assert!(rt; record.size() == 2);
-    same(&rt, record.address(&SMALL, 0), 1_166);
-    same(&rt, record.address(&SMALL, 1), 1_167);
+    same(&rt, record.address(&SMALL, 0), 1_294);
+    same(&rt, record.address(&SMALL, 1), 1_295);
     same(&rt, record.word(0), 0x0061_0000_0000_0000);
     same(&rt, record.word(1), 0x0031_0000_0000_0000);
-    same(&rt, record.first_line(&SMALL), 145);
-    same(&rt, record.last_line(&SMALL), 145);
+    same(&rt, record.first_line(&SMALL), 161);
+    same(&rt, record.last_line(&SMALL), 161);
 }
 
 // The payload comes to have two words, so the record has three.
@@ -117,8 +117,8 @@ fn the_swaps_of_the_worked_update(rt: HostRuntime) {
         place: 0,
         status: 0x0010_1403_0000_0003,
         new_status: 0x0010_1402_0000_0004,
-        meta: 0x1000_007E_0001_0002,
-        new_meta: 0x1000_007B_0001_0009,
+        meta: 0x1000_00FE_0001_0002,
+        new_meta: 0x1000_00FB_0001_0009,
     };
     same(&rt, record.growth(&SMALL).count(), 1);
     same(&rt, INSERTED.replacement(&record), replaced);
@@ -133,7 +133,7 @@ fn the_swap_of_the_worked_delete(rt: HostRuntime) {
         place: 0,
         status: STATUS,
         new_status: 0x0010_0802_0000_0003,
-        meta: 0x1000_007E_0001_0002,
+        meta: 0x1000_00FE_0001_0002,
         new_meta: 0x0000_0000_0001_0002,
     };
     same(&rt, INSERTED.removal(0, STATUS), removed);
@@ -142,9 +142,9 @@ fn the_swap_of_the_worked_delete(rt: HostRuntime) {
 #[test]
 fn a_leaf_that_is_full_or_frozen_has_no_room(rt: HostRuntime) {
     let table = [
-        // 57 records with a word each leave four words, and 58 two
-        (57 * (1 << 52) + 57 * (1 << 42), true),
-        (58 * (1 << 52) + 58 * (1 << 42), false),
+        // 117 records with a word each leave four words, and 118 two
+        (117 * (1 << 52) + 117 * (1 << 42), true),
+        (118 * (1 << 52) + 118 * (1 << 42), false),
         // no record, and frozen
         (0, true),
         (1 << 60, false),

@@ -22,7 +22,7 @@ const CONFIG: Config = Config {
 };
 
 // The words of this memory: a superblock, four descriptors and a node.
-const WORDS: usize = 208;
+const WORDS: usize = 336;
 
 // The first word of the first descriptor, and of the node.
 const SWAPS: u32 = 16;
@@ -80,7 +80,7 @@ const UNRESOLVED: [(u32, u64); 38] = [
     (SWAPS + 54, 61),
     (NODE + 21, POINTER + 3),
     (NODE + 40, TAG + (1 << 16) + 3),
-    (NODE + 127, DIRTY + 9),
+    (NODE + 255, DIRTY + 9),
 ];
 
 // The values of the words that are to be resolved.
@@ -92,7 +92,7 @@ const RESOLVED: [(u32, u64); 8] = [
     (NODE + 20, 42),
     (NODE + 21, 51),
     (NODE + 40, 61),
-    (NODE + 127, 9),
+    (NODE + 255, 9),
 ];
 
 // The words of the memory before the recovery.
@@ -174,7 +174,7 @@ fn recover(rt: &impl Abort, pm: &mut Pm, slots: &mut Slots, most: u32, evicts: b
                 };
             }
         }
-        let place = made.wrapping_mul(13) % 208;
+        let place = made.wrapping_mul(13) % 336;
         if evicts && place < pm.words() {
             pm.evict(place);
         }
@@ -212,7 +212,7 @@ fn every_kind_of_word_is_resolved(rt: HostRuntime) -> Result<(), Fail> {
     assert!(rt; made.ended);
     is_recovered(&rt, &pm);
     same(&rt, slots.left(), 0);
-    // words 1, 81 and 82, 89, 100 and 101, 120 and 207 stand in six lines; an ask and a fence for each, and for each descriptor
+    // words 1, 81 and 82, 89, 100 and 101, 120 and 335 stand in six lines; an ask and a fence for each, and for each descriptor
     same(&rt, made.fences, 10);
     Ok(())
 }
@@ -226,7 +226,7 @@ fn a_recovered_memory_is_only_read(rt: HostRuntime) -> Result<(), Fail> {
     assert!(rt; made.ended);
     // a load of each word outside the descriptors, and of each status; then of the root pointer, and of the header and the status
     // of the node to which it leads, an inner one without children
-    same(&rt, made.acts, 151);
+    same(&rt, made.acts, 279);
     same(&rt, made.fences, 0);
     is_recovered(&rt, &pm);
     Ok(())

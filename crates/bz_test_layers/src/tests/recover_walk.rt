@@ -20,34 +20,34 @@ const CONFIG: Config = Config {
 };
 
 // The words of this memory: a superblock, a descriptor and eight nodes.
-const WORDS: usize = 1056;
+const WORDS: usize = 2080;
 
 // What is said of the record of a first child, whose pointer is a node's last word, and of a second one, whose key of one
 // byte and pointer stand before it.
-const FIRST: u64 = 0x1000_007F_0000_0007;
+const FIRST: u64 = 0x1000_00FF_0000_0007;
 
-const SECOND: u64 = 0x1000_007D_0001_0008;
+const SECOND: u64 = 0x1000_00FD_0001_0008;
 
 // Slot 3 is the root of level 2, with the children 5 and 1; slot 5 has the children 0 and 6, and slot 1 has child 2.
 const TREE: [(usize, u64); 14] = [
     (1, 4),
-    (416, 2 << 52),
-    (417, 2),
-    (426, FIRST),
-    (427, SECOND),
-    (543, 6),
-    (542, 2),
-    (672, 2 << 52),
-    (682, FIRST),
-    (683, SECOND),
-    (799, 1),
-    (798, 7),
-    (160, 1 << 52),
-    (170, FIRST),
+    (800, 2 << 52),
+    (801, 2),
+    (818, FIRST),
+    (819, SECOND),
+    (1055, 6),
+    (1054, 2),
+    (1312, 2 << 52),
+    (1330, FIRST),
+    (1331, SECOND),
+    (1567, 1),
+    (1566, 7),
+    (288, 1 << 52),
+    (306, FIRST),
 ];
 
 // The pointer of slot 1 to its child.
-const LAST: (usize, u64) = (287, 3);
+const LAST: (usize, u64) = (543, 3);
 
 // Makes a load; anything else is no act.
 fn make(rt: &impl Abort, words: &[u64; WORDS], todo: &Todo) -> Option<Seen>

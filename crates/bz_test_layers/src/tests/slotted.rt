@@ -19,19 +19,19 @@ struct Case {
 }
 
 /// Nothing is written here but what stands there.
-const SAME: Written = (200, 0);
+const SAME: Written = (300, 0);
 
 // The node of these words, the others 0, with some of them written anew.
-fn written(node: &mut [u64; 128], words: &[Written]) {
+fn written(node: &mut [u64; 256], words: &[Written]) {
     for (place, word) in words {
-        if *place < 128 {
+        if *place < 256 {
             node[*place] = *word;
         }
     }
 }
 
 // What is found of each node that is written from one, at a place, where there are four slots.
-fn all_found(rt: &impl Abort, node: &[u64; 128], place: &Place, cases: &[Case]) {
+fn all_found(rt: &impl Abort, node: &[u64; 256], place: &Place, cases: &[Case]) {
     for case in cases {
         let mut words = *node;
         written(&mut words, &case.written);
@@ -49,47 +49,47 @@ fn at_level(level: u32) -> Place {
 }
 
 // A leaf of the records a, 1 and b, 2, both sorted.
-fn two_records() -> [u64; 128] {
-    let mut words = [0u64; 128];
+fn two_records() -> [u64; 256] {
+    let mut words = [0u64; 256];
     words[0] = 0x0020_1000_0000_0000;
     words[1] = 0x0000_0000_0200_0000;
-    words[10] = 0x1000_007E_0001_0002;
-    words[11] = 0x1000_007C_0001_0002;
-    words[124] = 0x0062_0000_0000_0000;
-    words[125] = 0x0032_0000_0000_0000;
-    words[126] = 0x0061_0000_0000_0000;
-    words[127] = 0x0031_0000_0000_0000;
+    words[18] = 0x1000_00FE_0001_0002;
+    words[19] = 0x1000_00FC_0001_0002;
+    words[252] = 0x0062_0000_0000_0000;
+    words[253] = 0x0032_0000_0000_0000;
+    words[254] = 0x0061_0000_0000_0000;
+    words[255] = 0x0031_0000_0000_0000;
     words
 }
 
 // An inner node at level 2 of the children in slots 3 and 0, parted by b.
-fn two_children() -> [u64; 128] {
-    let mut words = [0u64; 128];
+fn two_children() -> [u64; 256] {
+    let mut words = [0u64; 256];
     words[0] = 0x0020_0C00_0000_0000;
     words[1] = 0x0000_0000_0200_0002;
-    words[10] = 0x1000_007F_0000_0007;
-    words[11] = 0x1000_007D_0001_0008;
-    words[125] = 0x0062_0000_0000_0000;
-    words[126] = 1;
-    words[127] = 4;
+    words[18] = 0x1000_00FF_0000_0007;
+    words[19] = 0x1000_00FD_0001_0008;
+    words[253] = 0x0062_0000_0000_0000;
+    words[254] = 1;
+    words[255] = 4;
     words
 }
 
 #[test]
 fn accepts_the_worked_insert(rt: HostRuntime) -> Result<(), Fail> {
-    let mut node = [0u64; 128];
+    let mut node = [0u64; 256];
     let place = at_level(0);
     assert_eq!(rt; node_fault(&node, &node, 16, &place), None, "at first");
     node[0] = 0x0010_0802_0000_0001;
-    node[10] = 0x0000_007E_0001_0002;
+    node[18] = 0x0000_00FE_0001_0002;
     assert_eq!(rt; node_fault(&node, &node, 16, &place), None, "reserved");
-    node[126] = 0x0061_0000_0000_0000;
-    node[127] = 0x0031_0000_0000_0000;
+    node[254] = 0x0061_0000_0000_0000;
+    node[255] = 0x0031_0000_0000_0000;
     node[0] = 0x0010_0800_0000_0002;
-    node[10] = 0x1000_007E_0001_0002;
+    node[18] = 0x1000_00FE_0001_0002;
     assert_eq!(rt; node_fault(&node, &node, 16, &place), None, "published");
     node[0] = 0x0010_0802_0000_0003;
-    node[10] = 0x0000_0000_0001_0002;
+    node[18] = 0x0000_0000_0001_0002;
     assert_eq!(rt; node_fault(&node, &node, 16, &place), None, "deleted");
     Ok(())
 }
@@ -134,7 +134,7 @@ fn names_the_status_of_a_leaf(rt: HostRuntime) -> Result<(), Fail> {
             found: Some(ShapeRule::Status),
         },
         Case {
-            written: [(0, 0x0020_1C00_0000_0000), (12, 1), SAME],
+            written: [(0, 0x0020_1C00_0000_0000), (20, 1), SAME],
             found: Some(ShapeRule::Status),
         },
         Case {
@@ -154,19 +154,19 @@ fn names_the_status_of_a_leaf(rt: HostRuntime) -> Result<(), Fail> {
 fn names_the_records_of_a_leaf(rt: HostRuntime) -> Result<(), Fail> {
     let cases = [
         Case {
-            written: [(0, 0x0020_1002_0000_0000), (11, 0), SAME],
+            written: [(0, 0x0020_1002_0000_0000), (19, 0), SAME],
             found: Some(ShapeRule::Record),
         },
         Case {
-            written: [(11, 0x1000_007E_0001_0002), SAME, SAME],
+            written: [(19, 0x1000_00FE_0001_0002), SAME, SAME],
             found: Some(ShapeRule::Record),
         },
         Case {
-            written: [(11, 0x1000_007B_0001_0002), SAME, SAME],
+            written: [(19, 0x1000_00FB_0001_0002), SAME, SAME],
             found: Some(ShapeRule::Record),
         },
         Case {
-            written: [(126, 0x0061_0000_0000_0001), SAME, SAME],
+            written: [(254, 0x0061_0000_0000_0001), SAME, SAME],
             found: Some(ShapeRule::Record),
         },
     ];
@@ -179,14 +179,14 @@ fn names_the_keys_of_a_leaf(rt: HostRuntime) -> Result<(), Fail> {
     let cases = [
         Case {
             written: [
-                (124, 0x0061_0000_0000_0000),
-                (126, 0x0062_0000_0000_0000),
+                (252, 0x0061_0000_0000_0000),
+                (254, 0x0062_0000_0000_0000),
                 SAME,
             ],
             found: Some(ShapeRule::Order),
         },
         Case {
-            written: [(1, 0), (124, 0x0061_0000_0000_0000), SAME],
+            written: [(1, 0), (252, 0x0061_0000_0000_0000), SAME],
             found: Some(ShapeRule::Key),
         },
     ];
@@ -195,14 +195,14 @@ fn names_the_keys_of_a_leaf(rt: HostRuntime) -> Result<(), Fail> {
     place.high = Some(Key::of(b"b")?);
     let cases = [
         Case {
-            written: [(1, 0x0201_0000), (6, 0x0062_0000_0000_0000), SAME],
+            written: [(1, 0x0201_0000), (10, 0x0062_0000_0000_0000), SAME],
             found: Some(ShapeRule::Key),
         },
         Case {
             written: [
                 (1, 0x0201_0000),
-                (6, 0x0062_0000_0000_0000),
-                (124, 0x0061_6100_0000_0000),
+                (10, 0x0062_0000_0000_0000),
+                (252, 0x0061_6100_0000_0000),
             ],
             found: Some(ShapeRule::Record),
         },
@@ -216,9 +216,9 @@ fn finds_a_word_that_is_dirty(rt: HostRuntime) -> Result<(), Fail> {
     let words = two_records();
     let mut raw = words;
     raw[0] = 0x8020_1000_0000_0000;
-    raw[10] = 0x9000_007E_0001_0002;
+    raw[18] = 0x9000_00FE_0001_0002;
     same(&rt, node_fault(&raw, &words, 4, &at_level(0)), None);
-    raw[127] = 0x8031_0000_0000_0000;
+    raw[255] = 0x8031_0000_0000_0000;
     same(
         &rt,
         node_fault(&raw, &words, 4, &at_level(0)),
@@ -243,15 +243,15 @@ fn names_the_rules_of_an_inner_node(rt: HostRuntime) -> Result<(), Fail> {
             found: Some(ShapeRule::Status),
         },
         Case {
-            written: [(10, 0x1000_007F_0000_0006), SAME, SAME],
+            written: [(18, 0x1000_00FF_0000_0006), SAME, SAME],
             found: Some(ShapeRule::Record),
         },
         Case {
-            written: [(126, 0), SAME, SAME],
+            written: [(254, 0), SAME, SAME],
             found: Some(ShapeRule::Child),
         },
         Case {
-            written: [(127, 5), SAME, SAME],
+            written: [(255, 5), SAME, SAME],
             found: Some(ShapeRule::Child),
         },
     ];

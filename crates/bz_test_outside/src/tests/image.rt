@@ -12,19 +12,19 @@ use std::process::Abort;
 use std::test::Fail;
 
 /// The bytes of the file of one node slot and one descriptor.
-const SIZE: usize = 1_300;
+const SIZE: usize = 2_324;
 
 /// The words of such a memory.
-const COUNT: usize = 160;
+const COUNT: usize = 288;
 
 /// The file of fresh memory.
 fn smallest() -> [u8; SIZE] {
     let mut file = [0u8; SIZE];
     file[..20].copy_from_slice(&[
-        0x42, 0x5A, 0x49, 0x4D, 0x41, 0x47, 0x45, 0x0A, 1, 0, 0, 0, 1, 0, 0, 0, 1, 0, 0, 0,
+        0x42, 0x5A, 0x49, 0x4D, 0x41, 0x47, 0x45, 0x0A, 2, 0, 0, 0, 1, 0, 0, 0, 1, 0, 0, 0,
     ]);
-    // the words 0, 1, 3 and 4 are 1
-    file[20] = 1;
+    // the word 0 is 2, and the words 1, 3 and 4 are 1
+    file[20] = 2;
     file[28] = 1;
     file[44] = 1;
     file[52] = 1;
@@ -41,7 +41,7 @@ fn with_word_seven(word: [u8; 8]) -> [u8; SIZE] {
 /// The words of fresh memory.
 fn fresh() -> [u64; COUNT] {
     let mut words = [0u64; COUNT];
-    words[0] = 1;
+    words[0] = 2;
     words[1] = 1;
     words[3] = 1;
     words[4] = 1;
@@ -92,8 +92,8 @@ fn has_words(rt: &impl Abort, image: &Image, words: &[u64; COUNT]) {
 #[test]
 fn each_image_has_its_length(rt: HostRuntime) {
     same(&rt, image_bytes(1, 1), SIZE);
-    same(&rt, image_bytes(16, 64), 24_724);
-    same(&rt, image_bytes(16_384, 65_536), 25_165_972);
+    same(&rt, image_bytes(16, 64), 41_108);
+    same(&rt, image_bytes(16_384, 65_536), 41_943_188);
 }
 
 // The file of a world is this one.
@@ -246,7 +246,7 @@ fn the_first_fault_is_told(rt: HostRuntime) {
 fn taken_before(file: &[u8], call: u64) -> &[u8] {
     let length = match call {
         1 => 0,
-        2..22 => (20 + 64 * (call - 2)) as usize,
+        2..38 => (20 + 64 * (call - 2)) as usize,
         _ => file.len(),
     };
     &file[..length.min(file.len())]
@@ -254,14 +254,14 @@ fn taken_before(file: &[u8], call: u64) -> &[u8] {
 
 // A sink that fails at this call has what came before.
 fn fails_at(rt: &impl Abort, alloc: Global, world: &World, call: u64) {
-    let want = if call == 22 { Ok(()) } else { Err(Failed) };
+    let want = if call == 38 { Ok(()) } else { Err(Failed) };
     let mut sink = FailSink::open(alloc, SIZE, 64, &[call]).expect(rt, "a sink");
     same_at(rt, written(world, &mut sink), want, call);
     same_at(rt, sink.bytes(), taken_before(&smallest(), call), call);
 }
 
 fn fails_at_each(rt: &impl Abort, alloc: Global, world: &World) {
-    for call in 1..23u64 {
+    for call in 1..39u64 {
         fails_at(rt, alloc, world, call);
     }
 }
@@ -291,14 +291,14 @@ fn a_sink_that_fails_has_a_front_part(rt: HostRuntime) {
 fn a_source_that_fails_gives_no_image(rt: HostRuntime) -> Result<(), Fail> {
     let file = smallest();
     // the head takes one call, and 64 bytes of the words one each
-    for call in 1..23u64 {
+    for call in 1..39u64 {
         let mut source = FailSource::of(rt.alloc(), &file, 64, &[call])?;
         match fetch_image(rt.alloc(), &mut source) {
             Ok(image) => {
-                holds(&rt, call == 22);
+                holds(&rt, call == 38);
                 has_words(&rt, &image, &fresh());
             }
-            Err(fault) => holds(&rt, call < 22 && fault == FetchFault::Read),
+            Err(fault) => holds(&rt, call < 38 && fault == FetchFault::Read),
         }
     }
     Ok(())

@@ -19,7 +19,7 @@ const SMALL: Config = Config {
     pages: 1,
 };
 
-const WORDS: usize = 160;
+const WORDS: usize = 288;
 
 pub(super) fn begin(w: u8, n: u32, call: Call) -> Mark {
     Mark::Begin { w, n, call }
@@ -36,7 +36,7 @@ pub(super) fn open(rt: &impl Abort, alloc: Global) -> Journal
     ensures page { length result.pages < result.limits.pages }
 {
     let mut image = [0u64; WORDS];
-    image[0] = 1;
+    image[0] = 2;
     image[1] = 1;
     image[3] = 1;
     image[4] = 1;

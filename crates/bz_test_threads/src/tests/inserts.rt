@@ -31,7 +31,7 @@ fn calls(kind: Kind, many: u32) -> Part {
 // Worker 1 has a page that is not all.
 fn is_split(told: &Told) -> bool {
     match told.asked.last() {
-        Some(asked) => told.worker == 1 && asked.page.pairs().len() <= 39,
+        Some(asked) => told.worker == 1 && asked.page.pairs().len() <= 79,
         None => false,
     }
 }
@@ -42,8 +42,8 @@ fn any_is_split(told: &[Told]) -> bool {
 
 fn each() -> [Part; 4] {
     [
-        calls(Kind::Own, 8),
-        calls(Kind::GetOwn, 8),
+        calls(Kind::Own, 16),
+        calls(Kind::GetOwn, 16),
         calls(Kind::Same, 8),
         calls(Kind::GetSame, 8),
     ]
@@ -52,21 +52,21 @@ fn each() -> [Part; 4] {
 const PAGE_AFTER: [Part; 1] = [Part {
     kind: Kind::Page,
     many: 1,
-    after: Until::Answered(8 * 32),
+    after: Until::Answered(8 * 48),
 }];
 
 // All are told so, in a tree that was split.
 fn are_inserted(rt: &impl Abort, alloc: Global, world: &World, told: &[Told]) {
     // Of a key that each inserts, one thread is told that it has inserted it, and every other that it was there.
     let tally = Tally {
-        inserted: 8 * 8 + 8,
+        inserted: 8 * 16 + 8,
         exists: 7 * 8,
-        values: 8 * 16,
+        values: 8 * 24,
         pages: 1,
         ..NONE
     };
     same(rt, read(rt, alloc, world, told), tally);
-    // The page comes after all inserts, of 72 keys, and a leaf holds 39 of these records.
+    // The page comes after all inserts, of 136 keys, and a leaf holds 79 of these records.
     holds(rt, any_is_split(told));
 }
 

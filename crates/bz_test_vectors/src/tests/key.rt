@@ -10,9 +10,9 @@ use std::fmt::Display;
 use std::process::Abort;
 use std::test::Fail;
 
-const LONGEST: &[u8; 28] = b"abcdefghijklmnopqrstuvwxyz01";
+const LONGEST: &[u8; 56] = b"abcdefghijklmnopqrstuvwxyzABCDEFGHIJKLMNOPQRSTUVWXYZ0123";
 
-const TOO_LONG: &[u8; 29] = b"abcdefghijklmnopqrstuvwxyz012";
+const TOO_LONG: &[u8; 57] = b"abcdefghijklmnopqrstuvwxyzABCDEFGHIJKLMNOPQRSTUVWXYZ01234";
 
 // A key is packed into these words.
 fn packs(rt: &impl Abort, bytes: &[u8], words: &[u64]) -> Result<(), Fail> {
@@ -53,13 +53,13 @@ fn refuses_words_that_are_no_packing(rt: HostRuntime) {
     expect_no_key(&rt, 1, &[0x0161_0000_0000_0000]);
     expect_no_key(&rt, 1, &[0x0061_0000_0000_0000, 0]);
     expect_no_key(&rt, 8, &[0x0061_6161_6161_6161]);
-    same(&rt, Payload::from_words(29, &[0, 0, 0, 0, 0]), None);
+    same(&rt, Payload::from_words(57, &[0; 9]), None);
 }
 
 #[test]
 fn takes_lengths_in_range(rt: HostRuntime) -> Result<(), Fail> {
     same(&rt, Key::of(b""), Err(KeyError::Empty));
-    same(&rt, Key::of(LONGEST)?.bytes().len(), 28);
+    same(&rt, Key::of(LONGEST)?.bytes().len(), 56);
     same(&rt, Key::of(TOO_LONG), Err(KeyError::TooLong));
     same(&rt, Payload::of(b"")?.bytes().len(), 0);
     same(&rt, Payload::of(TOO_LONG), Err(PayloadError::TooLong));
@@ -143,9 +143,9 @@ fn fill(rt: &impl Abort, page: &mut PageBuf, count: u8, payload: Payload) -> Res
 fn holds_the_pairs_of_a_page(rt: HostRuntime) -> Result<(), Fail> {
     let mut page = PageBuf::open(rt.alloc())?;
     let payload = Payload::of(b"1")?;
-    fill(&rt, &mut page, 59, payload)?;
-    same(&rt, page.pairs().len(), 59);
-    same(&rt, page.pairs().last(), Some(&(Key::of(&[58])?, payload)));
+    fill(&rt, &mut page, 119, payload)?;
+    same(&rt, page.pairs().len(), 119);
+    same(&rt, page.pairs().last(), Some(&(Key::of(&[118])?, payload)));
     page.clear();
     same(&rt, page.pairs().len(), 0);
     Ok(())

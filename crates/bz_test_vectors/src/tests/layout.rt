@@ -158,8 +158,8 @@ fn the_greatest_memory_has_these_addresses(rt: HostRuntime) {
     same(&rt, GREATEST.swap_at(0), 16);
     same(&rt, GREATEST.swap_at(65_535), 1_048_576);
     same(&rt, GREATEST.node_at(0), 1_048_592);
-    same(&rt, GREATEST.node_at(16_383), 3_145_616);
-    same(&rt, GREATEST.words(), 3_145_744);
+    same(&rt, GREATEST.node_at(16_383), 5_242_640);
+    same(&rt, GREATEST.words(), 5_242_896);
 }
 
 // Fresh memory has so many words: these five, and then none but 0.
@@ -187,8 +187,8 @@ fn fresh_memory_begins_with_five_words(rt: HostRuntime) -> Result<(), Fail> {
         swaps: 64,
         ..SMALLEST
     };
-    begins_with(&rt, rt.alloc(), &SMALLEST, [1, 1, 0, 1, 1], 160)?;
-    begins_with(&rt, rt.alloc(), &config, [1, 1, 0, 16, 64], 3_088)?;
+    begins_with(&rt, rt.alloc(), &SMALLEST, [2, 1, 0, 1, 1], 288)?;
+    begins_with(&rt, rt.alloc(), &config, [2, 1, 0, 16, 64], 5_136)?;
     Ok(())
 }
 

@@ -11,7 +11,7 @@ use std::cmp::Ordering;
 use std::process::Abort;
 use std::test::Fail;
 
-const LONGEST: &[u8; 28] = b"abcdefghijklmnopqrstuvwxyz01";
+const LONGEST: &[u8; 56] = b"abcdefghijklmnopqrstuvwxyzABCDEFGHIJKLMNOPQRSTUVWXYZ0123";
 
 // Whether a key is before another.
 fn is_before(a: &Key, b: &Key) -> bool
@@ -85,48 +85,48 @@ fn lays_the_worked_record_out(rt: HostRuntime) -> Result<(), Fail> {
     let Some(image) = leaf_of(&rt, &records) else {
         return Err(Fail::from("it does not fit"));
     };
-    let mut words = [0u64; 128];
+    let mut words = [0u64; 256];
     words[0] = 0x0010_0800_0000_0000;
     words[1] = 0x0000_0000_0100_0000;
-    words[10] = 0x1000_007E_0001_0002;
-    words[126] = 0x0061_0000_0000_0000;
-    words[127] = 0x0031_0000_0000_0000;
+    words[18] = 0x1000_00FE_0001_0002;
+    words[254] = 0x0061_0000_0000_0000;
+    words[255] = 0x0031_0000_0000_0000;
     same(&rt, image, NodeImage(words));
     Ok(())
 }
 
-// Records of 28 bytes and 28 bytes but for the last two, which are of 14 bytes and of so many as given:
-// twelve of 9 words, one of 5 words, and a last one.
-fn fourteen_records(last: &[u8]) -> Result<[(Key, Payload); 14], Fail> {
-    let mut records = [(Key::of(LONGEST)?, Payload::of(LONGEST)?); 14];
-    for i in 0..12 {
-        records[i].0 = Key::of(&[i as u8; 28])?;
+// Records of 56 bytes and 56 bytes but for the last two, which are of 28 bytes and of so many as given:
+// thirteen of 17 words, one of 9 words, and a last one.
+fn fifteen_records(last: &[u8]) -> Result<[(Key, Payload); 15], Fail> {
+    let mut records = [(Key::of(LONGEST)?, Payload::of(LONGEST)?); 15];
+    for i in 0..13 {
+        records[i].0 = Key::of(&[i as u8; 56])?;
     }
-    records[12] = (Key::of(&[12; 14])?, Payload::of(&[0; 14])?);
-    records[13] = (Key::of(&[13; 14])?, Payload::of(last)?);
+    records[13] = (Key::of(&[13; 28])?, Payload::of(&[0; 28])?);
+    records[14] = (Key::of(&[14; 28])?, Payload::of(last)?);
     Ok(records)
 }
 
 #[test]
-fn takes_118_words_in_a_leaf(rt: HostRuntime) -> Result<(), Fail> {
-    let records = fourteen_records(&[7; 14])?;
+fn takes_238_words_in_a_leaf(rt: HostRuntime) -> Result<(), Fail> {
+    let records = fifteen_records(&[7; 21])?;
     let Some(image) = leaf_of(&rt, &records) else {
-        return Err(Fail::from("118 words do not fit"));
+        return Err(Fail::from("238 words do not fit"));
     };
-    same(&rt, image.live_words(), 118);
+    same(&rt, image.live_words(), 238);
     assert_eq!(rt;
-        image.0[23] & 0xFFFF_FFFF,
-        0x000E_001C,
+        image.0[32] & 0xFFFF_FFFF,
+        0x001C_0031,
         "the last metadata word"
     );
     assert_eq!(rt;
-        image.0[24],
-        0x000D_0D0D_0D0D_0D0D,
+        image.0[33],
+        0x000E_0E0E_0E0E_0E0E,
         "the block follows at once"
     );
     assert!(rt;
-        leaf_of(&rt, &fourteen_records(&[7; 15])?).is_none(),
-        "119 words"
+        leaf_of(&rt, &fifteen_records(&[7; 22])?).is_none(),
+        "239 words"
     );
     Ok(())
 }
@@ -136,7 +136,7 @@ fn makes_the_empty_leaf(rt: HostRuntime) -> Result<(), Fail> {
     let Some(image) = leaf_of(&rt, &[]) else {
         return Err(Fail::from("it does not fit"));
     };
-    same(&rt, image, NodeImage([0; 128]));
+    same(&rt, image, NodeImage([0; 256]));
     let mut page = PageBuf::open(rt.alloc())?;
     image.records(&mut page);
     assert!(rt; page.pairs().is_empty());
@@ -150,46 +150,45 @@ fn holds_the_longest_record(rt: HostRuntime) -> Result<(), Fail> {
     let Some(image) = leaf_of(&rt, &[record]) else {
         return Err(Fail::from("it does not fit"));
     };
-    same(&rt, image.0[10], 0x1000_0078_001C_0038);
-    same(&rt, image.0[120], 0x0061_6263_6465_6667);
-    same(&rt, image.0[123], 0x0076_7778_797A_3031);
-    same(&rt, image.0[124], 0x0061_6263_6465_6667);
+    same(&rt, image.0[18], 0x1000_00F0_0038_0070);
+    same(&rt, image.0[240], 0x0061_6263_6465_6667);
+    same(&rt, image.0[247], 0x0058_595A_3031_3233);
+    same(&rt, image.0[248], 0x0061_6263_6465_6667);
     let mut page = PageBuf::open(rt.alloc())?;
     image.records(&mut page);
     assert!(rt; page.pairs() == [record].as_slice());
     Ok(())
 }
 
-// Twenty-one children: the first of 2 words, eighteen of 6 words, one of 4 words and one with this bound.
-fn twenty_one_children(last: &[u8]) -> Result<[Child; 21], Fail> {
+// Twenty-five children: the first of 2 words, twenty-three of 10 words and one with this bound.
+fn twenty_five_children(last: &[u8]) -> Result<[Child; 25], Fail> {
     let mut children = [Child {
         low: None,
         slot: 500,
-    }; 21];
-    for i in 1..19 {
+    }; 25];
+    for i in 1..24 {
         children[i] = Child {
-            low: Some(Key::of(&[i as u8; 28])?),
+            low: Some(Key::of(&[i as u8; 56])?),
             slot: i as u16,
         };
     }
-    children[19].low = Some(Key::of(&[19; 14])?);
-    children[20].low = Some(Key::of(last)?);
+    children[24].low = Some(Key::of(last)?);
     Ok(children)
 }
 
 #[test]
-fn takes_118_words_in_an_inner_node(rt: HostRuntime) -> Result<(), Fail> {
-    let children = twenty_one_children(&[20; 14])?;
+fn takes_238_words_in_an_inner_node(rt: HostRuntime) -> Result<(), Fail> {
+    let children = twenty_five_children(&[24; 28])?;
     let Some(image) = inner_of(&rt, &children, 1) else {
-        return Err(Fail::from("118 words do not fit"));
+        return Err(Fail::from("238 words do not fit"));
     };
-    same(&rt, image.child_count(), 21);
-    for i in 0..21u32 {
+    same(&rt, image.child_count(), 25);
+    for i in 0..25u32 {
         assert!(rt; i < image.child_count());
         same(&rt, image.child(i), children[i as usize]);
     }
-    let more = twenty_one_children(&[20; 15])?;
-    assert!(rt; inner_of(&rt, &more, 1).is_none(), "119 words");
+    let more = twenty_five_children(&[24; 29])?;
+    assert!(rt; inner_of(&rt, &more, 1).is_none(), "239 words");
     Ok(())
 }
 
@@ -205,14 +204,14 @@ fn lays_children_out(rt: HostRuntime) -> Result<(), Fail> {
     let Some(image) = inner_of(&rt, &children, 2) else {
         return Err(Fail::from("it does not fit"));
     };
-    let mut words = [0u64; 128];
+    let mut words = [0u64; 256];
     words[0] = 0x0020_0C00_0000_0000;
     words[1] = 0x0000_0000_0200_0002;
-    words[10] = 0x1000_007F_0000_0007;
-    words[11] = 0x1000_007D_0001_0008;
-    words[125] = 0x0062_0000_0000_0000;
-    words[126] = 1;
-    words[127] = 4;
+    words[18] = 0x1000_00FF_0000_0007;
+    words[19] = 0x1000_00FD_0001_0008;
+    words[253] = 0x0062_0000_0000_0000;
+    words[254] = 1;
+    words[255] = 4;
     same(&rt, image, NodeImage(words));
     Ok(())
 }
@@ -225,19 +224,29 @@ fn packs_fences(rt: HostRuntime) -> Result<(), Fail> {
     same(&rt, image.0[1], 0x0008_0700);
     same(
         &rt,
-        &image.0[2..6],
-        [0x0061_6263_6465_6667, 0, 0, 0].as_slice(),
+        &image.0[2..10],
+        [0x0061_6263_6465_6667, 0, 0, 0, 0, 0, 0, 0].as_slice(),
     );
     same(
         &rt,
-        &image.0[6..10],
-        [0x0061_6263_6465_6667, 0x0068_0000_0000_0000, 0, 0].as_slice(),
+        &image.0[10..18],
+        [
+            0x0061_6263_6465_6667,
+            0x0068_0000_0000_0000,
+            0,
+            0,
+            0,
+            0,
+            0,
+            0,
+        ]
+        .as_slice(),
     );
     let Some(image) = leaf(&[], None, Some(Key::of(LONGEST)?)) else {
         return Err(Fail::from("it does not fit"));
     };
-    same(&rt, image.0[1], 0x001C_0000);
-    same(&rt, &image.0[2..6], [0, 0, 0, 0].as_slice());
-    same(&rt, image.0[9], 0x0076_7778_797A_3031);
+    same(&rt, image.0[1], 0x0038_0000);
+    same(&rt, &image.0[2..10], [0; 8].as_slice());
+    same(&rt, image.0[17], 0x0058_595A_3031_3233);
     Ok(())
 }

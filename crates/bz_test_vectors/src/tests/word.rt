@@ -111,8 +111,8 @@ fn statuses_have_these_words(rt: HostRuntime) {
 fn records_have_these_words(rt: HostRuntime) {
     let at = |offset: u32, key: u32, total: u32| Extent { offset, key, total };
     meta_is(&rt, 0, Meta::Unused);
-    meta_is(&rt, 0x0000007E00010002, Meta::Reserved(at(126, 1, 2)));
-    meta_is(&rt, 0x1000007E00010002, Meta::Visible(at(126, 1, 2)));
+    meta_is(&rt, 0x000000FE00010002, Meta::Reserved(at(254, 1, 2)));
+    meta_is(&rt, 0x100000FE00010002, Meta::Visible(at(254, 1, 2)));
     meta_is(&rt, 0x0000000000010002, Meta::Deleted { key: 1, total: 2 });
     meta_is(&rt, 0x0000000100000000, Meta::Reserved(at(1, 0, 0)));
     meta_is(
@@ -128,12 +128,12 @@ fn records_have_these_words(rt: HostRuntime) {
     meta_is(&rt, 0x0000000000000001, Meta::Deleted { key: 0, total: 1 });
     let refused = [
         0x0000000000020001, // a key longer than key and payload
-        0x0000007E00020001,
+        0x000000FE00020001,
         0x1000000000010002, // visible with offset 0
         0x1000000000000000,
-        0x2000007E00010002, // control bits
-        0x4000007E00010002,
-        0x8000007E00010002,
+        0x200000FE00010002, // control bits
+        0x400000FE00010002,
+        0x800000FE00010002,
     ];
     for word in refused {
         assert_eq!(rt; Meta::unpack(word), None, "{word:#x}");

@@ -10,7 +10,7 @@ use std::process::Abort;
 use std::test::Fail;
 
 // More acts than any of the calls makes.
-const MOST: u16 = 1_000;
+const MOST: u16 = 2_500;
 
 // A recovery is cut before one of its first so many fences.
 const FLUSHES: u16 = 9;
@@ -55,9 +55,19 @@ fn each_act(rt: &impl Abort, alloc: Global, row: &Row) {
 }
 
 #[test]
-fn they_are_whole_or_nothing_after_each_act_with_evictions(rt: HostRuntime) -> Result<(), Fail> {
+fn a_split_is_whole_or_nothing_after_each_act(rt: HostRuntime) -> Result<(), Fail> {
     each_act(&rt, rt.alloc(), &split(&rt, rt.alloc())?);
+    Ok(())
+}
+
+#[test]
+fn a_merge_is_whole_or_nothing_after_each_act(rt: HostRuntime) -> Result<(), Fail> {
     each_act(&rt, rt.alloc(), &merge(&rt, rt.alloc())?);
+    Ok(())
+}
+
+#[test]
+fn a_copy_is_whole_or_nothing_after_each_act(rt: HostRuntime) -> Result<(), Fail> {
     each_act(&rt, rt.alloc(), &copy(&rt, rt.alloc())?);
     Ok(())
 }

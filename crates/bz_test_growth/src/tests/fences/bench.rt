@@ -10,7 +10,7 @@ use std::alloc::Global;
 use std::process::Abort;
 
 // More marks than a call and the three recoveries about it make, and more steps than any of them.
-const MARKS: u32 = 8_192;
+const MARKS: u32 = 16_384;
 
 // A call, a get, and two pages.
 const CALLS: u32 = 4;

@@ -19,8 +19,8 @@ const VISIBLE: u64 = 1 << 60;
 
 const FROZEN: u64 = 1 << 60;
 
-// The key `k21` as a word.
-const K21: u64 = 0x006B_3231_0000_0000;
+// The key `k32` as a word.
+const K32: u64 = 0x006B_3332_0000_0000;
 
 // Writes a word at an address of the memory.
 fn put(words: &mut Vec<u64>, at: u32, word: u64) {
@@ -41,7 +41,7 @@ fn put_in(words: &mut Vec<u64>, slot: u8, place: u8, word: u64) {
 // The words of a memory whose root is slot 0.
 fn memory(alloc: Global) -> Result<Vec<u64>, Fail> {
     let mut words = vec![in alloc; 0u64; WORDS as usize]?;
-    for (at, word) in [(0, 1), (1, 1), (3, NODES), (4, SWAPS)] {
+    for (at, word) in [(0, 2), (1, 1), (3, NODES), (4, SWAPS)] {
         put(&mut words, at, word as u64);
     }
     Ok(words)
@@ -55,9 +55,9 @@ fn key_word(number: u8) -> u64 {
 
 // Puts the record of a key and the payload `v` into a leaf, as its so-many-th one.
 fn put_record(words: &mut Vec<u64>, slot: u8, place: u8, number: u8) {
-    let offset = 126u8.saturating_sub(place.saturating_mul(2));
+    let offset = 254u8.saturating_sub(place.saturating_mul(2));
     let meta = VISIBLE + ((offset as u64) << 32) + 0x0003_0004;
-    put_in(words, slot, place.saturating_add(10), meta);
+    put_in(words, slot, place.saturating_add(18), meta);
     put_in(words, slot, offset, key_word(number));
     put_in(words, slot, offset.saturating_add(1), 0x0076 << 48);
 }
@@ -72,32 +72,32 @@ fn put_leaf(words: &mut Vec<u64>, slot: u8, first: u8, count: u8) {
     put_in(words, slot, 1, records << 24);
 }
 
-/// A root leaf with `k01` to `k39`.
+/// A root leaf with `k01` to `k79`.
 pub(super) fn full_root(alloc: Global) -> Result<Vec<u64>, Fail> {
     let mut words = memory(alloc)?;
-    put_leaf(&mut words, 0, 1, 39);
+    put_leaf(&mut words, 0, 1, 79);
     Ok(words)
 }
 
-/// A root over a leaf with `k10` to `k20` and one with `k21` to `k30`.
+/// A root over a leaf with `k10` to `k31` and one with `k32` to `k51`.
 pub(super) fn two_leaves(alloc: Global) -> Result<Vec<u64>, Fail> {
     let mut words = memory(alloc)?;
-    put_leaf(&mut words, 1, 10, 11);
-    put_leaf(&mut words, 2, 21, 10);
+    put_leaf(&mut words, 1, 10, 22);
+    put_leaf(&mut words, 2, 32, 20);
     for (slot, place, word) in [
         // what the left leaf ends with, and the right one begins with
-        (1, 1, (11 << 24) + (3 << 16)),
-        (1, 6, K21),
-        (2, 1, (10 << 24) + (3 << 8)),
-        (2, 2, K21),
+        (1, 1, (22 << 24) + (3 << 16)),
+        (1, 10, K32),
+        (2, 1, (20 << 24) + (3 << 8)),
+        (2, 2, K32),
         // the root, at level 1: two records of three words in all
         (0, 0, (2 << 52) + (3 << 42)),
         (0, 1, (2 << 24) + 1),
-        (0, 10, VISIBLE + (127 << 32) + 0x0000_0007),
-        (0, 11, VISIBLE + (125 << 32) + 0x0003_000A),
-        (0, 125, K21),
-        (0, 126, 3),
-        (0, 127, 2),
+        (0, 18, VISIBLE + (255 << 32) + 0x0000_0007),
+        (0, 19, VISIBLE + (253 << 32) + 0x0003_000A),
+        (0, 253, K32),
+        (0, 254, 3),
+        (0, 255, 2),
     ] {
         put_in(&mut words, slot, place, word);
     }
@@ -110,9 +110,9 @@ pub(super) fn frozen_root(alloc: Global) -> Result<Vec<u64>, Fail> {
     for (place, word) in [
         (0, FROZEN + (1 << 52) + (2 << 42)),
         (1, 1 << 24),
-        (10, VISIBLE + (126 << 32) + 0x0001_0002),
-        (126, 0x0061 << 48),
-        (127, 0x0031 << 48),
+        (18, VISIBLE + (254 << 32) + 0x0001_0002),
+        (254, 0x0061 << 48),
+        (255, 0x0031 << 48),
     ] {
         put_in(&mut words, 0, place, word);
     }

@@ -47,15 +47,15 @@ fn found(pairs: usize, value: Option<Payload>) -> Found {
 
 /// A full root leaf, and an insert that splits it.
 pub(super) fn split(rt: &impl Abort, alloc: Global) -> Result<Row, Fail> {
-    let (key, v) = (key(rt, b"k40"), payload(rt, b"v"));
+    let (key, v) = (key(rt, b"k80"), payload(rt, b"v"));
     Ok(Row {
-        name: "insert k40 v",
+        name: "insert k80 v",
         image: full_root(alloc)?,
         call: Call::Insert(key, v),
         answer: Answer::Inserted,
         key,
-        lost: found(39, None),
-        kept: found(40, Some(v)),
+        lost: found(79, None),
+        kept: found(80, Some(v)),
     })
 }
 
@@ -68,8 +68,8 @@ pub(super) fn merge(rt: &impl Abort, alloc: Global) -> Result<Row, Fail> {
         call: Call::Delete(key),
         answer: Answer::Deleted(v),
         key,
-        lost: found(21, Some(v)),
-        kept: found(20, None),
+        lost: found(42, Some(v)),
+        kept: found(41, None),
     })
 }
 

@@ -11,7 +11,7 @@ use std::process::Abort;
 use std::test::Fail;
 
 // The call is cut before a fence up to this one, and its recovery up to the other: more than either makes is told apart.
-const CUTS: u8 = 120;
+const CUTS: u8 = 240;
 
 const AGAIN: u8 = 20;
 
@@ -75,9 +75,19 @@ fn each_cut(rt: &impl Abort, alloc: Global, row: &Row) {
 }
 
 #[test]
-fn a_split_a_merge_and_a_copy_are_whole_or_nothing(rt: HostRuntime) -> Result<(), Fail> {
+fn a_split_is_whole_or_nothing(rt: HostRuntime) -> Result<(), Fail> {
     each_cut(&rt, rt.alloc(), &split(&rt, rt.alloc())?);
+    Ok(())
+}
+
+#[test]
+fn a_merge_is_whole_or_nothing(rt: HostRuntime) -> Result<(), Fail> {
     each_cut(&rt, rt.alloc(), &merge(&rt, rt.alloc())?);
+    Ok(())
+}
+
+#[test]
+fn a_copy_is_whole_or_nothing(rt: HostRuntime) -> Result<(), Fail> {
     each_cut(&rt, rt.alloc(), &copy(&rt, rt.alloc())?);
     Ok(())
 }

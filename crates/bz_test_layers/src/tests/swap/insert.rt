@@ -9,11 +9,11 @@ use std::alloc::Global;
 use std::process::Abort;
 
 // The words of a memory of two descriptors.
-const WORDS: usize = 1_056;
+const WORDS: usize = 1_064;
 
 const STATUS: u32 = 1_040;
 
-const META: u32 = 1_050;
+const META: u32 = 1_058;
 
 const DIRTY: u64 = 1 << 63;
 
@@ -26,7 +26,7 @@ const RESERVED: [Entry; 2] = [
     Entry {
         target: META,
         expected: 0,
-        new: 0x0000_007E_0001_0002,
+        new: 0x0000_00FE_0001_0002,
     },
 ];
 
@@ -38,8 +38,8 @@ const PUBLISHED: [Entry; 2] = [
     },
     Entry {
         target: META,
-        expected: 0x0000_007E_0001_0002,
-        new: 0x1000_007E_0001_0002,
+        expected: 0x0000_00FE_0001_0002,
+        new: 0x1000_00FE_0001_0002,
     },
 ];
 
@@ -62,21 +62,21 @@ const LEFT: [(u32, u64); 20] = [
     (18, 1_040),
     (19, 0),
     (20, 0x0010_0802_0000_0001),
-    (21, 1_050),
+    (21, 1_058),
     (22, 0),
-    (23, 0x0000_007E_0001_0002),
+    (23, 0x0000_00FE_0001_0002),
     (24, 0),
     (32, DIRTY + 2),
     (33, 2),
     (34, 1_040),
     (35, 0x0010_0802_0000_0001),
     (36, 0x0010_0800_0000_0002),
-    (37, 1_050),
-    (38, 0x0000_007E_0001_0002),
-    (39, 0x1000_007E_0001_0002),
+    (37, 1_058),
+    (38, 0x0000_00FE_0001_0002),
+    (39, 0x1000_00FE_0001_0002),
     (40, 0),
     (STATUS, DIRTY + 0x0010_0800_0000_0002),
-    (META, DIRTY + 0x1000_007E_0001_0002),
+    (META, DIRTY + 0x1000_00FE_0001_0002),
 ];
 
 // A memory of zeros but for one word.
