@@ -1,0 +1,3 @@
+pub mod OneLeaf
+pub mod TwoLeaves
+pub mod WorkedMove
