@@ -8,7 +8,10 @@ mod Roots
 mod Ranges
 mod Thawed
 pub mod Stays
+pub mod Swapping
+mod PairSwaps
 mod LeafSwaps
+mod PairChanges
 mod Others
 pub mod Guards
 mod SeenLeaves

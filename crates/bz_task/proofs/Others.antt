@@ -13,7 +13,7 @@ use Rattle.bz_task.specs.Scene.{Scene, IsOfTaken, IsMine, IsFlushed, IsScene, Is
 use Rattle.bz_task.specs.Shown.{IsShown, IsRead, SameShownNode}
 use Rattle.bz_task.specs.Steps.{IsQuiet, IsStep}
 use Rattle.bz_task.specs.Swaps.{Change, SwapsTo, IsGoodSwap}
-use Rattle.bz_task.proofs.LeafSwaps.{node-at, node-past, node-same, untouched}
+use Rattle.bz_task.proofs.Swapping.{node-at, node-past, node-same, untouched}
 use Rattle.bz_task.proofs.Sames.{words-records, same-shown}
 
 -- a word of a slot to which no link leads yet, or a reserved one, that stays hidden, keeps its value, and stays flushed

@@ -2,8 +2,10 @@
 use Rattle.bz_task.proofs.Ages.{nodes-stay}
 use Rattle.bz_task.proofs.Frozen.{fronts-stay, frozen-nodes-stay}
 use Rattle.bz_task.proofs.Inside.{nodes-were-inside}
-use Rattle.bz_task.proofs.LeafSwaps.{leaf-swaps, slot-words}
+use Rattle.bz_task.proofs.LeafSwaps.{leaf-swaps}
 use Rattle.bz_task.proofs.Others.{effects-lawful, quiet-lawful, sharers-apart, stores-lawful}
+use Rattle.bz_task.proofs.PairChanges.{pair-changes}
+use Rattle.bz_task.proofs.PairSwaps.{pair-swaps}
 use Rattle.bz_task.proofs.Ranges.{headers, ranges-stay}
 use Rattle.bz_task.proofs.Resting.{resting}
 use Rattle.bz_task.proofs.Roots.{roots-reached}
@@ -13,11 +15,13 @@ use Rattle.bz_task.proofs.Separators.{separators-stay}
 use Rattle.bz_task.proofs.Settled.{settled-good}
 use Rattle.bz_task.proofs.Showing.{good-shows-settled}
 use Rattle.bz_task.proofs.Stays.{key-views-stay, nothing-gained, paths-stay, views-stay}
+use Rattle.bz_task.proofs.Swapping.{slot-words}
 use Rattle.bz_task.proofs.Targeting.{not-mine, of-memory, targets-stay}
 use Rattle.bz_task.proofs.Thawed.{child-inside, in-tree, thawed-stay}
 use Rattle.bz_task.specs.Laws.{ChildrenAreInTrees, FrontsStay, FrozenNodesStay, HeadersSayTheLevel, KeyViewsStay, LeavesAreInTrees, NodesStay, NodesWereInside, NothingIsGained, PathsStay, RangesStay, RootsAreReached, SameRecordsShowTheSame, SeenLeavesAreWhole, SeparatorsStay, SwapsShowInSlots, ThawedLeavesStay, ViewsStay}
 use Rattle.bz_task.specs.LeafSwaps.{LeafSwapsAreGood}
 use Rattle.bz_task.specs.Others.{EffectsAreLawful, QuietActsAreLawful, SharersOfNothingAreApart, StoresAreLawful}
+use Rattle.bz_task.specs.PairSwaps.{PairSwapsAreLawful, PairSwapsMakeChanges}
 use Rattle.bz_task.specs.Resting.{RestingMemoriesAreGood}
 use Rattle.bz_task.specs.Settled.{SettledMemoriesAreGood}
 use Rattle.bz_task.specs.Swaps.{GoodSwapsShowSettled}
@@ -50,6 +54,14 @@ nodes_were_inside = nodes-were-inside
 -- a swap on one leaf that leaves it whole is lawful for everybody
 pub leaf_swaps_are_good : LeafSwapsAreGood
 leaf_swaps_are_good = leaf-swaps
+
+-- a swap on two leaves that leaves both whole is lawful for everybody, and changes what is said of their keys alone
+pub pair_swaps_are_lawful : PairSwapsAreLawful
+pair_swaps_are_lawful = pair-swaps
+
+-- where each leaf says its changes, the swap makes both leaves' changes at once
+pub pair_swaps_make_changes : PairSwapsMakeChanges
+pair_swaps_make_changes = pair-changes
 
 -- the root is in the tree, and holds every key
 pub roots_are_reached : RootsAreReached

@@ -34,7 +34,7 @@ use Rattle.bz_task.specs.Instant.{Instant, words, durable, page_at, form_at, is_
 use Rattle.bz_task.specs.Laws.{HasRoot, IsLeafInTree}
 use Rattle.bz_task.specs.Resting.{Rests, RestingMemoriesAreGood}
 use Rattle.bz_task.specs.Shown.{IsShown, IsOfRecord, SameWords}
-use Rattle.bz_task.proofs.LeafSwaps.{every-same}
+use Rattle.bz_task.proofs.Swapping.{every-same}
 use Rattle.bz_task.proofs.Sames.{SamePlaces, words-places, words-records, places-shown, of-record, same-shown, front-shown}
 use Rattle.bz_task.proofs.Ranges.{headers}
 use Rattle.bz_task.proofs.Roots.{roots-reached}

@@ -12,6 +12,7 @@ pub mod TaskView
 pub mod Contract
 pub mod Laws
 pub mod LeafSwaps
+pub mod PairSwaps
 pub mod Others
 pub mod Settled
 pub mod Resting
