@@ -1,5 +1,5 @@
 -- Effects are counted and never fall, so an own swap's effect is one more than there were when the look-up began.
-use Rattle.std.proofs.Common.{◌≡◌, ℕ, zero, suc, ◌+◌, ◌-◌, ◌<◌, ◌≤◌, Bool, List, arith, sym, ap, subst, inl, inr}
+use Rattle.std.proofs.Common.{◌≡◌, ℕ, zero, suc, ◌+◌, ◌-◌, ◌≤◌, Bool, List, arith, sym, ap, subst, inl, inr}
 use Rattle.bz_layout.specs.declared.config.Config.{Config}
 use Rattle.bz_word.specs.declared.entry.Entry.{Entry}
 use Rattle.bz_task.specs.Instant.{Instant}

@@ -1,5 +1,6 @@
 -- What a swap of a leaf's status and one of its metadata words finds, sets and leaves.
 use Rattle.std.proofs.Common.{◌≡◌, ◌≢◌, ℕ, ◌+◌, ◌<◌, ◌==◌, ◌||◌, ◌⊎◌, Bool, true, false, [], ◌∷◌, arith, refl, sym, subst, ◌∙◌, inl, inr}
+use Rattle.std.specs.Prelude.{nat_lt}
 use Rattle.std.proofs.lemmas.Bool.{cases_lt}
 use Rattle.std.proofs.lemmas.Bool.Decides.{nat_tests}
 use Rattle.bz_layout.specs.Addresses.{node_address}
@@ -15,8 +16,7 @@ use Rattle.bz_task.specs.Instant.{Instant, words, durable}
 use Rattle.bz_task.specs.Laws.{SlotWords, SlotWord}
 use Rattle.bz_task.specs.LeafSwaps.{IsWordOf}
 use Rattle.bz_task.specs.Scene.{Scene, IsScene, here}
-use Rattle.bz_task.specs.Swaps.{Stand, SwapsTo, swapped}
-use Rattle.bz_task.proofs.Proved.{swaps_show_in_slots}
+use Rattle.bz_task.specs.Swaps.{Stand, swapped}
 use Rattle.bz_record.specs.Laws.{SameLeaf}
 use Rattle.bz_record.specs.Leaves.{WasLeafThen}
 use Rattle.bz_record.specs.Swaps.{status_entry, meta_entry, entries_of}
@@ -46,11 +46,8 @@ one-of e f a h = go (e.target == a) (f.target == a) refl refl h
     go false true p q h = inr (grind (arith, nat_tests))
     go false false p q h = absurd (cc)
 
--- what the swap does to the words of its slot
-module _ (c : Config) (w : RecordSwap) (x y : Instant) (swaps : SwapsTo c (entries_of c w) x y) (place : META_AT + w.place < NODE_WORDS) where
-  slot : SlotWords c (entries_of c w) x y w.slot
-  slot = swaps_show_in_slots c (entries_of c w) x y w.slot swaps
-
+-- what a swap does to the words of the slot, of which it names these two
+module _ (c : Config) (w : RecordSwap) (x y : Instant) (slot : SlotWords c (entries_of c w) x y w.slot) (place : META_AT + w.place < NODE_WORDS) where
   word : (i : ℕ) → i < NODE_WORDS → SlotWord c (entries_of c w) x y w.slot i
   word i l = slot.within i l
 
@@ -87,12 +84,17 @@ module _ (c : Config) (w : RecordSwap) (x y : Instant) (swaps : SwapsTo c (entri
   pub leaves-raw : (i : ℕ) → node c y.image w.slot i ≡ node c x.image w.slot i
   leaves-raw i = slot.raw i
 
-  -- what it finds there
-  pub finds-status : Stand (entries_of c w) x → words c x w.slot STATUS_AT ≡ w.status
-  finds-status stand = (word STATUS_AT (omega arith)).before ∙ stand 0 (status_entry c w) (omega arith)
+pub node-at : (c : Config) (f : ℕ → ℕ) (k i : ℕ) → i < NODE_WORDS → node c f k i ≡ f (node_address c k + i)
+unfolding node
+node-at c f k i l = let t : nat_lt i NODE_WORDS ≡ true = grind (arith, nat_tests) in rw t refl
 
-  pub finds-meta : Stand (entries_of c w) x → words c x w.slot (META_AT + w.place) ≡ w.meta
-  finds-meta stand = (word (META_AT + w.place) place).before ∙ stand 1 (status_entry c w) (omega arith)
+-- what it finds there
+module _ (c : Config) (w : RecordSwap) (x : Instant) (stand : Stand (entries_of c w) x) where
+  pub finds-status : words c x w.slot STATUS_AT ≡ w.status
+  finds-status = node-at c x.value w.slot STATUS_AT (omega arith) ∙ stand 0 (status_entry c w) (omega arith)
+
+  pub finds-meta : META_AT + w.place < NODE_WORDS → words c x w.slot (META_AT + w.place) ≡ w.meta
+  finds-meta place = node-at c x.value w.slot (META_AT + w.place) place ∙ stand 1 (meta_entry c w) (omega arith)
 
 -- its targets are words of the slot
 pub target-of : (s : Scene) (w : RecordSwap) → META_AT + w.place < NODE_WORDS → (a : ℕ) → is_target (entries_of s.past.config w) a ≡ true → IsWordOf s w.slot a
@@ -106,9 +108,9 @@ pub each-target : (P : ℕ → Type 0) (c : Config) (w : RecordSwap) → P (node
 each-target P c w p q a h = elim (one-of (status_entry c w) (meta_entry c w) a h) [ inl e ↦ subst P (sym e) p | inr e ↦ subst P (sym e) q ]
 
 -- the leaf as it is now, where the status is the one that was read
-module _ (s : Scene) (y : Instant) (w : RecordSwap) (moment : ℕ) (good : IsScene s) (leaf : WasLeafThen w.slot w.status moment s.past) (thawed : (status w.status).frozen ≡ false) (stand : Stand (entries_of s.past.config w) (here s)) (swaps : SwapsTo s.past.config (entries_of s.past.config w) (here s) y) where
+module _ (s : Scene) (w : RecordSwap) (moment : ℕ) (good : IsScene s) (leaf : WasLeafThen w.slot w.status moment s.past) (thawed : (status w.status).frozen ≡ false) (stand : Stand (entries_of s.past.config w) (here s)) where
   pub status-now : words s.past.config (here s) w.slot STATUS_AT ≡ w.status
-  status-now = ((swaps_show_in_slots s.past.config (entries_of s.past.config w) (here s) y w.slot swaps).within STATUS_AT (omega arith)).before ∙ stand 0 (status_entry s.past.config w) (omega arith)
+  status-now = finds-status s.past.config w (here s) stand
 
   pub same-now : SameLeaf s.past.config (s.past.at moment) (here s) w.slot
   same-now = leaves-stay s w.slot w.status moment good leaf thawed status-now

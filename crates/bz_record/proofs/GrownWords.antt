@@ -12,7 +12,7 @@ use Rattle.bz_slotted.specs.Readers.{found_of}
 use Rattle.bz_slotted.specs.Records.{key_in, key_at}
 use Rattle.bz_slotted.specs.Whole.{Whole, IsInBlock}
 use Rattle.bz_slotted.proofs.Proved.{leaf_rules_are_facts}
-use Rattle.bz_word.specs.Metas.{meta_word, meta}
+use Rattle.bz_word.specs.Metas.{meta_word}
 use Rattle.bz_word.specs.Statuses.{status}
 use Rattle.bz_word.specs.declared.meta.Extent.{Extent}
 use Rattle.bz_word.specs.declared.meta.Meta.TheVariants.{Visible}

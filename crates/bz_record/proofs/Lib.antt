@@ -1,6 +1,7 @@
 pub mod Written
 mod Leaves
 mod Entries
+mod Before
 mod Effects
 mod Asking
 mod Coding
@@ -16,6 +17,10 @@ mod Found
 mod Removing
 mod Growing
 mod Replacing
+mod MovingAcross
+mod Three
+mod MovingWithin
+mod Moving
 mod GrownWords
 mod Changing
 mod Remembering

@@ -5,17 +5,19 @@ use Rattle.bz_record.proofs.Changing.{changes-asked}
 use Rattle.bz_record.proofs.Growing.{growing}
 use Rattle.bz_record.proofs.GrownWords.{grown-taking}
 use Rattle.bz_record.proofs.Leaves.{key-views-show, leaves-stay, views-show}
-use Rattle.bz_record.proofs.Publishing.{publishing}
+use Rattle.bz_record.proofs.Moving.{moves-asked, moves-good}
+use Rattle.bz_record.proofs.Publishing.{publications-rewrite, publishing}
 use Rattle.bz_record.proofs.Remembering.{leaves-were, remembering}
-use Rattle.bz_record.proofs.Removing.{removing}
+use Rattle.bz_record.proofs.Removing.{removals-rewrite, removing}
 use Rattle.bz_record.proofs.Replacing.{replacing}
 use Rattle.bz_record.proofs.Reserving.{reserving}
-use Rattle.bz_record.proofs.Rewriting.{rewriting}
+use Rattle.bz_record.proofs.Rewriting.{rewriting, rewriting-leaf}
 use Rattle.bz_record.proofs.Taking.{taking}
 use Rattle.bz_record.proofs.Viewing.{key-views-show-records}
 use Rattle.bz_record.proofs.Writing.{written}
-use Rattle.bz_record.specs.Laws.{KeyViewsShowLeaves, LeavesStay, LeavesWere, NewRecordSwapsMayBeAsked, PublicationsAreGood, RecordSwapsMayBeAsked, ReservationsAreGood, ReservationsTakeWords, RewritesAreGood, ViewsShowLeaves}
-use Rattle.bz_record.specs.ReplacingLaws.{ChangesMayBeAsked, GrowthsAreGood, GrowthsTakeWords, KeyViewsShowRecords, RecordsWere, RemovalsAreGood, ReplacementsAreGood}
+use Rattle.bz_record.specs.Laws.{KeyViewsShowLeaves, LeavesStay, LeavesWere, NewRecordSwapsMayBeAsked, PublicationsAreGood, PublicationsRewrite, RecordSwapsMayBeAsked, ReservationsAreGood, ReservationsTakeWords, RewritesAreGood, RewritesChangeTheirLeaf, ViewsShowLeaves}
+use Rattle.bz_record.specs.Moving.{MovesAreGood, MovesMayBeAsked}
+use Rattle.bz_record.specs.ReplacingLaws.{ChangesMayBeAsked, GrowthsAreGood, GrowthsTakeWords, KeyViewsShowRecords, RecordsWere, RemovalsAreGood, RemovalsRewrite, ReplacementsAreGood}
 use Rattle.bz_record.specs.Writing.{RecordsAreWritten}
 
 -- a leaf that was not frozen is as it was while its status is the one that was read
@@ -58,6 +60,17 @@ records_are_written = written
 pub rewrites_are_good : RewritesAreGood
 rewrites_are_good = rewriting
 
+-- so it does to the leaf of its record, whatever else it names
+pub rewrites_change_their_leaf : RewritesChangeTheirLeaf
+rewrites_change_their_leaf = rewriting-leaf
+
+-- a publication rewrites its record's place, and a removal that of its record
+pub publications_rewrite : PublicationsRewrite
+publications_rewrite = publications-rewrite
+
+pub removals_rewrite : RemovalsRewrite
+removals_rewrite = removals-rewrite
+
 -- a publication is such a swap
 pub publications_are_good : PublicationsAreGood
 publications_are_good = publishing
@@ -89,3 +102,11 @@ changes_may_be_asked = changes-asked
 -- the record that was found of a key is one of the key's leaf
 pub key_views_show_records : KeyViewsShowRecords
 key_views_show_records = key-views-show-records
+
+-- the swap by which a record moves, within its leaf or to another one, is lawful for everybody and makes both changes
+pub moves_are_good : MovesAreGood
+moves_are_good = moves-good
+
+-- it may be asked for
+pub moves_may_be_asked : MovesMayBeAsked
+moves_may_be_asked = moves-asked

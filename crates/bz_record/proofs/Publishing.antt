@@ -1,10 +1,8 @@
 -- The publication of a record whose words are stored and durable is a rewrite of its reserved place.
 use Rattle.std.proofs.Common.{◌≡◌, ◌≢◌, ℕ, ◌+◌, ◌-◌, ◌^◌, ◌<◌, ◌≤◌, ◌⊎◌, true, false, List, arith, refl, sym, ap, subst, ◌∙◌, inl}
-use Rattle.std.specs.Prelude.{Some, None, nat_lt}
+use Rattle.std.specs.Prelude.{Some, None}
 use Rattle.std.proofs.lemmas.Bool.{true≢false}
-use Rattle.std.proofs.lemmas.Bool.Decides.{nat_tests}
 use Rattle.bz_layout.specs.Addresses.{node_address}
-use Rattle.bz_layout.specs.declared.config.Config.{Config}
 use Rattle.bz_layout.specs.declared.sizes.TheConstants.{NODE_WORDS, STATUS_AT, HEADER_AT, META_AT}
 use Rattle.bz_slotted.specs.FromNode.Reading.{extent_words}
 use Rattle.bz_slotted.specs.Page.{meta_of, visible, held, extent_of, page}
@@ -20,31 +18,27 @@ use Rattle.bz_content.specs.Image.{node}
 use Rattle.bz_content.specs.Resolving.{resolve}
 use Rattle.bz_content.proofs.Proved.{plain_words_stand_for_themselves}
 use Rattle.bz_task.specs.Good.{IsGood}
-use Rattle.bz_task.specs.Instant.{Instant, words, durable, form_at}
+use Rattle.bz_task.specs.Instant.{words, durable, form_at}
 use Rattle.bz_task.specs.Scene.{Scene, IsScene, here}
 use Rattle.bz_task.specs.Steps.{next_stamp}
-use Rattle.bz_task.specs.Swaps.{Stand, SwapsTo, IsMineAndDurable}
-use Rattle.bz_record.specs.Laws.{SameLeaf, Restates, IsRewriteOf, IsRewrite, inserts, PublicationsAreGood}
+use Rattle.bz_task.specs.Swaps.{Stand, IsMineAndDurable}
+use Rattle.bz_record.specs.Laws.{SameLeaf, Restates, IsRewriteOf, IsRewrite, inserts, PublicationsRewrite, PublicationsAreGood}
 use Rattle.bz_record.specs.Leaves.{WasReserved}
 use Rattle.bz_record.specs.Writing.{HasWritten}
 use Rattle.bz_record.specs.Records.{size_of, offset_of, place_of, address_of, Fits}
 use Rattle.bz_record.specs.Swaps.{entries_of, status_reserved, status_published, publication}
 use Rattle.bz_record.specs.declared.new_record.NewRecord.{NewRecord}
 use Rattle.bz_record.proofs.Coding.{reserved-reads, published-plain, published-reads, reserved-says, visible-says, sizes-agree, reserved-held, reserved-hidden, reserved-extent, visible-shown, visible-used, visible-extent, leaf-record}
-use Rattle.bz_record.proofs.Entries.{finds-meta, status-now, same-now, good-now, durable-status-now}
+use Rattle.bz_record.proofs.Entries.{node-at, finds-meta, status-now, same-now, good-now, durable-status-now}
 use Rattle.bz_record.proofs.Reading.{Stands, word-plain, reads-key, reads-payload, plain-key, plain-payload, not-found}
 use Rattle.bz_record.proofs.Rewriting.{rewriting}
-
-pub node-at : (c : Config) (f : ℕ → ℕ) (k i : ℕ) → i < NODE_WORDS → node c f k i ≡ f (node_address c k + i)
-unfolding node
-node-at c f k i l = let t : nat_lt i NODE_WORDS ≡ true = grind (arith, nat_tests) in rw t refl
 
 -- what is found is what a search finds
 absent-in : (n : ℕ → ℕ) (key : List ℕ) → found_of n key ≡ None → search_to n (page n).meta key (page n).count ≡ None
 unfolding found_of
 absent-in n key e = e
 
-module _ (s : Scene) (y : Instant) (r : NewRecord) (good : IsScene s) (f : Fits r) (w : WasReserved r s.past) (h : HasWritten r s) (stand : Stand (entries_of s.past.config (publication r)) (here s)) (swaps : SwapsTo s.past.config (entries_of s.past.config (publication r)) (here s) y) where
+module _ (s : Scene) (r : NewRecord) (good : IsScene s) (f : Fits r) (w : WasReserved r s.past) (h : HasWritten r s) (stand : Stand (entries_of s.past.config (publication r)) (here s)) where
   reads : status (status_reserved r) ≡ record (status r.status) { count = (status r.status).count + 1; block = (status r.status).block + size_of r; dead = (status r.status).dead + size_of r; stamp = next_stamp (status r.status).stamp }
   reads = reserved-reads r f
 
@@ -52,16 +46,16 @@ module _ (s : Scene) (y : Instant) (r : NewRecord) (good : IsScene s) (f : Fits 
   thawed = ap (λ z. z.frozen) reads ∙ f.room.thawed
 
   now : SameLeaf s.past.config (s.past.at w.moment) (here s) r.slot
-  now = same-now s y (publication r) w.moment good w.leaf.leaf thawed stand swaps
+  now = same-now s (publication r) w.moment good w.leaf.leaf thawed stand
 
   now-good : IsGood s.past.config (here s)
-  now-good = good-now s y (publication r) w.moment good w.leaf.leaf thawed stand swaps
+  now-good = good-now s (publication r) w.moment good w.leaf.leaf thawed stand
 
   was : words s.past.config (here s) r.slot STATUS_AT ≡ status_reserved r
-  was = status-now s y (publication r) w.moment good w.leaf.leaf thawed stand swaps
+  was = status-now s (publication r) w.moment good w.leaf.leaf thawed stand
 
   was-durable : durable s.past.config (here s) r.slot STATUS_AT ≡ status_reserved r
-  was-durable = durable-status-now s y (publication r) w.moment good w.leaf.leaf thawed stand swaps
+  was-durable = durable-status-now s (publication r) w.moment good w.leaf.leaf thawed stand
 
   count-was : (page (words s.past.config (here s) r.slot)).count ≡ (status r.status).count + 1
   count-was = ap (λ z. (status z).count) was ∙ ap (λ z. z.count) reads
@@ -87,7 +81,7 @@ module _ (s : Scene) (y : Instant) (r : NewRecord) (good : IsScene s) (f : Fits 
 
   -- its place is the reserved one
   reserved-meta : durable s.past.config (here s) r.slot (META_AT + (status r.status).count) ≡ meta_word (Reserved (place_of r))
-  reserved-meta = now-good.shown r.slot (META_AT + (status r.status).count) now.leaf.reached (inl (omega (arith, count-was))) ∙ finds-meta s.past.config (publication r) (here s) y swaps (omega (arith, f.room.fits)) stand
+  reserved-meta = now-good.shown r.slot (META_AT + (status r.status).count) now.leaf.reached (inl (omega (arith, count-was))) ∙ finds-meta s.past.config (publication r) (here s) stand (omega (arith, f.room.fits))
 
   reserved-there : (page (durable s.past.config (here s) r.slot)).meta (status r.status).count ≡ Reserved (place_of r)
   reserved-there = ap meta_of reserved-meta ∙ reserved-says r f
@@ -177,5 +171,8 @@ module _ (s : Scene) (y : Instant) (r : NewRecord) (good : IsScene s) (f : Fits 
     own = λ i v from to. own i from to;
   }
 
+pub publications-rewrite : PublicationsRewrite
+publications-rewrite s r good f w h stand = rewrite-of s r good f w h stand
+
 pub publishing : PublicationsAreGood
-publishing s y r good f w h stand swaps = rewriting s y (publication r) (Visible (place_of r)) (inserts r) good (rewrite-of s y r good f w h stand swaps) stand swaps
+publishing s y r good f w h stand swaps = rewriting s y (publication r) (Visible (place_of r)) (inserts r) good (rewrite-of s r good f w h stand) stand swaps

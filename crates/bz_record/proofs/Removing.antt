@@ -11,13 +11,13 @@ use Rattle.bz_word.specs.declared.meta.Extent.{Extent}
 use Rattle.bz_word.specs.declared.meta.Meta.{Meta}
 use Rattle.bz_word.specs.declared.meta.Meta.TheVariants.{Visible, Deleted}
 use Rattle.bz_content.specs.Image.{node}
-use Rattle.bz_task.specs.Instant.{Instant, durable, form_at}
+use Rattle.bz_task.specs.Instant.{durable, form_at}
 use Rattle.bz_task.specs.Scene.{Scene, IsScene, here}
 use Rattle.bz_task.specs.Steps.{next_stamp}
-use Rattle.bz_task.specs.Swaps.{Stand, SwapsTo}
+use Rattle.bz_task.specs.Swaps.{Stand}
 use Rattle.bz_record.specs.Laws.{SameLeaf, IsRewriteOf, IsRewrite}
 use Rattle.bz_record.specs.Replacing.{removal, WasRecord}
-use Rattle.bz_record.specs.ReplacingLaws.{deletes, RemovalsAreGood}
+use Rattle.bz_record.specs.ReplacingLaws.{deletes, RemovalsRewrite, RemovalsAreGood}
 use Rattle.bz_record.specs.Swaps.{entries_of}
 use Rattle.bz_record.proofs.Coding.{visible-shown, visible-extent}
 use Rattle.bz_record.proofs.Entries.{same-now, durable-status-now}
@@ -29,11 +29,11 @@ deleted-used : (key total : ℕ) → used (Deleted key total) ≡ true
 unfolding used
 deleted-used key total = refl
 
-deleted-hidden : (key total : ℕ) → visible (Deleted key total) ≡ false
+pub deleted-hidden : (key total : ℕ) → visible (Deleted key total) ≡ false
 unfolding visible
 deleted-hidden key total = refl
 
-deleted-loose : (key total : ℕ) → held (Deleted key total) ≡ false
+pub deleted-loose : (key total : ℕ) → held (Deleted key total) ≡ false
 unfolding held
 deleted-loose key total = refl
 
@@ -45,15 +45,15 @@ deleted-extent key total = refl
 same-lengths : (m k : Meta) → (extent_of k).key ≡ (extent_of m).key → (extent_of k).total ≡ (extent_of m).total → IsLeafRecord m → IsLeafRecord k
 same-lengths m k a b l = record { some = omega (arith, l.some, a); short = omega (arith, l.short, a); more = omega (arith, l.more, a, b); payload = omega (arith, l.payload, a, b) }
 
-module _ (s : Scene) (y : Instant) (key payload : List ℕ) (k st place : ℕ) (e : Extent) (good : IsScene s) (w : WasRecord key payload k st place e s.past) (thawed : (status st).frozen ≡ false) (stand : Stand (entries_of s.past.config (removal k st place e)) (here s)) (swaps : SwapsTo s.past.config (entries_of s.past.config (removal k st place e)) (here s) y) where
+module _ (s : Scene) (key payload : List ℕ) (k st place : ℕ) (e : Extent) (good : IsScene s) (w : WasRecord key payload k st place e s.past) (thawed : (status st).frozen ≡ false) (stand : Stand (entries_of s.past.config (removal k st place e)) (here s)) where
   now : SameLeaf s.past.config (s.past.at w.moment) (here s) k
-  now = same-now s y (removal k st place e) w.moment good w.leaf.leaf thawed stand swaps
+  now = same-now s (removal k st place e) w.moment good w.leaf.leaf thawed stand
 
   whole : Whole (node s.past.config (here s).image k) (page (durable s.past.config (here s) k)) ((form_at s.past.config (here s)).low k) ((form_at s.past.config (here s)).high k)
   whole = (leaf_rules_are_facts s.past.config.nodes (node s.past.config (here s).image k) (durable s.past.config (here s) k) _ _).0 now.leaf.whole
 
   count-durable : (page (durable s.past.config (here s) k)).count ≡ (status st).count
-  count-durable = ap (λ z. (status z).count) (durable-status-now s y (removal k st place e) w.moment good w.leaf.leaf thawed stand swaps)
+  count-durable = ap (λ z. (status z).count) (durable-status-now s (removal k st place e) w.moment good w.leaf.leaf thawed stand)
 
   there : (page (durable s.past.config (here s) k)).meta place ≡ Visible e
   there = now-says s key payload k st place e good w now
@@ -111,5 +111,8 @@ module _ (s : Scene) (y : Instant) (key payload : List ℕ) (k st place : ℕ) (
           let all : shown (meta_of (meta_word (Visible e))) ≡ extent_words e = ap shown (visible-reads e w.extent) ∙ rw (visible-shown e) (ap extent_words (visible-extent e)) in
           omega (arith, none, all, ap (λ z. z.dead) reads)
 
+pub removals-rewrite : RemovalsRewrite
+removals-rewrite s key payload k st place e good w thawed stand = rewrite-of s key payload k st place e good w thawed stand
+
 pub removing : RemovalsAreGood
-removing s y key payload k st place e good w thawed stand swaps = rewriting s y (removal k st place e) (Deleted e.key e.total) (deletes key payload) good (rewrite-of s y key payload k st place e good w thawed stand swaps) stand swaps
+removing s y key payload k st place e good w thawed stand swaps = rewriting s y (removal k st place e) (Deleted e.key e.total) (deletes key payload) good (rewrite-of s key payload k st place e good w thawed stand) stand swaps

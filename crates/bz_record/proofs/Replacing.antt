@@ -17,10 +17,10 @@ use Rattle.bz_content.specs.Image.{node}
 use Rattle.bz_content.specs.Resolving.{resolve}
 use Rattle.bz_content.proofs.Proved.{plain_words_stand_for_themselves}
 use Rattle.bz_task.specs.Good.{IsGood}
-use Rattle.bz_task.specs.Instant.{Instant, durable, form_at}
+use Rattle.bz_task.specs.Instant.{durable, form_at}
 use Rattle.bz_task.specs.Scene.{Scene, IsScene, here}
 use Rattle.bz_task.specs.Steps.{next_stamp}
-use Rattle.bz_task.specs.Swaps.{Stand, SwapsTo, IsMineAndDurable}
+use Rattle.bz_task.specs.Swaps.{Stand, IsMineAndDurable}
 use Rattle.bz_record.specs.Laws.{SameLeaf, IsRewriteOf, IsRewrite}
 use Rattle.bz_record.specs.Records.{size_of, offset_of, place_of, address_of, Fits}
 use Rattle.bz_record.specs.Replacing.{status_grown, replacement, WasGrown}
@@ -29,14 +29,13 @@ use Rattle.bz_record.specs.Swaps.{entries_of}
 use Rattle.bz_record.specs.Writing.{HasWritten}
 use Rattle.bz_record.specs.declared.new_record.NewRecord.{NewRecord}
 use Rattle.bz_record.proofs.Coding.{visible-says, sizes-agree, visible-shown, visible-used, visible-extent, leaf-record}
-use Rattle.bz_record.proofs.Entries.{same-now, durable-status-now}
+use Rattle.bz_record.proofs.Entries.{node-at, same-now, durable-status-now}
 use Rattle.bz_record.proofs.Found.{counted-plain, counted-reads, visible-reads, now-says, now-key}
 use Rattle.bz_record.proofs.Growing.{grown-plain, grown-reads}
-use Rattle.bz_record.proofs.Publishing.{node-at}
 use Rattle.bz_record.proofs.Reading.{Stands, word-plain, reads-key, reads-payload, plain-key, plain-payload}
 use Rattle.bz_record.proofs.Rewriting.{rewriting}
 
-module _ (s : Scene) (y : Instant) (r : NewRecord) (old : List ℕ) (place : ℕ) (e : Extent) (good : IsScene s) (f : Fits r) (g : WasGrown r old place e s.past) (h : HasWritten r s) (stand : Stand (entries_of s.past.config (replacement r place e)) (here s)) (swaps : SwapsTo s.past.config (entries_of s.past.config (replacement r place e)) (here s) y) where
+module _ (s : Scene) (r : NewRecord) (old : List ℕ) (place : ℕ) (e : Extent) (good : IsScene s) (f : Fits r) (g : WasGrown r old place e s.past) (h : HasWritten r s) (stand : Stand (entries_of s.past.config (replacement r place e)) (here s)) where
   reads : status (status_grown r) ≡ record (status r.status) { block = (status r.status).block + size_of r; dead = (status r.status).dead + size_of r; stamp = next_stamp (status r.status).stamp }
   reads = grown-reads r f
 
@@ -44,10 +43,10 @@ module _ (s : Scene) (y : Instant) (r : NewRecord) (old : List ℕ) (place : ℕ
   thawed = ap (λ z. z.frozen) reads ∙ f.room.thawed
 
   now : SameLeaf s.past.config (s.past.at g.was.moment) (here s) r.slot
-  now = same-now s y (replacement r place e) g.was.moment good g.was.leaf.leaf thawed stand swaps
+  now = same-now s (replacement r place e) g.was.moment good g.was.leaf.leaf thawed stand
 
   was-durable : durable s.past.config (here s) r.slot STATUS_AT ≡ status_grown r
-  was-durable = durable-status-now s y (replacement r place e) g.was.moment good g.was.leaf.leaf thawed stand swaps
+  was-durable = durable-status-now s (replacement r place e) g.was.moment good g.was.leaf.leaf thawed stand
 
   count-durable : (page (durable s.past.config (here s) r.slot)).count ≡ (status r.status).count
   count-durable = ap (λ z. (status z).count) was-durable ∙ ap (λ z. z.count) reads
@@ -162,4 +161,4 @@ module _ (s : Scene) (y : Instant) (r : NewRecord) (old : List ℕ) (place : ℕ
   }
 
 pub replacing : ReplacementsAreGood
-replacing s y r old place e good f g h stand swaps = rewriting s y (replacement r place e) (Visible (place_of r)) (updates r old) good (rewrite-of s y r old place e good f g h stand swaps) stand swaps
+replacing s y r old place e good f g h stand swaps = rewriting s y (replacement r place e) (Visible (place_of r)) (updates r old) good (rewrite-of s r old place e good f g h stand) stand swaps

@@ -15,10 +15,12 @@ use Rattle.bz_word.specs.declared.meta.Meta.TheVariants.{Reserved}
 use Rattle.bz_word.specs.declared.status.Status.{Status}
 use Rattle.bz_content.specs.Image.{node}
 use Rattle.bz_task.specs.Instant.{Instant, words, durable, form_at}
+use Rattle.bz_task.specs.Laws.{SlotWords}
 use Rattle.bz_task.specs.Scene.{Scene, IsScene, here}
 use Rattle.bz_task.specs.Shown.{IsOfRecord, IsShown}
 use Rattle.bz_task.specs.Steps.{Moves, next_stamp}
 use Rattle.bz_task.specs.Swaps.{Stand, SwapsTo}
+use Rattle.bz_task.proofs.Proved.{swaps_show_in_slots}
 use Rattle.bz_record.specs.Laws.{SameLeaf}
 use Rattle.bz_record.specs.Leaves.{WasLeafThen}
 use Rattle.bz_record.specs.Records.{size_of, place_of, Fits}
@@ -40,30 +42,33 @@ module _ (s : Scene) (y : Instant) (r : NewRecord) (moment : ℕ) (good : IsScen
   pub place : META_AT + (status r.status).count < NODE_WORDS
   place = omega (arith, f.room.fits)
 
+  pub slot : SlotWords s.past.config (entries_of s.past.config (reservation r)) (here s) y r.slot
+  slot = swaps_show_in_slots s.past.config (entries_of s.past.config (reservation r)) (here s) y r.slot swaps
+
   pub same : SameLeaf s.past.config (s.past.at moment) (here s) r.slot
-  same = same-now s y (reservation r) moment good leaf f.room.thawed stand swaps
+  same = same-now s (reservation r) moment good leaf f.room.thawed stand
 
   pub was : words s.past.config (here s) r.slot STATUS_AT ≡ r.status
-  was = status-now s y (reservation r) moment good leaf f.room.thawed stand swaps
+  was = status-now s (reservation r) moment good leaf f.room.thawed stand
 
   pub was-durable : durable s.past.config (here s) r.slot STATUS_AT ≡ r.status
-  was-durable = durable-status-now s y (reservation r) moment good leaf f.room.thawed stand swaps
+  was-durable = durable-status-now s (reservation r) moment good leaf f.room.thawed stand
 
   reads : status ((reservation r).new_status) ≡ record (status r.status) { count = (status r.status).count + 1; block = (status r.status).block + size_of r; dead = (status r.status).dead + size_of r; stamp = next_stamp (status r.status).stamp }
   reads = reserved-reads r f
 
   pub is : words s.past.config y r.slot STATUS_AT ≡ (reservation r).new_status
-  is = sets-status s.past.config (reservation r) (here s) y swaps place
+  is = sets-status s.past.config (reservation r) (here s) y slot place
 
   is-durable : durable s.past.config y r.slot STATUS_AT ≡ (reservation r).new_status
-  is-durable = sets-durable-status s.past.config (reservation r) (here s) y swaps place
+  is-durable = sets-durable-status s.past.config (reservation r) (here s) y slot place
 
   -- a field of the status afterwards
   field-is : (A : Type 0) (g : Status → A) (n : ℕ → ℕ) → n STATUS_AT ≡ (reservation r).new_status → g (status (n STATUS_AT)) ≡ g (record (status r.status) { count = (status r.status).count + 1; block = (status r.status).block + size_of r; dead = (status r.status).dead + size_of r; stamp = next_stamp (status r.status).stamp })
   field-is A g n e = ap (λ z. g (status z)) e ∙ ap g reads
 
   pub others : (i : ℕ) → i ≢ STATUS_AT → i ≢ META_AT + (status r.status).count → words s.past.config y r.slot i ≡ words s.past.config (here s) r.slot i
-  others = leaves-others s.past.config (reservation r) (here s) y swaps place
+  others = leaves-others s.past.config (reservation r) (here s) y slot place
 
   pub count-was : (page (words s.past.config (here s) r.slot)).count ≡ (status r.status).count
   count-was = ap (λ z. (status z).count) was
@@ -102,12 +107,12 @@ module _ (s : Scene) (y : Instant) (r : NewRecord) (moment : ℕ) (good : IsScen
   dead-durable = ap (λ z. (status z).dead) was-durable
 
   said : durable s.past.config y r.slot (META_AT + (status r.status).count) ≡ meta_word (Reserved (place_of r))
-  said = sets-durable-meta s.past.config (reservation r) (here s) y swaps place
+  said = sets-durable-meta s.past.config (reservation r) (here s) y slot place
 
   pub reserves : Reserves (node s.past.config (here s).image r.slot) (node s.past.config y.image r.slot) (durable s.past.config (here s) r.slot) (durable s.past.config y r.slot) (Reserved (place_of r))
   reserves = record {
-    others = λ i n m. leaves-durable-others s.past.config (reservation r) (here s) y swaps place i n (λ e. m (omega (arith, e, count-durable)));
-    raw = λ i l. leaves-raw s.past.config (reservation r) (here s) y swaps place i;
+    others = λ i n m. leaves-durable-others s.past.config (reservation r) (here s) y slot place i n (λ e. m (omega (arith, e, count-durable)));
+    raw = λ i l. leaves-raw s.past.config (reservation r) (here s) y slot place i;
     status = subst (λ z. z < 2 ^ 61) (sym is-durable) (reserved-plain r f);
     count = omega (arith, count-durable, field-is ℕ (λ z. z.count) (durable s.past.config y r.slot) is-durable);
     block = omega (arith, block-durable, weighs, field-is ℕ (λ z. z.block) (durable s.past.config y r.slot) is-durable);
@@ -126,7 +131,7 @@ module _ (s : Scene) (y : Instant) (r : NewRecord) (moment : ℕ) (good : IsScen
 
   -- the new record is not visible
   pub hidden : visible ((page (words s.past.config y r.slot)).meta (status r.status).count) ≡ false
-  hidden = ap (λ z. visible (meta_of z)) (sets-meta s.past.config (reservation r) (here s) y swaps place) ∙ (ap visible (reserved-says r f) ∙ reserved-hidden (place_of r))
+  hidden = ap (λ z. visible (meta_of z)) (sets-meta s.past.config (reservation r) (here s) y slot place) ∙ (ap visible (reserved-says r f) ∙ reserved-hidden (place_of r))
 
   -- so a word of a visible record is one of a record that was visible
   pub record-before : (i j : ℕ) → IsOfRecord (words s.past.config y r.slot) i j → IsOfRecord (words s.past.config (here s) r.slot) i j

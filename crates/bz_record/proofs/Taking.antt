@@ -33,7 +33,7 @@ use Rattle.bz_record.proofs.Coding.{reserved-plain, reserved-reads}
 use Rattle.bz_record.proofs.Effects.{has-swapped}
 use Rattle.bz_record.proofs.Entries.{sets-meta}
 use Rattle.bz_record.proofs.Leaves.{held-visible}
-use Rattle.bz_record.proofs.Reserved.{place, same, is, others, count-is, block-is, count-was, count-durable, block-durable, alike, record-before}
+use Rattle.bz_record.proofs.Reserved.{place, slot, same, is, others, count-is, block-is, count-was, count-durable, block-durable, alike, record-before}
 use Rattle.bz_record.proofs.Remembering.{leaves-were}
 
 pub or-right : (a b : Bool) → b ≡ true → a || b ≡ true
@@ -154,7 +154,7 @@ module _ (s after : Scene) (r : NewRecord) (moment : ℕ) (good : IsScene s) (la
         range = rw (place-after.low, place-after.high) leaf-then.range;
         found = with-config (λ c. found_of (durable c (here after) r.slot) r.key ≡ None) absent;
       };
-      meta = with-config (λ c. words c (here after) r.slot (META_AT + (status r.status).count) ≡ meta_word (Reserved (place_of r))) (sets-meta s.past.config (reservation r) (here s) (here after) t.swaps (place s (here after) r moment good f leaf.leaf stand t.swaps));
+      meta = with-config (λ c. words c (here after) r.slot (META_AT + (status r.status).count) ≡ meta_word (Reserved (place_of r))) (sets-meta s.past.config (reservation r) (here s) (here after) (slot s (here after) r moment good f leaf.leaf stand t.swaps) (place s (here after) r moment good f leaf.leaf stand t.swaps));
       unsorted = with-config (λ c. (page_at c (here after) r.slot).sorted ≤ (status r.status).count) unsorted;
       swapped = has-swapped false (entries_of s.past.config (reservation r)) s after good t;
     };

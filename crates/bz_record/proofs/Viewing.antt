@@ -5,7 +5,7 @@ use Rattle.bz_layout.specs.declared.sizes.TheConstants.{META_AT}
 use Rattle.bz_slotted.specs.Page.{meta_of, held, extent_of, page}
 use Rattle.bz_slotted.specs.Records.{key_in}
 use Rattle.bz_slotted.specs.Whole.{Whole, IsInBlock, IsLeafRecord}
-use Rattle.bz_word.specs.Metas.{meta_word, meta, IsMeta}
+use Rattle.bz_word.specs.Metas.{meta_word, IsMeta}
 use Rattle.bz_word.specs.Statuses.{status}
 use Rattle.bz_word.specs.declared.meta.Extent.{Extent}
 use Rattle.bz_word.specs.declared.meta.Meta.TheVariants.{Visible}

@@ -10,11 +10,15 @@ use Rattle.bz_slotted.specs.Records.{key_in, payload_in, key_at, weight, shown}
 use Rattle.bz_slotted.specs.Whole.{IsLeafRecord, IsInBlock, IsPlainKey, IsPlainPayload, Disjoint}
 use Rattle.bz_word.specs.Statuses.{status}
 use Rattle.bz_word.specs.declared.meta.Meta.{Meta}
+use Rattle.bz_word.specs.declared.meta.Meta.TheVariants.{Visible}
 use Rattle.bz_content.specs.Image.{node}
-use Rattle.bz_task.specs.Instant.{Instant, words, durable}
-use Rattle.bz_task.specs.Laws.{SamePlace, IsLeafInTree}
+use Rattle.bz_task.specs.FromSwap.SwapMemory.{is_target}
+use Rattle.bz_task.specs.Instant.{Instant, words, durable, form_at}
+use Rattle.bz_task.specs.Laws.{SamePlace, IsLeafInTree, SlotWords}
+use Rattle.bz_task.specs.LeafSwaps.{IsWordOf, SaysChange}
 use Rattle.bz_task.specs.Outcomes.{payload_of, IsView, IsKeyView}
-use Rattle.bz_task.specs.Requests.{IsEntryToAsk}
+use Rattle.bz_task.specs.PairSwaps.{IsLeafChanged}
+use Rattle.bz_task.specs.Requests.{IsTarget, IsEntryToAsk}
 use Rattle.bz_task.specs.Scene.{Past, Scene, IsScene, Continues, here}
 use Rattle.bz_task.specs.Shown.{SameWords, SameShownNode}
 use Rattle.bz_task.specs.Steps.{next_stamp}
@@ -22,7 +26,7 @@ use Rattle.bz_task.specs.Swaps.{Change, Stand, SwapsTo, IsMineAndDurable, IsGood
 use Rattle.bz_task.specs.declared.view.KeyView.{KeyView}
 use Rattle.bz_task.specs.declared.view.LeafView.{LeafView}
 use Rattle.bz_record.specs.Leaves.{WasLeafThen, WasLeafOf, WasReserved}
-use Rattle.bz_record.specs.Records.{Fits}
+use Rattle.bz_record.specs.Records.{place_of, Fits}
 use Rattle.bz_record.specs.Swaps.{entries_of, reservation, publication}
 use Rattle.bz_record.specs.Writing.{IsWritingRecord, HasWritten}
 use Rattle.bz_record.specs.declared.new_record.NewRecord.{NewRecord}
@@ -135,6 +139,20 @@ pub record IsRewrite (w : RecordSwap) (mt : Meta) (change : Change) (s : Scene) 
   pub rewrites : IsRewriteOf (node s.past.config (here s).image w.slot) (durable s.past.config (here s) w.slot) w.place mt change
   pub own : (i : ℕ) → visible mt ≡ true → (extent_of mt).offset ≤ i → i < (extent_of mt).offset + weight mt → IsMineAndDurable s (node_address s.past.config w.slot + i)
 
+-- the leaf after a swap of its status and of that metadata word: it is changed as nodes are, breaks no rule, and says the change
+-- and nothing else; both words are its, and may be named
+pub record IsRewritten (w : RecordSwap) (change : Change) (s : Scene) (y : Instant) : Type 0 where
+  pub leaf : IsLeafChanged s w.slot y
+  pub says : SaysChange change (durable s.past.config (here s) w.slot) (durable s.past.config y w.slot) ((form_at s.past.config (here s)).low w.slot) ((form_at s.past.config (here s)).high w.slot)
+  pub place : (a : ℕ) → is_target (entries_of s.past.config w) a ≡ true → IsWordOf s w.slot a
+  pub targets : (a : ℕ) → is_target (entries_of s.past.config w) a ≡ true → IsTarget s a
+
+-- so it is whatever else the swap names in other slots
+abbrev pub RewritesChangeTheirLeaf : Type 0
+RewritesChangeTheirLeaf =
+    (s : Scene) (y : Instant) (w : RecordSwap) (mt : Meta) (change : Change) → IsScene s → IsRewrite w mt change s →
+    Stand (entries_of s.past.config w) (here s) → SlotWords s.past.config (entries_of s.past.config w) (here s) y w.slot → IsRewritten w change s y
+
 -- a publication, a delete and the second swap of an update: where status and metadata word are the ones that are expected, it
 -- is lawful for everybody, and makes the change
 abbrev pub RewritesAreGood : Type 0
@@ -146,6 +164,12 @@ RewritesAreGood =
 -- the change that the publication of a record makes: its key was absent
 abbrev pub inserts : NewRecord → Change
 inserts r = record { key = r.key; old = None; new = Some r.payload }
+
+-- where both words are the ones that are expected, a publication of words that are the worker's own and durable is such a swap
+abbrev pub PublicationsRewrite : Type 0
+PublicationsRewrite =
+    (s : Scene) (r : NewRecord) → IsScene s → Fits r → WasReserved r s.past → HasWritten r s → Stand (entries_of s.past.config (publication r)) (here s) →
+    IsRewrite (publication r) (Visible (place_of r)) (inserts r) s
 
 abbrev pub PublicationsAreGood : Type 0
 PublicationsAreGood =

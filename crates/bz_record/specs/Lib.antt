@@ -6,4 +6,5 @@ pub mod Laws
 pub mod Replacing
 pub mod Finding
 pub mod ReplacingLaws
+pub mod Moving
 pub mod FromSlotted

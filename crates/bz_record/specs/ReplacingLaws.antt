@@ -2,6 +2,7 @@
 use Rattle.std.specs.Prelude.{◌≡◌, ℕ, false, true, List, [], ◌∷◌, All, Some, None}
 use Rattle.bz_word.specs.Statuses.{status}
 use Rattle.bz_word.specs.declared.meta.Extent.{Extent}
+use Rattle.bz_word.specs.declared.meta.Meta.TheVariants.{Deleted}
 use Rattle.bz_task.specs.Instant.{Instant}
 use Rattle.bz_task.specs.Outcomes.{IsKeyView}
 use Rattle.bz_task.specs.Requests.{IsEntryToAsk}
@@ -10,6 +11,7 @@ use Rattle.bz_task.specs.Swaps.{Change, Stand, SwapsTo, IsGoodSwap, Takes}
 use Rattle.bz_task.specs.declared.view.Found.{Found}
 use Rattle.bz_task.specs.declared.view.KeyView.{KeyView}
 use Rattle.bz_record.specs.Finding.{record_of}
+use Rattle.bz_record.specs.Laws.{IsRewrite}
 use Rattle.bz_record.specs.Leaves.{WasLeafThen}
 use Rattle.bz_record.specs.Records.{Fits}
 use Rattle.bz_record.specs.Replacing.{growth, replacement, removal, WasRecord, WasGrown}
@@ -28,6 +30,12 @@ deletes key payload = record { key = key; old = Some payload; new = None }
 
 abbrev pub updates : NewRecord → List ℕ → Change
 updates r old = record { key = r.key; old = Some old; new = Some r.payload }
+
+-- where both are the ones that were read, a removal says a record that is deleted
+abbrev pub RemovalsRewrite : Type 0
+RemovalsRewrite =
+    (s : Scene) (key payload : List ℕ) (k st place : ℕ) (e : Extent) → IsScene s → WasRecord key payload k st place e s.past → (status st).frozen ≡ false →
+    Stand (entries_of s.past.config (removal k st place e)) (here s) → IsRewrite (removal k st place e) (Deleted e.key e.total) (deletes key payload) s
 
 -- where status and metadata word are the ones that were read, a removal is lawful for everybody and deletes the key
 abbrev pub RemovalsAreGood : Type 0
