@@ -73,7 +73,7 @@ same_rule K a b one other = elim (cases_lt (place_of a) (place_of b)) [
 not_earlier : (Keeps : JudgeRule → List Mark → Type 0) (past : List Mark) (a b : JudgeRule) (m n : ℕ) → BreaksFirst Keeps past a m → BreaksFirst Keeps past b n → m < n → ⊥
 not_earlier Keeps past a b m n one other less = one.this.broken (other.before m less one.outer a)
 
-same_broken : (Keeps : JudgeRule → List Mark → Type 0) (past : List Mark) (a b : JudgeRule) (m n : ℕ) → BreaksFirst Keeps past a m → BreaksFirst Keeps past b n → Broken a m ≡ Broken b n
+pub same_broken : (Keeps : JudgeRule → List Mark → Type 0) (past : List Mark) (a b : JudgeRule) (m n : ℕ) → BreaksFirst Keeps past a m → BreaksFirst Keeps past b n → Broken a m ≡ Broken b n
 same_broken Keeps past a b m n one other = elim (cases_lt m n) [
   | inl less ↦ absurd (not_earlier Keeps past a b m n one other less)
   | inr le ↦ elim (cases_lt n m) [

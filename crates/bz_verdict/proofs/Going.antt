@@ -142,7 +142,7 @@ pub looked : (c : Config) (at_start : Power) (start : List ℕ) (marks : List Ma
 looked c at_start start marks p h image are few = record { words = durable_is start marks p.words h.replays image are few; map = h.holds }
 
 -- the verdict at a moment that is not inner
-three_seen : (c : Config) (at_start : Power) (start : List ℕ) (marks : List Mark) (rule : JudgeRule) → place_of rule < 3 → Three c at_start start rule marks → KeepsSeen c at_start start rule marks
+pub three_seen : (c : Config) (at_start : Power) (start : List ℕ) (marks : List Mark) (rule : JudgeRule) → place_of rule < 3 → Three c at_start start rule marks → KeepsSeen c at_start start rule marks
 three_seen c at_start start marks Truth lt h = h
 three_seen c at_start start marks Calls lt h = h
 three_seen c at_start start marks Reply lt h = h

@@ -1,3 +1,4 @@
 mod Pairing
 mod Going
+mod Starting
 mod LawProofs

@@ -1,3 +1,4 @@
 pub mod Images
 pub mod Rules
+pub mod Starts
 pub mod Laws

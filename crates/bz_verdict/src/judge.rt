@@ -7,8 +7,9 @@ ghost use Rattle.bz_mark.specs.Laws.{IsImage, AreOfMemory};
 ghost use Rattle.bz_mark.specs.Moments.{IsInner};
 ghost use Rattle.bz_check.specs.Verdicts.{IsVerdict};
 ghost use Rattle.bz_verdict.specs.Rules.{KeepsSeen, may_change_image};
+ghost use Rattle.bz_verdict.specs.Starts.{IsFirstOuter, IsBadStartVerdict};
 
-use crate::image::moment_rule;
+use crate::image::{is_well_formed, moment_rule};
 use crate::maps::map_held;
 use bz_check::{JudgeRule, Pass, Verdict, first};
 use bz_layout::Config;
@@ -60,11 +61,39 @@ fn is_image(start: &[u64])
     let _count = start.len();
 }
 
-/// Judges the rules of truth, calls, shape and content, and replies as far as the map and counts tell: the least moment, those before an
-/// Effect left out, up to which one of the five is broken, and the first of them that is broken there. Where a call has no Effect, nothing
-/// is asked of what a page shows, and nothing of the cause of a Full but where descriptors are spent. The start must be well formed. The
-/// power at the start is given.
-pub fn judge_all_but_pages_and_causes(
+/// The least moment that is not an inner one.
+fn first_outer(journal: &Journal) -> u32
+    ensures { IsFirstOuter result journal.now.past }
+{
+    let count = journal.length();
+    for i in 0..count {
+        if !is_inner(journal, i) {
+            return i;
+        }
+    }
+    count
+}
+
+/// The verdict where the start is not well formed: shape is broken at moment 0. Where that is an inner one, Effects stand first, and calls
+/// are broken behind them.
+fn bad_start_verdict(journal: &Journal) -> Verdict
+    ensures { IsBadStartVerdict journal.now.start journal.now.past result }
+{
+    let moment = first_outer(journal);
+    if moment == 0 {
+        return Verdict::Broken {
+            rule: JudgeRule::Shape,
+            moment,
+        };
+    }
+    Verdict::Broken {
+        rule: JudgeRule::Calls,
+        moment,
+    }
+}
+
+/// The same as the call below, where the start is well formed.
+fn judge_from_good_start(
     alloc: Global,
     config: &Config,
     power: Power,
@@ -103,4 +132,25 @@ pub fn judge_all_but_pages_and_causes(
         stale = left;
     }
     Ok(Verdict::Sound)
+}
+
+/// Judges the rules of truth, calls, shape and content, and replies as far as the map and counts tell: the least moment, those before an
+/// Effect left out, up to which one of the five is broken, and the first of them that is broken there. Where a call has no Effect, nothing
+/// is asked of what a page shows, and nothing of the cause of a Full but where descriptors are spent. The power at the start is given.
+pub fn judge_all_but_pages_and_causes(
+    alloc: Global,
+    config: &Config,
+    power: Power,
+    journal: &Journal,
+) -> Result<Verdict, Memory>
+    requires config { IsConfig config.now }
+    requires size { length journal.now.start ≡ words_of config.now }
+    requires marks { AreOfMemory (length journal.now.start) journal.now.past }
+    ensures { IfOk result (λ verdict. IsVerdict (KeepsSeen config.now power journal.now.start) journal.now.past verdict) }
+{
+    let good = is_well_formed(alloc, config, journal.start())?;
+    if !good {
+        return Ok(bad_start_verdict(journal));
+    }
+    judge_from_good_start(alloc, config, power, journal)
 }

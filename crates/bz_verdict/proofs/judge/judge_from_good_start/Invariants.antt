@@ -2,7 +2,7 @@ use Rattle.bz_mark.specs.Moments.{at_moment}
 use Rattle.bz_sound.specs.Memory.Moments.{map_at_start}
 use Rattle.bz_check.specs.Passes.{Passes}
 use Rattle.bz_verdict.proofs.Going.{Sees}
-use Rattle.bz_verdict.proofs.judge.judge_all_but_pages_and_causes.Given as goal
+use Rattle.bz_verdict.proofs.judge.judge_from_good_start.Given as goal
 
 abbrev pub invariant-loop-i : goal.invariant-loop-i
 invariant-loop-i l = record {
