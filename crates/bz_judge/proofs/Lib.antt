@@ -1,6 +1,7 @@
 pub mod AllKeys
 pub mod Begun
 pub mod Children
+pub mod Descending
 pub mod FirstUnlawful
 pub mod Gathered
 pub mod HeldPairs

@@ -64,6 +64,7 @@ root-starts c image u slot level some within small is reads e = record {
   walk = walk-begins v u level (rw (same c.nodes) refl) height (e ∙ kid-is);
   below = omega (arith, ap (λ (x : Visit). x.slot) e, is);
   level = ap (λ (x : Visit). x.level + 1) e ∙ height;
+  root = e ∙ kid-is ∙ ap (λ l. kid v (start v) l 0) (sym (ap (λ (x : Visit). x.level) e));
 }
   where
     v : View

@@ -10,7 +10,7 @@ use Rattle.bz_layout.specs.declared.sizes.TheConstants.{SUPERBLOCK_WORDS, SUPERB
 use Rattle.bz_slotted.specs.Tests.{every}
 use Rattle.bz_tree.specs.Walk.{fault_of}
 use Rattle.bz_tree.specs.declared.rule.ShapeRule.TheVariants.{Super}
-use Rattle.bz_content.specs.Content.{image_fault, is_super, or_word, view_in}
+use Rattle.bz_content.specs.Content.{image_fault, is_super, or_word, view_in, leaf_end_in}
 use Rattle.bz_content.specs.Image.{node}
 use Rattle.bz_content.specs.Lawful.{is_lawful, first_unlawful}
 use Rattle.bz_judge.specs.Held.{IsImageOf, pairs_held}
@@ -80,3 +80,10 @@ same-image c d image h config nodes swaps = record {
 
 pub same-held : (c d : Config) (raw : ℕ → ℕ) → c.nodes ≡ d.nodes → c.swaps ≡ d.swaps → pairs_held d raw ≡ pairs_held c raw
 same-held c d raw nodes swaps = sym (held-alike c d raw) ∙ sym (ap (λ x. pairs_held x raw) (is-renumbered c d nodes swaps))
+
+end-alike : (c d : Config) (raw : ℕ → ℕ) (key : List ℕ) → leaf_end_in (renumbered c d) raw key ≡ leaf_end_in d raw key
+unfolding node
+end-alike c d raw key = refl
+
+pub same-end : (c d : Config) (raw : ℕ → ℕ) (key : List ℕ) → c.nodes ≡ d.nodes → c.swaps ≡ d.swaps → leaf_end_in d raw key ≡ leaf_end_in c raw key
+same-end c d raw key nodes swaps = sym (end-alike c d raw key) ∙ sym (ap (λ x. leaf_end_in x raw key) (is-renumbered c d nodes swaps))

@@ -2,6 +2,7 @@
 #![tactic(auto)]
 
 mod content;
+mod descent;
 mod gathering;
 mod judging;
 mod lawful;
@@ -13,5 +14,5 @@ mod visit;
 mod walk;
 mod words;
 
-pub use content::pairs;
+pub use content::{leaf_end, pairs};
 pub use judging::check;

@@ -35,8 +35,8 @@ pub(crate) fn stack_with(alloc: Global, visit: Visit) -> Result<Vec<Visit>, Memo
     }
 }
 
-// The visit to child i of a node, whose keys end at this bound.
-fn visit_to_child(visit: &Visit, child: &Child, i: u32, high: Option<Key>) -> Visit
+/// The visit to child i of a node, whose keys end at this bound.
+pub(crate) fn visit_to_child(visit: &Visit, child: &Child, i: u32, high: Option<Key>) -> Visit
     requires { 0 < visit.now.place.level }
     ensures { visit_of result ≡ record { slot = child.now.slot; level = visit.now.place.level - 1; low = (if i == 0 then visit.now.place.low else child.now.low); high = high; up = visit.now.slot; index = i } }
 {

@@ -10,7 +10,7 @@ use Rattle.bz_tree.specs.Content.{Pairs, pairs_of}
 use Rattle.bz_tree.specs.Stack.{pending}
 use Rattle.bz_tree.specs.View.{View}
 use Rattle.bz_content.specs.declared.outcomes.Shape.{Shape as Found}
-use Rattle.bz_tree.specs.Walk.{Visit, start, walk, first_fault, fault_of, is_among}
+use Rattle.bz_tree.specs.Walk.{Visit, kid, start, walk, first_fault, fault_of, is_among}
 use Rattle.bz_judge.specs.Inside.Stacks.{AreBelow, stack_of}
 use Rattle.bz_judge.specs.declared.walk.Walk.{Walk}
 
@@ -56,6 +56,7 @@ pub record Starts (v : View) (u : Visit) : Type 0 where
   pub walk : walk v ≡ start v ∷ pending v (u ∷ [])
   pub below : u.slot < v.top
   pub level : u.level + 1 ≡ v.height
+  pub root : u ≡ kid v (start v) u.level 0
 
 -- this is the visit to the root of an image
 abbrev pub IsRoot : Config → List ℕ → Visit → Type 0
