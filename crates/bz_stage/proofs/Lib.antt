@@ -8,6 +8,7 @@ pub mod InnerSplits
 pub mod LeafSplits
 pub mod Leaves
 pub mod Made
+pub mod Others
 pub mod Paths
 pub mod Runs
 pub mod Proved

@@ -7,10 +7,12 @@ use Rattle.bz_stage.proofs.InnerSplits.{inner-splits, root-splits, splits-leave-
 use Rattle.bz_stage.proofs.LeafSplits.{leaf-splits, root-leaf-splits}
 use Rattle.bz_stage.proofs.Leaves.{lacking-leaves-say, stages-say}
 use Rattle.bz_stage.proofs.Made.{entries-taken, made-inners, made-leaves}
+use Rattle.bz_stage.proofs.Others.{links, merges-give-room, others-stay, room-stays}
 use Rattle.bz_stage.proofs.Paths.{paths-are-of-keys}
 use Rattle.bz_stage.specs.Examples.{StagesAreTold}
 use Rattle.bz_stage.specs.Laws.{CopiesGiveRoom, FreezesLowerTheStage, FullNodesAreCounted, InnerSplitsLowerTheStage, LackingLeavesSay, LeafSplitsGiveRoom, PathsAreOfKeys, RootLeafSplitsGiveRoom, RootSplitsLowerTheStage, SplitsLeaveALevel, StagesAreBounded, StagesSay}
 use Rattle.bz_stage.specs.Made.{EntriesTakeTheWords, MadeInnersTakeTheirEntries, MadeLeavesAreRoomy}
+use Rattle.bz_stage.specs.Others.{LinksLeaveOtherLeaves, MergesGiveRoom, OthersStay, RoomStays}
 
 -- the stages of small images and of single leaves
 pub stages_are_told : StagesAreTold
@@ -75,3 +77,19 @@ made_inners_take_their_entries = made-inners
 -- so has each inner node that breaks no rule
 pub entries_take_the_words : EntriesTakeTheWords
 entries_take_the_words = entries-taken
+
+-- where a swap turns a link, the leaf of each key stays that does not go
+pub links_leave_other_leaves : LinksLeaveOtherLeaves
+links_leave_other_leaves = links
+
+-- so does the leaf of another key, whatever is made anew for one; and after the split of an inner node that of every key
+pub others_stay : OthersStay
+others_stay = others-stay
+
+-- a key that has room keeps it while its leaf stays
+pub room_stays : RoomStays
+room_stays = room-stays
+
+-- a merge gives room to the keys of both leaves
+pub merges_give_room : MergesGiveRoom
+merges_give_room = merges-give-room

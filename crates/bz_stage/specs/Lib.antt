@@ -1,6 +1,7 @@
 pub mod Examples
 pub mod Laws
 pub mod Made
+pub mod Others
 pub mod Paths
 pub mod Rooms
 pub mod Stages
