@@ -35,6 +35,11 @@ begun_from cut (Some call) = if nat_le cut call.begun then Some call else None
 abbrev pub open_in : Known → ℕ → Option OpenCall
 open_in t w = begun_from t.cut (caller_at t w).last
 
+-- its call alone
+abbrev pub call_in : Option OpenCall → Option Call
+call_in None = None
+call_in (Some call) = Some call.call
+
 -- another worker than this one has an open call
 abbrev pub is_other_in : Known → ℕ → ℕ → Bool
 is_other_in t w v = not (v == w) && is_some (open_in t v)

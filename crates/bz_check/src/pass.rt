@@ -9,6 +9,7 @@ ghost use Rattle.bz_mark.specs.declared.power.Power.{Power as PowerWord};
 ghost use Rattle.bz_check.specs.Pairs.{Holds};
 ghost use Rattle.bz_check.specs.Passes.{IsPass, Passes};
 ghost use Rattle.bz_check.specs.Rules.{FollowsJudged};
+ghost use Rattle.bz_check.specs.Tables.{open_in, call_in};
 ghost use Rattle.bz_check.specs.Verdicts.{TellsFirst};
 
 use crate::counter::Counter;
@@ -17,6 +18,7 @@ use crate::replay::Replay;
 use crate::sights::Sights;
 use crate::table::Table;
 use crate::verdict::JudgeRule;
+use bz_call::Call;
 use bz_key::{Key, Payload};
 use bz_layout::Config;
 use bz_mark::{Mark, Power};
@@ -94,6 +96,17 @@ impl Pass {
         ensures { result.now ≡ self.now.words.durable }
     {
         self.replay.durable()
+    }
+
+    /// A worker's open call.
+    pub fn open_call(&self, w: u8) -> Option<Call>
+        requires { length self.now.table.callers ≡ 256 }
+        ensures { result ≡ call_in (open_in self.now.table w) }
+    {
+        let Some(call) = self.table.open_call(w) else {
+            return None;
+        };
+        Some(call.call)
     }
 
     /// The map.

@@ -6,64 +6,62 @@ use Rattle.bz_mark.specs.Log.{Log}
 use Rattle.bz_mark.specs.Moments.{at_moment, IsInner}
 use Rattle.bz_mark.specs.declared.marks.Mark.{Mark}
 use Rattle.bz_mark.specs.declared.power.Power.{Power}
-use Rattle.bz_sound.specs.Memory.Moments.{map_at_start, EachMark}
+use Rattle.bz_sound.specs.Memory.Moments.{EachMark}
 use Rattle.bz_sound.specs.Power.Replies.{HasRightReply}
 use Rattle.bz_sound.specs.Power.Sound.{IsSound}
 use Rattle.bz_sound.specs.Replies.{Pages}
-use Rattle.bz_check.specs.Replies.{HasPlainReply}
-use Rattle.bz_check.specs.Rules.{HasShape, HasContent, KeepsJudged, FollowsJudged}
+use Rattle.bz_check.specs.Rules.{HasShape, HasContent}
 use Rattle.bz_check.specs.Verdicts.{BreaksFirst}
 use Rattle.bz_check.specs.declared.verdict.JudgeRule.{JudgeRule}
 use Rattle.bz_check.specs.declared.verdict.JudgeRule.TheVariants.{Truth, Calls, Reply, Shape, Content}
 use Rattle.bz_check.specs.declared.verdict.Verdict.TheVariants.{Sound, Broken}
-use Rattle.bz_check.proofs.Judging.{by_marks}
 use Rattle.bz_check.proofs.LawProofs.{front, same_broken}
-use Rattle.bz_check.proofs.PlainLaws.{replies_by_the_map}
 use Rattle.bz_verdict.specs.Laws.{OneVerdict, SoundIsTold}
-use Rattle.bz_verdict.specs.Rules.{KeepsSeen}
-use Rattle.bz_verdict.proofs.Going.{Three, each_so}
+use Rattle.bz_verdict.specs.Rules.{HasSeenReply, KeepsSeen, KeepsMarks, FollowsMarks}
+use Rattle.bz_verdict.proofs.Going.{by_marks, each_so}
+use Rattle.bz_verdict.proofs.Showing.{right_seen}
 
-each_plain : (c : Config) (start : List ℕ) (pages : Pages) (past : List Mark) → EachMark (HasRightReply c start pages) past → EachMark (HasPlainReply c (map_at_start c start)) past
-each_plain c start pages [] h = tt
-each_plain c start pages (mark ∷ past) h = ((replies_by_the_map c start pages past mark).right h.0, each_plain c start pages past h.1)
+each_seen : (c : Config) (start : List ℕ) (pages : Pages) (past : List Mark) → EachMark (HasRightReply c start pages) past → EachMark (HasSeenReply c start pages) past
+each_seen c start pages [] h = tt
+each_seen c start pages (mark ∷ past) h = (right_seen c start pages past mark h.0, each_seen c start pages past h.1)
 
 -- marks that keep all rules keep them up to each moment that is not inner
-three_all : (c : Config) (at_start : Power) (start : List ℕ) (past : List Mark) → ((rule : JudgeRule) → KeepsSeen c at_start start rule past) → (rule : JudgeRule) → Three c at_start start rule past
-three_all c at_start start past all Truth = all Truth
-three_all c at_start start past all Calls = all Calls
-three_all c at_start start past all Reply = all Reply
-three_all c at_start start past all Shape = tt
-three_all c at_start start past all Content = tt
+three_all : (c : Config) (at_start : Power) (start : List ℕ) (pages : Pages) (past : List Mark) → ((rule : JudgeRule) → KeepsSeen c at_start start pages rule past) → (rule : JudgeRule) → KeepsMarks c at_start start pages rule past
+three_all c at_start start pages past all Truth = all Truth
+three_all c at_start start pages past all Calls = all Calls
+three_all c at_start start pages past all Reply = all Reply
+three_all c at_start start pages past all Shape = tt
+three_all c at_start start pages past all Content = tt
 
-three_front : (c : Config) (at_start : Power) (start : List ℕ) (past : List Mark) (moment : ℕ) → ((rule : JudgeRule) → KeepsSeen c at_start start rule past) → (rule : JudgeRule) → Three c at_start start rule (at_moment moment past)
-three_front c at_start start past moment all rule =
-    front (KeepsJudged c at_start start (map_at_start c start)) (FollowsJudged c at_start start (map_at_start c start)) rule (length past - moment) past (by_marks c at_start start (map_at_start c start)) (three_all c at_start start past all rule)
+three_front : (c : Config) (at_start : Power) (start : List ℕ) (pages : Pages) (past : List Mark) (moment : ℕ) → ((rule : JudgeRule) → KeepsSeen c at_start start pages rule past) → (rule : JudgeRule) → KeepsMarks c at_start start pages rule (at_moment moment past)
+three_front c at_start start pages past moment all rule =
+    front (KeepsMarks c at_start start pages) (FollowsMarks c at_start start pages) rule (length past - moment) past (by_marks c at_start start pages) (three_all c at_start start pages past all rule)
 
-seen_front : (c : Config) (at_start : Power) (start : List ℕ) (past : List Mark) (moment : ℕ) → ((rule : JudgeRule) → KeepsSeen c at_start start rule past) → moment ≤ length past → (IsInner moment past → ⊥)
-    → (rule : JudgeRule) → KeepsSeen c at_start start rule (at_moment moment past)
-seen_front c at_start start past moment all within outer Truth = three_front c at_start start past moment all Truth
-seen_front c at_start start past moment all within outer Calls = three_front c at_start start past moment all Calls
-seen_front c at_start start past moment all within outer Reply = three_front c at_start start past moment all Reply
-seen_front c at_start start past moment all within outer Shape = each_so (HasShape c start) past moment within (λ m lt out. all Shape m (omega arith) out) (all Shape moment within outer)
-seen_front c at_start start past moment all within outer Content = each_so (HasContent c start) past moment within (λ m lt out. all Content m (omega arith) out) (all Content moment within outer)
+seen_front : (c : Config) (at_start : Power) (start : List ℕ) (pages : Pages) (past : List Mark) (moment : ℕ) → ((rule : JudgeRule) → KeepsSeen c at_start start pages rule past) → moment ≤ length past → (IsInner moment past → ⊥)
+    → (rule : JudgeRule) → KeepsSeen c at_start start pages rule (at_moment moment past)
+seen_front c at_start start pages past moment all within outer Truth = three_front c at_start start pages past moment all Truth
+seen_front c at_start start pages past moment all within outer Calls = three_front c at_start start pages past moment all Calls
+seen_front c at_start start pages past moment all within outer Reply = three_front c at_start start pages past moment all Reply
+seen_front c at_start start pages past moment all within outer Shape = each_so (HasShape c start) past moment within (λ m lt out. all Shape m (omega arith) out) (all Shape moment within outer)
+seen_front c at_start start pages past moment all within outer Content = each_so (HasContent c start) past moment within (λ m lt out. all Content m (omega arith) out) (all Content moment within outer)
 
-never : (c : Config) (at_start : Power) (start : List ℕ) (past : List Mark) (rule : JudgeRule) (moment : ℕ) → ((kept : JudgeRule) → KeepsSeen c at_start start kept past) → BreaksFirst (KeepsSeen c at_start start) past rule moment → ⊥
-never c at_start start past rule moment all breaks = breaks.this.broken (seen_front c at_start start past moment all breaks.within breaks.outer rule)
+never : (c : Config) (at_start : Power) (start : List ℕ) (pages : Pages) (past : List Mark) (rule : JudgeRule) (moment : ℕ) → ((kept : JudgeRule) → KeepsSeen c at_start start pages kept past) → BreaksFirst (KeepsSeen c at_start start pages) past rule moment → ⊥
+never c at_start start pages past rule moment all breaks = breaks.this.broken (seen_front c at_start start pages past moment all breaks.within breaks.outer rule)
 
 pub one_verdict : OneVerdict
-one_verdict c at_start start past Sound Sound a b = refl
-one_verdict c at_start start past Sound (Broken rule moment) a b = absurd (never c at_start start past rule moment a b)
-one_verdict c at_start start past (Broken rule moment) Sound a b = absurd (never c at_start start past rule moment b a)
-one_verdict c at_start start past (Broken rule moment) (Broken other later) a b = same_broken (KeepsSeen c at_start start) past rule other moment later a b
+one_verdict c at_start start pages past Sound Sound a b = refl
+one_verdict c at_start start pages past Sound (Broken rule moment) a b = absurd (never c at_start start pages past rule moment a b)
+one_verdict c at_start start pages past (Broken rule moment) Sound a b = absurd (never c at_start start pages past rule moment b a)
+one_verdict c at_start start pages past (Broken rule moment) (Broken other later) a b = same_broken (KeepsSeen c at_start start pages) past rule other moment later a b
 
 -- those of a sound journal do
-all_sound : (c : Config) (at_start : Power) (log : Log) → IsSound c at_start log → (rule : JudgeRule) → KeepsSeen c at_start log.start rule log.past
+all_sound : (c : Config) (at_start : Power) (log : Log) → IsSound c at_start log → (rule : JudgeRule) → KeepsSeen c at_start log.start log.pages rule log.past
 all_sound c at_start log s Truth = s.truthful
 all_sound c at_start log s Calls = s.once
-all_sound c at_start log s Reply = each_plain c log.start log.pages log.past s.replies
+all_sound c at_start log s Reply = each_seen c log.start log.pages log.past s.replies
 all_sound c at_start log s Shape = λ moment within outer. (s.durable moment within outer).well_formed
 all_sound c at_start log s Content = λ moment within outer. (s.durable moment within outer).content
 
 pub sound_is_told : SoundIsTold
 sound_is_told c at_start log Sound s v = refl
-sound_is_told c at_start log (Broken rule moment) s v = absurd (never c at_start log.start log.past rule moment (all_sound c at_start log s) v)
+sound_is_told c at_start log (Broken rule moment) s v = absurd (never c at_start log.start log.pages log.past rule moment (all_sound c at_start log s) v)

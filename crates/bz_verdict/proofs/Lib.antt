@@ -1,4 +1,9 @@
 mod Pairing
+mod Paging
+mod Asking
+mod Showing
 mod Going
+mod Answered
+mod Running
 mod Starting
 mod LawProofs

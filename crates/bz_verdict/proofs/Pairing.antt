@@ -26,7 +26,7 @@ abbrev order : List ℕ → List ℕ → Ordering
 order = slice_cmp nat_cmp
 
 -- what stands first at a key
-find_at : (q : List ℕ) (es : Pairs) → find order q es ≡ payload_at es q
+pub find_at : (q : List ℕ) (es : Pairs) → find order q es ≡ payload_at es q
 find_at q [] = refl
 find_at q (e ∷ es) = ap (λ (o : Option (List ℕ)). cond (is_at (order q) e.0) (Some e.1) o) (find_at q es)
 
@@ -42,7 +42,7 @@ below_so : (k : List ℕ) (es : Pairs) → AllByRecursion (λ y. order k y ≡ L
 below_so k [] h = tt
 below_so k (e ∷ es) h = and_so (is_lt (order k e.0)) (below_all order k es) (less_so (order k e.0) h.0) (below_so k es h.1)
 
-sorted_so : (es : Pairs) → IsStrictlySortedBy order (keys_of es) → T (is_sorted order es)
+pub sorted_so : (es : Pairs) → IsStrictlySortedBy order (keys_of es) → T (is_sorted order es)
 unfolding IsStrictlySortedBy
 sorted_so [] h = tt
 sorted_so (e ∷ es) h = and_so (below_all order e.0 es) (is_sorted order es) (below_so e.0 es h.0) (sorted_so es h.1)
@@ -58,14 +58,14 @@ one_map es fs e = λ key. ap (λ (all : Pairs). payload_at all key) e
 abbrev pub same_pair : List ℕ × List ℕ → List ℕ × List ℕ → Bool
 same_pair p q = bytes_eq p.0 q.0 && bytes_eq p.1 q.1
 
-pair_of : (p q : List ℕ × List ℕ) → same_pair p q ≡ true → p ≡ q
+pub pair_of : (p q : List ℕ × List ℕ) → same_pair p q ≡ true → p ≡ q
 pair_of p q h =
     let two = both_of (bytes_eq p.0 q.0) (bytes_eq p.1 q.1) h in
     let keys : p.0 ≡ q.0 = (bytes_eq-Decides p.0 q.0).0 two.0 in
     let payloads : p.1 ≡ q.1 = (bytes_eq-Decides p.1 q.1).0 two.1 in
     λ i. (keys i, payloads i)
 
-pair_test : (p q : List ℕ × List ℕ) → p ≡ q → same_pair p q ≡ true
+pub pair_test : (p q : List ℕ × List ℕ) → p ≡ q → same_pair p q ≡ true
 pair_test p q e = both (bytes_eq p.0 q.0) (bytes_eq p.1 q.1) ((bytes_eq-Decides p.0 q.0).1 (ap (λ (x : List ℕ × List ℕ). x.0) e)) ((bytes_eq-Decides p.1 q.1).1 (ap (λ (x : List ℕ × List ℕ). x.1) e))
 
 pub lists_decide : (es fs : Pairs) → pointwise same_pair es fs ≡ true ↔ es ≡ fs

@@ -5,6 +5,7 @@ use Rattle.bz_layout.specs.declared.config.Config.{Config}
 use Rattle.bz_mark.specs.Moments.{IsInner}
 use Rattle.bz_mark.specs.declared.marks.Mark.{Mark}
 use Rattle.bz_mark.specs.declared.power.Power.{Power}
+use Rattle.bz_sound.specs.Replies.{Pages}
 use Rattle.bz_check.specs.Verdicts.{IsVerdict}
 use Rattle.bz_check.specs.declared.verdict.Verdict.{Verdict}
 use Rattle.bz_verdict.specs.Rules.{KeepsSeen}
@@ -17,4 +18,4 @@ pub record IsFirstOuter (moment : ℕ) (past : List Mark) : Type 0 where
 
 -- for each configuration in which the start is not well formed the verdict is right
 abbrev pub IsBadStartVerdict : List ℕ → List Mark → Verdict → Type 0
-IsBadStartVerdict start past verdict = (c : Config) (at_start : Power) → (image_fault c (slice_index start) ≡ None → ⊥) → IsVerdict (KeepsSeen c at_start start) past verdict
+IsBadStartVerdict start past verdict = (c : Config) (at_start : Power) (pages : Pages) → (image_fault c (slice_index start) ≡ None → ⊥) → IsVerdict (KeepsSeen c at_start start pages) past verdict

@@ -1,4 +1,4 @@
-//! The five rules, with replies as far as the map and counts tell, judged in one pass over the marks.
+//! The five rules, with the causes of a Full as far as counts tell, judged in one pass over the marks.
 ghost use Rattle.std.specs.Prelude.{◌≡◌, ◌↔◌, ◌%◌, ◌<◌, ◌^◌, ◌||◌, ◌&&◌, IfOk, IsTrue, None, length, slice_index};
 ghost use Rattle.bz_content.specs.Content.{image_fault};
 ghost use Rattle.bz_layout.specs.Addresses.{words_of};
@@ -11,6 +11,7 @@ ghost use Rattle.bz_verdict.specs.Starts.{IsFirstOuter, IsBadStartVerdict};
 
 use crate::image::{is_well_formed, moment_rule};
 use crate::maps::map_held;
+use crate::questions::{answer, fault_with_page, questions};
 use bz_check::{JudgeRule, Pass, Verdict, first};
 use bz_layout::Config;
 use bz_mark::{Journal, Mark, Power};
@@ -103,17 +104,19 @@ fn judge_from_good_start(
     requires size { length journal.now.start ≡ words_of config.now }
     requires start { image_fault config.now (slice_index journal.now.start) ≡ None }
     requires marks { AreOfMemory (length journal.now.start) journal.now.past }
-    ensures { IfOk result (λ verdict. IsVerdict (KeepsSeen config.now power journal.now.start) journal.now.past verdict) }
+    ensures { IfOk result (λ verdict. IsVerdict (KeepsSeen config.now power journal.now.start journal.now.pages) journal.now.past verdict) }
 {
     let start = journal.start();
     is_image(start);
     let map = map_held(alloc, start)?;
     let mut pass = Pass::open(alloc, config, power, map, start)?;
+    let mut asked = questions(alloc, journal)?;
     let mut broken: Option<JudgeRule> = None;
     let mut stale = false;
     for i in 0..journal.length() {
         let mark = journal.mark(i);
-        let fault = pass.take(i, &mark)?;
+        let plain = pass.take(i, &mark)?;
+        let fault = fault_with_page(&asked, i, &mark, plain);
         let next = first(broken, fault);
         broken = next;
         let inner = is_inner(journal, i + 1);
@@ -128,16 +131,19 @@ fn judge_from_good_start(
             }
             None => {}
         }
+        let question = asked[i as usize + 1];
+        let kept = answer(journal, &pass, inner, question);
+        asked[i as usize + 1] = kept;
         let left = is_left(changed, inner);
         stale = left;
     }
     Ok(Verdict::Sound)
 }
 
-/// Judges the rules of truth, calls, shape and content, and replies as far as the map and counts tell: the least moment, those before an
-/// Effect left out, up to which one of the five is broken, and the first of them that is broken there. Where a call has no Effect, nothing
-/// is asked of what a page shows, and nothing of the cause of a Full but where descriptors are spent. The power at the start is given.
-pub fn judge_all_but_pages_and_causes(
+/// Judges a journal by the five rules, but for two causes: the least moment, those before an Effect left out, up to which one of the five
+/// is broken, and the first of them that is broken there. Of a Full nothing is asked of its cause but where descriptors are spent. The
+/// power at the start is given.
+pub fn judge_all_but_causes(
     alloc: Global,
     config: &Config,
     power: Power,
@@ -146,7 +152,7 @@ pub fn judge_all_but_pages_and_causes(
     requires config { IsConfig config.now }
     requires size { length journal.now.start ≡ words_of config.now }
     requires marks { AreOfMemory (length journal.now.start) journal.now.past }
-    ensures { IfOk result (λ verdict. IsVerdict (KeepsSeen config.now power journal.now.start) journal.now.past verdict) }
+    ensures { IfOk result (λ verdict. IsVerdict (KeepsSeen config.now power journal.now.start journal.now.pages) journal.now.past verdict) }
 {
     let good = is_well_formed(alloc, config, journal.start())?;
     if !good {

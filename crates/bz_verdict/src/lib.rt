@@ -5,5 +5,7 @@ mod image;
 mod judge;
 pub mod laws;
 mod maps;
+mod pages;
+mod questions;
 
-pub use judge::judge_all_but_pages_and_causes;
+pub use judge::judge_all_but_causes;
