@@ -16,10 +16,10 @@ use Rattle.bz_check.specs.declared.verdict.JudgeRule.{JudgeRule}
 use Rattle.bz_check.specs.declared.verdict.JudgeRule.TheVariants.{Truth, Calls, Reply, Shape, Content}
 use Rattle.bz_check.specs.declared.verdict.Verdict.TheVariants.{Sound, Broken}
 use Rattle.bz_check.proofs.LawProofs.{front, same_broken}
-use Rattle.bz_verdict.specs.Laws.{OneVerdict, SoundIsTold}
+use Rattle.bz_verdict.specs.Laws.{LeavesNoCause, OneVerdict, SoundIsTold, SoundWhereTold}
 use Rattle.bz_verdict.specs.Rules.{HasSeenReply, KeepsSeen, KeepsMarks, FollowsMarks}
 use Rattle.bz_verdict.proofs.Going.{by_marks, each_so}
-use Rattle.bz_verdict.proofs.Showing.{right_seen}
+use Rattle.bz_verdict.proofs.Showing.{right_seen, seen_right}
 
 each_seen : (c : Config) (start : List ℕ) (pages : Pages) (past : List Mark) → EachMark (HasRightReply c start pages) past → EachMark (HasSeenReply c start pages) past
 each_seen c start pages [] h = tt
@@ -65,3 +65,21 @@ all_sound c at_start log s Content = λ moment within outer. (s.durable moment w
 pub sound_is_told : SoundIsTold
 sound_is_told c at_start log Sound s v = refl
 sound_is_told c at_start log (Broken rule moment) s v = absurd (never c at_start log.start log.pages log.past rule moment (all_sound c at_start log s) v)
+
+-- a sound journal is one of which that is right to tell, and where no cause is left open the other way round
+each_right : (c : Config) (start : List ℕ) (pages : Pages) (past : List Mark) → EachMark (λ marks mark. LeavesNoCause mark) past → EachMark (HasSeenReply c start pages) past → EachMark (HasRightReply c start pages) past
+each_right c start pages [] counted h = tt
+each_right c start pages (mark ∷ past) counted h = (seen_right c start pages past mark counted.0 h.0, each_right c start pages past counted.1 h.1)
+
+pub sound_where_told : SoundWhereTold
+sound_where_told c at_start log formed counted = (
+  all_sound c at_start log,
+  λ keeps. record {
+    size = formed.size;
+    truthful = keeps Truth;
+    once = keeps Calls;
+    replies = each_right c log.start log.pages log.past counted (keeps Reply);
+    pages = formed.pages;
+    durable = λ moment within outer. record { well_formed = keeps Shape moment within outer; content = keeps Content moment within outer };
+  },
+)

@@ -25,6 +25,7 @@ use Rattle.bz_check.specs.Replies.{IsAnswerOf, IsPlainReply, HasPlainReply}
 use Rattle.bz_check.specs.Tables.{call_in}
 use Rattle.bz_check.specs.declared.table.OpenCall.{OpenCall}
 use Rattle.bz_check.proofs.Following.{none_some, some_same}
+use Rattle.bz_verdict.specs.Laws.{LeavesNoCause}
 use Rattle.bz_verdict.specs.Pages.{page_key, ShowsPage, ShowsNumber, ShowsReply}
 use Rattle.bz_verdict.specs.Rules.{IsCounted, HasSeenReply}
 
@@ -189,3 +190,31 @@ spent_end c start pages past w at reply (Some opened) h =
 pub right_seen : (c : Config) (start : List ℕ) (pages : Pages) (past : List Mark) (mark : Mark) → HasRightReply c start pages past mark → HasSeenReply c start pages past mark
 right_seen c start pages past (End w n reply at) h = spent_end c start pages past w at reply (open_call w past) h
 right_seen c start pages past mark h = tt
+
+-- and a reply that names no cause that an image tells is right where it is right but for that
+abbrev NamesNoCause : Reply → Type 0
+NamesNoCause (Full Nodes) = ⊥
+NamesNoCause (Full Height) = ⊥
+NamesNoCause reply = Unit {0}
+
+counted_answer : (c : Config) (start : List ℕ) (pages : Pages) (past : List Mark) (answer : Answer) (effect : Option ℕ) (reply : Reply) → NamesNoCause reply → IsSeenAnswer c start pages past answer effect reply
+    → IsSpentAnswer c start pages past answer effect reply
+counted_answer c start pages past answer (Some effect) reply counted h = h
+counted_answer c start pages past answer None (Full Nodes) counted h = absurd counted
+counted_answer c start pages past answer None (Full Height) counted h = absurd counted
+counted_answer c start pages past answer None (Full Swaps) counted h = record { now = h.now; writes = h.writes; cause = h.cause }
+counted_answer c start pages past answer None reply counted h = h
+
+counted_end : (c : Config) (start : List ℕ) (pages : Pages) (past : List Mark) (w at : ℕ) (reply : Reply) (o : Option Open) → NamesNoCause reply → IsSomeAnd o (IsSeenEnd c start pages past w at reply) → IsSomeAnd o (IsSpentEnd c start pages past w at reply)
+counted_end c start pages past w at reply None counted h = h
+counted_end c start pages past w at reply (Some opened) counted h =
+    record { after_begin = h.after_begin; before_end = h.before_end; right = counted_answer c start pages past (answered w at reply opened) opened.effect reply counted h.right }
+
+end_counted : (w n at : ℕ) (reply : Reply) → LeavesNoCause (End w n reply at) → NamesNoCause reply
+end_counted w n at (Full Nodes) counted = counted
+end_counted w n at (Full Height) counted = counted
+end_counted w n at reply counted = tt
+
+pub seen_right : (c : Config) (start : List ℕ) (pages : Pages) (past : List Mark) (mark : Mark) → LeavesNoCause mark → HasSeenReply c start pages past mark → HasRightReply c start pages past mark
+seen_right c start pages past (End w n reply at) counted h = counted_end c start pages past w at reply (open_call w past) (end_counted w n at reply counted) h
+seen_right c start pages past mark counted h = tt
