@@ -1,5 +1,5 @@
 -- The way down to the leaf of a key: each node that is come to is reached, and the leaf of the key is below it.
-use Rattle.std.proofs.Common.{◌≡◌, ℕ, zero, suc, ◌+◌, ◌-◌, ◌<◌, ◌==◌, if◌then◌else◌, Bool, true, false, List, length, arith, refl, sym, ap, subst, ◌∙◌, Option}
+use Rattle.std.proofs.Common.{◌≡◌, ℕ, zero, suc, ◌-◌, ◌<◌, ◌==◌, if◌then◌else◌, Bool, true, false, List, length, arith, refl, sym, ap, subst, ◌∙◌, Option}
 use Rattle.std.specs.Prelude.{Some, None, not, slice_index}
 use Rattle.bz_layout.specs.declared.config.Config.{Config}
 use Rattle.bz_layout.specs.declared.sizes.TheConstants.{NODE_WORDS}
@@ -10,21 +10,25 @@ use Rattle.bz_tree.specs.Descent.{pick, choice, descend, leaf_of}
 use Rattle.bz_tree.specs.Form.{Fits, Stands}
 use Rattle.bz_tree.specs.Order.{is_before, is_at_least}
 use Rattle.bz_tree.specs.View.{View, high_at}
-use Rattle.bz_tree.specs.Walk.{Visit, kid, start, form, IsTree}
+use Rattle.bz_tree.specs.Walk.{Visit, kid, form, IsTree}
 use Rattle.bz_tree.proofs.Descents.{pick-le, rises}
 use Rattle.bz_tree.proofs.TreeForms.{fits}
-use Rattle.bz_content.specs.Content.{view_in, leaf_end_in}
+use Rattle.bz_content.specs.Content.{view_in}
+use Rattle.bz_content.specs.Image.{node}
+use Rattle.bz_content.specs.Resolving.{resolve}
 use Rattle.bz_content.proofs.Honesty.{no}
 use Rattle.bz_content.proofs.Proved.{well_formed_images_have_no_fault}
 use Rattle.bz_slotted.specs.ReadingLaws.{node_of, child_read, ReadsAsChildren}
 use Rattle.bz_slotted.specs.Readers.{key_of}
+use Rattle.bz_slotted.specs.Rules.{node_fault}
 use Rattle.bz_judge.specs.Held.{IsImageOf}
+use Rattle.bz_judge.specs.Inside.Leaves.{IsLeafVisit}
 use Rattle.bz_judge.specs.Inside.Nodes.{IsNodeOf}
 use Rattle.bz_judge.specs.Inside.Stacks.{Shows}
 use Rattle.bz_judge.specs.Inside.Walking.{Starts, IsRoot}
 use Rattle.bz_judge.proofs.Children.{count-read}
 use Rattle.bz_judge.proofs.Gathered.{scanned}
-use Rattle.bz_judge.proofs.Steps.{shows-node, children-below, reads-children}
+use Rattle.bz_judge.proofs.Steps.{node-none, shows-node, children-below, reads-children}
 
 -- the child of a key, from the last one down
 pub pick-down : (v : View) (k : ℕ) (key : List ℕ) (i : ℕ) → 0 < i → is_before key (v.key k i) ≡ true → pick v k key i ≡ pick v k key (i - 1)
@@ -177,5 +181,22 @@ descent-smaller c image key u w words d inner is chosen =
     let e : w.level ≡ u.level - 1 = ap (λ (x : Visit). x.level) (chosen (view_in c (slice_index image)) (shows-node c image u.slot words d.below is)) in
     omega arith
 
-pub descent-ends : (c : Config) (image key : List ℕ) (u : Visit) → IsDescending c image key u → u.level ≡ 0 → u.high ≡ leaf_end_in c (slice_index image) key
-descent-ends c image key u d leaf = at-leaf (view_in c (slice_index image)) key u d leaf
+-- and at its end
+leaf-none : (c : Config) (image key : List ℕ) (u : Visit) → IsImageOf c image → IsDescending c image key u → u.level ≡ 0
+    → node_fault c.nodes (node c (slice_index image) u.slot) (node c (resolve (slice_index image)) u.slot) 0 ((form (view_in c (slice_index image))).low u.slot) u.high ≡ None
+unfolding stands
+leaf-none c image key u h d leaf =
+    let level : (form (view_in c (slice_index image))).level u.slot ≡ 0 = d.level ∙ leaf in
+    let none : node_fault c.nodes (node c (slice_index image) u.slot) (node c (resolve (slice_index image)) u.slot) ((form (view_in c (slice_index image))).level u.slot) ((form (view_in c (slice_index image))).low u.slot)
+    ((form (view_in c (slice_index image))).high u.slot) ≡ None = node-none c (slice_index image) (stands (view_in c (slice_index image)) u.slot) d.below (node-whole c image key u h d) in
+    subst (λ (high : Option (List ℕ)). node_fault c.nodes (node c (slice_index image) u.slot) (node c (resolve (slice_index image)) u.slot) 0 ((form (view_in c (slice_index image))).low u.slot) high ≡ None) d.high
+    (subst (λ (l : ℕ). node_fault c.nodes (node c (slice_index image) u.slot) (node c (resolve (slice_index image)) u.slot) l ((form (view_in c (slice_index image))).low u.slot) ((form (view_in c (slice_index image))).high u.slot) ≡ None) level none)
+
+pub descent-ends : (c : Config) (image key : List ℕ) (u : Visit) → IsImageOf c image → IsDescending c image key u → u.level ≡ 0 → IsLeafVisit c image key u
+descent-ends c image key u h d leaf = record {
+  below = d.below;
+  leaf = sym (descend-none (view_in c (slice_index image)) key u.level u.slot leaf) ∙ sym d.leaf;
+  high = at-leaf (view_in c (slice_index image)) key u d leaf;
+  low = (form (view_in c (slice_index image))).low u.slot;
+  none = leaf-none c image key u h d leaf;
+}

@@ -9,6 +9,7 @@ pub mod InOrder
 pub mod Joined
 pub mod Judged
 pub mod LawfulWords
+pub mod LeafWords
 pub mod NodeWords
 pub mod ReadKinds
 pub mod Resolved

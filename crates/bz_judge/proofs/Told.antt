@@ -13,7 +13,11 @@ use Rattle.bz_tree.specs.declared.rule.ShapeRule.TheVariants.{Super}
 use Rattle.bz_content.specs.Content.{image_fault, is_super, or_word, view_in, leaf_end_in}
 use Rattle.bz_content.specs.Image.{node}
 use Rattle.bz_content.specs.Lawful.{is_lawful, first_unlawful}
+use Rattle.bz_slotted.specs.Page.{Page}
+use Rattle.bz_slotted.specs.Records.{live_words}
 use Rattle.bz_judge.specs.Held.{IsImageOf, pairs_held}
+use Rattle.bz_judge.specs.Leaves.{leaf_held, IsLeafState}
+use Rattle.bz_judge.specs.declared.leaf.LeafState.{LeafState}
 use Rattle.bz_judge.proofs.Scanned.{Both, both}
 
 super : (c : Config) (raw : ℕ → ℕ) → image_fault c raw ≡ None → is_super c raw ≡ true
@@ -87,3 +91,16 @@ end-alike c d raw key = refl
 
 pub same-end : (c d : Config) (raw : ℕ → ℕ) (key : List ℕ) → c.nodes ≡ d.nodes → c.swaps ≡ d.swaps → leaf_end_in d raw key ≡ leaf_end_in c raw key
 same-end c d raw key nodes swaps = sym (end-alike c d raw key) ∙ sym (ap (λ x. leaf_end_in x raw key) (is-renumbered c d nodes swaps))
+
+leaf-alike : (c d : Config) (raw : ℕ → ℕ) (key : List ℕ) → leaf_held (renumbered c d) raw key ≡ leaf_held d raw key
+unfolding node
+leaf-alike c d raw key = refl
+
+same-leaf : (c d : Config) (raw : ℕ → ℕ) (key : List ℕ) → c.nodes ≡ d.nodes → c.swaps ≡ d.swaps → leaf_held d raw key ≡ leaf_held c raw key
+same-leaf c d raw key nodes swaps = sym (leaf-alike c d raw key) ∙ sym (ap (λ x. leaf_held x raw key) (is-renumbered c d nodes swaps))
+
+pub same-state : (c d : Config) (raw : ℕ → ℕ) (key : List ℕ) (s : LeafState) → c.nodes ≡ d.nodes → c.swaps ≡ d.swaps → IsLeafState d raw key s → IsLeafState c raw key s
+same-state c d raw key s nodes swaps h = record {
+  frozen = h.frozen ∙ ap (λ (p : Page). p.frozen) (same-leaf c d raw key nodes swaps);
+  live = h.live ∙ ap (λ (p : Page). live_words p) (same-leaf c d raw key nodes swaps);
+}

@@ -2,12 +2,14 @@
 ghost use Rattle.std.specs.Prelude.{◌≡◌, slice_index, IfOk};
 ghost use Rattle.bz_content.specs.Content.{leaf_end_in};
 ghost use Rattle.bz_judge.specs.Held.{IsImage, IsImageOf, pairs_held};
+ghost use Rattle.bz_judge.specs.Leaves.{IsLeafState};
 ghost use Rattle.bz_layout.specs.Config.{IsConfig};
 ghost use Rattle.bz_layout.specs.declared.config.Config.{Config as Numbers};
 ghost use Rattle.bz_layout.specs.declared.sizes.TheConstants.{NODES_AT as NODES, SWAPS_AT as SWAPS};
 
 use crate::descent::end_of_leaf;
 use crate::gathering::gather;
+use crate::leaf::{LeafState, state_of_leaf};
 use bz_key::{Key, Payload};
 use bz_layout::{Config, MIN_CALLS, MIN_MARKS, MIN_PAGES, MIN_WORKERS, NODES_AT, SWAPS_AT};
 use bz_oom::Memory;
@@ -46,4 +48,12 @@ pub fn leaf_end(image: &[u64], key: &Key) -> Option<Key>
     ensures { (c : Numbers) → IsImageOf c image.now → result ≡ leaf_end_in c (slice_index image.now) key.now }
 {
     end_of_leaf(image, &config_of(image), key)
+}
+
+/// How the leaf of a key stands in a well-formed image. The image tells how many nodes and descriptors its memory has.
+pub fn leaf_state(image: &[u64], key: &Key) -> LeafState
+    requires { IsImage image.now }
+    ensures { (c : Numbers) → IsImageOf c image.now → IsLeafState c (slice_index image.now) key.now result }
+{
+    state_of_leaf(image, &config_of(image), key)
 }

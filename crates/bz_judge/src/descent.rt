@@ -2,6 +2,7 @@
 ghost use Rattle.std.specs.Prelude.{◌≡◌, ◌<◌, ◌-◌, slice_index};
 ghost use Rattle.bz_content.specs.Content.{leaf_end_in};
 ghost use Rattle.bz_judge.specs.Held.{IsImageOf};
+ghost use Rattle.bz_judge.specs.Inside.Leaves.{IsLeafVisit};
 ghost use Rattle.bz_judge.specs.Inside.Stacks.{visit_of, Shows};
 ghost use Rattle.bz_node.specs.Reading.{count_in};
 ghost use Rattle.bz_slotted.specs.ReadingLaws.{ReadsAsChildren};
@@ -62,11 +63,11 @@ fn chosen_child(node: &NodeImage, visit: &Visit, key: &Key) -> Visit
     visit_to_child(visit, &first, 0, high)
 }
 
-/// The end of the leaf of a key in a well-formed image.
+/// The visit to the leaf of a key in a well-formed image.
 #[tactic(auto, using(bz_content::proofs::Proved::well_formed_images_have_no_fault, bz_slotted::proofs::Proved::leaf_rules_are_facts))]
-pub(crate) fn end_of_leaf(image: &[u64], config: &Config, key: &Key) -> Option<Key>
+pub(crate) fn leaf_visit(image: &[u64], config: &Config, key: &Key) -> Visit
     requires { IsImageOf config.now image.now }
-    ensures { result ≡ leaf_end_in config.now (slice_index image.now) key.now }
+    ensures { IsLeafVisit config.now image.now key.now (visit_of result) }
 {
     let mut visit = match root_visit(image, config) {
         Some(root) => root,
@@ -76,5 +77,14 @@ pub(crate) fn end_of_leaf(image: &[u64], config: &Config, key: &Key) -> Option<K
         let node = node_of_slot(image, config, visit.slot);
         visit = chosen_child(&node, &visit, key);
     }
+    visit
+}
+
+/// The end of the leaf of a key in a well-formed image.
+pub(crate) fn end_of_leaf(image: &[u64], config: &Config, key: &Key) -> Option<Key>
+    requires { IsImageOf config.now image.now }
+    ensures { result ≡ leaf_end_in config.now (slice_index image.now) key.now }
+{
+    let visit = leaf_visit(image, config, key);
     visit.place.high
 }

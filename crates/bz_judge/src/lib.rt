@@ -6,6 +6,7 @@ mod descent;
 mod gathering;
 mod judging;
 mod lawful;
+mod leaf;
 mod node;
 mod resolving;
 mod root;
@@ -14,5 +15,6 @@ mod visit;
 mod walk;
 mod words;
 
-pub use content::{leaf_end, pairs};
+pub use content::{leaf_end, leaf_state, pairs};
 pub use judging::check;
+pub use leaf::LeafState;

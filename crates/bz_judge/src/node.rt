@@ -110,6 +110,17 @@ fn count_of(node: &NodeImage) -> u32
     }
 }
 
+/// Whether a node is frozen.
+pub(crate) fn is_frozen(node: &NodeImage) -> bool
+    requires { node_of node.now.0 STATUS < 2 ^ 61 }
+    ensures { result ≡ (page (node_of node.now.0)).frozen }
+{
+    match Status::unpack(node.0[STATUS_AT as usize]) {
+        Some(status) => status.frozen,
+        None => unreachable!(),
+    }
+}
+
 /// How many records of a leaf are visible.
 pub(crate) fn visible_count(node: &NodeImage) -> u32
     requires status { node_of node.now.0 STATUS < 2 ^ 61 }
