@@ -34,15 +34,15 @@ pub record WeightsAreTold : Type 0 where
 -- what is still to come by the stage, a whole stretch, and what the worker may do in all, of one worker, of eight, and of as many as there
 -- may be
 pub record CostsAreTold : Type 0 where
-  pub last_round : cost_from Marks 0 ≡ 7331
-  pub one_more : cost_from Marks 1 ≡ 15871
-  pub two_more : cost_from Marks 2 ≡ 20622
-  pub top : cost_from Marks 11 ≡ 74991
-  pub rest : rest_of_round Marks ≡ 7331
-  pub stretch : solo_stretch Marks ≡ 78266
+  pub last_round : cost_from Marks 0 ≡ 8932
+  pub one_more : cost_from Marks 1 ≡ 17472
+  pub two_more : cost_from Marks 2 ≡ 22223
+  pub top : cost_from Marks 11 ≡ 76592
+  pub rest : rest_of_round Marks ≡ 8932
+  pub stretch : solo_stretch Marks ≡ 79867
   -- the most descriptors and slots that a stretch takes
-  pub descriptors : solo_stretch Descriptors ≡ 19
-  pub slots : solo_stretch Slots ≡ 36
-  pub one : solo_most (with_workers 1) ≡ 87648
-  pub eight : solo_most (with_workers 8) ≡ 642685
-  pub most : solo_most (with_workers 64) ≡ 5082981
+  pub descriptors : solo_stretch Descriptors ≡ 21
+  pub slots : solo_stretch Slots ≡ 37
+  pub one : solo_most (with_workers 1) ≡ 90850
+  pub eight : solo_most (with_workers 8) ≡ 657094
+  pub most : solo_most (with_workers 64) ≡ 5187046

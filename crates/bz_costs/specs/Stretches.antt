@@ -4,7 +4,7 @@ use Rattle.std.specs.Prelude.{ℕ, zero, suc, ◌+◌, ◌-◌, ◌*◌, min, ma
 use Rattle.bz_layout.specs.declared.thresholds.TheConstants.{MAX_LEVELS}
 use Rattle.bz_costs.specs.Resources.{Resource}
 use Rattle.bz_costs.specs.Failing.{cost_of_lost_below, cost_of_lost_inner}
-use Rattle.bz_costs.specs.Most.{most_of_seek, most_of_find, most_of_leaf, most_of_insert, most_of_update, most_of_delete, most_of_freeze, most_of_copy, most_of_merge, most_of_below, most_of_inner, most_of_inner_root}
+use Rattle.bz_costs.specs.Most.{most_of_seek, most_of_find, most_of_leaf, most_of_insert, most_of_update, most_of_delete, most_of_freeze, most_of_copy, most_of_merge, most_of_joining, most_of_lowering, most_of_below, most_of_inner, most_of_inner_root}
 
 -- the way to the leaf, and the look-up of the key there
 abbrev pub cost_of_look_up : Resource → ℕ
@@ -15,9 +15,20 @@ cost_of_look_up r = most_of_seek r + most_of_find r
 abbrev pub cost_of_view : Resource → ℕ
 cost_of_view r = cost_of_look_up r + most_of_leaf r
 
--- a change that ends the call. After that of a delete the leaf may be looked up once more, and merged
+-- what may come after the change of a delete that leaves little in its leaf: the root is lowered, after a descent; before that the inner node
+-- under it is merged, after one of its own; and before that the leaf is looked up once more, read, and merged
+abbrev pub cost_of_root_lowered : Resource → ℕ
+cost_of_root_lowered r = most_of_seek r + most_of_lowering r
+
+abbrev pub cost_of_nodes_merged : Resource → ℕ
+cost_of_nodes_merged r = most_of_seek r + (most_of_joining r + cost_of_root_lowered r)
+
+abbrev pub cost_after_delete : Resource → ℕ
+cost_after_delete r = most_of_seek r + (most_of_leaf r + (most_of_merge r + cost_of_nodes_merged r))
+
+-- a change that ends the call
 abbrev pub cost_of_change : Resource → ℕ
-cost_of_change r = max (max (most_of_insert r) (most_of_update r)) (most_of_delete r + (most_of_seek r + most_of_leaf r + most_of_merge r))
+cost_of_change r = max (max (most_of_insert r) (most_of_update r)) (most_of_delete r + cost_after_delete r)
 
 -- the split of the first node above that finds room, at this level: those of the leaf and of the nodes between have found none
 abbrev pub cost_of_split_at : Resource → ℕ → ℕ

@@ -17,6 +17,8 @@ use Rattle.bz_swap.specs.Solo.{allowed_while, left_to}
 use Rattle.bz_swap.specs.SoloRuns.{SoloStepsAreAllowed}
 use Rattle.bz_swap.specs.SwapMemory.{SwapMemory, Doing, Idle, doing_of}
 use Rattle.bz_solo.specs.Errands.{Errand, is_read}
+use Rattle.bz_solo.specs.declared.rest.Rest.{Rest}
+use Rattle.bz_solo.specs.declared.rest.Rest.TheVariants as rest
 use Rattle.bz_solo.specs.Prices.{disturbed_prices, coming_to_read, coming_to_write, coming_after, coming}
 use Rattle.bz_solo.specs.Steps.{AnyCallIsPaid, AnyRoundIsPaid}
 use Rattle.bz_solo.specs.Sum.{In, Disturbed, own_left}
@@ -54,9 +56,10 @@ most-is (Seeking t) = refl
 most-is t = refl
 
 -- a task and what may come after it are no more than the rest of a round
-last-fits : (k : Kind) → most_for k + coming_after Marks k ≤ rest_of_round Marks
-last-fits kinds.Seek = omega arith
-last-fits k = omega arith
+last-fits : (left : Rest) (k : Kind) → most_for k + coming_after Marks left k ≤ rest_of_round Marks
+last-fits rest.Leaf kinds.Seek = omega arith
+last-fits left kinds.Seek = omega arith
+last-fits left k = omega arith
 
 read-fits : (k : Kind) → most_for k + coming_to_read Marks k ≤ rest_of_round Marks
 read-fits kinds.Seek = omega arith
@@ -76,7 +79,7 @@ by-fits false true most last read write rest l m n = m
 by-fits false false most last read write rest l m n = n
 
 fits : (e : Errand) (k : Kind) → most_for k + coming Marks (disturbed_prices Marks) e k ≤ rest_of_round Marks
-fits e k = by-fits e.effected (is_read e.call) (most_for k) (coming_after Marks k) (coming_to_read Marks k) (coming_to_write Marks (disturbed_prices Marks) e k) (rest_of_round Marks) (last-fits k) (read-fits k) (write-fits e k)
+fits e k = by-fits e.effected (is_read e.call) (most_for k) (coming_after Marks e.rest k) (coming_to_read Marks k) (coming_to_write Marks (disturbed_prices Marks) e k) (rest_of_round Marks) (last-fits e.rest k) (read-fits k) (write-fits e k)
 
 -- what all workers allow
 sum-few : (f : ℕ → ℕ) (each n : ℕ) → ((v : ℕ) → f v ≤ each) → sum_below f n ≤ each * n

@@ -10,7 +10,7 @@ use Rattle.bz_joined.specs.FromStage.Neighbours.{leaf_page}
 use Rattle.bz_costs.specs.Solo.{one_mark}
 use Rattle.bz_costs.specs.Resources.{Resource}
 use Rattle.bz_costs.specs.Weights.{weigh}
-use Rattle.bz_costs.specs.Most.{most_of_seek, most_of_find, most_of_leaf, most_of_copy, most_of_merge}
+use Rattle.bz_costs.specs.Most.{most_of_seek, most_of_find, most_of_leaf, most_of_copy}
 use Rattle.bz_costs.specs.Stretches.{cost_of_view, cost_from, cost_viewed_at, solo_stretch}
 use Rattle.bz_rivals.specs.Rivals.{rivals}
 use Rattle.bz_costs.specs.FromRunning.Duties.{end_of}
@@ -26,8 +26,9 @@ use Rattle.bz_solo.proofs.Coming.{either, comes-after, comes-to-write}
 use Rattle.bz_solo.proofs.Ends.{unmade}
 use Rattle.bz_solo.proofs.Pricing.{Laws, viewed-small, round-within}
 use Rattle.bz_solo.proofs.Sparing.{less-afforded}
-use Rattle.bz_solo.specs.Errands.{Errand, is_read, is_freeze, IsLookOf, after}
-use Rattle.bz_solo.specs.Prices.{Prices, clean_prices, prices_in, way_price, coming, round_price}
+use Rattle.bz_solo.specs.Errands.{Errand, is_read, is_freeze, IsLookOf, after, goes_further, rest_after, further}
+use Rattle.bz_solo.specs.declared.rest.Rest.{Rest}
+use Rattle.bz_solo.specs.Prices.{Prices, clean_prices, prices_in, way_price, coming_by_rest, coming_after, coming, round_price}
 use Rattle.bz_solo.specs.Rounds.{stage_now, DisturbedRoundsArePaid, EndsLeaveARound}
 use Rattle.bz_solo.specs.Sum.{Affords, IsThawed, Round, Disturbed, Clean, State, In, Made, IsIn, IsSmall, PaysForRound, own_left, reserve, prices_of, left_in}
 
@@ -123,17 +124,22 @@ merge-in r b m w e t used by p quiet write ended merge thawed (In Clean) h a =
     rest own after price copy same l = omega (arith, same, l)
 merge-in r b m w e t used by p quiet write ended merge thawed Made h a = unmade e t NeedsRoom _ ended (λ same. cc) h
 
--- and after a delete
-delete-in : (r : Resource) (m : SwapMemory) (w : ℕ) (e : Errand) (t : AnyTask) (used by : ℕ) (p : Past) → e.effected ≡ true → kind_of t ≡ kinds.Delete → IsThawed e → (state : State) → IsIn state e t 0 p → Affords r m w e used by (0 + left_in r state e t p) → PaysForRound r m w e used by p
-delete-in r m w e t used by p done delete thawed (In round) h a =
-    pays r m w e e used by p _ refl thawed (rest (reserve r round) (weigh r t) _ _ late (comes-after r (prices_in r p.config (p.at p.now).image e) e kinds.Seek done)) a
-  where
-    late : coming r (prices_of r round e p) e (kind_of t) ≡ most_of_seek r + (most_of_leaf r + most_of_merge r)
-    late = ap (coming r (prices_of r round e p) e) delete ∙ comes-after r (prices_of r round e p) e kinds.Delete done
+-- and where a delete that has had its effect may go on, the way to the next that is to be tried
+after-further : (r : Resource) (left : Rest) (k : Kind) → goes_further k ≡ true → most_of_seek r + coming_by_rest r (rest_after k) ≤ coming_after r left k
+after-further r left kinds.Delete goes = omega arith
+after-further r left kinds.Merge goes = omega arith
+after-further r left kinds.MergeNodes goes = omega arith
+after-further r left k goes = absurd (cc)
 
-    rest : (kept own after look : ℕ) → after ≡ most_of_seek r + (most_of_leaf r + most_of_merge r) → look ≡ most_of_leaf r + most_of_merge r → most_of_seek r + look ≤ 0 + (kept + (own + after))
-    rest kept own after look same late = omega (arith, same, late)
-delete-in r m w e t used by p done delete thawed Made h a = absurd (true≢false (sym done ∙ h.quiet))
+further-in : (r : Resource) (m : SwapMemory) (w : ℕ) (e : Errand) (t : AnyTask) (used by : ℕ) (p : Past) → e.effected ≡ true → goes_further (kind_of t) ≡ true → IsThawed e → (state : State) → IsIn state e t 0 p → Affords r m w e used by (0 + left_in r state e t p) →
+    PaysForRound r m w (further e (kind_of t)) used by p
+further-in r m w e t used by p done goes thawed (In round) h a =
+    pays r m w e (further e (kind_of t)) used by p _ refl thawed
+    (rest (reserve r round) (weigh r t) _ _ _ _ (comes-after r (prices_of r round e p) e (kind_of t) done) (comes-after r (prices_in r p.config (p.at p.now).image (further e (kind_of t))) (further e (kind_of t)) kinds.Seek done) (after-further r e.rest (kind_of t) goes)) a
+  where
+    rest : (kept own comes late look next : ℕ) → comes ≡ late → look ≡ next → most_of_seek r + next ≤ late → most_of_seek r + look ≤ 0 + (kept + (own + comes))
+    rest kept own comes late look next same way l = omega (arith, same, way, l)
+further-in r m w e t used by p done goes thawed Made h a = absurd (true≢false (sym done ∙ h.quiet))
 
 pub ends-leave : (r : Resource) → Laws r → EndsLeaveARound r
 ends-leave r b = record {
@@ -141,5 +147,5 @@ ends-leave r b = record {
   restart = λ m w e t used by p quiet ended paid. restart-in r b m w e t used by p ended paid.thawed paid.state paid.holds paid.affords;
   merge = λ m w e t used by p quiet ended merge paid. merge-in r b m w e t used by p quiet (write-merges e.call (kind_of t) (paid.look quiet) merge) ended merge paid.thawed paid.state paid.holds paid.affords;
   crowded = λ m w e t used by p quiet ended hurt paid. crowded-in r b m w e t used by p ended hurt paid.thawed paid.state paid.holds paid.affords;
-  delete = λ m w e t used by p done delete paid. delete-in r m w e t used by p done delete paid.thawed paid.state paid.holds paid.affords;
+  further = λ m w e t used by p done goes paid. further-in r m w e t used by p done goes paid.thawed paid.state paid.holds paid.affords;
 }

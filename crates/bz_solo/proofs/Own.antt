@@ -86,7 +86,7 @@ module _ (r : Resource) (b : Laws r) (m n : SwapMemory) (w : ℕ) (e : Errand) (
       go (inr d) = absurd (cc (goes, d))
 
   -- the price of what comes after a change does not stand on the round
-  change-price : own_kinds.is_change (kind_of t) ≡ true → is_read e.call ≡ false → e.effected ≡ false → (round : Round) → coming_after r (kind_of t) ≤ coming r (prices_of r round e s.past) e (kind_of t)
+  change-price : own_kinds.is_change (kind_of t) ≡ true → is_read e.call ≡ false → e.effected ≡ false → (round : Round) → coming_after r e.rest (kind_of t) ≤ coming r (prices_of r round e s.past) e (kind_of t)
   change-price c write quiet round = through _ _ _ _ (own_kinds.change-after r (prices_of r round e s.past) e (kind_of t) c) (comes-to-write r (prices_of r round e s.past) e (kind_of t) quiet write) (same _ _ refl)
 
   -- it is the effect of the call
@@ -124,7 +124,7 @@ module _ (r : Resource) (b : Laws r) (m n : SwapMemory) (w : ℕ) (e : Errand) (
       thawed = paid.thawed;
       state = In Disturbed;
       holds = tt;
-      affords = record { enough = publishes (solo_stretch r) (one_mark r) _ _ (own_left r e) (own_left r (record e { effected = true })) used more (weigh r t) (coming_after r (kind_of t)) (coming r (disturbed_prices r) e (kind_of t)) by (falls r) kept stepped.less (change-price change write quiet Disturbed) a.enough };
+      affords = record { enough = publishes (solo_stretch r) (one_mark r) _ _ (own_left r e) (own_left r (record e { effected = true })) used more (weigh r t) (coming_after r e.rest (kind_of t)) (coming r (disturbed_prices r) e (kind_of t)) by (falls r) kept stepped.less (change-price change write quiet Disturbed) a.enough };
     }
     published (In Clean) h a = record {
       look = λ f. true-false f;
@@ -132,7 +132,7 @@ module _ (r : Resource) (b : Laws r) (m n : SwapMemory) (w : ℕ) (e : Errand) (
       state = In Clean;
       holds = published-clean h;
       affords = record {
-        enough = publishes 0 (one_mark r) _ _ (own_left r e) (own_left r (record e { effected = true })) used more (weigh r t) (coming_after r (kind_of t)) (coming r (prices_in r s.past.config (here s).image e) e (kind_of t)) by (falls r) kept stepped.less (change-price change write quiet Clean) a.enough;
+        enough = publishes 0 (one_mark r) _ _ (own_left r e) (own_left r (record e { effected = true })) used more (weigh r t) (coming_after r e.rest (kind_of t)) (coming r (prices_in r s.past.config (here s).image e) e (kind_of t)) by (falls r) kept stepped.less (change-price change write quiet Clean) a.enough;
       };
     }
     published Made h a = absurd (not-made h)

@@ -56,7 +56,7 @@ change-coming r q x e kinds.Update c = refl
 change-coming r q x e kinds.Delete c = refl
 change-coming r q x e k c = absurd (cc)
 
-pub change-after : (r : Resource) (q : Prices) (e : Errand) (k : Kind) → is_change k ≡ true → coming_after r k ≡ coming_to_write r q e k
+pub change-after : (r : Resource) (q : Prices) (e : Errand) (k : Kind) → is_change k ≡ true → coming_after r e.rest k ≡ coming_to_write r q e k
 change-after r q e kinds.Insert c = refl
 change-after r q e kinds.Update c = refl
 change-after r q e kinds.Delete c = refl

@@ -17,7 +17,9 @@ use Rattle.bz_joined.specs.FromStage.Rooms.{words_taken, is_crowded}
 use Rattle.bz_joined.specs.FromStage.Stages.{frozen_stage, stage_of, stage_in}
 use Rattle.bz_solo.proofs.Coming.{either, two-ways, comes-within}
 use Rattle.bz_solo.specs.Errands.{Errand, words_asked}
-use Rattle.bz_solo.specs.Prices.{Prices, viewed_price, clean_prices, prices_in, way_price, round_price}
+use Rattle.bz_solo.specs.declared.rest.Rest.{Rest}
+use Rattle.bz_solo.specs.declared.rest.Rest.TheVariants as rest
+use Rattle.bz_solo.specs.Prices.{Prices, viewed_price, clean_prices, prices_in, way_price, coming_by_rest, round_price}
 
 -- the stage of a frozen leaf is not 0
 pub frozen-lacks : (leaf : Page) (full words : ℕ) → leaf.frozen ≡ true → 1 ≤ stage_of leaf full words
@@ -88,8 +90,14 @@ viewed-within r b alone leaf stage =
 way-within : (r : Resource) (q : Prices) (e : Errand) (from : ℕ) → q.viewed ≤ most_of_freeze r + from → q.read ≤ most_of_freeze r + from → cost_from r 0 ≤ from → way_price r q e ≤ most_of_find r + (most_of_leaf r + (most_of_freeze r + from))
 way-within r q e from viewed read last = either e.froze _ _ _ (omega (arith, read)) (omega (arith, viewed, last))
 
+-- nor does what may come after a change
+rest-within : (r : Resource) (left : Rest) (from : ℕ) → cost_from r 0 ≤ from → coming_by_rest r left ≤ most_of_find r + (most_of_leaf r + (most_of_freeze r + from))
+rest-within r rest.Leaf from last = omega (arith, last)
+rest-within r rest.Inner from last = omega (arith, last)
+rest-within r rest.Root from last = omega (arith, last)
+
 from-within : (r : Resource) (q : Prices) (e : Errand) (from : ℕ) → q.viewed ≤ most_of_freeze r + from → q.read ≤ most_of_freeze r + from → cost_from r 0 ≤ from → round_price r q e ≤ cost_of_view r + most_of_freeze r + from
-from-within r q e from viewed read last = omega (arith, comes-within r q e kinds.Seek (most_of_find r + (most_of_leaf r + (most_of_freeze r + from))) (omega (arith, last)) (omega arith) (way-within r q e from viewed read last))
+from-within r q e from viewed read last = omega (arith, comes-within r q e kinds.Seek (most_of_find r + (most_of_leaf r + (most_of_freeze r + from))) (rest-within r e.rest from last) (omega arith) (way-within r q e from viewed read last))
 
 last-within : (r : Resource) (from : ℕ) → cost_from r 0 ≤ from → cost_from r 0 ≤ most_of_freeze r + from
 last-within r from l = omega (arith, l)

@@ -1,5 +1,5 @@
 -- The reading of a leaf that may lack room, and what comes after it.
-use Rattle.std.proofs.Common.{◌≡◌, ℕ, ◌+◌, ◌<◌, ◌≤◌, false, arith, ap, refl, ◌∙◌}
+use Rattle.std.proofs.Common.{◌≡◌, ℕ, ◌+◌, ◌<◌, ◌≤◌, true, false, arith, ap, refl, ◌∙◌}
 use Rattle.bz_joined.specs.FromAlone.Undisturbed.{IsUndisturbed}
 use Rattle.bz_call.specs.Map.{key_of}
 use Rattle.bz_content.specs.Content.{image_of}
@@ -12,10 +12,11 @@ use Rattle.bz_slotted.specs.Page.{Page}
 use Rattle.bz_joined.specs.FromStage.Stages.{full_above}
 use Rattle.bz_swap.specs.SwapMemory.{SwapMemory}
 use Rattle.bz_task.specs.Scene.{Past}
-use Rattle.bz_solo.proofs.Coming.{comes-to-write}
+use Rattle.bz_solo.proofs.Coming.{comes-after, comes-to-write}
 use Rattle.bz_solo.proofs.Pricing.{Laws, ready-thawed, viewed-thawed, some-read, none-read, round-within}
 use Rattle.bz_solo.proofs.Sparing.{less-afforded, spend}
 use Rattle.bz_solo.specs.Errands.{Errand, words_asked, is_read, after}
+use Rattle.bz_solo.specs.declared.rest.Rest.TheVariants as rest
 use Rattle.bz_solo.specs.Prices.{Prices, disturbed_prices, viewed_price, clean_prices, prices_in, coming, round_price}
 use Rattle.bz_solo.specs.Rounds.{stage_now, LeavesAreRead, ReadLeavesArePaid}
 use Rattle.bz_solo.specs.Sum.{Round, Disturbed, Clean, reserve, prices_of, Spares, PaysForRound}
@@ -72,5 +73,18 @@ module _ (r : Resource) (b : Laws r) (m : SwapMemory) (w : ℕ) (e : Errand) (us
     affords = record { enough = (less-afforded r m w e used by (reserve r s.round + coming r (prices_of r s.round e p) e kinds.ReadWhole) _ (again-for s.round s.alone) s.affords).enough };
   }
 
+-- of a delete that has had its effect the next way is paid for
+small : (r : Resource) (m : SwapMemory) (w : ℕ) (e : Errand) (used by : ℕ) (p : Past) → e.effected ≡ true → Spares r m w e used by p (λ q. coming r q e kinds.ReadWhole) → PaysForRound r m w (record e { rest = rest.Inner }) used by p
+small r m w e used by p done s = record {
+  thawed = s.thawed;
+  affords = record { enough = (less-afforded r m w e used by (reserve r s.round + coming r (prices_of r s.round e p) e kinds.ReadWhole) _ less s.affords).enough };
+}
+  where
+    next : Errand
+    next = record e { rest = rest.Inner }
+
+    less : round_price r (prices_in r p.config (p.at p.now).image next) next ≤ reserve r s.round + coming r (prices_of r s.round e p) e kinds.ReadWhole
+    less = omega (arith, comes-after r (prices_in r p.config (p.at p.now).image next) next kinds.Seek done, comes-after r (prices_of r s.round e p) e kinds.ReadWhole done)
+
 pub read-leaves-paid : (r : Resource) → Laws r → ReadLeavesArePaid r
-read-leaves-paid r b = record { lacks = lacks r; has = again r b }
+read-leaves-paid r b = record { lacks = lacks r; has = again r b; small = small r }

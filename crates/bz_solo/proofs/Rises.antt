@@ -7,9 +7,9 @@ use Rattle.std.proofs.lemmas.Bool.Decides.{nat_tests}
 use Rattle.bz_costs.specs.Resources.{Resource, Marks}
 use Rattle.bz_costs.specs.Costs.{HigherStagesCostMore, StretchesAreTheMost}
 use Rattle.bz_costs.specs.Failing.{cost_of_lost_inner}
-use Rattle.bz_costs.specs.Most.{most_of_seek, most_of_find, most_of_leaf, most_of_copy, most_of_insert, most_of_update, most_of_delete, most_of_merge, most_of_below}
+use Rattle.bz_costs.specs.Most.{most_of_seek, most_of_find, most_of_leaf, most_of_copy, most_of_insert, most_of_update, most_of_delete, most_of_below}
 use Rattle.bz_costs.specs.Splits.{cost_after_inner}
-use Rattle.bz_costs.specs.Stretches.{cost_of_change, cost_once_viewed, cost_from, cost_at, top_stage}
+use Rattle.bz_costs.specs.Stretches.{cost_after_delete, cost_of_change, cost_once_viewed, cost_from, cost_at, top_stage}
 use Rattle.bz_layout.specs.declared.thresholds.TheConstants.{MAX_LEVELS}
 use Rattle.bz_costs.specs.FromRunning.Kinds as kinds
 use Rattle.bz_costs.specs.FromRunning.Kinds.{Kind, level_of}
@@ -27,7 +27,7 @@ rises-by false true last read write more l = omega arith
 rises-by false false last read write more l = l
 
 pub coming-rises : (r : Resource) (q x : Prices) (e : Errand) (k : Kind) → coming_to_write r q e k ≤ coming_to_write r x e k → coming r q e k ≤ coming r x e k
-coming-rises r q x e k l = rises-by e.effected (is_read e.call) (coming_after r k) (coming_to_read r k) (coming_to_write r q e k) (coming_to_write r x e k) l
+coming-rises r q x e k l = rises-by e.effected (is_read e.call) (coming_after r e.rest k) (coming_to_read r k) (coming_to_write r q e k) (coming_to_write r x e k) l
 
 -- the prices where another's swap took effect, and others of which none is lower
 pub record IsNoMore (q x : Prices) : Type 0 where
@@ -58,7 +58,7 @@ written-rises r q x e kinds.Find h = found-rises (cost_of_change r) (most_of_lea
 written-rises r q x e kinds.ReadWhole h = h.read
 written-rises r q x e kinds.Insert h = least 0
 written-rises r q x e kinds.Update h = least 0
-written-rises r q x e kinds.Delete h = same (most_of_seek r + (most_of_leaf r + most_of_merge r))
+written-rises r q x e kinds.Delete h = same (cost_after_delete r)
 written-rises r q x e kinds.Freeze h = h.froze
 written-rises r q x e kinds.Copy h = h.renewed
 written-rises r q x e kinds.SplitRootLeaf h = h.renewed
@@ -138,8 +138,8 @@ next-viewed seek leaf find change v w taken l = omega (arith, l)
 next-read : (seek leaf find change v w : ℕ) → v ≤ w → v ≤ seek + (find + max change (leaf + w))
 next-read seek leaf find change v w l = omega (arith, l)
 
-next-deleted : (seek leaf merge find most delete w : ℕ) → seek + (leaf + merge) ≤ seek + (find + max (max most (delete + (seek + leaf + merge))) w)
-next-deleted seek leaf merge find most delete w = omega arith
+next-deleted : (seek find most delete later w : ℕ) → later ≤ seek + (find + max (max most (delete + later)) w)
+next-deleted seek find most delete later w = omega arith
 
 next-lost : (lost seek leaf find change v w : ℕ) → lost ≤ seek + find + max change (leaf + v) → v ≤ w → lost ≤ seek + (find + max change (leaf + w))
 next-lost lost seek leaf find change v w l m = omega (arith, l, m)
@@ -150,7 +150,7 @@ next-pays r law e kinds.Find alone leaf stage = next-found (most_of_seek r) (mos
 next-pays r law e kinds.ReadWhole alone leaf stage = next-read (most_of_seek r) (most_of_leaf r) (most_of_find r) (cost_of_change r) (cost_once_viewed r 0) _ (viewed-least r law alone leaf stage)
 next-pays r law e kinds.Insert alone leaf stage = least _
 next-pays r law e kinds.Update alone leaf stage = least _
-next-pays r law e kinds.Delete alone leaf stage = next-deleted (most_of_seek r) (most_of_leaf r) (most_of_merge r) (most_of_find r) (max (most_of_insert r) (most_of_update r)) (most_of_delete r) _
+next-pays r law e kinds.Delete alone leaf stage = next-deleted (most_of_seek r) (most_of_find r) (max (most_of_insert r) (most_of_update r)) (most_of_delete r) (cost_after_delete r) _
 next-pays r law e kinds.Freeze alone leaf stage = least _
 next-pays r law e kinds.Copy alone leaf stage = least _
 next-pays r law e kinds.SplitRootLeaf alone leaf stage = least _

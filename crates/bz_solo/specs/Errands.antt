@@ -5,6 +5,8 @@ use Rattle.bz_call.specs.declared.calls.Call.TheVariants as call
 use Rattle.bz_record.specs.Records.{words_for}
 use Rattle.bz_costs.specs.FromRunning.Kinds as kinds
 use Rattle.bz_costs.specs.FromRunning.Kinds.{Kind}
+use Rattle.bz_solo.specs.declared.rest.Rest.{Rest}
+use Rattle.bz_solo.specs.declared.rest.Rest.TheVariants as rest
 
 pub record Errand : Type 0 where
   pub call : Call
@@ -14,6 +16,8 @@ pub record Errand : Type 0 where
   pub alone : Bool
   -- its own freeze of its leaf was the last task to end, so that it reads that leaf whole
   pub froze : Bool
+  -- what is still to be tried once it has had its effect
+  pub rest : Rest
 
 -- the words that a call asks its leaf for: those of a record, and a metadata word; a delete asks for none
 abbrev pub words_asked : Call → ℕ
@@ -49,6 +53,21 @@ is_freeze other = false
 
 abbrev pub after : Errand → Kind → Errand
 after e k = record e { froze = is_freeze k }
+
+-- the tasks after which a delete that has had its effect may go on; and the call as it is looked up then
+abbrev pub goes_further : Kind → Bool
+goes_further kinds.Delete = true
+goes_further kinds.Merge = true
+goes_further kinds.MergeNodes = true
+goes_further other = false
+
+abbrev pub rest_after : Kind → Rest
+rest_after kinds.Merge = rest.Inner
+rest_after kinds.MergeNodes = rest.Root
+rest_after other = rest.Leaf
+
+abbrev pub further : Errand → Kind → Errand
+further e k = record e { rest = rest_after k }
 
 -- a task that may have had an effect of its own while its call goes on without one, or has it now
 abbrev pub may_swap_twice : Kind → Bool

@@ -6,9 +6,9 @@ use Rattle.bz_content.specs.Content.{image_of}
 use Rattle.bz_joined.specs.FromStage.Neighbours.{leaf_page}
 use Rattle.bz_costs.specs.Resources.{Resource}
 use Rattle.bz_costs.specs.Failing.{cost_of_lost_inner}
-use Rattle.bz_costs.specs.Most.{most_of_seek, most_of_find, most_of_leaf, most_of_copy, most_of_merge, most_of_below}
+use Rattle.bz_costs.specs.Most.{most_of_seek, most_of_find, most_of_leaf, most_of_copy, most_of_merge, most_of_joining, most_of_lowering, most_of_below}
 use Rattle.bz_costs.specs.Splits.{cost_after_below, cost_after_inner}
-use Rattle.bz_costs.specs.Stretches.{cost_of_view, cost_of_change, cost_once_viewed, cost_from, cost_at, cost_viewed_at, top_stage}
+use Rattle.bz_costs.specs.Stretches.{cost_of_root_lowered, cost_of_nodes_merged, cost_after_delete, cost_of_view, cost_of_change, cost_once_viewed, cost_from, cost_at, cost_viewed_at, top_stage}
 use Rattle.bz_layout.specs.declared.config.Config.{Config}
 use Rattle.bz_layout.specs.declared.thresholds.TheConstants.{MAX_LEVELS}
 use Rattle.bz_costs.specs.FromRunning.Kinds as kinds
@@ -17,6 +17,8 @@ use Rattle.bz_slotted.specs.Page.{Page}
 use Rattle.bz_joined.specs.FromStage.Rooms.{is_crowded}
 use Rattle.bz_joined.specs.FromStage.Stages.{stage_in}
 use Rattle.bz_solo.specs.Errands.{Errand, words_asked, is_read}
+use Rattle.bz_solo.specs.declared.rest.Rest.{Rest}
+use Rattle.bz_solo.specs.declared.rest.Rest.TheVariants as rest
 
 -- what comes: once a leaf without room was read whole; once a leaf was read whole, whatever room it has; after a freeze; after a copy, or the split
 -- of a leaf that is the root; after the begin of the split of a leaf below a parent, and of the split of an inner node of some level; and after
@@ -95,7 +97,7 @@ coming_to_write r q e kinds.Find = found_price r q
 coming_to_write r q e kinds.ReadWhole = q.read
 coming_to_write r q e kinds.Insert = 0
 coming_to_write r q e kinds.Update = 0
-coming_to_write r q e kinds.Delete = most_of_seek r + (most_of_leaf r + most_of_merge r)
+coming_to_write r q e kinds.Delete = cost_after_delete r
 coming_to_write r q e kinds.Freeze = q.froze
 coming_to_write r q e kinds.Copy = q.renewed
 coming_to_write r q e kinds.SplitRootLeaf = q.renewed
@@ -106,26 +108,33 @@ coming_to_write r q e kinds.Merge = q.merged
 coming_to_write r q e kinds.MergeNodes = 0
 coming_to_write r q e kinds.LowerRoot = 0
 
--- and of one that has had it: a delete may look its leaf up once more, and have it merged
-abbrev pub coming_after : Resource → Kind → ℕ
-coming_after r kinds.Seek = most_of_leaf r + most_of_merge r
-coming_after r kinds.Find = 0
-coming_after r kinds.ReadWhole = most_of_merge r
-coming_after r kinds.Insert = 0
-coming_after r kinds.Update = 0
-coming_after r kinds.Delete = most_of_seek r + (most_of_leaf r + most_of_merge r)
-coming_after r kinds.Freeze = 0
-coming_after r kinds.Copy = 0
-coming_after r kinds.SplitRootLeaf = 0
-coming_after r (kinds.SplitLeaf a) = 0
-coming_after r (kinds.SplitNode a) = 0
-coming_after r (kinds.SplitRootNode a) = 0
-coming_after r kinds.Merge = 0
-coming_after r kinds.MergeNodes = 0
-coming_after r kinds.LowerRoot = 0
+-- after the way to the leaf of a call that has had its effect, by what is still to be tried
+abbrev pub coming_by_rest : Resource → Rest → ℕ
+coming_by_rest r rest.Leaf = most_of_leaf r + (most_of_merge r + cost_of_nodes_merged r)
+coming_by_rest r rest.Inner = most_of_joining r + cost_of_root_lowered r
+coming_by_rest r rest.Root = most_of_lowering r
+
+-- and after a task of such a call: a delete may look its leaf up once more, and have it merged; then the inner node under the root may be
+-- merged, and then the root lowered
+abbrev pub coming_after : Resource → Rest → Kind → ℕ
+coming_after r left kinds.Seek = coming_by_rest r left
+coming_after r left kinds.Find = 0
+coming_after r left kinds.ReadWhole = most_of_merge r + cost_of_nodes_merged r
+coming_after r left kinds.Insert = 0
+coming_after r left kinds.Update = 0
+coming_after r left kinds.Delete = cost_after_delete r
+coming_after r left kinds.Freeze = 0
+coming_after r left kinds.Copy = 0
+coming_after r left kinds.SplitRootLeaf = 0
+coming_after r left (kinds.SplitLeaf a) = 0
+coming_after r left (kinds.SplitNode a) = 0
+coming_after r left (kinds.SplitRootNode a) = 0
+coming_after r left kinds.Merge = cost_of_nodes_merged r
+coming_after r left kinds.MergeNodes = cost_of_root_lowered r
+coming_after r left kinds.LowerRoot = 0
 
 abbrev pub coming : Resource → Prices → Errand → Kind → ℕ
-coming r q e kind = if e.effected then coming_after r kind else if is_read e.call then coming_to_read r kind else coming_to_write r q e kind
+coming r q e kind = if e.effected then coming_after r e.rest kind else if is_read e.call then coming_to_read r kind else coming_to_write r q e kind
 
 -- a round from its begin on
 abbrev pub round_price : Resource → Prices → Errand → ℕ

@@ -5,7 +5,7 @@ use Rattle.bz_call.specs.Map.{key_of}
 use Rattle.bz_costs.specs.Solo.{one_mark}
 use Rattle.bz_costs.specs.Resources.{Resource}
 use Rattle.bz_costs.specs.Weights.{start_takes, weigh}
-use Rattle.bz_costs.specs.Most.{most_of, most_of_find, most_of_leaf, IsWithinItsActs}
+use Rattle.bz_costs.specs.Most.{most_of, most_of_find, most_of_leaf, most_of_joining, most_of_lowering, IsWithinItsActs}
 use Rattle.bz_costs.specs.FromDescend.SeekFacts.{seek_reads}
 use Rattle.bz_costs.specs.FromRunning.Duties.{end_of, left_of, made_of}
 use Rattle.bz_costs.specs.FromRunning.Kinds as kinds
@@ -17,7 +17,8 @@ use Rattle.bz_task.specs.Scene.{Past}
 use Rattle.bz_task.specs.declared.todo.Outcome.{Outcome}
 use Rattle.bz_task.specs.declared.todo.Outcome.TheVariants.{Done, NeedsRoom, Restart}
 use Rattle.bz_task.specs.declared.todo.Todo.TheVariants.{Read}
-use Rattle.bz_solo.specs.Errands.{Errand, words_asked, is_read, IsLookOf, may_swap_twice, after}
+use Rattle.bz_solo.specs.Errands.{Errand, words_asked, is_read, IsLookOf, may_swap_twice, after, goes_further, further}
+use Rattle.bz_solo.specs.declared.rest.Rest.TheVariants as rest
 use Rattle.bz_solo.specs.Prices.{Prices, coming}
 use Rattle.bz_solo.specs.Sum.{Spares, PaysForRound, IsSmall, IsClean, IsPaid}
 
@@ -38,9 +39,12 @@ abbrev pub EndsArePaid : Resource → Type 0
 EndsArePaid r = (m : SwapMemory) (w : ℕ) (e : Errand) (t : AnyTask) (o : Outcome) (used by : ℕ) (p : Past) → end_of t ≡ Some o → o ≢ Done → may_swap_twice (kind_of t) ≡ false → IsPaid r m w e t 0 0 used by p →
     Spares r m w e used by p (λ q. coming r q e (kind_of t))
 
--- after a way the leaf is read whole: of a call that has had its effect, that reads, or that froze its leaf. Else the key is looked up there
+-- after a way the leaf is read whole: of a call that has had its effect, where its leaf is to be merged, that reads, or that froze its leaf. Of
+-- another that has had its effect, the inner node under the root is merged, or the root lowered. Else the key is looked up there
 pub record WaysArePaid (r : Resource) : Type 0 where
-  pub read : (q : Prices) (e : Errand) → (e.effected ≡ true) ⊎ ((is_read e.call ≡ true) ⊎ (e.froze ≡ true)) → most_of_leaf r + coming r q e kinds.ReadWhole ≤ coming r q e kinds.Seek
+  pub read : (q : Prices) (e : Errand) → (e.effected ≡ true → e.rest ≡ rest.Leaf) → (e.effected ≡ true) ⊎ ((is_read e.call ≡ true) ⊎ (e.froze ≡ true)) → most_of_leaf r + coming r q e kinds.ReadWhole ≤ coming r q e kinds.Seek
+  pub inner : (q : Prices) (e : Errand) → e.effected ≡ true → e.rest ≡ rest.Inner → most_of_joining r + coming r q e kinds.MergeNodes ≤ coming r q e kinds.Seek
+  pub root : (q : Prices) (e : Errand) → e.effected ≡ true → most_of_lowering r + coming r q e kinds.LowerRoot ≤ coming r q e kinds.Seek
   pub find : (q : Prices) (e : Errand) → e.effected ≡ false → e.froze ≡ false → most_of_find r + coming r q e kinds.Find ≤ coming r q e kinds.Seek
 
 -- once the key was looked up, a change is paid for
@@ -59,6 +63,8 @@ pub record ReadLeavesArePaid (r : Resource) : Type 0 where
       Spares r m w e used by p (λ q. q.viewed)
   pub has : (m : SwapMemory) (w : ℕ) (e : Errand) (used by : ℕ) (p : Past) → e.effected ≡ false → is_read e.call ≡ false → (IsUndisturbed 0 p → stage_now e p ≡ 0) → Spares r m w e used by p (λ q. coming r q e kinds.ReadWhole) →
       PaysForRound r m w (after e kinds.ReadWhole) used by p
+  -- of a delete that has had its effect, the key is looked up again where the leaf may not be merged
+  pub small : (m : SwapMemory) (w : ℕ) (e : Errand) (used by : ℕ) (p : Past) → e.effected ≡ true → Spares r m w e used by p (λ q. coming r q e kinds.ReadWhole) → PaysForRound r m w (record e { rest = rest.Inner }) used by p
 
 -- a task that is yet to begin is paid for
 abbrev pub TasksMayBegin : Resource → Type 0
@@ -91,5 +97,5 @@ pub record EndsLeaveARound (r : Resource) : Type 0 where
   pub restart : (m : SwapMemory) (w : ℕ) (e : Errand) (t : AnyTask) (used by : ℕ) (p : Past) → e.effected ≡ false → end_of t ≡ Some Restart → IsPaid r m w e t 0 0 used by p → PaysForRound r m w e used by p
   pub merge : (m : SwapMemory) (w : ℕ) (e : Errand) (t : AnyTask) (used by : ℕ) (p : Past) → e.effected ≡ false → end_of t ≡ Some NeedsRoom → kind_of t ≡ kinds.Merge → IsPaid r m w e t 0 0 used by p → PaysForRound r m w (record e { alone = true }) used by p
   pub crowded : (m : SwapMemory) (w : ℕ) (e : Errand) (t : AnyTask) (used by : ℕ) (p : Past) → e.effected ≡ false → end_of t ≡ Some NeedsRoom → (IsClean e t 0 p → ⊥) → IsPaid r m w e t 0 0 used by p → PaysForRound r m w (record e { alone = false }) used by p
-  -- and of a delete that has had its effect
-  pub delete : (m : SwapMemory) (w : ℕ) (e : Errand) (t : AnyTask) (used by : ℕ) (p : Past) → e.effected ≡ true → kind_of t ≡ kinds.Delete → IsPaid r m w e t 0 0 used by p → PaysForRound r m w e used by p
+  -- and of a delete that has had its effect, whose leaf, or the inner node under the root, or the root is still to be tried
+  pub further : (m : SwapMemory) (w : ℕ) (e : Errand) (t : AnyTask) (used by : ℕ) (p : Past) → e.effected ≡ true → goes_further (kind_of t) ≡ true → IsPaid r m w e t 0 0 used by p → PaysForRound r m w (further e (kind_of t)) used by p

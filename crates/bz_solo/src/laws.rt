@@ -125,7 +125,7 @@ pub fn disturbed_rounds_are_paid()
     ensures { (r : Resource) → DisturbedRoundsArePaid r }
 {}
 
-/// And after the end of a task that left the leaf better than it was.
+/// And after the end of a task that left the leaf better than it was, or after which something is still to be tried.
 pub fn ends_leave_a_round()
     ensures { (r : Resource) → EndsLeaveARound r }
 {}

@@ -2,3 +2,6 @@
 #![tactic(auto)]
 
 pub mod laws;
+mod rest;
+
+pub use rest::Rest;

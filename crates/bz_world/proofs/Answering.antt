@@ -68,7 +68,7 @@ on-pages p w pairs on = record {
   is = on.is;
   between = between-pages p w on.serving pairs on.between;
   filled = on.filled;
-  fit = let f = on.fit in record { words = f.words; thawed = f.thawed };
+  fit = let f = on.fit in record { words = f.words; thawed = f.thawed; quiet = f.quiet };
   exact = on.exact;
   merges = on.merges;
   solitary = λ key get solitary. let h = on.solitary key get solitary in record { get = let g = h.get in record { brief = g.brief; looks = g.looks; alone = g.alone; quiet = g.quiet; thawed = g.thawed }; stands = h.stands };

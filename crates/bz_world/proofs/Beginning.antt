@@ -45,6 +45,7 @@ use Rattle.bz_world.specs.Inside.Laws.{EndLaws, StartLaws}
 use Rattle.bz_world.specs.Inside.Solitary.{WhereSolitary, IsSolitaryGet}
 use Rattle.bz_world.specs.Inside.Paid.{bound_in, begun_with, errand_of, stock_of, used_in, HasARoundAs}
 use Rattle.bz_world.specs.WorldView.{supply_by, are_closed, run_marks}
+use Rattle.bz_solo.specs.declared.rest.Rest.TheVariants as rest
 use Rattle.bz_world.specs.Inside.Serving.{IsSlot, IsAtRest}
 use Rattle.bz_world.specs.Inside.Telling.{MustStart}
 use Rattle.bz_world.specs.declared.parts.Parts.{Parts}
@@ -113,7 +114,7 @@ module _ (p : Parts) (k : IsAwake p) (w : ℕ) (call : Call) (may : MayBegin p w
     mark = Begin w n call
 
     abbrev fresh : OpenCall
-    fresh = record { call = call; task = task; path = None; had = None; effect = None; alone = false; froze = false }
+    fresh = record { call = call; task = task; path = None; had = None; effect = None; alone = false; froze = false; rest = rest.Leaf }
 
     abbrev opened : Open
     opened = record { number = n; call = call; begun = length p.journal.past; effect = None }
@@ -281,7 +282,7 @@ module _ (p : Parts) (k : IsAwake p) (w : ℕ) (call : Call) (may : MayBegin p w
         covered = none-unfilled (k.story.took w) (k.story.filled w) (needs_of task) (omega (arith, laws.few, laws.most)) at-rest.filled;
         solitary = solitary-begun;
         alone = record { others = 0; made = 0; counted = omega arith; stands = λ ends. absurd (cc ends) };
-        meant = record { within = within-of task (λ a e. absurd (let other : kinds.Seek ≡ kinds.SplitLeaf a = sym kind ∙ e in cc other)); fit = record { words = few; thawed = λ froze. absurd (true≢false (sym froze)) }; look = λ quiet. subst (IsLookOf call) (sym kind) (seeks call); meant = λ quiet. inl (record { slots = wants; swaps = inl (ap is_look kind) }); later = λ at is. ap is_renewal kind; small = λ merge. absurd (let other : kinds.Seek ≡ kinds.Merge = sym kind ∙ merge in cc other); copied = λ copy. absurd (let other : kinds.Seek ≡ kinds.Copy = sym kind ∙ copy in cc other) };
+        meant = record { within = within-of task (λ a e. absurd (let other : kinds.Seek ≡ kinds.SplitLeaf a = sym kind ∙ e in cc other)); fit = record { words = few; thawed = λ froze. absurd (true≢false (sym froze)); quiet = λ quiet. refl }; look = λ quiet. subst (IsLookOf call) (sym kind) (seeks call); meant = λ quiet. inl (record { slots = wants; swaps = inl (ap is_look kind) }); later = λ at is. ap is_renewal kind; small = λ merge. absurd (let other : kinds.Seek ≡ kinds.Merge = sym kind ∙ merge in cc other); copied = λ copy. absurd (let other : kinds.Seek ≡ kinds.Copy = sym kind ∙ copy in cc other); first = λ other. refl };
         merges = λ solitary. record { looking = λ quiet seek. omega arith; deleting = λ quiet delete on. absurd (cc (kind, delete)); merging = λ at is deletes. absurd (cc is) };
         exact = λ solitary room. inl (record { quiet = refl; looks = seek-seeks (kind_of task) kind; thawed = refl; same_taken = refl; same_left = refl; first = refl; alone = omega arith });
         paid = λ r counted. s.solo.rounds.begin r p.access w (errand_of fresh) task (used_in r mid w) (bound_in r mid w) 2 here.past here.past (begun here.past refl) (pays r counted);

@@ -41,7 +41,8 @@ pub change-meant : (p : Parts) (w : ℕ) (had : Option (List ℕ)) (task : AnyTa
 change-meant p w had task m = record {
   within = within-of task (λ a e. absurd (cc (sym (changes (kind_of task) m.kind) ∙ ap is_change e)));
   look = λ quiet. writes-look m.reads.on.serving.call (kind_of task) m.write;
-  fit = record { words = m.reads.on.fit.words; thawed = m.reads.on.fit.thawed };
+  fit = record { words = m.reads.on.fit.words; thawed = m.reads.on.fit.thawed; quiet = m.reads.on.fit.quiet };
+  first = λ other. m.reads.on.fit.quiet m.reads.quiet;
   meant = λ quiet. inl (record { slots = m.wants; swaps = inr m.changes });
   later = λ at is. change-renews-none (kind_of task) (changes (kind_of task) m.kind);
   small = λ merge. absurd (cc (sym (changes (kind_of task) m.kind) ∙ ap is_change merge));

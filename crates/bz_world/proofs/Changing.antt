@@ -301,6 +301,7 @@ must-change b alone p w view m key key-is task had found config laws change look
       inr (inl (record {
         quiet = m.quiet;
         first = look.first;
+        unpassed = m.on.fit.quiet m.quiet;
         kind = put.kind;
         wants = wants;
         tells_swaps = put.tells;

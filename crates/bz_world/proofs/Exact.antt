@@ -111,10 +111,11 @@ changed-still opened p q r stock tells x stands done = record {
   least = done.least;
   most = done.most;
   stood = stands done.stood;
+  unpassed = done.unpassed;
 }
 
 pub counted-still : (opened : Open) (p q : Past) (r : Reach) (stock : Stock) (tells : ℕ) (x : OpenCall) → (HasStood opened p → HasStood opened q) → HasCounted opened p r stock tells x → HasCounted opened q r stock tells x
-counted-still opened p q r stock tells x stands counted = record { effected = counted.effected; same_taken = counted.same_taken; same_left = counted.same_left; stood = stands counted.stood }
+counted-still opened p q r stock tells x stands counted = record { effected = counted.effected; same_taken = counted.same_taken; same_left = counted.same_left; stood = stands counted.stood; unpassed = counted.unpassed }
 
 -- the same is known one moment later, at which no swap took effect
 pub exact-still : (opened : Open) (p q : Past) (r : Reach) (stock : Stock) (tells : ℕ) (x : OpenCall) → q.since ≡ p.since → ((k : ℕ) → HasOthers 0 k p → HasOthers 0 k q) → (HasStood opened p → HasStood opened q) → IsExact opened p r stock tells x → IsExact opened q r stock tells x
@@ -133,6 +134,7 @@ exact-still opened p q r stock tells x since on stands (inr (inl ch)) = inr (inl
   short = ch.short;
   ends = ch.ends;
   roomy = ch.roomy;
+  unpassed = ch.unpassed;
 }))
 exact-still opened p q r stock tells x since on stands (inr (inr (inl done))) = inr (inr (inl (changed-still opened p q r stock tells x stands done)))
 exact-still opened p q r stock tells x since on stands (inr (inr (inr after))) = inr (inr (inr (record { looks = after.looks; counted = counted-still opened p q r stock tells x stands after.counted; alone = on 0 after.alone })))
@@ -162,15 +164,16 @@ exact-struck opened p q r z stock tells x taken none one way now since on swaps 
   short = λ ends. omega (arith, ch.short ends, taken);
   ends = ch.ends;
   roomy = ch.roomy;
+  unpassed = ch.unpassed;
 }))
 exact-struck opened p q r z stock tells x taken none one way now since on swaps earlier (inr (inr (inl done))) = absurd (earlier done.kind (omega (arith, done.least, done.most, now)))
 exact-struck opened p q r z stock tells x taken none one way now since on swaps earlier (inr (inr (inr after))) = absurd (swaps after.looks)
 
 -- or the one that makes it
-pub exact-published : (opened later : Open) (p q : Past) (r z : Reach) (stock : Stock) (tells : ℕ) (x y : OpenCall) → y.task ≡ x.task → y.effect ≢ None → z.taken ≡ r.taken → r.underway ≡ 1 → z.underway ≡ 1 → made_of x.task + 1 ≡ change_swaps x.task → end_of x.task ≡ None
+pub exact-published : (opened later : Open) (p q : Past) (r z : Reach) (stock : Stock) (tells : ℕ) (x y : OpenCall) → y.task ≡ x.task → y.rest ≡ x.rest → y.effect ≢ None → z.taken ≡ r.taken → r.underway ≡ 1 → z.underway ≡ 1 → made_of x.task + 1 ≡ change_swaps x.task → end_of x.task ≡ None
     → (is_look (kind_of x.task) ≡ true → ⊥) → x.effect ≡ None → (IsChanging opened p r stock tells x → HasStood later q) → IsExact opened p r stock tells x → IsExact later q z stock tells y
-exact-published opened later p q r z stock tells x y same effected taken way now last goes swaps quiet stands (inl look) = absurd (swaps (seeks-look (kind_of x.task) look.looks))
-exact-published opened later p q r z stock tells x y same effected taken way now last goes swaps quiet stands (inr (inl ch)) = inr (inr (inl (record {
+exact-published opened later p q r z stock tells x y same rests effected taken way now last goes swaps quiet stands (inl look) = absurd (swaps (seeks-look (kind_of x.task) look.looks))
+exact-published opened later p q r z stock tells x y same rests effected taken way now last goes swaps quiet stands (inr (inl ch)) = inr (inr (inl (record {
   effected = effected;
   kind = ap (λ (t : AnyTask). puts (kind_of t)) same ∙ ch.kind;
   tells_swaps = ap change_swaps same ∙ ch.tells_swaps;
@@ -179,9 +182,10 @@ exact-published opened later p q r z stock tells x y same effected taken way now
   least = omega (arith, ap change_swaps same, ch.least goes, taken, way, last);
   most = omega (arith, ap change_swaps same, ap swaps_of same, ch.most, taken, way, now);
   stood = stands ch;
+  unpassed = rests ∙ ch.unpassed;
 })))
-exact-published opened later p q r z stock tells x y same effected taken way now last goes swaps quiet stands (inr (inr (inl done))) = absurd (done.effected quiet)
-exact-published opened later p q r z stock tells x y same effected taken way now last goes swaps quiet stands (inr (inr (inr after))) = absurd (after.counted.effected quiet)
+exact-published opened later p q r z stock tells x y same rests effected taken way now last goes swaps quiet stands (inr (inr (inl done))) = absurd (done.effected quiet)
+exact-published opened later p q r z stock tells x y same rests effected taken way now last goes swaps quiet stands (inr (inr (inr after))) = absurd (after.counted.effected quiet)
 
 -- or at which it begins one
 pub exact-swaps : (opened : Open) (p : Past) (r z : Reach) (stock : Stock) (tells : ℕ) (x : OpenCall) → z.taken ≡ r.taken + 1 → r.untold ≡ 0 → z.untold ≡ 0 → r.underway ≡ 0 → z.underway ≡ 1 → end_of x.task ≡ None
@@ -201,6 +205,7 @@ exact-swaps opened p r z stock tells x taken none still way now goes swaps looks
   short = λ ends. absurd (cc (goes, ends));
   ends = ch.ends;
   roomy = ch.roomy;
+  unpassed = ch.unpassed;
 }))
 exact-swaps opened p r z stock tells x taken none still way now goes swaps looks (inr (inr (inl done))) = let no_more : swaps_of x.task ≡ 0 = omega (arith, done.least, done.most, way) in absurd (swaps no_more)
 exact-swaps opened p r z stock tells x taken none still way now goes swaps looks (inr (inr (inr after))) = absurd (swaps (looks after.looks))
@@ -258,7 +263,7 @@ effect-told called had begun supply writes taken left = absurd (true≢false wri
 pub has-counted : (opened : Open) (p : Past) (taken : ℕ) (stock : Stock) (x : OpenCall) → x.effect ≢ None → IsExact opened p (reach taken 0 0) stock (tells_of x) x → HasCounted opened p (reach taken 0 0) stock (tells_of x) x
 has-counted opened p taken stock x effected (inl look) = absurd (effected look.quiet)
 has-counted opened p taken stock x effected (inr (inl ch)) = absurd (effected ch.quiet)
-has-counted opened p taken stock x effected (inr (inr (inl done))) = record { effected = effected; same_taken = omega (arith, done.least, done.most, done.tells_swaps); same_left = done.same_left; stood = done.stood }
+has-counted opened p taken stock x effected (inr (inr (inl done))) = record { effected = effected; same_taken = omega (arith, done.least, done.most, done.tells_swaps); same_left = done.same_left; stood = done.stood; unpassed = done.unpassed }
 has-counted opened p taken stock x effected (inr (inr (inr after))) = after.counted
 
 module _ (c : Config) (log : Log) (mark : Mark) (story after : Story) (w since : ℕ) (opened : Open) (y : Instant) (is : after.at ≡ and_then story.at (length log.past) y) (l : since ≤ length log.past) (begun : opened.begun ≤ length log.past) where

@@ -109,6 +109,7 @@ module _ (opened : Open) (p : Past) (taken : ℕ) (stock : Stock) (tells : ℕ) 
       short = λ none. let lacked = h.goes.full_swaps none in omega (arith, ch.most, h.goes.fewer, h.swaps, none-left (asks_of x.task) what hears lacked, ap answered_in lacked);
       ends = ends-full;
       roomy = λ z room. ch.roomy z (h.goes.meant NeedsRoom z room);
+      unpassed = ch.unpassed;
     }
 
   pub exact-told : IsExact opened p (reach taken (effects_in what) (answered_in what)) stock tells x → IsExact opened p (reach taken 0 0) stock-then tells (record x { task = next })
@@ -131,6 +132,7 @@ module _ (opened : Open) (p : Past) (taken : ℕ) (stock : Stock) (tells : ℕ) 
     least = omega (arith, done.least, h.swaps);
     most = omega (arith, done.most, fewer, h.swaps);
     stood = done.stood;
+    unpassed = done.unpassed;
   })))
   exact-told (inr (inr (inr after))) = inr (inr (inr (record {
     looks = ap is_look h.kind ∙ after.looks;
@@ -139,6 +141,7 @@ module _ (opened : Open) (p : Past) (taken : ℕ) (stock : Stock) (tells : ℕ) 
       same_taken = after.counted.same_taken;
       same_left = left-same (laws.looks after.looks).needs after.counted.same_left;
       stood = after.counted.stood;
+      unpassed = after.counted.unpassed;
     };
     alone = after.alone;
   })))

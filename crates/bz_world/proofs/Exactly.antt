@@ -15,9 +15,10 @@ use Rattle.bz_sound.specs.Solitary.{IsSolitary}
 use Rattle.bz_task.specs.Scene.{Past}
 use Rattle.bz_task.specs.declared.todo.Outcome.{Outcome}
 use Rattle.bz_task.specs.declared.todo.Outcome.TheVariants.{Path, Key, Restart}
-use Rattle.bz_world.specs.Inside.Exact.{Reach, IsExact, IsLookingUp, LooksAfter, IsFull, seeks, puts}
+use Rattle.bz_world.specs.Inside.Exact.{Reach, IsExact, reach_idle, IsLookingUp, LooksAfter, IsFull, seeks, puts}
 use Rattle.bz_world.specs.Inside.Going.{HadEffect, MustGoOn, HadNoRoom, LooksUpAgain, ReadsAgain, known}
-use Rattle.bz_world.specs.Inside.Paid.{Stock}
+use Rattle.bz_world.specs.Inside.Paid.{Stock, is_joining, stock_of}
+use Rattle.bz_world.specs.Inside.Serving.{tells_of}
 use Rattle.bz_world.specs.Roomy.{HadRoom}
 use Rattle.bz_world.specs.declared.parts.Parts.{Parts}
 use Rattle.bz_world.specs.declared.serving.OpenCall.{OpenCall}
@@ -104,6 +105,26 @@ module _ (p : Parts) (w : ℕ) (on : MustGoOn p w) where
   -- one that has made its change looks on
   pub counted : on.serving.effect ≢ None → LooksUpAgain p w on
   counted effected solitary room = has-counted on.between.opened _ _ _ on.serving effected (on.exact solitary room)
+
+  -- a merge of two nodes comes only where there was no room
+  pub joins-none : on.serving.effect ≢ None → is_joining (kind_of on.serving.task) ≡ true → HadNoRoom p w on
+  joins-none effected joins solitary room = by (on.exact solitary room)
+    where
+      joined-puts : (k : Kind) → is_joining k ≡ true → puts k ≡ true → ⊥
+      joined-puts kinds.Merge j l = cc l
+      joined-puts kinds.MergeNodes j l = cc l
+      joined-puts k j l = cc j
+
+      joined-looks : (k : Kind) → is_joining k ≡ true → is_look k ≡ true → ⊥
+      joined-looks kinds.Merge j l = cc l
+      joined-looks kinds.MergeNodes j l = cc l
+      joined-looks k j l = cc j
+
+      by : IsExact on.between.opened (known p w on).past (reach_idle p.access) (stock_of p) (tells_of on.serving) on.serving → ⊥
+      by (inl look) = effected look.quiet
+      by (inr (inl ch)) = effected ch.quiet
+      by (inr (inr (inl done))) = joined-puts (kind_of on.serving.task) joins done.kind
+      by (inr (inr (inr after))) = joined-looks (kind_of on.serving.task) joins after.looks
 
   pub looks-on : on.serving.effect ≢ None → is_look (kind_of on.serving.task) ≡ true → ReadsAgain p w on
   looks-on effected looks solitary room =

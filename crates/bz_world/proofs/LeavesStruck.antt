@@ -87,7 +87,7 @@ record IsSeenSmall (key : List ℕ) (slot : ℕ) (p : Past) : Type 0 where
   at : seen.view.slot ≡ slot
   few : live_of (node_of seen.view.image.0) < MERGE_BELOW
 
-merge-kind : (t : AnyTask) (k j : ℕ) (own other : List ℕ) → IsMergeOf t k j own other → kind_of t ≡ kinds.Merge
+pub merge-kind : (t : AnyTask) (k j : ℕ) (own other : List ℕ) → IsMergeOf t k j own other → kind_of t ≡ kinds.Merge
 unfolding kind_of
 merge-kind (Merging t) k j own other merge = refl
 merge-kind t k j own other merge = absurd merge

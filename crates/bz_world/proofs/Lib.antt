@@ -40,6 +40,7 @@ mod PaidSteps
 mod Spared
 mod Striking
 mod LeavesStruck
+mod LaterLeaves
 mod UndisturbedLeaves
 mod StruckQuietly
 mod Published
@@ -73,6 +74,7 @@ mod Takings
 mod Supplies
 mod SpendingSlots
 mod MakingAnew
+mod TakingLevels
 mod HighTrees
 mod Wanting
 mod GoingUp

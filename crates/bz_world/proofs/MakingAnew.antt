@@ -46,7 +46,7 @@ use Rattle.bz_world.proofs.MergeStarts.{may-now}
 
 -- of a call that makes a change and has had no effect, this is what may come after a task of some kind
 coming-is : (r : Resource) (q : Prices) (x : OpenCall) (k : Kind) → x.effect ≡ None → is_read x.call ≡ false → coming r q (errand_of x) k ≡ coming_to_write r q (errand_of x) k
-coming-is r q x k quiet write = ap (λ (b : Bool). if b then coming_after r k else (if is_read x.call then coming_to_read r k else coming_to_write r q (errand_of x) k)) (ap is_some quiet) ∙ ap (λ (b : Bool). if b then coming_to_read r k else coming_to_write r q (errand_of x) k) write
+coming-is r q x k quiet write = ap (λ (b : Bool). if b then coming_after r x.rest k else (if is_read x.call then coming_to_read r k else coming_to_write r q (errand_of x) k)) (ap is_some quiet) ∙ ap (λ (b : Bool). if b then coming_to_read r k else coming_to_write r q (errand_of x) k) write
 
 -- so it is paid for, where what may come so is
 spared-so : RoundLaws → (p : Parts) (w : ℕ) (on : MustGoOn p w) → on.serving.effect ≡ None → is_read on.serving.call ≡ false → (k : Kind) → HasToSpare p w on.serving (known p w on).past (λ r q. most_in r k + coming_to_write r q (errand_of on.serving) k) → HasToSpare p w on.serving (known p w on).past (λ r q. most_in r k + coming r q (errand_of on.serving) k)
@@ -94,7 +94,8 @@ pub renewal-meant : (p : Parts) (w : ℕ) (on : MustGoOn p w) → on.serving.eff
 renewal-meant p w on quiet write task within other copied meant = record {
   within = within;
   look = λ none. writes-look on.serving.call (kind_of task) write;
-  fit = record { words = on.fit.words; thawed = on.fit.thawed };
+  fit = record { words = on.fit.words; thawed = on.fit.thawed; quiet = on.fit.quiet };
+  first = λ later. on.fit.quiet quiet;
   meant = λ none. meant;
   later = λ at is. absurd (cc (quiet, is));
   small = λ merge. absurd (other merge);
@@ -147,7 +148,8 @@ pub merge-meant : (p : Parts) (w : ℕ) (path : Path) (view : LeafView) (m : Mus
 merge-meant p w path view m task f for small = record {
   within = f.within;
   look = λ quiet. writes-look m.on.serving.call (kind_of task) (m.write quiet);
-  fit = record { words = m.on.fit.words; thawed = m.on.fit.thawed };
+  fit = record { words = m.on.fit.words; thawed = m.on.fit.thawed; quiet = m.on.fit.quiet };
+  first = λ later. m.first;
   meant = λ quiet. inr (inl (for (key_of m.on.serving.call) (known p w m.on).past m.viewed (m.frozen quiet)));
   later = λ at is. ap is_renewal f.kind;
   small = λ merge. small (key_of m.on.serving.call) (known p w m.on).past m.viewed;

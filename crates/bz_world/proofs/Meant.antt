@@ -29,7 +29,7 @@ use Rattle.bz_solo.specs.Meant.{IsMeantFor}
 use Rattle.bz_content.specs.Content.{image_of, leaf_in}
 use Rattle.bz_stage.specs.FromLeaves.Neighbours.{leaf_page}
 use Rattle.bz_slotted.specs.Records.{live_words}
-use Rattle.bz_world.specs.Inside.Meant.{IsMeant, IsOfSettled}
+use Rattle.bz_world.specs.Inside.Meant.{IsMeant, IsOfSettled, tries_later}
 use Rattle.bz_world.specs.Inside.Telling.{HasTold}
 use Rattle.bz_world.specs.declared.serving.OpenCall.{OpenCall}
 use Rattle.bz_world.proofs.Paid.{within-told}
@@ -122,17 +122,18 @@ settled-on t key p q on s = record {
 
 -- so it stays of a call, from moment to moment, and once its task was told something
 pub call-meant-on : (x : OpenCall) (p q : Past) → AreLaws x.task → Continues p q → IsMeant x p → IsMeant x q
-call-meant-on x p q laws on m = record { within = m.within; fit = m.fit; look = m.look; meant = λ quiet. meant-on x.call x.task p q laws on (m.meant quiet); later = m.later; small = λ merge. laws.small_for (key_of x.call) p q (m.small merge) on; copied = λ copy. settled-on x.task (key_of x.call) p q on (m.copied copy) }
+call-meant-on x p q laws on m = record { within = m.within; fit = m.fit; look = m.look; meant = λ quiet. meant-on x.call x.task p q laws on (m.meant quiet); later = m.later; small = λ merge. laws.small_for (key_of x.call) p q (m.small merge) on; copied = λ copy. settled-on x.task (key_of x.call) p q on (m.copied copy); first = m.first }
 
 pub call-meant-told : (x : OpenCall) (p : Past) (seen : Seen) (moment : ℕ) (free : FreeSlots) (todo : Todo) (y : OpenCall) (left : FreeSlots) → HasTold x seen moment free todo y left → IsMeant x p → IsMeant y p
 call-meant-told x p seen moment free todo y left h m = subst (λ (z : OpenCall). IsMeant z p) (sym h.rest) (record {
   within = within-told x.task y.task seen moment free todo left h.heard m.within;
-  fit = record { words = m.fit.words; thawed = m.fit.thawed };
+  fit = record { words = m.fit.words; thawed = m.fit.thawed; quiet = m.fit.quiet };
   look = λ quiet. subst (IsLookOf x.call) (sym h.heard.kind) (m.look quiet);
   meant = λ quiet. meant-told x.call p x.task y.task seen moment free todo left h.heard (m.meant quiet);
   later = λ at is. ap is_renewal h.heard.kind ∙ m.later at is;
   small = λ merge. h.heard.small_for (key_of x.call) p (m.small (sym h.heard.kind ∙ merge));
   copied = λ copy. let s = m.copied (sym h.heard.kind ∙ copy) in record { slot = s.slot; was = s.was; known = s.known; only = s.only; made = h.heard.made_for (key_of x.call) 0 s.known s.made };
+  first = λ other. m.first (sym (ap tries_later h.heard.kind) ∙ other);
 })
 
 -- the swap of a change merges nothing

@@ -1,5 +1,5 @@
 -- A delete that has had its effect, beside which no other call is open, ends once its leaf was merged, where that might be, or slots or descriptors were not left.
-use Rattle.std.proofs.Common.{◌≡◌, ◌≢◌, ℕ, suc, true, false, List, length, arith, refl, sym, ap, subst, ◌∙◌, inl, inr, Option, Some, None, ◌≤◌, ◌-◌}
+use Rattle.std.proofs.Common.{◌≡◌, ◌≢◌, ℕ, suc, true, false, List, length, arith, refl, sym, ap, subst, ◌∙◌, inl, inr, Option, Some, None, ◌≤◌, ◌+◌, ◌-◌}
 use Rattle.std.proofs.lemmas.Bool.{true≢false}
 use Rattle.bz_solo.specs.FromAlone.Trees.{TreesStand}
 use Rattle.bz_call.specs.Map.{key_of}
@@ -27,11 +27,13 @@ use Rattle.bz_task.specs.declared.path.Link.{Link}
 use Rattle.bz_task.specs.declared.path.Path as declared
 use Rattle.bz_task.specs.declared.view.LeafView.{LeafView}
 use Rattle.bz_task.specs.Outcomes.{IsPath}
-use Rattle.bz_task.specs.declared.todo.Outcome.TheVariants.{Path, View, Done, Restart, Full}
+use Rattle.bz_task.specs.declared.todo.Outcome.TheVariants.{Path, View, Restart, Full}
+use Rattle.bz_solo.specs.declared.rest.Rest.TheVariants as rest
 use Rattle.bz_world.specs.Inside.Exact.{reach_idle}
-use Rattle.bz_world.specs.Inside.Going.{HasMergedIn, MustGoOn, known, HasEndedAfter, HasReadAfter, HasToEnd}
-use Rattle.bz_world.specs.Inside.Merging.{looks_on, EndsShort, IsMerging, IsToMerge, tells_few, IsLookingOn}
-use Rattle.bz_world.specs.Inside.Paid.{stock_of}
+use Rattle.bz_world.specs.Inside.Going.{HasMergedIn, MustGoOn, known, HasEndedAfter, HasReadAfter, HasFoundAfter, HasToEnd, HasTriedAfter}
+use Rattle.bz_world.specs.Leaves.{leaves_after}
+use Rattle.bz_world.specs.Inside.Merging.{leaves_at, StoodSince, looks_on, EndsShort, IsMerging, IsToMerge, tells_few, IsLookingOn}
+use Rattle.bz_world.specs.Inside.Paid.{is_joining, stock_of}
 use Rattle.bz_world.specs.Merges.{IsMergedSince, LacksForMerge, MergesFor}
 use Rattle.bz_world.specs.WorldView.{is_delete}
 use Rattle.bz_world.specs.declared.parts.Parts.{Parts}
@@ -41,6 +43,10 @@ use Rattle.std.specs.Prelude.{slice_get}
 use Rattle.bz_solo.specs.FromJoined.DueMerges.{IsDueToMerge}
 use Rattle.bz_world.specs.Inside.Laws.{RoundLaws}
 use Rattle.bz_stage.specs.FromLeaves.Neighbours.{MayBeMerged}
+
+-- the image of a moment since a delete's effect
+pub then-image : (p : Parts) (w : ℕ) (on : MustGoOn p w) (at : ℕ) → on.between.opened.begun ≤ at → (m : ℕ) → suc at ≤ m → m ≤ length p.journal.past → ((known p w on).past.at m).image ≡ image_at p.journal.start m p.journal.past
+then-image p w on at begun m from by_now = on.between.living.images m (omega (arith, on.between.living.begins w on.between.opened on.between.call_open.is_open, begun, from)) by_now
 
 -- what looks on ends with what it looked for, or is to begin again
 abbrev pub EndsLookingOn : Outcome → Type 0
@@ -68,17 +74,25 @@ module _ (scenes : ScenesAreSeen) (trees : TreesStand) (p : Parts) (w at : ℕ) 
 
   module _ (begun : on.between.opened.begun ≤ at) where
     image-then : (m : ℕ) → suc at ≤ m → m ≤ length p.journal.past → ((known p w on).past.at m).image ≡ image_at p.journal.start m p.journal.past
-    image-then m from by_now = on.between.living.images m (omega (arith, on.between.living.begins w on.between.opened on.between.call_open.is_open, begun, from)) by_now
+    image-then m from by_now = then-image p w on at begun m from by_now
+
+    -- there is one leaf fewer since a moment after which no swap took effect
+    fewer-since : suc at ≤ length p.journal.past → (moment : ℕ) → suc at ≤ moment → StoodSince moment (known p w on).past → leaves_at (known p w on).past moment + 1 ≡ leaves_at (known p w on).past (suc at) → leaves_after p.config p.journal.start p.journal.past + 1 ≡ leaves_after p.config p.journal.start (at_moment (suc at) p.journal.past)
+    fewer-since by_now moment after stood less =
+        let stand = leaves-stand trees (scene p.config p.journal.past on.between.story w moment on.between.opened) moment (since-then scenes p w on moment (omega (arith, begun, after)) stood.by_now)
+        (record { since = omega arith; now = stood.by_now; effects = stood.still }) in
+        let now = ap (leaves_in p.config) (image-then (length p.journal.past) by_now (omega arith) ∙ ap (image_after p.journal.start) (at_moment-now p.journal.past)) in
+        let then = ap (leaves_in p.config) (image-then (suc at) (omega arith) by_now) in
+        omega (arith, less, stand, now, then)
 
     by-state : suc at ≤ length p.journal.past → IsMerging p.config p.journal at (known p w on).past (reach_idle p.access) (stock_of p) on.serving → MayBeMerged p.config ((known p w on).past.at (suc at)).image (key_of on.serving.call) → IsMergedSince p.config p.journal.start p.journal.past at
     by-state by_now (inl s) may = absurd (never begun may s)
     by-state by_now (inr (inl u)) may = inr (short-lacks outcome spent (u.ends outcome ended))
-    by-state by_now (inr (inr d)) may =
-        let stand = leaves-stand trees (scene p.config p.journal.past on.between.story w d.moment on.between.opened) d.moment (since-then scenes p w on d.moment (omega (arith, begun, d.after)) d.stood.by_now)
-        (record { since = omega arith; now = d.stood.by_now; effects = d.stood.still }) in
-        let now = ap (leaves_in p.config) (image-then (length p.journal.past) by_now (omega arith) ∙ ap (image_after p.journal.start) (at_moment-now p.journal.past)) in
-        let then = ap (leaves_in p.config) (image-then (suc at) (omega arith) by_now) in
-        inl (omega (arith, d.leaves, stand, now, then))
+    by-state by_now (inr (inr (inl d))) may = inl (fewer-since by_now d.moment d.after d.stood d.leaves)
+    by-state by_now (inr (inr (inr o))) may = elim o.over [
+      | inl less ↦ inl (fewer-since by_now o.moment o.after o.stood less)
+      | inr lacks ↦ inr lacks
+    ]
 
   pub ended-merged : HasMergedIn p w at on
   ended-merged solitary deletes may =
@@ -133,33 +147,46 @@ module _ (p : Parts) (w at : ℕ) (o : Outcome) (e : HasEndedAfter p w at o) whe
   looked-so : IsLookingOn (known p w e.had.on).past e.had.on.serving → EndsLookingOn o
   looked-so look = looks-on-ends (kind_of e.had.on.serving.task) o look.looks (e.tasked.laws.ends_of o (known p w e.had.on) (e.tasked.laws.sound.ends (known p w e.had.on) o e.facts e.ends).0)
 
-  -- so where it ended in another way than these it had its leaf merged, if that might be
-  pub ended-otherwise : ScenesAreSeen → TreesStand → (o ≡ Done → ⊥) → ((path : declared.Path) → o ≡ Path path → ⊥) → ((view : LeafView) → o ≡ View view → ⊥) → HasToEnd p w at
-  ended-otherwise scenes trees no-done no-path no-view = record {
+  -- so where it told that it leaves much, and ended in another way than these, it had its leaf merged, if that might be
+  pub ended-otherwise : ScenesAreSeen → TreesStand → tells_few e.had.on.serving ≡ false → ((path : declared.Path) → o ≡ Path path → ⊥) → ((view : LeafView) → o ≡ View view → ⊥) → HasToEnd p w at
+  ended-otherwise scenes trees much no-path no-view = record {
     had = e.had;
     merged = ended-merged scenes trees p w at e.had.on e.had.effect o e.ends (λ full. absurd (e.swaps full)) (λ begun may s. elim s.task [
-      | inl tells ↦ no-done (tells.ends o e.ends)
+      | inl tells ↦ true≢false (sym tells.few ∙ much)
       | inr look ↦ (let none : e.alone.others ≡ 0 = omega (arith, look.alone, e.alone.counted) in e.alone.stands none (restarts-solitary o (looked-so look) no-path no-view))
     ]);
   }
 
-  -- and where it told that it leaves much
-  pub ended-much : ScenesAreSeen → TreesStand → o ≡ Done → tells_few e.had.on.serving ≡ false → HasToEnd p w at
-  ended-much scenes trees done much = record {
-    had = e.had;
-    merged = ended-merged scenes trees p w at e.had.on e.had.effect o e.ends (λ full. absurd (e.swaps full)) (λ begun may s. elim s.task [
-      | inl tells ↦ true≢false (sym tells.few ∙ much)
-      | inr look ↦ subst EndsLookingOn done (looked-so look)
-    ]);
-  }
+-- so it had where a merge of two nodes has ended
+pub ended-tried : (p : Parts) (w at : ℕ) (o : Outcome) (t : HasTriedAfter p w at o) → ScenesAreSeen → TreesStand → is_joining (kind_of t.ends.had.on.serving.task) ≡ true → (then : ℕ) → t.ends.had.on.serving.effect ≡ Some then → HasMergedIn p w then t.ends.had.on
+ended-tried p w at o t scenes trees joins then is = subst (λ m. HasMergedIn p w m t.ends.had.on) (cc (t.ends.had.effect, is))
+    (ended-merged scenes trees p w at t.ends.had.on t.ends.had.effect o t.ends.ends (λ full. absurd (t.ends.swaps full)) (λ begun may s. elim s.task [
+      | inl tells ↦ true≢false (sym joins ∙ ap is_joining tells.kind)
+      | inr look ↦ joins-no-look (kind_of t.ends.had.on.serving.task) joins look.looks
+    ]))
+  where
+    joins-no-look : (k : Kind) → is_joining k ≡ true → looks_on k ≡ true → ⊥
+    joins-no-look kinds.Seek j l = cc j
+    joins-no-look kinds.ReadWhole j l = cc j
+    joins-no-look k j l = cc l
 
--- or its leaf was read, and no merge was due
-pub ended-read : RoundLaws → (p : Parts) (w at : ℕ) (view : LeafView) (path : declared.Path) (link : Link) (r : HasReadAfter p w at view) → IsPath (key_of r.had.on.serving.call) path (known p w r.had.on).past → slice_get path.links (path.depth - 1) ≡ Some link → (IsDueToMerge path view → ⊥) → HasToEnd p w at
-ended-read b p w at view path link r way last not-due = record {
-  had = r.had;
-  merged = ended-merged b.scenes b.trees p w at r.had.on r.had.effect (View view) r.ends (λ full. absurd (cc full)) (λ begun may s. elim s.task [
-    | inl tells ↦ cc (tells.kind, r.kind)
-    | inr look ↦ not-due (b.merges_due (key_of r.had.on.serving.call) path link view (known p w r.had.on) (since-then b.scenes p w r.had.on r.had.on.between.call_open.look.since (omega (arith, r.had.on.between.call_open.look.after_begin)) r.had.on.between.call_open.look.by_now) (omega (arith, look.alone)) way last r.viewed
-        (may-now b.scenes b.neighbours p w r.had.on at begun s.standing.stood may))
+-- or where the way to its leaf was found, and another thing is tried than that
+pub found-ends : ScenesAreSeen → TreesStand → (p : Parts) (w at : ℕ) (path : declared.Path) (f : HasFoundAfter p w at path) → f.had.on.serving.rest ≢ rest.Leaf → HasToEnd p w at
+found-ends scenes trees p w at path f later = record {
+  had = f.had;
+  merged = ended-merged scenes trees p w at f.had.on f.had.effect (Path path) f.ends (λ full. absurd (cc full)) (λ begun may s. elim s.task [
+    | inl tells ↦ cc (tells.kind, f.kind)
+    | inr look ↦ later (look.first f.kind)
   ]);
 }
+
+-- or its leaf was read, and no merge was due
+pub read-merged : RoundLaws → (p : Parts) (w at : ℕ) (view : LeafView) (path : declared.Path) (link : Link) (r : HasReadAfter p w at view) → IsPath (key_of r.had.on.serving.call) path (known p w r.had.on).past → slice_get path.links (path.depth - 1) ≡ Some link → (IsDueToMerge path view → ⊥) → HasMergedIn p w at r.had.on
+read-merged b p w at view path link r way last not-due = ended-merged b.scenes b.trees p w at r.had.on r.had.effect (View view) r.ends (λ full. absurd (cc full)) (λ begun may s. elim s.task [
+  | inl tells ↦ cc (tells.kind, r.kind)
+  | inr look ↦ not-due (b.merges_due (key_of r.had.on.serving.call) path link view (known p w r.had.on) (since-then b.scenes p w r.had.on r.had.on.between.call_open.look.since (omega (arith, r.had.on.between.call_open.look.after_begin)) r.had.on.between.call_open.look.by_now) (omega (arith, look.alone)) way last r.viewed
+      (may-now b.scenes b.neighbours p w r.had.on at begun s.standing.stood may))
+])
+
+pub ended-read : RoundLaws → (p : Parts) (w at : ℕ) (view : LeafView) (path : declared.Path) (link : Link) (r : HasReadAfter p w at view) → IsPath (key_of r.had.on.serving.call) path (known p w r.had.on).past → slice_get path.links (path.depth - 1) ≡ Some link → (IsDueToMerge path view → ⊥) → HasToEnd p w at
+ended-read b p w at view path link r way last not-due = record { had = r.had; merged = read-merged b p w at view path link r way last not-due }

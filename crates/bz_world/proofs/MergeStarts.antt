@@ -1,5 +1,5 @@
 -- A delete that has had its effect, beside which no other call is open: its leaf, which may be merged, may be so still when it is looked at once more.
-use Rattle.std.proofs.Common.{◌≡◌, ◌≢◌, ℕ, suc, true, length, arith, sym, ap, ◌∙◌, inl, inr, ◌≤◌}
+use Rattle.std.proofs.Common.{◌≡◌, ◌≢◌, ℕ, suc, true, length, arith, sym, ap, subst, ◌∙◌, inl, inr, ◌≤◌}
 use Rattle.std.proofs.lemmas.Bool.{true≢false}
 use Rattle.bz_call.specs.Map.{key_of}
 use Rattle.bz_solo.specs.FromAlone.Counts.{HasOthers}
@@ -9,8 +9,9 @@ use Rattle.bz_any_task.specs.Kinds.{kind_of}
 use Rattle.bz_refinement.specs.Laws.{ScenesAreSeen}
 use Rattle.bz_refinement.specs.Story.{scene}
 use Rattle.bz_task.specs.Scene.{IsScene}
+use Rattle.bz_solo.specs.declared.rest.Rest.TheVariants as rest
 use Rattle.bz_world.specs.Inside.Exact.{reach_idle}
-use Rattle.bz_world.specs.Inside.Going.{MustGoOn, StandsForLooking, StandsForReading, StoodFor, known}
+use Rattle.bz_world.specs.Inside.Going.{MustGoOn, StandsForLookingAs, StandsToLook, StandsForReading, StoodFor, known}
 use Rattle.bz_world.specs.Inside.Merging.{looks_on, HasToMerge, IsMerging, IsStanding, IsTellingFew, StoodSince}
 use Rattle.bz_world.specs.Inside.Paid.{stock_of}
 use Rattle.bz_world.specs.declared.parts.Parts.{Parts}
@@ -27,12 +28,13 @@ may-now scenes neighbours p w on at begun stood may = neighbours (scene p.config
     (since-then scenes p w on (suc at) (omega (arith, begun)) stood.by_now) (record { since = omega arith; now = stood.by_now; effects = stood.still })
     (record { from = omega arith; to = stood.by_now }) (record { from = stood.by_now; to = omega arith }) may
 
-module _ (p : Parts) (w : ℕ) (on : MustGoOn p w) where
+module _ (p : Parts) (w : ℕ) (on : MustGoOn p w) (first : on.serving.rest ≡ rest.Leaf) where
   -- while its task is no merge it stands
   stands-by : (kind_of on.serving.task ≢ kinds.Merge) → (at : ℕ) → IsMerging p.config p.journal at (known p w on).past (reach_idle p.access) (stock_of p) on.serving → IsStanding p.config p.journal at (known p w on).past (reach_idle p.access) (stock_of p)
   stands-by other at (inl s) = s.standing
   stands-by other at (inr (inl u)) = absurd (other u.kind)
-  stands-by other at (inr (inr d)) = absurd (other d.kind)
+  stands-by other at (inr (inr (inl d))) = absurd (other d.kind)
+  stands-by other at (inr (inr (inr o))) = absurd (o.later first)
 
   stood-by : (kind_of on.serving.task ≢ kinds.Merge) → (at : ℕ) → HasToMerge p.config p.journal on.between.opened at (known p w on).past (reach_idle p.access) (stock_of p) on.serving → StoodFor p w on at
   stood-by other at m = record { after_begin = m.after_begin; by_now = m.by_now; standing = λ may. stands-by other at (m.merging may) }
@@ -44,10 +46,14 @@ module _ (p : Parts) (w : ℕ) (on : MustGoOn p w) where
     | inr look ↦ absurd (true≢false (sym look.looks ∙ ap looks_on delete))
   ]
   tells-by delete at (inr (inl u)) = absurd (cc (delete, u.kind))
-  tells-by delete at (inr (inr d)) = absurd (cc (delete, d.kind))
+  tells-by delete at (inr (inr (inl d))) = absurd (cc (delete, d.kind))
+  tells-by delete at (inr (inr (inr o))) = absurd (o.later first)
 
-  pub stands-looking : kind_of on.serving.task ≡ kinds.Delete → StandsForLooking p w on
+  pub stands-looking : kind_of on.serving.task ≡ kinds.Delete → StandsForLookingAs p w on rest.Leaf
   stands-looking delete solitary at is deletes = let m = (on.merges solitary).merging at is deletes in (stood-by (λ merge. cc (delete, merge)) at m, λ may. tells-by delete at (m.merging may))
+
+  pub stands-as : (at : ℕ) → StandsToLook p w on at rest.Leaf → StandsToLook p w on at on.serving.rest
+  stands-as at s = subst (StandsToLook p w on at) (sym first) s
 
   -- and nobody's swap took effect since it looks for its leaf
   undisturbed-by : looks_on (kind_of on.serving.task) ≡ true → (at : ℕ) → IsMerging p.config p.journal at (known p w on).past (reach_idle p.access) (stock_of p) on.serving → HasOthers 0 0 (known p w on).past
@@ -56,7 +62,8 @@ module _ (p : Parts) (w : ℕ) (on : MustGoOn p w) where
     | inr look ↦ look.alone
   ]
   undisturbed-by looks at (inr (inl u)) = absurd (true≢false (sym looks ∙ ap looks_on u.kind))
-  undisturbed-by looks at (inr (inr d)) = absurd (true≢false (sym looks ∙ ap looks_on d.kind))
+  undisturbed-by looks at (inr (inr (inl d))) = absurd (true≢false (sym looks ∙ ap looks_on d.kind))
+  undisturbed-by looks at (inr (inr (inr o))) = absurd (o.later first)
 
   pub stands-reading : looks_on (kind_of on.serving.task) ≡ true → StandsForReading p w on
   stands-reading looks solitary at is deletes = let m = (on.merges solitary).merging at is deletes in (stood-by (λ merge. true≢false (sym looks ∙ ap looks_on merge)) at m, λ may. undisturbed-by looks at (m.merging may))

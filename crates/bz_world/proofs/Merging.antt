@@ -26,7 +26,9 @@ use Rattle.bz_task.specs.Scene.{Continues, Past}
 use Rattle.bz_task.specs.declared.todo.Outcome.{Outcome}
 use Rattle.bz_task.specs.declared.todo.Outcome.TheVariants.{Full}
 use Rattle.bz_world.specs.Inside.Exact.{Reach}
-use Rattle.bz_world.specs.Inside.Merging.{taken_then, used_then, leaves_at, looks_on, StoodSince, EndsShort, IsMerging, IsDuly}
+use Rattle.bz_world.specs.Inside.Merging.{taken_then, used_then, leaves_at, looks_on, StoodSince, WasOver, EndsShort, IsMerging, IsDuly}
+use Rattle.bz_world.specs.Merges.{LacksForMerge}
+use Rattle.bz_solo.specs.declared.rest.Rest.TheVariants as rest
 use Rattle.bz_world.specs.Inside.Paid.{Stock}
 use Rattle.bz_world.specs.declared.serving.OpenCall.{OpenCall}
 use Rattle.bz_world.proofs.Exact.{seeks-look}
@@ -78,6 +80,11 @@ module _ (c : Config) (log : Log) (mark : Mark) (p q : Past) (cont : Continues p
   then-used : (at : ℕ) → suc at ≤ p.now → used_then c (with_mark log mark) at ≡ used_then c log at
   then-used at by_now = ap (count_used c log.start) (at_moment-earlier (suc at) mark log.past (omega (arith, by_now, here)))
 
+  -- that a merge is over stays so
+  over-then : (at moment : ℕ) → suc at ≤ p.now → moment ≤ p.now → WasOver c log at moment p → WasOver c (with_mark log mark) at moment q
+  over-then at moment by_now within (inl less) = inl (omega (arith, leaves-same p q cont moment within, less, leaves-same p q cont (suc at) by_now))
+  over-then at moment by_now within (inr lacks) = inr (subst (λ (past : List Mark). LacksForMerge c log.start past) (sym (at_moment-earlier (suc at) mark log.past (omega (arith, by_now, here)))) lacks)
+
   -- at which no swap took effect
   module _ (same : (q.at q.now).effects ≡ (p.at p.now).effects) (known : KnownLeavesStay) (r : Reach) (stock : Stock) (x : OpenCall) where
     others-still : (k : ℕ) → HasOthers 0 k p → HasOthers 0 k q
@@ -88,7 +95,7 @@ module _ (c : Config) (log : Log) (mark : Mark) (p q : Past) (cont : Continues p
       standing = record { stood = stood-later p q cont same (suc at) s.standing.stood; taken = omega (arith, s.standing.taken, then-taken at by_now); left = omega (arith, s.standing.left, then-used at by_now) };
       task = elim s.task [
         | inl tells ↦ inl tells
-        | inr look ↦ inr (record { looks = look.looks; alone = others-still 0 look.alone })
+        | inr look ↦ inr (record { looks = look.looks; first = look.first; alone = others-still 0 look.alone })
       ];
     })
     merging-later at by_now (inr (inl u)) = inr (inl (record {
@@ -114,14 +121,21 @@ module _ (c : Config) (log : Log) (mark : Mark) (p q : Past) (cont : Continues p
         short-later at by_now (Full Nodes) short = omega (arith, short, then-used at by_now)
         short-later at by_now (Full Swaps) short = omega (arith, short, then-taken at by_now)
         short-later at by_now o short = absurd short
-    merging-later at by_now (inr (inr d)) = inr (inr (record {
+    merging-later at by_now (inr (inr (inl d))) = inr (inr (inl (record {
       kind = d.kind;
       moment = d.moment;
       after = d.after;
       stood = stood-later p q cont same d.moment d.stood;
       leaves = omega (arith, leaves-same p q cont d.moment d.stood.by_now, d.leaves, leaves-same p q cont (suc at) by_now);
       waits = d.waits;
-    }))
+    })))
+    merging-later at by_now (inr (inr (inr o))) = inr (inr (inr (record {
+      later = o.later;
+      moment = o.moment;
+      after = o.after;
+      stood = stood-later p q cont same o.moment o.stood;
+      over = over-then at o.moment by_now o.stood.by_now o.over;
+    })))
 
     pub duly-later : (opened : Open) (z : Reach) → z ≡ r → IsDuly c log opened p r stock x → IsDuly c (with_mark log mark) opened q z stock x
     duly-later opened z e d = subst (λ k. IsDuly c (with_mark log mark) opened q k stock x) (sym e) (record {
@@ -142,7 +156,7 @@ module _ (c : Config) (log : Log) (mark : Mark) (p q : Past) (cont : Continues p
 
   -- at which its own swap took effect that makes no change
   module _ (up : (q.at q.now).effects ≡ (p.at p.now).effects + 1) (known : KnownLeavesStay) (r z : Reach) (stock : Stock) (x : OpenCall) (none : r.untold ≡ 0) (one : z.untold ≡ 1) (taken : z.taken ≡ r.taken) (way : z.underway ≡ r.underway) (goes : end_of x.task ≡ None)
-      (no_look : is_look (kind_of x.task) ≡ true → ⊥) (last : kind_of x.task ≡ kinds.Merge → swaps_of x.task ≤ 1 → leaves_at q q.now + 1 ≡ leaves_at p p.now) (earlier : kind_of x.task ≡ kinds.Merge → 1 < swaps_of x.task → leaves_at q q.now ≡ leaves_at p p.now) where
+      (no_look : is_look (kind_of x.task) ≡ true → ⊥) (keeps : x.rest ≢ rest.Leaf → leaves_at q q.now ≡ leaves_at p p.now) (last : kind_of x.task ≡ kinds.Merge → swaps_of x.task ≤ 1 → leaves_at q q.now + 1 ≡ leaves_at p p.now) (earlier : kind_of x.task ≡ kinds.Merge → 1 < swaps_of x.task → leaves_at q q.now ≡ leaves_at p p.now) where
     one-more : HasOthers 0 (made_of x.task + r.untold) p → HasOthers 0 (made_of x.task + z.untold) q
     one-more counted = let sum : made_of x.task + r.untold + 1 ≡ made_of x.task + z.untold = omega (arith, none, one) in subst (λ k. HasOthers 0 k q) sum (others-more p q cont begun (made_of x.task + r.untold) 1 up counted)
 
@@ -173,16 +187,26 @@ module _ (c : Config) (log : Log) (mark : Mark) (p q : Past) (cont : Continues p
         before = λ few. absurd (omega (arith, few, more));
         ends = λ o e. absurd (cc (goes, e));
       }))
-      | inr few ↦ inr (inr (record {
+      | inr few ↦ inr (inr (inl (record {
         kind = u.kind;
         moment = q.now;
         after = omega (arith, by_now, cont.now);
         stood = now-stood;
         leaves = omega (arith, last u.kind few, stand u.moment u.after u.stood, u.leaves, leaves-same p q cont (suc at) by_now);
         waits = λ on. (one, few);
-      }))
+      })))
     ]
-    merging-struck at by_now stand (inr (inr d)) = absurd (omega (arith, (d.waits goes).0, none))
+    merging-struck at by_now stand (inr (inr (inl d))) = absurd (omega (arith, (d.waits goes).0, none))
+    merging-struck at by_now stand (inr (inr (inr o))) = inr (inr (inr (record {
+      later = o.later;
+      moment = q.now;
+      after = omega (arith, by_now, cont.now);
+      stood = now-stood;
+      over = elim o.over [
+        | inl less ↦ inl (omega (arith, keeps o.later, stand o.moment o.after o.stood, less, leaves-same p q cont (suc at) by_now))
+        | inr lacks ↦ inr (subst (λ (past : List Mark). LacksForMerge c log.start past) (sym (at_moment-earlier (suc at) mark log.past (omega (arith, by_now, here)))) lacks)
+      ];
+    })))
 
     pub duly-struck : (opened : Open) → ((at m : ℕ) → opened.begun ≤ at → suc at ≤ m → StoodSince m p → leaves_at p p.now ≡ leaves_at p m) → IsDuly c log opened p r stock x → IsDuly c (with_mark log mark) opened q z stock x
     duly-struck opened stand d = record {
@@ -230,7 +254,8 @@ module _ (c : Config) (log : Log) (p : Past) (r z : Reach) (stock : Stock) (x : 
     before = λ few. still;
     ends = λ o e. absurd (cc (goes, e));
   }))
-  merging-swaps at (inr (inr d)) = absurd (omega (arith, (d.waits goes).0, none))
+  merging-swaps at (inr (inr (inl d))) = absurd (omega (arith, (d.waits goes).0, none))
+  merging-swaps at (inr (inr (inr o))) = inr (inr (inr o))
 
   pub duly-swaps : (opened : Open) → IsDuly c log opened p r stock x → IsDuly c log opened p z stock x
   duly-swaps opened d = record {
@@ -243,7 +268,8 @@ module _ (c : Config) (log : Log) (p : Past) (r z : Reach) (stock : Stock) (x : 
 merging-unmerged : (c : Config) (log : Log) (at : ℕ) (p : Past) (r : Reach) (stock : Stock) (x : OpenCall) (alone : Bool) → IsMerging c log at p r stock x → IsMerging c log at p r stock (record x { alone = alone })
 merging-unmerged c log at p r stock x alone (inl s) = inl (record { standing = s.standing; task = elim s.task [ inl tells ↦ inl (assumption tells) | inr look ↦ inr (assumption look) ] })
 merging-unmerged c log at p r stock x alone (inr (inl u)) = inr (inl (record { kind = u.kind; moment = u.moment; after = u.after; stood = u.stood; leaves = u.leaves; alone = u.alone; knows = u.knows; seen = u.seen; seen_since = u.seen_since; seen_by_now = u.seen_by_now; may = u.may; wants = u.wants; left = u.left; taken = u.taken; before = u.before; ends = u.ends }))
-merging-unmerged c log at p r stock x alone (inr (inr d)) = inr (inr (record { kind = d.kind; moment = d.moment; after = d.after; stood = d.stood; leaves = d.leaves; waits = d.waits }))
+merging-unmerged c log at p r stock x alone (inr (inr (inl d))) = inr (inr (inl (record { kind = d.kind; moment = d.moment; after = d.after; stood = d.stood; leaves = d.leaves; waits = d.waits })))
+merging-unmerged c log at p r stock x alone (inr (inr (inr o))) = inr (inr (inr (record { later = o.later; moment = o.moment; after = o.after; stood = o.stood; over = o.over })))
 
 pub duly-unmerged : (c : Config) (log : Log) (opened : Open) (p : Past) (r : Reach) (stock : Stock) (x : OpenCall) (alone : Bool) → IsDuly c log opened p r stock x → IsDuly c log opened p r stock (record x { alone = alone })
 duly-unmerged c log opened p r stock x alone d = record {
@@ -256,7 +282,8 @@ duly-unmerged c log opened p r stock x alone d = record {
 merging-froze : (c : Config) (log : Log) (at : ℕ) (p : Past) (r : Reach) (stock : Stock) (x : OpenCall) (froze : Bool) → IsMerging c log at p r stock x → IsMerging c log at p r stock (record x { froze = froze })
 merging-froze c log at p r stock x froze (inl s) = inl (record { standing = s.standing; task = elim s.task [ inl tells ↦ inl (assumption tells) | inr look ↦ inr (assumption look) ] })
 merging-froze c log at p r stock x froze (inr (inl u)) = inr (inl (record { kind = u.kind; moment = u.moment; after = u.after; stood = u.stood; leaves = u.leaves; alone = u.alone; knows = u.knows; seen = u.seen; seen_since = u.seen_since; seen_by_now = u.seen_by_now; may = u.may; wants = u.wants; left = u.left; taken = u.taken; before = u.before; ends = u.ends }))
-merging-froze c log at p r stock x froze (inr (inr d)) = inr (inr (record { kind = d.kind; moment = d.moment; after = d.after; stood = d.stood; leaves = d.leaves; waits = d.waits }))
+merging-froze c log at p r stock x froze (inr (inr (inl d))) = inr (inr (inl (record { kind = d.kind; moment = d.moment; after = d.after; stood = d.stood; leaves = d.leaves; waits = d.waits })))
+merging-froze c log at p r stock x froze (inr (inr (inr o))) = inr (inr (inr (record { later = o.later; moment = o.moment; after = o.after; stood = o.stood; over = o.over })))
 
 pub duly-froze : (c : Config) (log : Log) (opened : Open) (p : Past) (r : Reach) (stock : Stock) (x : OpenCall) (froze : Bool) → IsDuly c log opened p r stock x → IsDuly c log opened p r stock (record x { froze = froze })
 duly-froze c log opened p r stock x froze d = record {
@@ -274,7 +301,8 @@ merging-pages c log pages at p r stock x (inr (inl u)) = inr (inl (record { kind
     short-pages (Full Nodes) short = short
     short-pages (Full Swaps) short = short
     short-pages o short = absurd short
-merging-pages c log pages at p r stock x (inr (inr d)) = inr (inr d)
+merging-pages c log pages at p r stock x (inr (inr (inl d))) = inr (inr (inl d))
+merging-pages c log pages at p r stock x (inr (inr (inr o))) = inr (inr (inr (record { later = o.later; moment = o.moment; after = o.after; stood = o.stood; over = o.over })))
 
 pub duly-pages : (c : Config) (log : Log) (pages : Pages) (opened : Open) (p : Past) (r : Reach) (stock : Stock) (x : OpenCall) → IsDuly c log opened p r stock x → IsDuly c (record log { pages = pages }) opened p r stock x
 duly-pages c log pages opened p r stock x d = record {

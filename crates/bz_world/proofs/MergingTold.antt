@@ -130,11 +130,12 @@ module _ (c : Config) (log : Log) (opened : Open) (p : Past) (taken : ℕ) (stoc
     merging-told : IsMerging c log at p (reach taken (effects_in what) (answered_in what)) stock x → IsMerging c log at p (reach taken 0 0) stock-then (record x { task = next })
     merging-told (inl s) = elim s.task [
       | inl tells ↦ inl (record { standing = record { stood = s.standing.stood; taken = s.standing.taken; left = omega (arith, s.standing.left, left-same (omega (arith, laws.few, tells.wants))) }; task = inl (telling-told tells) })
-      | inr look ↦ inl (record { standing = record { stood = s.standing.stood; taken = s.standing.taken; left = omega (arith, s.standing.left, left-same (laws.looks (on-look (kind_of x.task) look.looks)).needs) }; task = inr (record { looks = ap looks_on h.kind ∙ look.looks; alone = look.alone }) })
+      | inr look ↦ inl (record { standing = record { stood = s.standing.stood; taken = s.standing.taken; left = omega (arith, s.standing.left, left-same (laws.looks (on-look (kind_of x.task) look.looks)).needs) }; task = inr (record { looks = ap looks_on h.kind ∙ look.looks; first = λ seek. look.first (sym h.kind ∙ seek); alone = look.alone }) })
     ]
     merging-told (inr (inl u)) = inr (inl (merging-leaf-told u))
-    merging-told (inr (inr d)) = let w = d.waits goes in let ended : end_of next ≡ Some Done = done w.0 w.1 in
-        inr (inr (record { kind = h.kind ∙ d.kind; moment = d.moment; after = d.after; stood = d.stood; leaves = d.leaves; waits = λ on. absurd (cc (on, ended)) }))
+    merging-told (inr (inr (inl d))) = let w = d.waits goes in let ended : end_of next ≡ Some Done = done w.0 w.1 in
+        inr (inr (inl (record { kind = h.kind ∙ d.kind; moment = d.moment; after = d.after; stood = d.stood; leaves = d.leaves; waits = λ on. absurd (cc (on, ended)) })))
+    merging-told (inr (inr (inr o))) = inr (inr (inr (record { later = o.later; moment = o.moment; after = o.after; stood = o.stood; over = o.over })))
 
   pub duly-told : IsDuly c log opened p (reach taken (effects_in what) (answered_in what)) stock x → IsDuly c log opened p (reach taken 0 0) stock-then (record x { task = next })
   duly-told d = record {

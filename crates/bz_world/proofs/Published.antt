@@ -328,7 +328,7 @@ module _ (b : StrikeLaws) (p : Parts) (s : ℕ) (h : IsStriking p s) (publishes 
     covered = (its b p s h).covered;
     alone = waits-on c p.access p.access with_flush.past effect_mark (after b p s h) told_story worker since effected effected (x b p s h).task (next_instant p.access ((after b p s h).at (length with_flush.past))) refl (omega (arith, begun-its.by_now)) (struck-undisturbed b p s h)
         refl refl (λ t d. refl) (λ t d well. well);
-    meant = let m = (struck-meant b p s h) in record { within = m.within; fit = record { words = m.fit.words; thawed = m.fit.thawed }; look = λ quiet. absurd (cc quiet); meant = λ quiet. absurd (cc quiet); later = λ at is. publishing-kind (x b p s h).task publishes; small = λ merge. absurd (publishing-no-merge (x b p s h).task publishes merge); copied = λ copy. absurd (publishing-no-copy (x b p s h).task publishes copy) };
+    meant = let m = (struck-meant b p s h) in record { within = m.within; fit = record { words = m.fit.words; thawed = m.fit.thawed; quiet = λ quiet. absurd (cc quiet) }; look = λ quiet. absurd (cc quiet); meant = λ quiet. absurd (cc quiet); later = λ at is. publishing-kind (x b p s h).task publishes; small = λ merge. absurd (publishing-no-merge (x b p s h).task publishes merge); copied = λ copy. absurd (publishing-no-copy (x b p s h).task publishes copy); first = m.first };
     paid = λ steps. subst (λ u. IsPaidIn c p.access (effect_mark ∷ with_flush.past) (stock_of (old b p s h)) worker (errand_of with_moment) (x b p s h).task u no_extra (scene c (effect_mark ∷ with_flush.past) told_story worker since effected).past)
         (sym (ap (untold p.access) (still-does b p s h) ∙ ap (λ (z : Bool). if z then 1 else 0) h.takes.effect.done))
         (marked worker (errand_of with_moment) (x b p s h).task 1 since effected begun-its steps
@@ -339,7 +339,7 @@ module _ (b : StrikeLaws) (p : Parts) (s : ℕ) (h : IsStriking p s) (publishes 
       deleting = λ quiet kind going. absurd (cc quiet);
       merging = λ at is deletes. to-merge solitary at (let same : suc (length log.past) ≡ at = cc is in same) deletes;
     };
-    exact = λ solitary room. exact-published (its b p s h).opened effected (before b p s h).past (scene c (effect_mark ∷ with_flush.past) told_story worker since effected).past (reach_of (old b p s h).access worker) (reach_of p.access worker) (stock_of (old b p s h)) (tells_of (x b p s h)) (x b p s h) with_moment refl (λ none. absurd (cc none))
+    exact = λ solitary room. exact-published (its b p s h).opened effected (before b p s h).past (scene c (effect_mark ∷ with_flush.past) told_story worker since effected).past (reach_of (old b p s h).access worker) (reach_of p.access worker) (stock_of (old b p s h)) (tells_of (x b p s h)) (x b p s h) with_moment refl refl (λ none. absurd (cc none))
         h.work.taken (ap underway h.takes.effect.pending) (ap underway (still-does b p s h)) ((its b p s h).tasked.laws.last publishes) (goes-still b p s h) (no-look b p s h) (sym (its b p s h).call_open.effect ∙ first) (stood (room-at-begin room))
         ((its b p s h).exact (flush-solitary worker h.mark log.past h.flush solitary) (room-at-begin room));
   }

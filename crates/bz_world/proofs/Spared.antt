@@ -20,10 +20,13 @@ use Rattle.bz_call.specs.declared.replies.Spent.{Spent}
 use Rattle.bz_call.specs.declared.calls.Call.{Call}
 use Rattle.bz_call.specs.declared.calls.Call.TheVariants as call
 use Rattle.bz_solo.specs.FromCosts.Most.{most_of, most_of_seek, most_of_find, most_of_leaf, most_of_insert, most_of_update, most_of_delete, most_of_freeze, most_of_copy, most_of_merge, most_of_joining, most_of_lowering, most_of_root, most_of_below, most_of_inner, most_of_inner_root}
-use Rattle.bz_solo.specs.Errands.{Errand, words_asked, is_read, IsLookOf, may_swap_twice, after}
+use Rattle.bz_solo.specs.declared.rest.Rest.TheVariants as rest
+use Rattle.bz_solo.specs.Errands.{Errand, words_asked, is_read, IsLookOf, may_swap_twice, after, further, goes_further, rest_after}
+use Rattle.bz_solo.specs.declared.rest.Rest.{Rest}
 use Rattle.bz_solo.specs.Prices.{Prices, coming}
 use Rattle.bz_solo.specs.FromCosts.Resources.{Resource}
-use Rattle.bz_solo.specs.Sum.{IsSmall}
+use Rattle.bz_solo.specs.Sum.{IsSmall, PaysForRound}
+use Rattle.bz_swap.specs.SwapMemory.{SwapMemory}
 use Rattle.bz_any_task.specs.Duties.{asks_of, end_of, made_of}
 use Rattle.bz_any_task.specs.Kinds as kinds
 use Rattle.bz_any_task.specs.Kinds.{Kind, is_look, kind_of}
@@ -40,10 +43,10 @@ use Rattle.bz_task.specs.declared.todo.Outcome.{Outcome}
 use Rattle.bz_task.specs.declared.todo.Outcome.TheVariants.{Done}
 use Rattle.bz_task.specs.declared.todo.Todo.{Todo}
 use Rattle.bz_task.specs.declared.todo.Todo.TheVariants.{Finish}
-use Rattle.bz_world.specs.Inside.Going.{MustGoOn, MustFind, MustAnswer, HasEnded, HasRoomForEnd, known}
+use Rattle.bz_world.specs.Inside.Going.{MustGoOn, MustFind, MustAnswer, HasEnded, HasMergedIn, HasRoomForEnd, StandsToLook, known}
 use Rattle.bz_world.specs.Inside.Laws.{UndisturbedLaws, RoundLaws}
 use Rattle.bz_world.specs.Inside.Meant.{IsMeant}
-use Rattle.bz_world.specs.Inside.Paid.{bound_in, errand_of, no_extra, used_in, IsPaidFor, HasARoundAs, HasToSpare}
+use Rattle.bz_world.specs.Inside.Paid.{bound_in, errand_of, is_joining, no_extra, used_in, IsPaidFor, HasARoundAs, HasToSpare}
 use Rattle.bz_world.specs.declared.parts.Parts.{Parts}
 use Rattle.bz_world.specs.declared.serving.OpenCall.{OpenCall}
 use Rattle.bz_world.proofs.Endings.{full-no-look}
@@ -168,7 +171,7 @@ round-room p w e past h r counted = affords-room r p.access w e (used_in r p w) 
 pub way-read : RoundLaws → (p : Parts) (w : ℕ) (path : Path) (m : MustFind p w path) → ((errand_of m.on.serving).effected ≡ true) ⊎ ((is_read m.on.serving.call ≡ true) ⊎ (m.on.serving.froze ≡ true))
     → HasToSpare p w m.on.serving (known p w m.on).past (λ r q. most_of_leaf r + coming r q (errand_of m.on.serving) kinds.ReadWhole)
 way-read b p w path m why r counted = b.less r p.access w (errand_of m.on.serving) (used_in r p w) (bound_in r p w) (known p w m.on).past (λ q. coming r q (errand_of m.on.serving) kinds.Seek) (λ q. most_of_leaf r + coming r q (errand_of m.on.serving) kinds.ReadWhole)
-    (λ q. (b.ways r).read q (errand_of m.on.serving) why) (m.spares r counted)
+    (λ q. (b.ways r).read q (errand_of m.on.serving) (λ done. m.on.fit.quiet m.quiet) why) (m.spares r counted)
 
 -- what the leaf's status tells of the stage
 pub lacks-stage : (called : Call) (st : ℕ) (s : Scene) → TellsTheStage st (key_of called) s → LacksRoomFor called st → 0 < stage_in s.past.config (here s).image (key_of called) (words_asked called)
@@ -243,10 +246,21 @@ full-writes p w spent e = swaps-write e.on.serving.call (kind_of e.on.serving.ta
     (full-no-look (kind_of e.on.serving.task) spent (e.tasked.laws.ends_of (outcome.Full spent) (known p w e.on) (e.tasked.laws.sound.ends (known p w e.on) (outcome.Full spent) e.facts e.end).0))
 
 -- once a call has had its effect its leaf is read whole, and merged then
-pub after-read : RoundLaws → (p : Parts) (w : ℕ) (on : MustGoOn p w) → is_some on.serving.effect ≡ true → HasToSpare p w on.serving (known p w on).past (λ r q. coming r q (errand_of on.serving) kinds.Seek)
+pub after-read : RoundLaws → (p : Parts) (w : ℕ) (on : MustGoOn p w) → is_some on.serving.effect ≡ true → on.serving.rest ≡ rest.Leaf → HasToSpare p w on.serving (known p w on).past (λ r q. coming r q (errand_of on.serving) kinds.Seek)
     → HasToSpare p w on.serving (known p w on).past (λ r q. most_of_leaf r + coming r q (errand_of on.serving) kinds.ReadWhole)
-after-read b p w on effected spares r counted = b.less r p.access w (errand_of on.serving) (used_in r p w) (bound_in r p w) (known p w on).past (λ q. coming r q (errand_of on.serving) kinds.Seek) (λ q. most_of_leaf r + coming r q (errand_of on.serving) kinds.ReadWhole)
-    (λ q. (b.ways r).read q (errand_of on.serving) (inl effected)) (spares r counted)
+after-read b p w on effected first spares r counted = b.less r p.access w (errand_of on.serving) (used_in r p w) (bound_in r p w) (known p w on).past (λ q. coming r q (errand_of on.serving) kinds.Seek) (λ q. most_of_leaf r + coming r q (errand_of on.serving) kinds.ReadWhole)
+    (λ q. (b.ways r).read q (errand_of on.serving) (λ done. first) (inl effected)) (spares r counted)
+
+-- or the inner node under the root is merged, or the root lowered
+pub after-pass : RoundLaws → (p : Parts) (w : ℕ) (on : MustGoOn p w) → is_some on.serving.effect ≡ true → on.serving.rest ≡ rest.Inner → HasToSpare p w on.serving (known p w on).past (λ r q. coming r q (errand_of on.serving) kinds.Seek)
+    → HasToSpare p w on.serving (known p w on).past (λ r q. most_of_joining r + coming r q (errand_of on.serving) kinds.MergeNodes)
+after-pass b p w on effected left spares r counted = b.less r p.access w (errand_of on.serving) (used_in r p w) (bound_in r p w) (known p w on).past (λ q. coming r q (errand_of on.serving) kinds.Seek) (λ q. most_of_joining r + coming r q (errand_of on.serving) kinds.MergeNodes)
+    (λ q. (b.ways r).inner q (errand_of on.serving) effected left) (spares r counted)
+
+pub after-way : RoundLaws → (p : Parts) (w : ℕ) (on : MustGoOn p w) → is_some on.serving.effect ≡ true → HasToSpare p w on.serving (known p w on).past (λ r q. coming r q (errand_of on.serving) kinds.Seek)
+    → HasToSpare p w on.serving (known p w on).past (λ r q. most_of_lowering r + coming r q (errand_of on.serving) kinds.LowerRoot)
+after-way b p w on effected spares r counted = b.less r p.access w (errand_of on.serving) (used_in r p w) (bound_in r p w) (known p w on).past (λ q. coming r q (errand_of on.serving) kinds.Seek) (λ q. most_of_lowering r + coming r q (errand_of on.serving) kinds.LowerRoot)
+    (λ q. (b.ways r).root q (errand_of on.serving) effected) (spares r counted)
 
 merge-comes : (r : Resource) (q : Prices) (e : Errand) → e.effected ≡ true → most_of_merge r + coming r q e kinds.Merge ≤ coming r q e kinds.ReadWhole
 merge-comes r q e effected = rw effected (omega arith)
@@ -282,3 +296,26 @@ pages-read (call.Upsert key payload) page = absurd (cc page)
 pages-read (call.Delete key) page = absurd (cc page)
 pages-read (call.Get key) page = absurd (cc page)
 pages-read (call.Page key) page = (inr refl, refl)
+
+-- a merge of two nodes goes further, and not to the leaf of its key again
+pub joined-further : (k : Kind) → is_joining k ≡ true → goes_further k ≡ true
+joined-further kinds.Merge e = refl
+joined-further kinds.MergeNodes e = refl
+joined-further k e = absurd (cc e)
+
+pub joined-rest : (k : Kind) → is_joining k ≡ true → rest_after k ≢ rest.Leaf
+joined-rest kinds.Merge e leaf = cc leaf
+joined-rest kinds.MergeNodes e leaf = cc leaf
+joined-rest k e leaf = absurd (cc e)
+
+pub joined-later : (p : Parts) (w : ℕ) (on : MustGoOn p w) (at : ℕ) → is_joining (kind_of on.serving.task) ≡ true → HasMergedIn p w at on → StandsToLook p w on at (rest_after (kind_of on.serving.task))
+joined-later p w on at joins merged = by (kind_of on.serving.task) joins
+  where
+    by : (k : Kind) → is_joining k ≡ true → StandsToLook p w on at (rest_after k)
+    by kinds.Merge e = merged
+    by kinds.MergeNodes e = merged
+    by k e = absurd (cc e)
+
+-- a round of a delete whose leaf is still to be merged
+pub first-pays : (r : Resource) (e : Errand) → e.rest ≡ rest.Leaf → {m : SwapMemory} {w used by : ℕ} {p : Past} {k : Kind} → PaysForRound r m w (further e k) used by p → k ≡ kinds.Delete → PaysForRound r m w e used by p
+first-pays r e first {m} {w} {used} {by} {p} pays delete = subst (λ (l : Rest). PaysForRound r m w (record e { rest = l }) used by p) (sym first) (subst (λ k. PaysForRound r m w (further e k) used by p) delete pays)

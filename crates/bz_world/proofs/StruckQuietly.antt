@@ -36,6 +36,7 @@ use Rattle.bz_world.proofs.Staying.{told-stays, wanted-stays, finishing-stays}
 use Rattle.bz_world.proofs.Striking.{flush-calls, old, kept, w, x, its, owner, before, good, after, living, opened, later, took, struck-undisturbed, struck-meant, own-paid, others, was-image, is-image, no-look, takes-effect, goes-still}
 use Rattle.bz_world.proofs.Merging.{duly-struck}
 use Rattle.bz_world.proofs.LeavesKept.{leaves-stand}
+use Rattle.bz_world.proofs.LaterLeaves.{is-later, later-keeps}
 use Rattle.bz_world.proofs.Solitary.{now-is}
 use Rattle.bz_solo.specs.FromTally.Leaves.{leaves_in}
 use Rattle.bz_task.specs.Instant.{Instant}
@@ -142,6 +143,8 @@ module _ (b : StrikeLaws) (p : Parts) (s : ℕ) (h : IsStriking p s) where
       merges = λ solitary. duly-struck (old b p s h).config (old b p s h).journal h.mark (before b p s h).past (scene (old b p s h).config (h.mark ∷ (old b p s h).journal.past) (after b p s h) (w b p s h) (its b p s h).call_open.look.since (its b p s h).opened).past
           (takes-effect b p s h).continues (its b p s h).call_open.look.by_now refl (ap (λ (z : Instant). z.effects) struck-now) b.known (reach_of (old b p s h).access (w b p s h)) (reach_of p.access (w b p s h)) (stock_of (old b p s h)) (x b p s h)
           none-yet one-now h.work.taken way-same (goes-still b p s h) (no-look b p s h)
+          (λ other. ap (λ (z : Instant). leaves_in (old b p s h).config z.image) struck-now ∙ later-keeps (x b p s h).task (before b p s h) struck_memory (is-later (kind_of (x b p s h).task) (x b p s h).rest (its b p s h).meant.first other)
+          (b.leaves (x b p s h).task (entries_of (old b p s h).access s) (before b p s h) struck_memory (own-swap b p s h)))
           (λ merge few. ap (λ (z : Instant). leaves_in (old b p s h).config z.image + 1) struck-now ∙ (b.counts (x b p s h).task (entries_of (old b p s h).access s) (before b p s h) struck_memory (own-swap b p s h) merge).last few)
           (λ merge more. ap (λ (z : Instant). leaves_in (old b p s h).config z.image) struck-now ∙ (b.counts (x b p s h).task (entries_of (old b p s h).access s) (before b p s h) struck_memory (own-swap b p s h) merge).before more)
           (its b p s h).opened (λ at m begun after stood. leaves-stand b.trees (scene (old b p s h).config (old b p s h).journal.past (kept b p s h).story (w b p s h) m (its b p s h).opened) m

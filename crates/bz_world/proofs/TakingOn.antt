@@ -37,7 +37,7 @@ use Rattle.bz_task.specs.declared.todo.Todo.{Todo}
 use Rattle.bz_task.specs.declared.todo.Todo.TheVariants.{Read, Finish}
 use Rattle.bz_world.specs.Roomy.{HadRoom}
 use Rattle.bz_world.specs.Inside.Acted.{IsBetween, MustTell}
-use Rattle.bz_world.specs.Inside.Going.{MustGoOn, LooksUpAgain, MustLookUp, MustLookUpAs, MustTakeOn, MustRead, MustReadWhole, HasRoomForEnd, taken_for, HasReadAfter, LacksSwap, known, call_in, end_in, path_in, WentOn, MayGoOnIn, StandsForLooking, StoodFor}
+use Rattle.bz_world.specs.Inside.Going.{MustGoOn, HadNoRoom, LooksUpAgain, MustLookUp, MustLookUpAs, MustTakeOn, MustRead, MustReadWhole, HasRoomForEnd, taken_for, HasReadAfter, LacksSwap, known, call_in, end_in, path_in, WentOn, MayGoOnIn, HasMergedIn, MustPass, StandsForLooking, StandsToLook}
 use Rattle.bz_world.specs.Inside.Beginning.{supply_of}
 use Rattle.bz_world.specs.Inside.Due.{TakesRightly, only_looks}
 use Rattle.bz_world.specs.Inside.Exact.{CountsExactly, HasStood, IsExact, reach_idle, seeks}
@@ -57,7 +57,7 @@ use Rattle.bz_solo.specs.Rounds.{stage_now}
 use Rattle.bz_solo.specs.Sum.{Affords, Round, Disturbed, Clean, reserve, prices_of, Spares}
 use Rattle.bz_mark.specs.Log.{Log}
 use Rattle.bz_any_task.specs.Kinds as kinds
-use Rattle.bz_any_task.specs.Kinds.{kind_of, is_look}
+use Rattle.bz_any_task.specs.Kinds.{Kind, kind_of, is_look}
 use Rattle.std.proofs.lemmas.Bool.{true≢false}
 use Rattle.bz_world.specs.Inside.Laws.{RoundLaws}
 use Rattle.bz_world.specs.Inside.Meant.{IsMeant}
@@ -80,9 +80,14 @@ use Rattle.bz_world.proofs.Staying.{none-unfilled}
 use Rattle.bz_world.proofs.Supplies.{not-longer}
 use Rattle.bz_world.proofs.Tabled.{tabled-beside}
 use Rattle.bz_task.specs.declared.todo.Seen.{Seen}
-use Rattle.bz_world.specs.Inside.Merging.{looks_on, IsDuly, IsLookingOn, IsStanding, IsTellingFew, MergesDuly}
+use Rattle.bz_world.specs.Inside.Merging.{looks_on, HasToMerge, IsDuly, IsLookingOn, IsOver, IsStanding, IsTellingFew, MergesDuly}
 use Rattle.bz_world.proofs.Merging.{duly-unmerged, duly-froze}
-use Rattle.bz_world.proofs.MergeEnds.{ended-merged, looks-on-ends}
+use Rattle.bz_world.proofs.MergeEnds.{ended-merged, looks-on-ends, then-image}
+use Rattle.bz_solo.specs.FromTally.Leaves.{leaves_in}
+use Rattle.bz_mark.proofs.MomentLaws.{at_moment-now}
+use Rattle.bz_sound.specs.Memory.Moments.{image_after}
+use Rattle.bz_solo.specs.declared.rest.Rest.{Rest}
+use Rattle.bz_solo.specs.declared.rest.Rest.TheVariants as rest
 use Rattle.bz_stage.specs.FromLeaves.Neighbours.{MayBeMerged}
 
 -- each slot that was taken has been stored into
@@ -239,18 +244,56 @@ stood-anew p w on stood = record { at = stood.at; effect = stood.effect; after_b
 still-stands : (p : Parts) (w : ℕ) (on : MustGoOn p w) (at : ℕ) → IsStanding p.config p.journal at (known p w on).past (reach_idle p.access) (stock_of p) → IsStanding p.config p.journal at (anew-past p w on) (reach_idle p.access) (stock_of p)
 still-stands p w on at s = record { stood = record { by_now = s.stood.by_now; still = s.stood.still }; taken = s.taken; left = s.left }
 
-pub duly-anew : (p : Parts) (w : ℕ) (on : MustGoOn p w) → ((at : ℕ) → on.serving.effect ≡ Some at → is_delete on.serving.call ≡ true → StoodFor p w on at × (MayBeMerged p.config ((known p w on).past.at (suc at)).image (key_of on.serving.call) → IsTellingFew (reach_idle p.access) on.serving))
+-- where the merge of its leaf is over, that is known from now on
+over-anew : (p : Parts) (w : ℕ) (on : MustGoOn p w) (at : ℕ) → on.between.opened.begun ≤ at → suc at ≤ length p.journal.past → IsSolitary w p.journal.past → is_delete on.serving.call ≡ true → HasMergedIn p w at on → on.serving.rest ≢ rest.Leaf
+    → MayBeMerged p.config ((known p w on).past.at (suc at)).image (key_of on.serving.call) → IsOver p.config p.journal at (anew-past p w on) on.serving
+over-anew p w on at begun by_now solitary deletes merged later may = record {
+  later = later;
+  moment = length p.journal.past;
+  after = by_now;
+  stood = record { by_now = omega arith; still = refl };
+  over = elim (merged solitary deletes (subst (λ image. MayBeMerged p.config image (key_of on.serving.call)) (then-image p w on at begun (suc at) (omega arith) by_now) may)) [
+    | inl less ↦ inl (omega (arith, less, ap (leaves_in p.config) (then-image p w on at begun (length p.journal.past) by_now (omega arith) ∙ ap (image_after p.journal.start) (at_moment-now p.journal.past)), ap (leaves_in p.config) (then-image p w on at begun (suc at) (omega arith) by_now)))
+    | inr lacks ↦ inr lacks
+  ];
+}
+
+-- so it is of what is known
+over-known : (p : Parts) (w : ℕ) (on : MustGoOn p w) (at : ℕ) → on.between.opened.begun ≤ at → suc at ≤ length p.journal.past → IsSolitary w p.journal.past → is_delete on.serving.call ≡ true → HasMergedIn p w at on → (left : Rest) → left ≢ rest.Leaf
+    → MayBeMerged p.config ((known p w on).past.at (suc at)).image (key_of on.serving.call) → IsOver p.config p.journal at (known p w on).past (record on.serving { rest = left })
+over-known p w on at begun by_now solitary deletes merged left later may = record {
+  later = later;
+  moment = length p.journal.past;
+  after = by_now;
+  stood = record { by_now = omega arith; still = refl };
+  over = elim (merged solitary deletes (subst (λ image. MayBeMerged p.config image (key_of on.serving.call)) (then-image p w on at begun (suc at) (omega arith) by_now) may)) [
+    | inl less ↦ inl (omega (arith, less, ap (leaves_in p.config) (then-image p w on at begun (length p.journal.past) by_now (omega arith) ∙ ap (image_after p.journal.start) (at_moment-now p.journal.past)), ap (leaves_in p.config) (then-image p w on at begun (suc at) (omega arith) by_now)))
+    | inr lacks ↦ inr lacks
+  ];
+}
+
+-- a call that may look its key up may do so anew
+duly-by : (p : Parts) (w : ℕ) (on : MustGoOn p w) (at : ℕ) → IsSolitary w p.journal.past → on.serving.effect ≡ Some at → is_delete on.serving.call ≡ true → (left : Rest) → on.serving.rest ≡ left → StandsToLook p w on at left
+    → HasToMerge p.config p.journal on.between.opened at (anew-past p w on) (reach_idle p.access) (stock_of p) on.serving
+duly-by p w on at solitary is deletes rest.Leaf same s = record { after_begin = s.0.after_begin; by_now = s.0.by_now; merging = λ may. inl (record { standing = still-stands p w on at (s.0.standing may); task = inl (s.1 may) }) }
+duly-by p w on at solitary is deletes left same s = let m = (on.merges solitary).merging at is deletes in record {
+  after_begin = m.after_begin;
+  by_now = m.by_now;
+  merging = λ may. inr (inr (inr (over-anew p w on at m.after_begin m.by_now solitary deletes s (λ leaf. cc (same, leaf)) may)));
+}
+
+pub duly-anew : (p : Parts) (w : ℕ) (on : MustGoOn p w) → IsSolitary w p.journal.past → ((at : ℕ) → on.serving.effect ≡ Some at → is_delete on.serving.call ≡ true → StandsToLook p w on at on.serving.rest)
     → (kind_of on.serving.task ≡ kinds.Delete → end_of on.serving.task ≢ None) → IsDuly p.config p.journal on.between.opened (anew-past p w on) (reach_idle p.access) (stock_of p) on.serving
-duly-anew p w on stands over = record {
+duly-anew p w on solitary stands over = record {
   looking = λ quiet seek. omega arith;
   deleting = λ quiet kind going. absurd (over kind going);
-  merging = λ at is deletes. let s = stands at is deletes in record { after_begin = s.0.after_begin; by_now = s.0.by_now; merging = λ may. inl (record { standing = still-stands p w on at (s.0.standing may); task = inl (s.1 may) }) };
+  merging = λ at is deletes. duly-by p w on at solitary is deletes on.serving.rest refl (stands at is deletes);
 }
 
 -- so it goes on
 abbrev pub looks-anew : (p : Parts) (w : ℕ) (on : MustGoOn p w) → LooksUpAgain p w on → StandsForLooking p w on → (kind_of on.serving.task ≡ kinds.Delete → end_of on.serving.task ≢ None) → MustGoOn p w
 looks-anew p w on again stands over = record on {
-  merges = λ solitary. duly-anew p w on (stands solitary) over;
+  merges = λ solitary. duly-anew p w on solitary (stands solitary) over;
   exact = λ solitary room. exact-anew on.between.opened (known p w on).past (anew-past p w on) (reach_idle p.access) (stock_of p) (tells_of on.serving) on.serving (again solitary room).effected (stood-anew p w on) (omega arith) (on.exact solitary room);
   between = record on.between {
     call_open = record on.between.call_open {
@@ -264,15 +307,28 @@ pub look-after : (p : Parts) (w : ℕ) (on : MustGoOn p w) (again : LooksUpAgain
     → IsExact on.between.opened (known p w (looks-anew p w on again stands over)).past (reach_idle p.access) (stock_of p) (tells_of on.serving) (record on.serving { task = task; path = None })
 look-after p w on again stands over solitary room task looks =
     let was = again solitary room in
-    inr (inr (inr (record { looks = looks; counted = record { effected = was.effected; same_taken = was.same_taken; same_left = was.same_left; stood = stood-anew p w on was.stood }; alone = omega arith })))
+    inr (inr (inr (record { looks = looks; counted = record { effected = was.effected; same_taken = was.same_taken; same_left = was.same_left; stood = stood-anew p w on was.stood; unpassed = was.unpassed }; alone = omega arith })))
 
 -- and its look-up goes on with the merge that is due
+duly-on : (p : Parts) (w : ℕ) (on : MustGoOn p w) (task : AnyTask) → kind_of task ≡ kinds.Seek → (at : ℕ) → IsSolitary w p.journal.past → on.serving.effect ≡ Some at → is_delete on.serving.call ≡ true → (left : Rest) → on.serving.rest ≡ left → StandsToLook p w on at left
+    → HasToMerge p.config p.journal on.between.opened at (anew-past p w on) (reach_idle p.access) (stock_of p) (record on.serving { task = task; path = None })
+duly-on p w on task kind at solitary is deletes rest.Leaf same s = record {
+  after_begin = s.0.after_begin;
+  by_now = s.0.by_now;
+  merging = λ may. inl (record { standing = still-stands p w on at (s.0.standing may); task = inr (record { looks = ap looks_on kind; first = λ seek. same; alone = omega arith }) });
+}
+duly-on p w on task kind at solitary is deletes left same s = let m = (on.merges solitary).merging at is deletes in record {
+  after_begin = m.after_begin;
+  by_now = m.by_now;
+  merging = λ may. let o = over-anew p w on at m.after_begin m.by_now solitary deletes s (λ leaf. cc (same, leaf)) may in inr (inr (inr (record { later = o.later; moment = o.moment; after = o.after; stood = o.stood; over = o.over })));
+}
+
 pub duly-looks : (p : Parts) (w : ℕ) (on : MustGoOn p w) (again : LooksUpAgain p w on) (stands : StandsForLooking p w on) (over : kind_of on.serving.task ≡ kinds.Delete → end_of on.serving.task ≢ None) (task : AnyTask) → kind_of task ≡ kinds.Seek
     → MergesDuly p.config p.journal w on.between.opened (known p w (looks-anew p w on again stands over)).past (reach_idle p.access) (stock_of p) (record on.serving { task = task; path = None })
 duly-looks p w on again stands over task kind solitary = record {
   looking = λ quiet seek. omega arith;
   deleting = λ quiet delete going. absurd (cc (kind, delete));
-  merging = λ at is deletes. let s = (stands solitary at is deletes).0 in record { after_begin = s.after_begin; by_now = s.by_now; merging = λ may. inl (record { standing = still-stands p w on at (s.standing may); task = inr (record { looks = ap looks_on kind; alone = omega arith }) }) };
+  merging = λ at is deletes. duly-on p w on task kind at solitary is deletes on.serving.rest refl (stands solitary at is deletes);
 }
 
 -- a task that takes no slot needs no reason
@@ -340,7 +396,7 @@ said-unmerged p w on other alone slot is = record {
   between = between-tasks p w on.serving (record on.serving { alone = alone }) on.between (with_item p.workers w slot) (length-set p.workers.items w slot) (λ v ne. get_or-set_other p.workers.items w v slot None ne)
       (assumption on.between.call_open) on.between.due;
   filled = on.filled;
-  fit = record { words = on.fit.words; thawed = on.fit.thawed };
+  fit = record { words = on.fit.words; thawed = on.fit.thawed; quiet = on.fit.quiet };
   solitary = λ key get solitary. absurd (other key get solitary);
   merges = λ solitary. duly-unmerged p.config p.journal on.between.opened (known p w on).past (reach_idle p.access) (stock_of p) on.serving alone (on.merges solitary);
   exact = λ solitary room. exact-unmerged on.between.opened (known p w on).past (reach_idle p.access) (stock_of p) (tells_of on.serving) on.serving alone (on.exact solitary room);
@@ -353,10 +409,15 @@ said-may p w m alone merges slot is = record {
   may = m.may;
   other = m.other;
   pays = subst (λ (a : Bool). HasARoundAs p w (record (errand_of m.on.serving) { alone = a }) (known p w m.on).past) (sym merges) m.pays;
-  stands = λ solitary at is deletes. let s = m.stands solitary at is deletes in (assumption s.0, λ may. assumption (s.1 may));
+  stands = λ solitary at is deletes. as-before at m.on.serving.rest (m.stands solitary at is deletes);
   over = m.over;
   again = λ solitary room. assumption (m.again solitary room);
 }
+  where
+    as-before : (at : ℕ) (left : Rest) → StandsToLook p w m.on at left → StandsToLook (record p { workers = with_item p.workers w slot }) w (said-unmerged p w m.on m.other alone slot is) at left
+    as-before at rest.Leaf s = (assumption s.0, λ may. assumption (s.1 may))
+    as-before at rest.Inner s = s
+    as-before at rest.Root s = s
 
 -- nor is whether its own freeze of its leaf was the last to end
 pub said-froze : (p : Parts) (w : ℕ) (on : MustGoOn p w) → IsNotSolitary p.journal.past w on.serving.call → (froze : Bool) → (froze ≡ true → is_read on.serving.call ≡ false) → (froze ≡ true → only_looks on.serving.call (kind_of on.serving.task) ≡ true → ⊥) → (slot : Option OpenCall) → slot ≡ Some (record on.serving { froze = froze }) → MustGoOn (record p { workers = with_item p.workers w slot }) w
@@ -367,7 +428,7 @@ said-froze p w on other froze thawed freezes slot is = record {
   between = between-tasks p w on.serving (record on.serving { froze = froze }) on.between (with_item p.workers w slot) (length-set p.workers.items w slot) (λ v ne. get_or-set_other p.workers.items w v slot None ne)
       (assumption on.between.call_open) right;
   filled = on.filled;
-  fit = record { words = on.fit.words; thawed = thawed };
+  fit = record { words = on.fit.words; thawed = thawed; quiet = on.fit.quiet };
   solitary = λ key get solitary. absurd (other key get solitary);
   merges = λ solitary. duly-froze p.config p.journal on.between.opened (known p w on).past (reach_idle p.access) (stock_of p) on.serving froze (on.merges solitary);
   exact = λ solitary room. exact-froze on.between.opened (known p w on).past (reach_idle p.access) (stock_of p) (tells_of on.serving) on.serving froze (λ f looks. freezes f (seeks-only on.serving.call (kind_of on.serving.task) looks)) (on.exact solitary room);
@@ -390,10 +451,64 @@ froze-may p w m froze freezes slot is = record {
   may = m.may;
   other = m.other;
   pays = subst (λ (f : Bool). HasARoundAs p w (record (errand_of m.on.serving) { froze = f }) (known p w m.on).past) (sym freezes) m.pays;
-  stands = λ solitary at is deletes. let s = m.stands solitary at is deletes in (assumption s.0, λ may. assumption (s.1 may));
+  stands = λ solitary at is deletes. as-before at m.on.serving.rest (m.stands solitary at is deletes);
   over = m.over;
   again = λ solitary room. assumption (m.again solitary room);
 }
+  where
+    as-before : (at : ℕ) (left : Rest) → StandsToLook p w m.on at left → StandsToLook (record p { workers = with_item p.workers w slot }) w (said-froze p w m.on m.other froze (λ e. (m.pays Marks tt).thawed (sym freezes ∙ e)) (λ e. freezes-no-look m.on.serving.call (kind_of m.on.serving.task) (sym freezes ∙ e)) slot is) at left
+    as-before at rest.Leaf s = (assumption s.0, λ may. assumption (s.1 may))
+    as-before at rest.Inner s = s
+    as-before at rest.Root s = s
+
+-- where another thing is tried next than its leaf, the merge of that is over
+pub said-rest : (p : Parts) (w : ℕ) (on : MustGoOn p w) → IsNotSolitary p.journal.past w on.serving.call → on.serving.effect ≢ None → HadNoRoom p w on → (left : Rest) → left ≢ rest.Leaf → ((at : ℕ) → on.serving.effect ≡ Some at → HasMergedIn p w at on) → (slot : Option OpenCall) → slot ≡ Some (record on.serving { rest = left }) → MustGoOn (record p { workers = with_item p.workers w slot }) w
+unfolding between-tasks
+said-rest p w on other effected roomless left later merged slot is = record {
+  serving = record on.serving { rest = left };
+  is = get_or-set_same p.workers.items w slot None (omega (arith, on.between.within, on.between.tabled.places, on.between.tabled.config.workers_in_range.at_most)) ∙ is;
+  between = between-tasks p w on.serving (record on.serving { rest = left }) on.between (with_item p.workers w slot) (length-set p.workers.items w slot) (λ v ne. get_or-set_other p.workers.items w v slot None ne)
+      (assumption on.between.call_open) (λ quiet solitary. absurd (effected quiet));
+  filled = on.filled;
+  fit = record { words = on.fit.words; thawed = on.fit.thawed; quiet = λ quiet. absurd (effected quiet) };
+  solitary = λ key get solitary. absurd (other key get solitary);
+  merges = λ solitary. record {
+    looking = λ quiet seek. absurd (effected quiet);
+    deleting = λ quiet kind going. absurd (effected quiet);
+    merging = λ at effect deletes. let m = (on.merges solitary).merging at effect deletes in record {
+      after_begin = m.after_begin;
+      by_now = m.by_now;
+      merging = λ may. let o = over-known p w on at m.after_begin m.by_now solitary deletes (merged at effect) left later may in inr (inr (inr o));
+    };
+  };
+  exact = λ solitary room. absurd (roomless solitary room);
+}
+
+pub rest-may : (p : Parts) (w : ℕ) (change : Errand → Kind → Errand) (m : MustPass p w change) (left : Rest) → left ≡ (change (errand_of m.looks.on.serving) (kind_of m.looks.on.serving.task)).rest → ((e : Errand) (k : Kind) → change e k ≡ record e { rest = (change e k).rest }) → (slot : Option OpenCall)
+    → slot ≡ Some (record m.looks.on.serving { rest = left }) → MustLookUp (record p { workers = with_item p.workers w slot }) w
+unfolding said-rest between-tasks
+rest-may p w change m left same only slot is = record {
+  on = said-rest p w m.looks.on m.looks.other m.effected m.roomless left other (λ at effect solitary deletes. by left other at (subst (StandsToLook p w m.looks.on at) (sym same) (m.looks.stands solitary at effect deletes)) solitary deletes) slot is;
+  may = m.looks.may;
+  other = m.looks.other;
+  pays = subst (λ (e : Errand). HasARoundAs p w e (known p w m.looks.on).past) (only (errand_of m.looks.on.serving) (kind_of m.looks.on.serving.task) ∙ ap (λ (l : Rest). record (errand_of m.looks.on.serving) { rest = l }) (sym same)) m.looks.pays;
+  stands = λ solitary at effect deletes. as-before at left other (subst (StandsToLook p w m.looks.on at) (sym same) (m.looks.stands solitary at effect deletes));
+  over = m.looks.over;
+  again = λ solitary room. absurd (m.roomless solitary room);
+}
+  where
+    other : left ≢ rest.Leaf
+    other leaf = m.later (sym same ∙ leaf)
+
+    by : (l : Rest) → l ≢ rest.Leaf → (at : ℕ) → StandsToLook p w m.looks.on at l → HasMergedIn p w at m.looks.on
+    by rest.Leaf o at s = absurd (o refl)
+    by rest.Inner o at s = s
+    by rest.Root o at s = s
+
+    as-before : (at : ℕ) (l : Rest) → l ≢ rest.Leaf → StandsToLook p w m.looks.on at l → StandsToLook (record p { workers = with_item p.workers w slot }) w (said-rest p w m.looks.on m.looks.other m.effected m.roomless left other (λ at effect solitary deletes. by left other at (subst (StandsToLook p w m.looks.on at) (sym same) (m.looks.stands solitary at effect deletes)) solitary deletes) slot is) at l
+    as-before at rest.Leaf o s = absurd (o refl)
+    as-before at rest.Inner o s = s
+    as-before at rest.Root o s = s
 
 thawed-spares : (r : Resource) (m : SwapMemory) (w : ℕ) (e : Errand) (used by : ℕ) (p : Past) → Spares r m w e used by p (λ q. most_of_leaf r + coming r q e kinds.ReadWhole) → Spares r m w (record e { froze = false }) used by p (λ q. most_of_leaf r + coming r q (record e { froze = false }) kinds.ReadWhole)
 thawed-spares r m w e used by p s = by-round s.round s.alone s.affords
@@ -413,6 +528,7 @@ thawed-read p w path m slot is = record {
   due = m.due;
   stands = λ solitary at is deletes. let s = m.stands solitary at is deletes in (assumption s.0, s.1);
   again = λ solitary room. assumption (m.again solitary room);
+  first = m.first;
   spares = λ r counted. thawed-spares r p.access w (errand_of m.on.serving) (used_in r p w) (bound_in r p w) (known p w m.on).past (m.spares r counted);
 }
 

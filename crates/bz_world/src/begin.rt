@@ -14,6 +14,7 @@ use bz_any_task::AnyTask;
 use bz_call::Call;
 use bz_layout::ROOT_STATUS_AT;
 use bz_mark::{Mark, Power};
+use bz_solo::Rest;
 
 // How many pages a call asks for.
 fn pages_asked(call: &Call) -> u32
@@ -91,6 +92,7 @@ fn open_call(parts: &mut Parts, w: u8, call: Call) -> u32
         effect: None,
         alone: false,
         froze: false,
+        rest: Rest::Leaf,
     });
     parts.journal.push(Mark::Begin { w, n, call });
     parts.access.start_read(w, ROOT_STATUS_AT);

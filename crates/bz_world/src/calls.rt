@@ -4,13 +4,14 @@ ghost use Rattle.bz_call.specs.Map.{key_of as key_in};
 ghost use Rattle.bz_sound.specs.Memory.Replies.{IsWrite};
 ghost use Rattle.bz_task.specs.declared.todo.Todo.TheVariants.{Finish};
 ghost use Rattle.bz_world.specs.Inside.Merging.{is_below as leads_below};
-ghost use Rattle.bz_world.specs.Inside.Going.{call_in, end_in, asks_in, path_in as way_in, had_in as payload_in, effect_in as moment_in, page_in, froze_in, unmerged_in, freezes_in, merges_in, few_in, DeletesIn, CanGoUpIn, MayGoUpIn, StandsBelowIn, GoesUpIn, with_task, with_change, with_unmerged, with_froze};
+ghost use Rattle.bz_world.specs.Inside.Going.{call_in, end_in, asks_in, path_in as way_in, had_in as payload_in, effect_in as moment_in, page_in, froze_in, unmerged_in, freezes_in, merges_in, few_in, DeletesIn, CanGoUpIn, MayGoUpIn, StandsBelowIn, GoesUpIn, with_task, with_change, with_unmerged, with_froze, still_in, joins_in, next_in, with_rest};
 
 use crate::serving::OpenCall;
 use bz_any_task::AnyTask;
 use bz_call::Call;
 use bz_key::{Key, Payload};
 use bz_layout::Config;
+use bz_solo::Rest;
 use bz_task::{Outcome, Path, Task};
 
 /// The key of a call.
@@ -221,5 +222,52 @@ pub(crate) fn set_change(slot: &mut Option<OpenCall>, task: AnyTask, had: Option
     if let Some(serving) = slot {
         serving.task = task;
         serving.had = had;
+    }
+}
+
+/// What is still to be tried for it once it has had its effect.
+pub(crate) fn rest_in(slot: &Option<OpenCall>) -> Rest
+    requires { IsSome slot.now }
+    ensures { still_in slot.now ≡ Some result }
+{
+    match slot {
+        Some(serving) => serving.rest,
+        None => unreachable!(),
+    }
+}
+
+/// Whether its task merges its leaf, or the inner node above it.
+#[tactic(auto, unfolding(bz_any_task::specs::Kinds::kind_of))]
+pub(crate) fn is_joining(slot: &Option<OpenCall>) -> bool
+    ensures { result ≡ joins_in slot.now }
+{
+    match slot {
+        Some(serving) => matches!(serving.task, AnyTask::Merging(_) | AnyTask::MergingInner(_)),
+        None => false,
+    }
+}
+
+/// What is still to be tried for it after its task, by the kind of that.
+#[tactic(auto, unfolding(bz_any_task::specs::Kinds::kind_of))]
+pub(crate) fn rest_after(slot: &Option<OpenCall>) -> Rest
+    requires { IsSome slot.now }
+    ensures { next_in slot.now ≡ Some result }
+{
+    match slot {
+        Some(serving) => match &serving.task {
+            AnyTask::Merging(_) => Rest::Inner,
+            AnyTask::MergingInner(_) => Rest::Root,
+            _ => Rest::Leaf,
+        },
+        None => unreachable!(),
+    }
+}
+
+/// Says what is still to be tried for it once it has had its effect.
+pub(crate) fn set_rest(slot: &mut Option<OpenCall>, rest: Rest)
+    ensures { slot.new ≡ with_rest slot.old rest }
+{
+    if let Some(serving) = slot {
+        serving.rest = rest;
     }
 }

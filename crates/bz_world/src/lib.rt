@@ -7,6 +7,7 @@ mod begin;
 mod boot;
 mod calls;
 mod changes;
+mod effected;
 mod end;
 mod going;
 mod laws;

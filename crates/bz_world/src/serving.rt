@@ -2,6 +2,7 @@
 use bz_any_task::AnyTask;
 use bz_call::Call;
 use bz_key::Payload;
+use bz_solo::Rest;
 use bz_task::Path;
 
 /// A worker's open call: how far it has come.
@@ -20,4 +21,6 @@ pub(crate) struct OpenCall {
     pub alone: bool,
     /// Whether its own freeze of its leaf was the last to end: then the leaf is read whole.
     pub froze: bool,
+    /// What is still to be tried for it once it has had its effect.
+    pub rest: Rest,
 }

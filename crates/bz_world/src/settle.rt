@@ -3,26 +3,27 @@ ghost use Rattle.std.specs.Prelude.{◌≡◌, ◌<◌, false, None, Some, lengt
 ghost use Rattle.bz_call.specs.declared.calls.Call.TheVariants as called;
 ghost use Rattle.bz_task.specs.declared.todo.Outcome.TheVariants.{Full, NeedsRoom};
 ghost use Rattle.bz_task.specs.declared.todo.Todo.TheVariants.{Finish};
-ghost use Rattle.bz_world.specs.Inside.Going.{MustAnswer, MustAnswerKey, MustFind, HasEnded, HasEndedAfter, HasReadAfter, IsFullRightly, HasNotLackedSwaps, HasNotLackedRoom, MustLookUpAs, LooksUpIn, WentOn, call_in, froze_in};
+ghost use Rattle.bz_world.specs.Inside.Going.{MustAnswer, MustAnswerKey, MustFind, HasEnded, IsFullRightly, HasNotLackedSwaps, HasNotLackedRoom, MustLookUpAs, LooksUpIn, WentOn, call_in, froze_in};
 ghost use Rattle.bz_world.specs.Inside.Paid.{crowded};
 ghost use Rattle.bz_solo.specs.Errands.{after};
 ghost use Rattle.bz_world.specs.Inside.Telling.{MustStart, MustStartFound};
 
 use crate::answers::Applied;
 use crate::calls::{
-    above, asks_page, called, effect_in, has_frozen, is_freezing, is_merging, key_of, leaves_few,
-    path_in, set_froze, set_task, set_unmerged,
+    above, asks_page, called, effect_in, has_frozen, is_freezing, is_merging, key_of, set_froze,
+    set_task, set_unmerged,
 };
 use crate::changes::{answer_delete, answer_insert, answer_update, answer_upsert};
+use crate::effected::settle_effective;
 use crate::end::{end, end_page};
-use crate::going::{end_effective, end_full, go_on, look_up, outcome_of};
+use crate::going::{end_full, go_on, look_up, outcome_of};
 use crate::laws::{answer_laws, paths_end, round_laws, start_laws};
 use crate::lookups::{read_frozen, read_leaf};
 use crate::parts::Parts;
-use crate::restructuring::{merge, restructure, split_above};
+use crate::restructuring::{restructure, split_above};
 use crate::room::lacks_room;
 use crate::tell::tell;
-use bz_any_task::{AnyTask, is_due_beside as is_due};
+use bz_any_task::AnyTask;
 use bz_call::{Call, Reply, Spent};
 use bz_key::Key;
 use bz_page::collect;
@@ -219,51 +220,6 @@ fn settle_quiet(parts: &mut Parts, w: u8, outcome: Outcome) -> Applied
         Outcome::NeedsRoom => settle_crowded(parts, w),
         Outcome::Done => look_up_frozen(parts, w),
         _ => look_up(parts, w),
-    }
-}
-
-// Merges the leaf of a delete that has made its change, where it has too few live words to stand alone; or ends the call.
-fn settle_small(parts: &mut Parts, w: u8, at: u32, view: &LeafView) -> Applied
-    requires read { HasReadAfter parts.old w at view.now }
-    requires room { length parts.old.journal.past < parts.old.config.marks }
-    ensures { WentOn parts.old w result parts.new }
-{
-    round_laws();
-    let Some(path) = path_in(&parts.workers[w as usize]) else {
-        return end_effective(parts, w, at);
-    };
-    paths_end(&path);
-    if is_due(&path, view) {
-        merge(parts, w, path, view)
-    } else {
-        end_effective(parts, w, at)
-    }
-}
-
-// The task of a call that has made its change has ended so, and the call ends. Only a delete that leaves little in its leaf looks its key
-// up again and reads the leaf, to merge it with a neighbour; whatever stands against that, or comes of it, its reply is of the moment of
-// its effect.
-fn settle_effective(parts: &mut Parts, w: u8, at: u32, outcome: Outcome) -> Applied
-    requires ends { HasEndedAfter parts.old w at outcome }
-    requires room { length parts.old.journal.past < parts.old.config.marks }
-    ensures { WentOn parts.old w result parts.new }
-{
-    round_laws();
-    let call = called(&parts.workers[w as usize]);
-    let Call::Delete(_) = call else {
-        return end_effective(parts, w, at);
-    };
-    match outcome {
-        Outcome::Done => {
-            if leaves_few(&parts.workers[w as usize]) {
-                look_up(parts, w)
-            } else {
-                end_effective(parts, w, at)
-            }
-        }
-        Outcome::Path(path) => read_leaf(parts, w, path),
-        Outcome::View(view) => settle_small(parts, w, at, &view),
-        _ => end_effective(parts, w, at),
     }
 }
 

@@ -20,6 +20,7 @@ use Rattle.bz_task.specs.declared.todo.Seen.TheVariants.{Swapped}
 use Rattle.bz_world.specs.Inside.Alone.{untold}
 use Rattle.bz_world.specs.Inside.Paid.{Stock}
 use Rattle.bz_world.specs.Roomy.{HadRoom, KeepsEnough}
+use Rattle.bz_solo.specs.declared.rest.Rest.TheVariants as rest
 use Rattle.bz_world.specs.declared.serving.OpenCall.{OpenCall}
 
 -- it looks for the leaf of its key, or looks that up there
@@ -94,6 +95,7 @@ pub record IsChanging (opened : Open) (p : Past) (r : Reach) (stock : Stock) (te
   pub short : end_of x.task ≡ Some (Full Swaps) → r.taken + 1 ≤ stock.begun.taken + change_swaps x.task
   pub ends : (o : Outcome) → end_of x.task ≡ Some o → IsFull o
   pub roomy : (z : Scene) → means_of x.task NeedsRoom z → ⊥
+  pub unpassed : x.rest ≡ rest.Leaf
 
 -- nobody's swap took effect since its own, and the leaf of a delete stood alone then
 pub record HasStood (opened : Open) (p : Past) : Type 0 where
@@ -114,6 +116,7 @@ pub record HasChanged (opened : Open) (p : Past) (r : Reach) (stock : Stock) (te
   pub least : stock.begun.taken + change_swaps x.task ≤ r.taken
   pub most : r.taken + swaps_of x.task ≤ stock.begun.taken + change_swaps x.task + r.underway
   pub stood : HasStood opened p
+  pub unpassed : x.rest ≡ rest.Leaf
 
 -- the descriptors of its change are all that was taken for it
 pub record HasCounted (opened : Open) (p : Past) (r : Reach) (stock : Stock) (tells : ℕ) (x : OpenCall) : Type 0 where
@@ -121,6 +124,8 @@ pub record HasCounted (opened : Open) (p : Past) (r : Reach) (stock : Stock) (te
   pub same_taken : r.taken ≡ stock.begun.taken + tells
   pub same_left : stock.left ≡ stock.begun.left
   pub stood : HasStood opened p
+  -- nothing was passed over, as its leaf has enough
+  pub unpassed : x.rest ≡ rest.Leaf
 
 -- a delete may look once more at the leaf of its key, whether that has few live words left; nobody's swap took effect since it looks
 pub record LooksAfter (opened : Open) (p : Past) (r : Reach) (stock : Stock) (tells : ℕ) (x : OpenCall) : Type 0 where

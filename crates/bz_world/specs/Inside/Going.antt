@@ -15,7 +15,9 @@ use Rattle.bz_solo.specs.FromCosts.Solo.{one_mark}
 use Rattle.bz_solo.specs.FromCosts.Resources.{Resource}
 use Rattle.bz_solo.specs.FromCosts.Weights.{start_takes}
 use Rattle.bz_layout.specs.declared.config.Config.{Config}
-use Rattle.bz_solo.specs.Errands.{Errand, is_read, is_freeze, IsLookOf}
+use Rattle.bz_solo.specs.Errands.{Errand, is_read, is_freeze, rest_after, IsLookOf}
+use Rattle.bz_solo.specs.declared.rest.Rest.{Rest}
+use Rattle.bz_solo.specs.declared.rest.Rest.TheVariants as rest
 use Rattle.bz_solo.specs.Prices.{coming}
 use Rattle.bz_solo.specs.Rounds.{stage_now}
 use Rattle.bz_solo.specs.Sum.{IsThawed}
@@ -57,7 +59,7 @@ use Rattle.bz_world.specs.Inside.Kept.{IsAwake}
 use Rattle.bz_world.specs.Inside.Meant.{IsMeant}
 use Rattle.bz_world.specs.Inside.Merging.{tells_few, IsStanding, IsTellingFew, MergesDuly}
 use Rattle.bz_world.specs.Merges.{IsMergedSince, MergesFor}
-use Rattle.bz_world.specs.Inside.Paid.{begun_with, bound_in, errand_of, is_merge, no_extra, stock_of, used_in, IsCounted, IsFit, IsPaidFor, HasToSpare, HasARound, HasARoundAs}
+use Rattle.bz_world.specs.Inside.Paid.{begun_with, bound_in, errand_of, is_merge, is_joining, no_extra, stock_of, used_in, IsCounted, IsFit, IsPaidFor, HasToSpare, HasARound, HasARoundAs}
 use Rattle.bz_world.specs.Inside.Room.{LacksRoomFor}
 use Rattle.bz_world.specs.Inside.Solitary.{WhereSolitary, IsNotSolitary, IsSolitaryGet, HasLooked}
 use Rattle.bz_world.specs.WorldView.{deadline, GoesOn, Spends, HadFew, HasRunOut, EndsFullOfLittle, EndsFullRightly, EndsAsTold, EndsMerged, EndsUnspent, GetsBriefly, KeepsSupply, RunsWhole, TakesAsTold, is_delete}
@@ -113,9 +115,22 @@ pub record StoodFor (p : Parts) (w : ℕ) (on : MustGoOn p w) (at : ℕ) : Type 
   pub by_now : suc at ≤ length p.journal.past
   pub standing : MayBeMerged p.config ((known p w on).past.at (suc at)).image (key_of on.serving.call) → IsStanding p.config p.journal at (known p w on).past (reach_idle p.access) (stock_of p)
 
--- that it leaves little was told before its key is looked up again
+-- of a delete beside which no other call was open: its leaf was merged, if it might be directly after its effect, or slots or descriptors were not left
+abbrev pub HasMergedIn : (p : Parts) (w at : ℕ) → MustGoOn p w → Type 0
+HasMergedIn p w at on =
+    IsSolitary w p.journal.past → is_delete on.serving.call ≡ true → MayBeMerged p.config (image_at p.journal.start (suc at) p.journal.past) (key_of on.serving.call) → IsMergedSince p.config p.journal.start p.journal.past at
+
+-- before its key is looked up again: that it leaves little was told, where its leaf is to be merged; and else that is over
+abbrev pub StandsToLook : (p : Parts) (w : ℕ) → MustGoOn p w → (at : ℕ) → Rest → Type 0
+StandsToLook p w on at rest.Leaf = StoodFor p w on at × (MayBeMerged p.config ((known p w on).past.at (suc at)).image (key_of on.serving.call) → IsTellingFew (reach_idle p.access) on.serving)
+StandsToLook p w on at rest.Inner = HasMergedIn p w at on
+StandsToLook p w on at rest.Root = HasMergedIn p w at on
+
+abbrev pub StandsForLookingAs : (p : Parts) (w : ℕ) → MustGoOn p w → Rest → Type 0
+StandsForLookingAs p w on left = IsSolitary w p.journal.past → (at : ℕ) → on.serving.effect ≡ Some at → is_delete on.serving.call ≡ true → StandsToLook p w on at left
+
 abbrev pub StandsForLooking : (p : Parts) (w : ℕ) → MustGoOn p w → Type 0
-StandsForLooking p w on = IsSolitary w p.journal.past → (at : ℕ) → on.serving.effect ≡ Some at → is_delete on.serving.call ≡ true → StoodFor p w on at × (MayBeMerged p.config ((known p w on).past.at (suc at)).image (key_of on.serving.call) → IsTellingFew (reach_idle p.access) on.serving)
+StandsForLooking p w on = StandsForLookingAs p w on on.serving.rest
 
 -- and nobody's swap took effect since it looks for its leaf
 abbrev pub StandsForReading : (p : Parts) (w : ℕ) → MustGoOn p w → Type 0
@@ -137,9 +152,16 @@ pub record MustLookUpAs (p : Parts) (w : ℕ) (change : Errand → Kind → Erra
   pub may : MayGoOn on.serving
   pub other : IsNotSolitary p.journal.past w on.serving.call
   pub pays : HasARoundAs p w (change (errand_of on.serving) (kind_of on.serving.task)) (known p w on).past
-  pub stands : StandsForLooking p w on
+  pub stands : StandsForLookingAs p w on (change (errand_of on.serving) (kind_of on.serving.task)).rest
   pub over : kind_of on.serving.task ≡ kinds.Delete → end_of on.serving.task ≢ None
   pub again : LooksUpAgain p w on
+
+-- of one that has had its effect, where another thing is tried next than its leaf
+pub record MustPass (p : Parts) (w : ℕ) (change : Errand → Kind → Errand) : Type 0 where
+  pub looks : MustLookUpAs p w change
+  pub effected : looks.on.serving.effect ≢ None
+  pub roomless : HadNoRoom p w looks.on
+  pub later : (change (errand_of looks.on.serving) (kind_of looks.on.serving.task)).rest ≢ rest.Leaf
 
 -- the call that is served, how its task has ended, what it asks for, the way to its leaf, its effect, and whether it froze its leaf last
 abbrev pub call_in : Option OpenCall → Option Call
@@ -182,6 +204,17 @@ freezes_in (Some x) = is_freeze (kind_of x.task)
 abbrev pub merges_in : Option OpenCall → Bool
 merges_in None = false
 merges_in (Some x) = is_merge (kind_of x.task)
+
+-- whether its task merges two nodes; what is still to be tried once it has had its effect, and what is to be tried after its task
+abbrev pub joins_in : Option OpenCall → Bool
+joins_in None = false
+joins_in (Some x) = is_joining (kind_of x.task)
+
+abbrev pub still_in : Option OpenCall → Option Rest
+still_in slot = option_map (λ (x : OpenCall). x.rest) slot
+
+abbrev pub next_in : Option OpenCall → Option Rest
+next_in slot = option_map (λ (x : OpenCall). rest_after (kind_of x.task)) slot
 
 abbrev pub DeletesIn : Option OpenCall → Type 0
 DeletesIn None = ⊥
@@ -277,6 +310,10 @@ with_unmerged slot alone = option_map (λ (x : OpenCall). record x { alone = alo
 abbrev pub with_froze : Option OpenCall → Bool → Option OpenCall
 with_froze slot froze = option_map (λ (x : OpenCall). record x { froze = froze }) slot
 
+-- and what is still to be tried once it has had its effect
+abbrev pub with_rest : Option OpenCall → Rest → Option OpenCall
+with_rest slot left = option_map (λ (x : OpenCall). record x { rest = left }) slot
+
 -- what the start of this takes, if it is asked for
 abbrev pub taken_for : Option Todo → Resource → ℕ
 taken_for None r = 0
@@ -310,6 +347,7 @@ pub record MustRead (p : Parts) (w : ℕ) (path : Path) : Type 0 where
   pub due : on.serving.effect ≡ None → IsSolitary w p.journal.past → (is_page on.serving.call ≡ true) ⊎ IsDue p.config p.journal on.serving.call
   pub stands : StandsForReading p w on
   pub again : ReadsAgain p w on
+  pub first : on.serving.rest ≡ rest.Leaf
 
 -- its task knows what it should, and has ended so
 abbrev pub EndsSo : (p : Parts) (w : ℕ) → MustGoOn p w → Outcome → Type 0
@@ -462,6 +500,7 @@ pub record MustMerge (p : Parts) (w : ℕ) (path : Path) (view : LeafView) : Typ
   pub thawed_call : IsThawed (errand_of on.serving)
   pub due : on.serving.effect ≡ None → IsDueAlone p.config p.journal w on.serving.call
   pub stands : StandsForReading p w on
+  pub first : on.serving.rest ≡ rest.Leaf
   pub again : HadNoRoom p w on
   pub spares : HasToSpare p w on.serving (known p w on).past (λ r q. most_of_merge r + coming r q (errand_of on.serving) kinds.Merge)
 
@@ -505,11 +544,6 @@ pub record HadEffect (p : Parts) (w at : ℕ) : Type 0 where
   pub effect : on.serving.effect ≡ Some at
   pub room : HasRoomForEnd p w
 
--- of a delete beside which no other call was open: its leaf was merged, if it might be directly after its effect, or slots or descriptors were not left
-abbrev pub HasMergedIn : (p : Parts) (w at : ℕ) → MustGoOn p w → Type 0
-HasMergedIn p w at on =
-    IsSolitary w p.journal.past → is_delete on.serving.call ≡ true → MayBeMerged p.config (image_at p.journal.start (suc at) p.journal.past) (key_of on.serving.call) → IsMergedSince p.config p.journal.start p.journal.past at
-
 pub record HasToEnd (p : Parts) (w at : ℕ) : Type 0 where
   pub had : HadEffect p w at
   pub merged : HasMergedIn p w at had.on
@@ -527,17 +561,35 @@ pub record HasEndedAfter (p : Parts) (w at : ℕ) (outcome : Outcome) : Type 0 w
   pub some : (view : LeafView) → outcome ≡ outcomes.View view → had.on.serving.path ≢ None
   pub alone : EndsAlone outcome (known p w had.on).past
   pub swaps : outcome ≢ outcomes.Full Swaps
+  pub meant : IsMeant had.on.serving (known p w had.on).past
 
 -- or the leaf of a delete was read since, by the path that was found
 pub record HasReadAfter (p : Parts) (w at : ℕ) (view : LeafView) : Type 0 where
   pub had : HadEffect p w at
   pub kind : kind_of had.on.serving.task ≡ kinds.ReadWhole
+  pub first : had.on.serving.rest ≡ rest.Leaf
   pub deletes : is_delete had.on.serving.call ≡ true
   pub viewed : IsView (key_of had.on.serving.call) view (known p w had.on).past
   pub leads : (path : Path) → had.on.serving.path ≡ Some path → IsPath (key_of had.on.serving.call) path (known p w had.on).past
   pub spares : HasToSpare p w had.on.serving (known p w had.on).past (λ r q. coming r q (errand_of had.on.serving) kinds.ReadWhole)
   pub some : had.on.serving.path ≢ None
   pub ends : end_of had.on.serving.task ≡ Some (outcomes.View view)
+
+-- the way to its leaf was found once more
+pub record HasFoundAfter (p : Parts) (w at : ℕ) (path : Path) : Type 0 where
+  pub had : HadEffect p w at
+  pub deletes : is_delete had.on.serving.call ≡ true
+  pub kind : kind_of had.on.serving.task ≡ kinds.Seek
+  pub ends : end_of had.on.serving.task ≡ Some (outcomes.Path path)
+  pub leads : IsPath (key_of had.on.serving.call) path (known p w had.on).past
+  pub spares : HasToSpare p w had.on.serving (known p w had.on).past (λ r q. coming r q (errand_of had.on.serving) kinds.Seek)
+
+-- or a task that looks for nothing has ended so
+pub record HasTriedAfter (p : Parts) (w at : ℕ) (outcome : Outcome) : Type 0 where
+  pub ends : HasEndedAfter p w at outcome
+  pub deletes : is_delete ends.had.on.serving.call ≡ true
+  pub no_path : (path : Path) → outcome ≢ outcomes.Path path
+  pub no_view : (view : LeafView) → outcome ≢ outcomes.View view
 
 -- no descriptor is left
 pub record LacksSwap (p : Parts) (w : ℕ) : Type 0 where

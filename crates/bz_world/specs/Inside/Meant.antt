@@ -1,5 +1,5 @@
 -- What the task of a call is meant for.
-use Rattle.std.specs.Prelude.{◌≡◌, ℕ, ◌≤◌, true, false, List, Some, None}
+use Rattle.std.specs.Prelude.{◌≡◌, ℕ, ◌≤◌, Bool, true, false, List, Some, None}
 use Rattle.bz_call.specs.Map.{key_of}
 use Rattle.bz_content.specs.Content.{image_of, leaf_in}
 use Rattle.bz_stage.specs.FromLeaves.Neighbours.{leaf_page}
@@ -8,7 +8,8 @@ use Rattle.bz_solo.specs.FromCosts.Most.{IsWithinItsActs}
 use Rattle.bz_solo.specs.Errands.{IsLookOf}
 use Rattle.bz_solo.specs.Meant.{IsMeantFor}
 use Rattle.bz_any_task.specs.Kinds as kinds
-use Rattle.bz_any_task.specs.Kinds.{is_renewal, kind_of}
+use Rattle.bz_any_task.specs.Kinds.{Kind, is_renewal, kind_of}
+use Rattle.bz_solo.specs.declared.rest.Rest.TheVariants as rest
 use Rattle.bz_any_task.specs.MadeFor.{IsMadeFor, IsSmallMerge}
 use Rattle.bz_any_task.specs.declared.running.AnyTask.{AnyTask}
 use Rattle.bz_slotted.specs.Records.{live_words}
@@ -35,6 +36,13 @@ pub record IsOfSettled (t : AnyTask) (key : List ℕ) (p : Past) : Type 0 where
   pub only : (view : LeafView) → IsView key view known → view.slot ≡ slot
   pub made : IsMadeFor t key 0 known
 
+-- what is tried once the merge of a leaf is over, and the way to it
+abbrev pub tries_later : Kind → Bool
+tries_later kinds.Seek = true
+tries_later kinds.MergeNodes = true
+tries_later kinds.LowerRoot = true
+tries_later other = false
+
 -- it has no more acts left than at its begin; a call that changes nothing looks its key up, or reads its leaf; and of a call
 -- without effect each task that freezes a leaf or makes a node anew was made for the key and the words of the call
 pub record IsMeant (x : OpenCall) (p : Past) : Type 0 where
@@ -48,3 +56,5 @@ pub record IsMeant (x : OpenCall) (p : Past) : Type 0 where
   pub small : kind_of x.task ≡ kinds.Merge → IsSmallMerge x.task (key_of x.call) p
   -- a copy is one of the leaf of its key, which was frozen, and had no more live words than it may keep
   pub copied : kind_of x.task ≡ kinds.Copy → IsOfSettled x.task (key_of x.call) p
+  -- every other task comes while the leaf of its key may still be merged
+  pub first : tries_later (kind_of x.task) ≡ false → x.rest ≡ rest.Leaf

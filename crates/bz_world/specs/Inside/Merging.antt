@@ -10,6 +10,7 @@ use Rattle.bz_layout.specs.declared.thresholds.TheConstants.{MERGE_SLOTS}
 use Rattle.bz_solo.specs.FromAlone.Counts.{HasOthers}
 use Rattle.bz_solo.specs.FromJoined.Neighbours.{KnowsItsLeaf}
 use Rattle.bz_solo.specs.FromTally.Leaves.{leaves_in}
+use Rattle.bz_solo.specs.declared.rest.Rest.TheVariants as rest
 use Rattle.bz_mark.specs.Log.{Log}
 use Rattle.bz_mark.specs.Moments.{at_moment}
 use Rattle.bz_any_task.specs.Duties.{end_of, leaves_few_of, made_of, needs_of, swaps_of, wants_of}
@@ -26,6 +27,7 @@ use Rattle.bz_task.specs.declared.todo.Outcome.{Outcome}
 use Rattle.bz_task.specs.declared.todo.Outcome.TheVariants.{Done, Full}
 use Rattle.bz_world.specs.Inside.Exact.{Reach, seeks}
 use Rattle.bz_world.specs.Inside.Paid.{Stock}
+use Rattle.bz_world.specs.Merges.{LacksForMerge}
 use Rattle.bz_world.specs.WorldView.{is_delete}
 use Rattle.bz_world.specs.declared.serving.OpenCall.{OpenCall}
 
@@ -76,6 +78,7 @@ looks_on other = false
 
 pub record IsLookingOn (p : Past) (x : OpenCall) : Type 0 where
   pub looks : looks_on (kind_of x.task) ≡ true
+  pub first : kind_of x.task ≡ kinds.Seek → x.rest ≡ rest.Leaf
   pub alone : HasOthers 0 0 p
 
 -- the leaf is not merged yet
@@ -117,8 +120,20 @@ pub record HasMergedLeaf (at : ℕ) (p : Past) (r : Reach) (x : OpenCall) : Type
   pub leaves : leaves_at p moment + 1 ≡ leaves_at p (suc at)
   pub waits : end_of x.task ≡ None → (r.untold ≡ 1) × (swaps_of x.task ≤ 1)
 
+-- the merge of its leaf is over, as another thing is tried: up to this moment it was made, or directly after the effect its slots or descriptors
+-- were not left
+abbrev pub WasOver : Config → Log → ℕ → ℕ → Past → Type 0
+WasOver c log at moment p = (leaves_at p moment + 1 ≡ leaves_at p (suc at)) ⊎ LacksForMerge c log.start (at_moment (suc at) log.past)
+
+pub record IsOver (c : Config) (log : Log) (at : ℕ) (p : Past) (x : OpenCall) : Type 0 where
+  pub later : x.rest ≢ rest.Leaf
+  pub moment : ℕ
+  pub after : suc at ≤ moment
+  pub stood : StoodSince moment p
+  pub over : WasOver c log at moment p
+
 abbrev pub IsMerging : Config → Log → ℕ → Past → Reach → Stock → OpenCall → Type 0
-IsMerging c log at p r stock x = IsToMerge c log at p r stock x ⊎ (IsMergingLeaf c log at p r stock x ⊎ HasMergedLeaf at p r x)
+IsMerging c log at p r stock x = IsToMerge c log at p r stock x ⊎ (IsMergingLeaf c log at p r stock x ⊎ (HasMergedLeaf at p r x ⊎ IsOver c log at p x))
 
 -- a delete that has had its effect
 pub record HasToMerge (c : Config) (log : Log) (opened : Open) (at : ℕ) (p : Past) (r : Reach) (stock : Stock) (x : OpenCall) : Type 0 where

@@ -1,8 +1,9 @@
 -- What is left of each resource for the call of a worker that steps alone: for the tasks that are still to come.
-use Rattle.std.specs.Prelude.{ℕ, ◌+◌, ◌-◌, ◌≤◌, if◌then◌else◌, is_some, Bool, true, false, List, [], ◌∷◌, length, Option, Some, None}
+use Rattle.std.specs.Prelude.{◌≡◌, ℕ, ◌+◌, ◌-◌, ◌≤◌, if◌then◌else◌, is_some, Bool, true, false, List, [], ◌∷◌, length, Option, Some, None}
 use Rattle.bz_layout.specs.declared.config.Config.{Config}
 use Rattle.bz_layout.specs.declared.thresholds.TheConstants.{LEAF_RECORD_WORDS, SLOTS_PER_CALL, SWAPS_PER_CALL}
 use Rattle.bz_solo.specs.Errands.{Errand, words_asked}
+use Rattle.bz_solo.specs.declared.rest.Rest.TheVariants as rest
 use Rattle.bz_solo.specs.FromCosts.Resources.{Resource, Marks, Descriptors, Slots}
 use Rattle.bz_solo.specs.Prices.{Prices}
 use Rattle.bz_solo.specs.Sum.{IsThawed, Spares, PaysForRound, IsPaid}
@@ -20,7 +21,7 @@ use Rattle.bz_world.specs.declared.serving.OpenCall.{OpenCall}
 
 -- the call, as far as its costs go
 abbrev pub errand_of : OpenCall → Errand
-errand_of x = record { call = x.call; effected = is_some x.effect; alone = x.alone; froze = x.froze }
+errand_of x = record { call = x.call; effected = is_some x.effect; alone = x.alone; froze = x.froze; rest = x.rest }
 
 -- as it is looked up once a task of this kind ended for want of room: after a merge its leaf is copied alone
 abbrev pub is_merge : Kind → Bool
@@ -30,10 +31,22 @@ is_merge other = false
 abbrev pub crowded : Errand → Kind → Errand
 crowded e kind = record e { alone = is_merge kind }
 
+-- it merges two nodes, leaves or inner ones
+abbrev pub is_joining : Kind → Bool
+is_joining kinds.Merge = true
+is_joining kinds.MergeNodes = true
+is_joining other = false
+
+-- a delete that has had its effect, as it is looked up once its leaf is passed over, which may not be merged
+abbrev pub passing : Errand → Kind → Errand
+passing e _ = record e { rest = rest.Inner }
+
 -- it asks for no more words than a record may have, and one more; and only a call that makes a change has frozen a leaf
 pub record IsFit (x : OpenCall) : Type 0 where
   pub words : words_asked x.call ≤ LEAF_RECORD_WORDS + 1
   pub thawed : IsThawed (errand_of x)
+  -- nothing is passed over before its effect
+  pub quiet : x.effect ≡ None → x.rest ≡ rest.Leaf
 
 -- the worker of whose call it is known at each mark: the one that steps, or that has just begun its call while none was open
 abbrev pub runner : Config → List Mark → Option ℕ

@@ -1,6 +1,7 @@
 use Rattle.std.proofs.Common.{false, arith, refl, sym, ap, ◌+◌, ◌<◌, ◌^◌, subst, rules, Some, None}
 use Rattle.std.specs.Vec.{with_item}
 use Rattle.bz_any_task.specs.Hearing.{IsLookup}
+use Rattle.bz_solo.specs.declared.rest.Rest.TheVariants as rest
 use Rattle.bz_task.specs.declared.todo.Todo.TheVariants.{Read}
 use Rattle.bz_world.specs.Inside.Beginning.{HasBegun}
 use Rattle.bz_world.proofs.Beginning.{in-numbers, begin-room, few-numbers, number-is, has-begun}
@@ -21,7 +22,7 @@ returns c =
     subst (HasBegun c.args.parts.now c.args.w c.args.call (c.index.result.now + 1)) (λ t. record c.args.parts.now {
       access = c.start_read.new.self;
       journal = sym c.push.ensures t;
-      workers = with_item c.args.parts.now.workers c.args.w (Some record { call = c.args.call; task = c.seek-task.result; path = None; had = None; effect = None; alone = false; froze = false });
+      workers = with_item c.args.parts.now.workers c.args.w (Some record { call = c.args.call; task = c.seek-task.result; path = None; had = None; effect = None; alone = false; froze = false; rest = rest.Leaf });
       numbers = with_item c.args.parts.now.numbers c.args.w (c.index.result.now + 1);
       taken_then = sym c.taken-parts.ensures t;
       left_then = sym c.left-parts.ensures.left t;

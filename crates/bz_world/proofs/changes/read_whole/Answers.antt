@@ -15,6 +15,7 @@ read_leaf-requires-clause-path c = let r = c.requires.way.reads in record {
   spares = c.requires.way.spares;
   due = λ quiet solitary. inr (c.requires.way.due solitary);
   stands = λ solitary at is deletes. absurd (cc (r.quiet, is));
+  first = r.on.fit.quiet r.quiet;
   again = no-reading c.args.parts.now c.args.w r.on c.requires.way.again;
   look = λ quiet. writes-look r.on.serving.call kinds.ReadWhole c.requires.way.write;
 }

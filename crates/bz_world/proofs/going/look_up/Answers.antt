@@ -1,5 +1,7 @@
 use Rattle.std.proofs.Common.{◌≡◌, ◌<◌, length, arith, refl, sym, ap, subst, ◌∙◌, inl, Option, Some, None}
+use Rattle.std.proofs.lemmas.Bool.{true≢false}
 use Rattle.std.proofs.lemmas.List.{get_or-set_same}
+use Rattle.bz_world.specs.Inside.Meant.{tries_later}
 use Rattle.std.specs.Vec.{with_item}
 use Rattle.bz_call.specs.Map.{key_of}
 use Rattle.bz_task.specs.declared.todo.Todo.TheVariants.{Read}
@@ -23,12 +25,13 @@ start-requires-clause-asks c = taken-asks c.args.parts.now c.args.w c.seek-task.
     (none-wanted c.args.parts.now c.args.w (looks-anew c.args.parts.now c.args.w c.requires.on c.requires.again c.requires.stands c.requires.over) c.seek-task.result c.seek-task.ensures.wants) (λ key get solitary. absurd (c.requires.other key get solitary))
     (record {
       within = within-of c.seek-task.result (λ a e. absurd (let other : kinds.Seek ≡ kinds.SplitLeaf a = sym c.seek-task.ensures.kind ∙ e in cc other));
-      fit = record { words = c.requires.on.fit.words; thawed = c.requires.on.fit.thawed };
+      fit = record { words = c.requires.on.fit.words; thawed = c.requires.on.fit.thawed; quiet = c.requires.on.fit.quiet };
       look = λ quiet. subst (IsLookOf c.requires.on.serving.call) (sym c.seek-task.ensures.kind) (seeks c.requires.on.serving.call);
       meant = λ quiet. inl (record { slots = c.seek-task.ensures.wants; swaps = inl (ap is_look c.seek-task.ensures.kind) });
       later = λ at is. ap is_renewal c.seek-task.ensures.kind;
       small = λ merge. absurd (let other : kinds.Seek ≡ kinds.Merge = sym c.seek-task.ensures.kind ∙ merge in cc other);
       copied = λ copy. absurd (let other : kinds.Seek ≡ kinds.Copy = sym c.seek-task.ensures.kind ∙ copy in cc other);
+      first = λ other. absurd (true≢false (sym (ap tries_later c.seek-task.ensures.kind) ∙ other));
     })
     (λ r counted. c.start_laws.ensures.solo.rounds.begin r c.args.parts.now.access c.args.w (errand_of c.requires.on.serving) c.seek-task.result (used_in r c.args.parts.now c.args.w) (bound_in r c.args.parts.now c.args.w) 2 (known c.args.parts.now c.args.w c.requires.on).past
     (known c.args.parts.now c.args.w (looks-anew c.args.parts.now c.args.w c.requires.on c.requires.again c.requires.stands c.requires.over)).past

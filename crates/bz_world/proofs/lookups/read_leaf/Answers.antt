@@ -34,7 +34,7 @@ begin_task-requires-clause-begins c = task-begins c.args.parts.now c.args.w c.re
     (λ solitary. record {
       looking = λ quiet seek. absurd (true≢false (sym seek ∙ ap seeks c.read_leaf-task.ensures.kind));
       deleting = λ quiet delete going. absurd (cc (c.read_leaf-task.ensures.kind, delete));
-      merging = λ at is deletes. let s = c.requires.path.stands solitary at is deletes in record { after_begin = s.0.after_begin; by_now = s.0.by_now; merging = λ may. inl (record { standing = s.0.standing may; task = inr (record { looks = ap looks_on c.read_leaf-task.ensures.kind; alone = s.1 may }) }) };
+      merging = λ at is deletes. let s = c.requires.path.stands solitary at is deletes in record { after_begin = s.0.after_begin; by_now = s.0.by_now; merging = λ may. inl (record { standing = s.0.standing may; task = inr (record { looks = ap looks_on c.read_leaf-task.ensures.kind; first = λ seek. c.requires.path.first; alone = s.1 may }) }) };
     }))
     c.set_task.new.slot (c.set_task.ensures ∙ ap (λ (z : Option OpenCall). with_task z c.read_leaf-task.result (Some c.args.path)) (slot-is c.args.parts.now c.args.w c.requires.path.on c.index_mut.result.now c.index_mut.ensures.value))
     c.requires.path.on.between.call_open.told c.start_laws.ensures.solo c.requires.path.other refl (kinds-tell-what-goes-on c.read_leaf-task.result (ap begins_on c.read_leaf-task.ensures.kind))
@@ -42,7 +42,8 @@ begin_task-requires-clause-begins c = task-begins c.args.parts.now c.args.w c.re
     meant : IsMeant (record c.requires.path.on.serving { task = c.read_leaf-task.result; path = Some c.args.path }) (known c.args.parts.now c.args.w c.requires.path.on).past
     meant = record {
       within = within-of c.read_leaf-task.result (λ a e. absurd (let other : kinds.ReadWhole ≡ kinds.SplitLeaf a = sym c.read_leaf-task.ensures.kind ∙ e in cc other));
-      fit = record { words = c.requires.path.on.fit.words; thawed = c.requires.path.on.fit.thawed };
+      fit = record { words = c.requires.path.on.fit.words; thawed = c.requires.path.on.fit.thawed; quiet = c.requires.path.on.fit.quiet };
+      first = λ other. c.requires.path.first;
       look = λ quiet. subst (IsLookOf c.requires.path.on.serving.call) (sym c.read_leaf-task.ensures.kind) (c.requires.path.look quiet);
       meant = λ quiet. inl (record { slots = c.read_leaf-task.ensures.wants; swaps = inl (ap is_look c.read_leaf-task.ensures.kind) });
       later = λ at is. ap is_renewal c.read_leaf-task.ensures.kind;

@@ -23,6 +23,7 @@ merge-requires-clause-merge c = let due = c.is_due.ensures.due.0 c.if-is_due.tru
   thawed_call = c.requires.copy.anew.answer.on.fit.thawed;
   due = λ quiet. read-due c.args.parts.now c.args.w c.args.view.now c.requires.copy.anew.answer (lacks-write c.requires.copy.anew.answer.on.serving.call c.args.view.now.status c.requires.copy.anew.lacks);
   stands = λ solitary at is deletes. absurd (cc (c.requires.copy.anew.answer.quiet, is));
+  first = c.requires.copy.anew.answer.on.fit.quiet c.requires.copy.anew.answer.quiet;
   again = again-kind c.args.parts.now c.args.w c.requires.copy.anew.answer.on c.requires.copy.anew.answer.quiet kinds.ReadWhole c.requires.copy.anew.answer.kind refl refl;
   spares = merge-spares c.start_laws.ensures.solo c.args.parts.now c.args.w c.args.path c.args.view.now c.requires.copy (sym (ap unmerged_in (slot-is c.args.parts.now c.args.w c.requires.copy.anew.answer.on c.index.result.now c.index.ensures)) ∙ (sym c.is_unmerged.ensures ∙ c.if-is_unmerged.false));
 }

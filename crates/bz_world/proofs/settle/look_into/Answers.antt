@@ -21,6 +21,7 @@ read_frozen-requires-clause-path c = record {
     | inr none ↦ absurd (true≢false (sym froze ∙ none.thawed))
   ];
   stands = λ solitary at is deletes. absurd (cc (c.requires.path.quiet, is));
+  first = c.requires.path.on.fit.quiet c.requires.path.quiet;
   again = no-reading c.args.parts.now c.args.w c.requires.path.on (again-froze c.args.parts.now c.args.w c.requires.path.on c.requires.path.quiet (outcomes.Path c.args.path) c.requires.path.ends.1 (λ e. e) froze);
   spares = way-read c.round_laws.ensures c.args.parts.now c.args.w c.args.path c.requires.path (inr (inr froze));
 }
@@ -40,6 +41,7 @@ read_leaf-requires-clause-path c =
       look = λ quiet. reads.0;
       due = λ quiet solitary. inl page;
       stands = λ solitary at is deletes. absurd (cc (c.requires.path.quiet, is));
+      first = c.requires.path.on.fit.quiet c.requires.path.quiet;
       again = no-reading c.args.parts.now c.args.w c.requires.path.on (again-call c.args.parts.now c.args.w c.requires.path.on reads.1);
       spares = way-read c.round_laws.ensures c.args.parts.now c.args.w c.args.path c.requires.path (inr (inl reads.1));
     }

@@ -29,6 +29,7 @@ settle_effective-requires-clause-ends c =
       some = λ view is none. no-view (key_of on.serving.call) on.serving.task (tasked.wayless none) view here (tasked.laws.sound.ends here (View view) facts (ended ∙ ap Some is)).0;
       alone = let a = c.requires.ends.asking.alone in record { others = a.others; made = a.made; counted = a.counted; stands = λ none again. a.stands refl none (ended ∙ ap Some again) };
       swaps = λ is. c.requires.swaps (c.outcome_of-outcome.ensures ∙ ap Some is);
+      meant = c.requires.ends.asking.meant;
     }
 
 pub settle_quiet-requires-clause-ends : goal.settle_quiet-requires-clause-ends
