@@ -1,4 +1,4 @@
-//! A split, a merge and a copy over images, each cut before each of its fences, and its recovery before each of its own.
+//! A split, two merges and a copy over images, each cut before each of its fences, and its recovery before each of its own.
 
 mod acts;
 mod bench;

@@ -1,7 +1,7 @@
 //! The same calls cut after each number of their acts, and their recoveries before a fence, with words evicted before both cuts.
 
 use super::bench::{acts, begin, booted, evict, find, recover};
-use super::rows::{Row, copy, merge, split};
+use super::rows::{Row, copy, merge, shrink, split};
 use super::table::{Verdict, verdict_of};
 use crate::tests::bench::{holds, same};
 use bz_world::World;
@@ -63,6 +63,12 @@ fn a_split_is_whole_or_nothing_after_each_act(rt: HostRuntime) -> Result<(), Fai
 #[test]
 fn a_merge_is_whole_or_nothing_after_each_act(rt: HostRuntime) -> Result<(), Fail> {
     each_act(&rt, rt.alloc(), &merge(&rt, rt.alloc())?);
+    Ok(())
+}
+
+#[test]
+fn fewer_levels_are_whole_or_nothing_after_each_act(rt: HostRuntime) -> Result<(), Fail> {
+    each_act(&rt, rt.alloc(), &shrink(&rt, rt.alloc())?);
     Ok(())
 }
 

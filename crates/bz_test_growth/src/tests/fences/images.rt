@@ -1,5 +1,6 @@
 //! Memories of eight node slots and sixteen descriptors, made word by word.
 
+use crate::tests::five_nodes::put_tree;
 use bz_layout::{NODE_WORDS, SUPERBLOCK_WORDS, SWAP_WORDS};
 use std::alloc::Global;
 use std::test::Fail;
@@ -116,5 +117,12 @@ pub(super) fn frozen_root(alloc: Global) -> Result<Vec<u64>, Fail> {
     ] {
         put_in(&mut words, 0, place, word);
     }
+    Ok(words)
+}
+
+/// A root over two inner nodes with one leaf each: `a` and `b`, and `m`.
+pub(super) fn three_levels(alloc: Global) -> Result<Vec<u64>, Fail> {
+    let mut words = memory(alloc)?;
+    put_tree(&mut words, BEFORE);
     Ok(words)
 }

@@ -1,7 +1,7 @@
-//! The three rows of the table.
+//! The four rows of the table.
 
 use super::bench::Found;
-use super::images::{frozen_root, full_root, two_leaves};
+use super::images::{frozen_root, full_root, three_levels, two_leaves};
 use crate::tests::bench::{key, payload};
 use bz_call::{Call, Reply};
 use bz_key::{Key, Payload};
@@ -59,7 +59,7 @@ pub(super) fn split(rt: &impl Abort, alloc: Global) -> Result<Row, Fail> {
     })
 }
 
-/// A root over two leaves, and a delete that merges them.
+/// A root over two leaves, and a delete that merges them and lowers the root.
 pub(super) fn merge(rt: &impl Abort, alloc: Global) -> Result<Row, Fail> {
     let (key, v) = (key(rt, b"k10"), payload(rt, b"v"));
     Ok(Row {
@@ -70,6 +70,20 @@ pub(super) fn merge(rt: &impl Abort, alloc: Global) -> Result<Row, Fail> {
         key,
         lost: found(42, Some(v)),
         kept: found(41, None),
+    })
+}
+
+/// A root over two inner nodes, and a delete that merges them and lowers the root.
+pub(super) fn shrink(rt: &impl Abort, alloc: Global) -> Result<Row, Fail> {
+    let (key, v) = (key(rt, b"a"), payload(rt, b"v"));
+    Ok(Row {
+        name: "delete a",
+        image: three_levels(alloc)?,
+        call: Call::Delete(key),
+        answer: Answer::Deleted(v),
+        key,
+        lost: found(3, Some(v)),
+        kept: found(2, None),
     })
 }
 

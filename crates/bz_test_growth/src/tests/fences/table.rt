@@ -2,7 +2,7 @@
 //! the pairs and the value are those of the table, and how often the recovery is cut makes no difference.
 
 use super::bench::{Found, booted, call, find, recover};
-use super::rows::{Row, answer_of, copy, merge, split};
+use super::rows::{Row, answer_of, copy, merge, shrink, split};
 use crate::tests::bench::{holds, same, same_at};
 use bz_call::Reply;
 use bz_world::World;
@@ -83,6 +83,12 @@ fn a_split_is_whole_or_nothing(rt: HostRuntime) -> Result<(), Fail> {
 #[test]
 fn a_merge_is_whole_or_nothing(rt: HostRuntime) -> Result<(), Fail> {
     each_cut(&rt, rt.alloc(), &merge(&rt, rt.alloc())?);
+    Ok(())
+}
+
+#[test]
+fn fewer_levels_are_whole_or_nothing(rt: HostRuntime) -> Result<(), Fail> {
+    each_cut(&rt, rt.alloc(), &shrink(&rt, rt.alloc())?);
     Ok(())
 }
 
