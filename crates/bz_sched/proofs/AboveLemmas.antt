@@ -22,7 +22,7 @@ use Rattle.bz_sched.specs.Queued.{calls_of, without_first, is_busy_by}
 use Rattle.bz_sched.specs.Recoveries.{off_by, turned_off, Powers, Recovers, RecoversTimes, RecoversWhole}
 use Rattle.bz_sched.specs.Scripts.{LeadsTo}
 use Rattle.bz_sched.specs.Sums.{is_alone, are_idle, are_plain}
-use Rattle.bz_sched.specs.declared.cut.CutPlan.{CutPlan}
+use Rattle.bz_script.specs.declared.cut_plan.CutPlan.{CutPlan}
 use Rattle.bz_sched.specs.Turns.{TakesTurns, EndsFrom}
 use Rattle.bz_sched.proofs.IdleRuns.{alone-ends-idle, idle_is}
 use Rattle.bz_sched.proofs.QueueLaws.{calls_of-append, calls_of-without, calls_of-taken}

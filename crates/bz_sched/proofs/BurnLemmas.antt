@@ -4,7 +4,7 @@ use Rattle.bz_mark.specs.declared.marks.Mark.{Mark}
 use Rattle.bz_sched.specs.Points.{fences_of}
 use Rattle.bz_sched.specs.Plans.{IsBefore}
 use Rattle.bz_sched.specs.Fuses.{lets, burnt, Burns}
-use Rattle.bz_sched.specs.declared.cut.CutPlan.{CutPlan}
+use Rattle.bz_script.specs.declared.cut_plan.CutPlan.{CutPlan}
 use Rattle.bz_sched.proofs.PowerLemmas.{one_fence}
 
 -- no fence was made

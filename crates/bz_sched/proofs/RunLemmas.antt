@@ -12,7 +12,7 @@ use Rattle.bz_sched.specs.Fuses.{with_fuse}
 use Rattle.bz_sched.specs.Plans.{RunsBy, RunsByInPart, IsDueInRun}
 use Rattle.bz_sched.specs.Queued.{Queued}
 use Rattle.bz_sched.specs.Runs.{point_of, point_with, IsAtLimit, IsStopped, Keeps, Leaves, HasRun}
-use Rattle.bz_sched.specs.declared.cut.CutPlan.{CutPlan}
+use Rattle.bz_script.specs.declared.cut_plan.CutPlan.{CutPlan}
 use Rattle.bz_sched.specs.declared.running.RunEnd.{RunEnd}
 use Rattle.bz_sched.specs.declared.running.RunEnd.TheVariants as end
 use Rattle.bz_sched.specs.declared.turn.Stop.TheVariants.{Due, Limit}

@@ -16,7 +16,7 @@ use Rattle.bz_sched.specs.Powering.{IsStarted, StartStopped, RecoversOn}
 use Rattle.bz_sched.specs.Points.{fences_of}
 use Rattle.bz_sched.specs.Recoveries.{RecoversTimes, RecoversWhole, IsDueInRecovery}
 use Rattle.bz_sched.specs.Runs.{point_with, IsAtLimit, Stays, HasPower}
-use Rattle.bz_sched.specs.declared.cut.CutPlan.{CutPlan}
+use Rattle.bz_script.specs.declared.cut_plan.CutPlan.{CutPlan}
 use Rattle.bz_sched.specs.declared.running.RunEnd.{RunEnd}
 use Rattle.bz_sched.specs.declared.running.RunEnd.TheVariants as end
 use Rattle.bz_sched.proofs.BurnLemmas.{due_fences}

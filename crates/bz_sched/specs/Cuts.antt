@@ -5,7 +5,7 @@ use Rattle.bz_mark.specs.declared.marks.Mark.{Mark}
 use Rattle.bz_mark.specs.declared.marks.Mark.TheVariants.{Evict, Cut}
 use Rattle.bz_script.specs.Draws.{next_state, draw_of}
 use Rattle.bz_sched.specs.Points.{Point, IsUpToOneEffect}
-use Rattle.bz_sched.specs.declared.cut.TheConstants.{EVICTED_FROM}
+use Rattle.bz_script.specs.declared.draw.TheConstants.{EVICTED_FROM}
 
 -- the cached and the durable word at an address differ after these marks, over a memory with this start
 abbrev pub differs_at : List ℕ → List Mark → ℕ → Bool

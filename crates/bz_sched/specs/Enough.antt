@@ -18,7 +18,7 @@ use Rattle.bz_mark.specs.declared.power.Power.{Power}
 use Rattle.bz_mark.specs.declared.power.Power.TheVariants as power
 use Rattle.bz_world.specs.WorldView.{WorldView, Supply, power_in, recovery_acts, recovery_most, before_run, begins_solitary, count_in, deadline, KeepsSupply}
 use Rattle.bz_sched.specs.Queued.{Queued}
-use Rattle.bz_sched.specs.declared.cut.CutPlan.{CutPlan}
+use Rattle.bz_script.specs.declared.cut_plan.CutPlan.{CutPlan}
 use Rattle.bz_sched.specs.declared.running.RunEnd.{RunEnd}
 use Rattle.bz_sched.specs.declared.running.RunEnd.TheVariants as end
 use Rattle.bz_sched.specs.declared.turn.Turned.{Turned}

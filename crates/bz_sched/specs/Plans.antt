@@ -10,7 +10,7 @@ use Rattle.bz_sched.specs.Points.{Point, fences_of}
 use Rattle.bz_sched.specs.Together.{RunsThreads, RunsThreadsInPart}
 use Rattle.bz_sched.specs.Turns.{EndsAlone, RunsList, RunsTurns}
 use Rattle.bz_sched.specs.TurnsInPart.{EndsAloneInPart, RunsListInPart, RunsTurnsInPart}
-use Rattle.bz_sched.specs.declared.cut.CutPlan.{CutPlan}
+use Rattle.bz_script.specs.declared.cut_plan.CutPlan.{CutPlan}
 use Rattle.bz_sched.specs.declared.turn.Stop.{Stop}
 use Rattle.bz_sched.specs.declared.turn.Stop.TheVariants.{Due, Limit}
 

@@ -10,7 +10,7 @@ use Rattle.bz_world.specs.declared.answers.LimitKind.TheVariants as which
 use Rattle.bz_sched.specs.Cuts.{CutsOff, CutsOffInPart}
 use Rattle.bz_sched.specs.Points.{Point, actor, fences_of}
 use Rattle.bz_sched.specs.Plans.{IsBefore}
-use Rattle.bz_sched.specs.declared.cut.CutPlan.{CutPlan}
+use Rattle.bz_script.specs.declared.cut_plan.CutPlan.{CutPlan}
 
 -- the power is cut where it is on, without evictions; the calls that wait stay
 abbrev pub off_by : Power → List Mark → List Mark

@@ -17,7 +17,7 @@ use Rattle.bz_sched.specs.Points.{Point}
 use Rattle.bz_sched.specs.Plans.{RunsWhole, RunsCutBefore, RunsInPart}
 use Rattle.bz_sched.specs.Queued.{Queued}
 use Rattle.bz_sched.specs.Recoveries.{Powers, PowersCut, PowersInPart}
-use Rattle.bz_sched.specs.declared.cut.CutPlan.{CutPlan}
+use Rattle.bz_script.specs.declared.cut_plan.CutPlan.{CutPlan}
 use Rattle.bz_sched.specs.declared.running.RunEnd.{RunEnd}
 use Rattle.bz_sched.specs.declared.running.RunEnd.TheVariants as end
 use Rattle.bz_sched.specs.declared.turn.Stop.{Stop}

@@ -15,7 +15,7 @@ use Rattle.bz_sched.specs.Plans.{RunsWhole, RunsCut, RunsInPart}
 use Rattle.bz_sched.specs.Points.{Point}
 use Rattle.bz_sched.specs.Recoveries.{Powers, PowersCut, PowersInPart}
 use Rattle.bz_sched.specs.Together.{MeetsTogether}
-use Rattle.bz_sched.specs.declared.cut.CutPlan.{CutPlan}
+use Rattle.bz_script.specs.declared.cut_plan.CutPlan.{CutPlan}
 
 -- the point at which a `w` line has put its call behind those that wait
 abbrev pub queued : ℕ × Call → Point → Point

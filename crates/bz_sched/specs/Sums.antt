@@ -12,7 +12,7 @@ use Rattle.bz_script.specs.declared.item.Plan.TheVariants.{Alone}
 use Rattle.bz_mark.specs.declared.power.Power.TheVariants as power
 use Rattle.bz_world.specs.WorldView.{WorldView, count_in, power_in, recovery_most}
 use Rattle.bz_sched.specs.Enough.{AreClosed, count_pages, count_wanting, free_slots}
-use Rattle.bz_sched.specs.declared.cut.CutPlan.{CutPlan}
+use Rattle.bz_script.specs.declared.cut_plan.CutPlan.{CutPlan}
 
 -- the plan goes one worker after the other
 abbrev pub is_alone : Plan → Bool

@@ -7,21 +7,8 @@ ghost use Rattle.bz_sched.specs.Cuts.{differs_at, state_behind};
 ghost use Rattle.bz_sched.specs.Cutting.{WordEvicted, HasNoPlace, WordPassed, PassStopped, WordsPassed, PassesStopped, AreEvicted, EvictionsStopped, IsCutOff};
 
 use crate::running::RunEnd;
-use bz_script::next_draw;
+use bz_script::{EVICTED_FROM, next_draw};
 use bz_world::{Applied, Event, LimitKind, World};
-
-/// A cut of the power in a run, or in a recovery.
-#[derive(Clone, Copy, PartialEq, Eq)]
-pub struct CutPlan {
-    /// The fence before which the power is cut, counted from 1.
-    pub flush: u32,
-
-    /// Where it is not 0, words that are not durable yet are evicted by the draws from it.
-    pub seed: u64,
-}
-
-/// A word is evicted where its draw is at least this: half of the draws.
-pub const EVICTED_FROM: u32 = 2_147_483_648;
 
 /// Has a word become durable by itself, and tells whether a place was left in the journal for that.
 pub(crate) fn evict_word(world: &mut World, a: u32) -> bool

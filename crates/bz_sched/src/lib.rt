@@ -14,8 +14,8 @@ mod queue;
 mod running;
 mod turn;
 
+pub use bz_script::{CutPlan, EVICTED_FROM};
 pub use bz_world::{BootError, LimitKind, OpenError, Power, World};
-pub use cut::{CutPlan, EVICTED_FROM};
 pub use open_calls::end_open_calls;
 pub use power_on::power;
 pub use queue::Queue;

@@ -9,11 +9,12 @@ ghost use Rattle.bz_sched.specs.Powering.{IsOff, IsOn, IsStarted, StartStopped, 
 ghost use Rattle.bz_sched.specs.Runs.{IsCutPlan, HasPower, marks_left};
 ghost use Rattle.bz_sched.specs.declared.turn.Turned.TheVariants.{Finished};
 
-use crate::cut::{CutPlan, cut_off};
+use crate::cut::cut_off;
 use crate::fuse::{burn, lets};
 use crate::running::RunEnd;
 use crate::turn::{Stop, Turned};
 use bz_mark::Power;
+use bz_script::CutPlan;
 use bz_world::{Applied, Event, LimitKind, World};
 
 // Cuts the power where it is on, and tells whether a place was left in the journal for that.

@@ -14,12 +14,12 @@ ghost use Rattle.bz_sched.specs.Runs.{HasAllWorkers, IsReady, EndsBy, IsOfTurns,
 ghost use Rattle.bz_sched.specs.declared.turn.Turned.TheVariants.{Finished};
 
 use crate::alone::run_alone;
-use crate::cut::{CutPlan, cut_off};
+use crate::cut::cut_off;
 use crate::draws::run_turns;
 use crate::list::run_list;
 use crate::queue::Queue;
 use crate::turn::{Stop, Turned};
-use bz_script::Plan;
+use bz_script::{CutPlan, Plan};
 use bz_world::{LimitKind, World};
 
 /// How a run, or power on, ended.

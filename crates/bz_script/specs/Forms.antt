@@ -4,7 +4,7 @@ use Rattle.bz_key.specs.Spelling.{key_of_word, payload_of_word}
 use Rattle.bz_call.specs.declared.calls.Call.{Call}
 use Rattle.bz_call.specs.declared.calls.Call.TheVariants.{Insert, Delete, Update, Upsert, Get, Page}
 use Rattle.bz_script.specs.Number.{number_of, within, worker_of}
-use Rattle.bz_script.specs.PowerForms.{cut_of, power_of}
+use Rattle.bz_script.specs.PowerForms.{cut_of, armed, power_of}
 use Rattle.bz_script.specs.RunForms.{run_of}
 use Rattle.bz_script.specs.Words.{word, is_word}
 use Rattle.bz_script.specs.declared.fault.ScriptRule.{ScriptRule}
@@ -88,6 +88,6 @@ line_of words =
     if is_word words 0 (codes "memory") then sized (memory_of words)
     else (if is_word words 0 (codes "w") then entered (call_of words)
     else (if is_word words 0 (codes "run") then entered (run_of words)
-    else (if is_word words 0 (codes "cut") then entered (cut_of words)
+    else (if is_word words 0 (codes "cut") then entered (armed (cut_of words))
     else (if is_word words 0 (codes "power") then entered (power_of words)
     else Err Unknown))))

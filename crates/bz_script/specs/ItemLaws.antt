@@ -12,12 +12,13 @@ use Rattle.bz_script.specs.declared.forms.Line.TheVariants.{Memory, Entry}
 use Rattle.bz_script.specs.declared.forms.Sizes.{Sizes}
 use Rattle.bz_script.specs.declared.fault.ScriptRule.{ScriptRule}
 use Rattle.bz_script.specs.declared.fault.ScriptRule.TheVariants.{Unknown, Words, Number, NoMemoryLine, Order}
+use Rattle.bz_script.specs.declared.cut_plan.CutPlan.{CutPlan}
 use Rattle.bz_script.specs.declared.order.Standing.{Standing}
 use Rattle.bz_script.specs.Number.{within, number_of, worker_of}
 use Rattle.bz_script.specs.Words.{word, is_word, words_in_line, lines_of}
 use Rattle.bz_script.specs.Forms.{sizes_by, memory_of, queued, put_by, put_of, keyed_by, keyed_of, call_of, sized, entered, line_of}
 use Rattle.bz_script.specs.Order.{at_first, may_stand, AreInOrder}
-use Rattle.bz_script.specs.PowerForms.{cut_by, cut_of, power_of}
+use Rattle.bz_script.specs.PowerForms.{cut_by, cut_of, armed, power_of}
 use Rattle.bz_script.specs.RangeLaws.{either_way, in_range}
 use Rattle.bz_script.specs.RunForms.{run_of}
 use Rattle.bz_script.specs.RunLaws.{IsPlan, run_runs}
@@ -92,14 +93,31 @@ call_item words item =
 run_item : (words : List (List ℕ)) (item : Item) → run_of words ≡ Ok item → IsItem item
 run_item words item is = let run = run_runs words item is in rw run.is run.sound
 
-cut_numbers : (flush seed : Option ℕ) (item : Item) → ((n : ℕ) → flush ≡ Some n → (1 ≤ n) × (n ≤ 33554432)) → cut_by flush seed ≡ Ok item → IsItem item
-cut_numbers None seed item h is = absurd cc
-cut_numbers (Some flush) None item h is = absurd cc
-cut_numbers (Some flush) (Some seed) item h is = let same : Arm flush seed ≡ item = cc in rw (← same) (h flush refl)
+-- a cut of a script
+abbrev pub IsCut : CutPlan → Type 0
+IsCut cut = (1 ≤ cut.flush) × (cut.flush ≤ 33554432)
 
-cut_item : (words : List (List ℕ)) (item : Item) → cut_of words ≡ Ok item → IsItem item
-cut_item words item =
-    either_way IsItem (length words == 3) _ (Err Words) item (cut_numbers (within 1 33554432 (number_of (word words 1))) (number_of (word words 2)) item (in_range 1 33554432 (number_of (word words 1)))) (no_item Words item)
+cut_numbers : (flush seed : Option ℕ) (cut : CutPlan) → ((n : ℕ) → flush ≡ Some n → (1 ≤ n) × (n ≤ 33554432)) → cut_by flush seed ≡ Ok cut → IsCut cut
+cut_numbers None seed cut h is = absurd cc
+cut_numbers (Some flush) None cut h is = absurd cc
+cut_numbers (Some flush) (Some seed) cut h is =
+    let same : ◌≡◌ {A = CutPlan} (record { flush = flush; seed = seed }) cut = cc in
+    rw (← same) (h flush refl)
+
+no_cut : (rule : ScriptRule) (cut : CutPlan) → ◌≡◌ {A = Result CutPlan ScriptRule} (Err rule) (Ok cut) → IsCut cut
+no_cut rule cut is = absurd cc
+
+-- what is read of a line that cuts the power is a cut of a script
+pub cuts_are : (words : List (List ℕ)) (cut : CutPlan) → cut_of words ≡ Ok cut → IsCut cut
+cuts_are words cut =
+    either_way IsCut (length words == 3) _ (Err Words) cut (cut_numbers (within 1 33554432 (number_of (word words 1))) (number_of (word words 2)) cut (in_range 1 33554432 (number_of (word words 1)))) (no_cut Words cut)
+
+armed_item : (found : Result CutPlan ScriptRule) (item : Item) → ((cut : CutPlan) → found ≡ Ok cut → IsCut cut) → armed found ≡ Ok item → IsItem item
+armed_item (Err rule) item h is = absurd cc
+armed_item (Ok cut) item h is = let same : Arm cut.flush cut.seed ≡ item = cc in rw (← same) (h cut refl)
+
+cut_item : (words : List (List ℕ)) (item : Item) → armed (cut_of words) ≡ Ok item → IsItem item
+cut_item words item = armed_item (cut_of words) item (cuts_are words)
 
 power_item : (words : List (List ℕ)) (item : Item) → power_of words ≡ Ok item → IsItem item
 power_item words item = either_way IsItem (length words == 1) (Ok Power) (Err Words) item (λ is. let same : Power ≡ item = cc in rw (← same) tt) (no_item Words item)
@@ -124,7 +142,7 @@ line_item words line =
     either_way IsLine (is_word words 0 (codes "memory")) (sized (memory_of words)) _ line (sized_line (memory_of words) line)
     (either_way IsLine (is_word words 0 (codes "w")) (entered (call_of words)) _ line (entered_line (call_of words) line (call_item words))
     (either_way IsLine (is_word words 0 (codes "run")) (entered (run_of words)) _ line (entered_line (run_of words) line (run_item words))
-    (either_way IsLine (is_word words 0 (codes "cut")) (entered (cut_of words)) _ line (entered_line (cut_of words) line (cut_item words))
+    (either_way IsLine (is_word words 0 (codes "cut")) (entered (armed (cut_of words))) _ line (entered_line (armed (cut_of words)) line (cut_item words))
     (either_way IsLine (is_word words 0 (codes "power")) (entered (power_of words)) (Err Unknown) line (entered_line (power_of words) line (power_item words)) (no_line Unknown line)))))
 
 -- an item that may stand where it does

@@ -1,5 +1,5 @@
 -- The forms of a line that runs calls, and the turn words of a list.
-use Rattle.std.specs.Prelude.{ℕ, ◌+◌, ◌==◌, nat_lt, if◌then◌else◌, List, [], ◌∷◌, length, take, drop, codes, Option, Some, None, Result, Ok, Err}
+use Rattle.std.specs.Prelude.{ℕ, ◌+◌, ◌==◌, nat_lt, if◌then◌else◌, Bool, List, [], ◌∷◌, length, take, drop, codes, Option, Some, None, Result, Ok, Err}
 use Rattle.std.specs.List.{position}
 use Rattle.bz_script.specs.Number.{number_of, within, worker_of}
 use Rattle.bz_script.specs.Words.{word, is_word}
@@ -55,13 +55,20 @@ abbrev pub drawn : Option ℕ → Result Item ScriptRule
 drawn None = Err Number
 drawn (Some seed) = Ok (Run (Turns seed))
 
--- `run alone`
-abbrev pub alone_of : List (List ℕ) → Result Item ScriptRule
-alone_of words = if length words == 2 then Ok (Run Alone) else Err Words
+-- `run alone`: no word follows
+abbrev pub is_alone : List (List ℕ) → Bool
+is_alone words = length words == 2
 
--- `run list T T T`, of at least one turn word
+abbrev pub alone_of : List (List ℕ) → Result Item ScriptRule
+alone_of words = if is_alone words then Ok (Run Alone) else Err Words
+
+-- the turns of `run list T T T`, of at least one turn word
+abbrev pub list_turns : List (List ℕ) → Result (List Turn) ScriptRule
+list_turns words = if nat_lt (length words) 3 then Err Words else turns_of (drop 2 words)
+
+-- `run list T T T`
 abbrev pub list_of : List (List ℕ) → Result Item ScriptRule
-list_of words = if nat_lt (length words) 3 then Err Words else listed (turns_of (drop 2 words))
+list_of words = listed (list_turns words)
 
 -- `run turns SEED`
 abbrev pub drawn_of : List (List ℕ) → Result Item ScriptRule

@@ -11,7 +11,7 @@ use Rattle.bz_script.specs.declared.fault.ScriptRule.{ScriptRule}
 use Rattle.bz_script.specs.declared.fault.ScriptRule.TheVariants.{Unknown, Words}
 use Rattle.bz_script.specs.Number.{number_of, worker_of}
 use Rattle.bz_script.specs.RangeLaws.{either_way, in_range}
-use Rattle.bz_script.specs.RunForms.{first_star, times_by, count_of, turn_at, turn_of, then_turns, turns_of, listed, drawn, alone_of, list_of, drawn_of, threads_of, run_of}
+use Rattle.bz_script.specs.RunForms.{first_star, times_by, count_of, turn_at, turn_of, then_turns, turns_of, listed, list_turns, drawn, alone_of, list_of, drawn_of, threads_of, run_of}
 use Rattle.bz_script.specs.Words.{word, is_word}
 
 -- a turn of a script
@@ -55,6 +55,13 @@ turns_are : (words : List (List ℕ)) (turns : List Turn) → turns_of words ≡
 turns_are [] turns is = let same : [] ≡ turns = cc in rw (← same) tt
 turns_are (text ∷ words) turns is = turns_then (turn_of text) (turns_of words) turns (turn_is_at text (first_star text)) (turns_are words) is
 
+no_turns : (rule : ScriptRule) (turns : List Turn) → ◌≡◌ {A = Result (List Turn) ScriptRule} (Err rule) (Ok turns) → AreTurns turns
+no_turns rule turns is = absurd cc
+
+-- the turns of a line that runs by a list are turns of a script
+pub list_turns_are : (words : List (List ℕ)) (turns : List Turn) → list_turns words ≡ Ok turns → AreTurns turns
+list_turns_are words turns = either_way AreTurns (nat_lt (length words) 3) (Err Words) (turns_of (drop 2 words)) turns (no_turns Words turns) (turns_are (drop 2 words) turns)
+
 -- an item that is a run of a script
 pub record IsRun (item : Item) : Type 0 where
   pub plan : Plan
@@ -82,7 +89,7 @@ run_runs words item =
     (either_way IsRun (is_word words 1 (codes "alone")) (alone_of words) _ item
     (either_way IsRun (length words == 2) (Ok (Run Alone)) (Err Words) item (some_run Alone item tt) (no_run Words item))
     (either_way IsRun (is_word words 1 (codes "list")) (list_of words) _ item
-    (either_way IsRun (nat_lt (length words) 3) (Err Words) (listed (turns_of (drop 2 words))) item (no_run Words item) (listed_run (turns_of (drop 2 words)) item (turns_are (drop 2 words))))
+    (listed_run (list_turns words) item (list_turns_are words))
     (either_way IsRun (is_word words 1 (codes "turns")) (drawn_of words) _ item
     (either_way IsRun (length words == 3) (drawn (number_of (word words 2))) (Err Words) item (drawn_run (number_of (word words 2)) item) (no_run Words item))
     (either_way IsRun (is_word words 1 (codes "threads")) (threads_of words) (Err Unknown) item

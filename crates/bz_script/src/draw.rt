@@ -7,6 +7,9 @@ const MULTIPLIER: u64 = 6_364_136_223_846_793_005;
 
 const INCREMENT: u64 = 1_442_695_040_888_963_407;
 
+/// In a cut of the power a word is evicted where its draw is at least this: half of the draws.
+pub const EVICTED_FROM: u32 = 2_147_483_648;
+
 /// Moves the generator on and draws. Its state at the start is the seed.
 pub fn next_draw(x: &mut u64) -> u32
     ensures state { x.new ≡ next_state x.old }

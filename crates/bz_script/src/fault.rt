@@ -59,7 +59,7 @@ impl fmt::Display for ScriptRule {
 
 /// Why a line was not read.
 #[derive(Clone, Copy)]
-pub(crate) enum LineFault {
+pub enum LineFault {
     /// The first rule that the line breaks.
     Rule(ScriptRule),
 

@@ -5,10 +5,11 @@ ghost use Rattle.bz_script.specs.Asks.{call_putting, call_asking};
 ghost use Rattle.bz_script.specs.Reads.{Reads};
 ghost use Rattle.bz_script.specs.Words.{texts_of};
 
+use crate::cut_plan::CutPlan;
 use crate::fault::{LineFault, ScriptRule};
 use crate::item::Item;
 use crate::number::{number_to, read_worker};
-use crate::power_forms::{read_cut, read_power};
+use crate::power_forms::{has_power_form, read_cut};
 use crate::run_forms::read_run;
 use crate::words::{is_word, word};
 use bz_call::Call;
@@ -158,12 +159,14 @@ pub(crate) fn read_line(alloc: Global, words: &[&[u8]]) -> Result<Line, LineFaul
         return Ok(Line::Entry(item));
     }
     if is_word(words, 0, b"cut") {
-        let item = read_cut(words)?;
-        return Ok(Line::Entry(item));
+        let CutPlan { flush, seed } = read_cut(words)?;
+        return Ok(Line::Entry(Item::Arm { flush, seed }));
     }
     if is_word(words, 0, b"power") {
-        let item = read_power(words)?;
-        return Ok(Line::Entry(item));
+        if !has_power_form(words) {
+            return Err(LineFault::Rule(ScriptRule::Words));
+        }
+        return Ok(Line::Entry(Item::Power));
     }
     Err(LineFault::Rule(ScriptRule::Unknown))
 }

@@ -62,7 +62,7 @@ pub fn read_number(word: &[u8]) -> Option<u64>
 }
 
 /// The number of a word, from 1 to the greatest one.
-pub(crate) fn number_to(text: &[u8], most: u64) -> Option<u64>
+pub fn number_to(text: &[u8], most: u64) -> Option<u64>
     ensures value { result ≡ within 1 most (number_of text.now) }
     ensures small { IfSome result (λ number. number ≤ most) }
 {
@@ -79,7 +79,7 @@ pub(crate) fn number_to(text: &[u8], most: u64) -> Option<u64>
 }
 
 /// The worker that a word names.
-pub(crate) fn read_worker(text: &[u8]) -> Option<u8>
+pub fn read_worker(text: &[u8]) -> Option<u8>
     ensures { result ≡ worker_of text.now }
 {
     let Some(number) = number_to(text, MOST_WORKERS) else {

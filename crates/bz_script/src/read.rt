@@ -86,8 +86,8 @@ fn read_items(alloc: Global, lines: &[&[u8]]) -> Result<ItemList, ScriptFault>
     Ok(items)
 }
 
-// The rule that the one part of bytes without a line feed breaks.
-fn unended_rule(line: &[u8]) -> ScriptRule
+/// The rule that the one part of bytes without a line feed breaks.
+pub fn unended_rule(line: &[u8]) -> ScriptRule
     ensures { result ≡ unended line.now }
 {
     if line.is_empty() {

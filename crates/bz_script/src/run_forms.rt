@@ -2,7 +2,7 @@
 ghost use Rattle.std.specs.Prelude.{◌≡◌, ◌==◌, Some};
 ghost use Rattle.bz_script.specs.Number.{worker_of};
 ghost use Rattle.bz_script.specs.Reads.{Reads};
-ghost use Rattle.bz_script.specs.RunForms.{first_star as star_of, times_by, count_of, turn_of, turns_of, alone_of, list_of, drawn_of, threads_of, run_of};
+ghost use Rattle.bz_script.specs.RunForms.{first_star as star_of, times_by, count_of, turn_of, turns_of, is_alone, alone_of, list_turns, list_of, drawn_of, threads_of, run_of};
 ghost use Rattle.bz_script.specs.Words.{texts_of};
 
 use crate::fault::{LineFault, ScriptRule};
@@ -66,24 +66,38 @@ fn read_turns(alloc: Global, words: &[&[u8]]) -> Result<TurnList, LineFault>
     Ok(TurnList::of(turns))
 }
 
+/// Whether a line that begins with `run alone` has as many words as that form.
+pub fn has_alone_form(words: &[&[u8]]) -> bool
+    ensures { result ≡ is_alone (texts_of words.now) }
+{
+    words.len() == 2
+}
+
 // `run alone`.
 fn read_alone(words: &[&[u8]]) -> Result<Item, ScriptRule>
     ensures { result ≡ alone_of (texts_of words.now) }
 {
-    if words.len() != 2 {
+    if !has_alone_form(words) {
         return Err(ScriptRule::Words);
     }
     Ok(Item::Run(Plan::Alone))
 }
 
-// `run list T T T`.
-fn read_list(alloc: Global, words: &[&[u8]]) -> Result<Item, LineFault>
-    ensures { Reads (list_of (texts_of words.now)) result }
+/// The turns of `run list T T T`.
+pub fn read_list(alloc: Global, words: &[&[u8]]) -> Result<TurnList, LineFault>
+    ensures { Reads (list_turns (texts_of words.now)) result }
 {
     if words.len() < 3 {
         return Err(LineFault::Rule(ScriptRule::Words));
     }
-    let turns = read_turns(alloc, &words[2..])?;
+    read_turns(alloc, &words[2..])
+}
+
+// `run list T T T`.
+fn read_listed(alloc: Global, words: &[&[u8]]) -> Result<Item, LineFault>
+    ensures { Reads (list_of (texts_of words.now)) result }
+{
+    let turns = read_list(alloc, words)?;
     Ok(Item::Run(Plan::List(turns)))
 }
 
@@ -121,7 +135,7 @@ pub(crate) fn read_run(alloc: Global, words: &[&[u8]]) -> Result<Item, LineFault
         return Ok(read_alone(words)?);
     }
     if is_word(words, 1, b"list") {
-        return read_list(alloc, words);
+        return read_listed(alloc, words);
     }
     if is_word(words, 1, b"turns") {
         return Ok(read_drawn(words)?);

@@ -6,18 +6,14 @@ ghost use Rattle.bz_script.specs.Words.{word as word_of, is_word as word_is, tex
 use std::alloc::{AllocError, Global};
 
 /// The parts of the bytes between separators: one more than there are separators.
-pub(crate) fn parts<'a>(
-    alloc: Global,
-    bytes: &'a [u8],
-    separator: u8,
-) -> Result<Vec<&'a [u8]>, AllocError>
+pub fn parts<'a>(alloc: Global, bytes: &'a [u8], separator: u8) -> Result<Vec<&'a [u8]>, AllocError>
     ensures { IfOk result (λ parts. texts_of parts.items ≡ slice_split (λ b. b == separator) bytes.now) }
 {
     bytes.split(|b| *b == separator).collect(alloc)
 }
 
 /// The word at a place, or no bytes where there is none.
-pub(crate) fn word<'a>(words: &[&'a [u8]], place: usize) -> &'a [u8]
+pub fn word<'a>(words: &[&'a [u8]], place: usize) -> &'a [u8]
     ensures { result.now ≡ word_of (texts_of words.now) place }
 {
     if place < words.len() {
@@ -28,7 +24,7 @@ pub(crate) fn word<'a>(words: &[&'a [u8]], place: usize) -> &'a [u8]
 }
 
 /// Whether the word at a place is this one.
-pub(crate) fn is_word(words: &[&[u8]], place: usize, text: &[u8]) -> bool
+pub fn is_word(words: &[&[u8]], place: usize, text: &[u8]) -> bool
     ensures { result ≡ word_is (texts_of words.now) place text.now }
 {
     word(words, place) == text

@@ -14,5 +14,6 @@ mod summing;
 
 pub use counts::Counts;
 pub use ended::EndedCall;
+pub use lines::{put, put_fate, put_name, put_number};
 pub use report::{TextError, write_report};
 pub use summary::write_summary;

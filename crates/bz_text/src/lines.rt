@@ -13,14 +13,16 @@ use bz_mark::Journal;
 use bz_oom::Memory;
 use std::alloc::Global;
 
-pub(crate) fn put(out: &mut Vec<u8>, bytes: &[u8]) -> Result<(), Memory>
+/// Puts bytes at the end of a text.
+pub fn put(out: &mut Vec<u8>, bytes: &[u8]) -> Result<(), Memory>
     ensures { OnOk result (out.new.items ≡ out.old.items ++ bytes.now) }
 {
     out.extend_from_slice(bytes)?;
     Ok(())
 }
 
-pub(crate) fn put_number(alloc: Global, out: &mut Vec<u8>, number: u64) -> Result<(), Memory>
+/// Puts a number, in decimal.
+pub fn put_number(alloc: Global, out: &mut Vec<u8>, number: u64) -> Result<(), Memory>
     ensures { OnOk result (out.new.items ≡ out.old.items ++ decimal number) }
 {
     let text = number.to_string(alloc)?;
@@ -161,7 +163,7 @@ fn put_reply(out: &mut Vec<u8>, journal: &Journal, reply: Reply) -> Result<(), M
 }
 
 /// Puts the name of a call: its worker and its number.
-fn put_name(alloc: Global, out: &mut Vec<u8>, worker: u8, number: u32) -> Result<(), Memory>
+pub fn put_name(alloc: Global, out: &mut Vec<u8>, worker: u8, number: u32) -> Result<(), Memory>
     ensures { OnOk result (out.new.items ≡ out.old.items ++ name_of worker number) }
 {
     put(out, b"w")?;
@@ -200,7 +202,8 @@ pub(crate) fn put_line(
     put(out, b"\n")
 }
 
-fn put_fate(out: &mut Vec<u8>, effective: bool) -> Result<(), Memory>
+/// Puts what became of a call that was open when the power was cut.
+pub fn put_fate(out: &mut Vec<u8>, effective: bool) -> Result<(), Memory>
     ensures { OnOk result (out.new.items ≡ out.old.items ++ fate_text effective) }
 {
     if effective {

@@ -17,7 +17,7 @@ use Rattle.bz_sched.specs.Points.{Point}
 use Rattle.bz_sched.specs.Queued.{Queued}
 use Rattle.bz_sched.specs.Runs.{point_of, Stays, IsCutPlan}
 use Rattle.bz_sched.specs.Scripts.{LeadsTo, LeadsToInPart, LeadsToWant}
-use Rattle.bz_sched.specs.declared.cut.CutPlan.{CutPlan}
+use Rattle.bz_script.specs.declared.cut_plan.CutPlan.{CutPlan}
 use Rattle.bz_sched.specs.FromWorld.WorldView.{WorldView, power_in}
 use Rattle.bz_sched.specs.FromWorld.LimitKind.{LimitKind}
 use Rattle.bz_top.specs.Items.{IsReadyFor, Leads, LeadsInPart, LeadsToWantIn, LeavesPower, IsDoneItem, IsStoppedItem, IsWantingItem, IsLedFrom, IsLedFromInPart, IsLedFromToWant}
@@ -64,7 +64,7 @@ not_used : (used armed takes : Bool) → (not used && not (armed && takes)) ≡ 
 not_used true armed takes h = absurd (cc h)
 not_used false armed takes h = refl
 
-not_armed : (used : Bool) (armed : Option CutPlan) (takes : Bool) → (not used && not (is_some armed && takes)) ≡ true → takes ≡ true → armed ≡ None
+not_armed : (used : Bool) (armed : Option CutPlan) (takes : Bool) → (not used && not (is_some armed && not (not takes))) ≡ true → takes ≡ true → armed ≡ None
 not_armed used None takes h is = refl
 not_armed true (Some cut) takes h is = absurd (cc h)
 not_armed false (Some cut) true h is = absurd (cc h)
@@ -73,7 +73,7 @@ not_armed false (Some cut) false h is = absurd (cc is)
 ready_by : (world : WorldView) (armed : Option CutPlan) (used : Bool) (item : Item) → IsItem item → may_stand (record { armed = is_some armed; used = used }) item ≡ true → (used ≡ false → power_in world ≡ power.On) → IsReadyFor armed world item
 ready_by world armed used (Queue w call) is may powered = is
 ready_by world armed used (Arm flush seed) is may powered = is
-ready_by world armed used (Run plan) is may powered = (is, powered (not_used used (is_some armed) (takes_no_cut plan) may), not_armed used armed (takes_no_cut plan) may)
+ready_by world armed used (Run plan) is may powered = (is, powered (not_used used (is_some armed) (not (not (takes_no_cut plan))) may), not_armed used armed (takes_no_cut plan) may)
 ready_by world armed used Power is may powered = tt
 
 pub staged_ready : (items : List Item) (i : ℕ) (item : Item) (armed : Option CutPlan) (first : Point) (old world : WorldView) (queue : Queued) → Staged items i armed first old world queue → AreItems items → i < length items → item ≡ get_or items i item → IsReadyFor armed world item

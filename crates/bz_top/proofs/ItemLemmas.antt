@@ -12,7 +12,7 @@ use Rattle.bz_sched.specs.Queued.{Queued}
 use Rattle.bz_sched.specs.Recoveries.{Powers, PowersCut}
 use Rattle.bz_sched.specs.Runs.{point_of, point_with, IsAtLimit, Stays, IsOfTurns, IsCutPlan, HasRun, HasPower}
 use Rattle.bz_sched.specs.Scripts.{MeetsBy}
-use Rattle.bz_sched.specs.declared.cut.CutPlan.{CutPlan}
+use Rattle.bz_script.specs.declared.cut_plan.CutPlan.{CutPlan}
 use Rattle.bz_sched.specs.declared.running.RunEnd.{RunEnd}
 use Rattle.bz_sched.specs.declared.running.RunEnd.TheVariants.{Finished, Cut, Limit}
 use Rattle.bz_layout.specs.Addresses.{words_of}

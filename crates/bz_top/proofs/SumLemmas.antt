@@ -20,7 +20,7 @@ use Rattle.bz_sched.specs.FromWorld.WorldView.{WorldView, count_in, power_in}
 use Rattle.bz_sched.specs.Queued.{Queued}
 use Rattle.bz_sched.specs.Runs.{Stays, HasPower}
 use Rattle.bz_sched.specs.Sums.{is_alone, are_idle, are_plain, calls_in, pages_in, marks_in, sum_of, SufficesFor, HasStockFor, IsStockedAtFirst, Supplies, SuppliesIf, IsUnarmed, Affords, WantsNothingIf}
-use Rattle.bz_sched.specs.declared.cut.CutPlan.{CutPlan}
+use Rattle.bz_script.specs.declared.cut_plan.CutPlan.{CutPlan}
 use Rattle.bz_sched.specs.declared.running.RunEnd.{RunEnd}
 use Rattle.bz_sched.specs.declared.running.RunEnd.TheVariants.{Finished, Cut}
 use Rattle.bz_top.specs.Endings.{items_from}

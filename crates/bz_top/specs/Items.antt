@@ -19,7 +19,7 @@ use Rattle.bz_sched.specs.Queued.{Queued}
 use Rattle.bz_sched.specs.Recoveries.{Powers, PowersCut, PowersInPart}
 use Rattle.bz_sched.specs.Runs.{point_of, point_with, Stays, IsCutPlan}
 use Rattle.bz_sched.specs.Scripts.{queued, LeadsTo, MeetsBy, LeadsToInPart, WantsMemory, LeadsToWant}
-use Rattle.bz_sched.specs.declared.cut.CutPlan.{CutPlan}
+use Rattle.bz_script.specs.declared.cut_plan.CutPlan.{CutPlan}
 use Rattle.bz_sched.specs.declared.running.RunEnd.{RunEnd}
 use Rattle.bz_sched.specs.declared.running.RunEnd.TheVariants.{Finished, Cut, Limit}
 use Rattle.bz_threads.specs.declared.running.ThreadsEnd.{ThreadsEnd}
