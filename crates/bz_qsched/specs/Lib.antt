@@ -1,0 +1,15 @@
+pub mod Queued
+pub mod QueueKept
+pub mod Points
+pub mod Fuses
+pub mod Turns
+pub mod TurnsInPart
+pub mod AtLimit
+pub mod Cuts
+pub mod Plans
+pub mod Recoveries
+pub mod Scripts
+pub mod Runs
+pub mod Cutting
+pub mod Powering
+pub mod Items
