@@ -1,0 +1,6 @@
+mod MomentLaws
+mod CallLaws
+mod ReadLemmas
+mod OpenLemmas
+mod PartLemmas
+mod CountLemmas
