@@ -4,6 +4,7 @@ mod bench;
 mod failing;
 mod images;
 mod power;
+mod queues;
 mod runs;
 mod threads;
 mod traces;

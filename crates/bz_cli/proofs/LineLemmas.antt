@@ -5,7 +5,7 @@ use Rattle.std.proofs.lemmas.Grind.{common_steps}
 use Rattle.std.proofs.lemmas.List.{append-nil}
 use Rattle.bz_script.specs.Number.{number_of, within, is_number}
 use Rattle.bz_cli.specs.declared.command.Command.{Command}
-use Rattle.bz_cli.specs.declared.command.Command.TheVariants.{Run, Dump, Load, Trace, Work}
+use Rattle.bz_cli.specs.declared.command.Command.TheVariants.{Run, Dump, Load, Trace, Queue, Work}
 use Rattle.bz_cli.specs.declared.command.CommandLine.{CommandLine}
 use Rattle.bz_cli.specs.CommandLine.{Text, Value, Writes, WriteAll, SaysMarks, LeavesMarks, IsCommandLine, name_of, values_of}
 use Rattle.bz_cli.specs.Inside.Arrangement.{command_by, limit_of, values_found, Say, SayOnly, IsArranged}
@@ -90,6 +90,16 @@ trace_bare = record {
   unsaid = read_unsaid.trace;
   joined = λ number. (read_joined number).trace;
   apart = λ number is. (read_apart number is).trace;
+}
+
+queue_bare : IsBare Queue
+queue_bare = record {
+  none = refl;
+  found = λ text. refl;
+  values = λ seen. refl;
+  unsaid = read_unsaid.queue;
+  joined = λ number. (read_joined number).queue;
+  apart = λ number is. (read_apart number is).queue;
 }
 
 module _ (command : Command) (bare : IsBare command) (words option : List Text) (marks : ℕ) (are : words ≡ name_of command ∷ option) where
@@ -240,6 +250,7 @@ known words Run marks is = of_bare words Run run_bare marks is
 known words Dump marks is = of_bare words Dump dump_bare marks is
 known words Load marks is = of_bare words Load load_bare marks is
 known words Trace marks is = of_bare words Trace trace_bare marks is
+known words Queue marks is = of_bare words Queue queue_bare marks is
 known words (Work seed calls workers) marks is =
     known_work seed calls workers marks words is.before is.option is.after is.are (three (is.before ++ is.after) _ _ _ is.values) is.limit
 

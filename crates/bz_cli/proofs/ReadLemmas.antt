@@ -17,16 +17,17 @@ pub record ReadsBehind (words : List Text) (marks : Option Text) : Type 0 where
   pub dump : IsReadAs (codes "dump" ∷ words) (seen_bare (codes "dump") marks)
   pub load : IsReadAs (codes "load" ∷ words) (seen_bare (codes "load") marks)
   pub trace : IsReadAs (codes "trace" ∷ words) (seen_bare (codes "trace") marks)
+  pub queue : IsReadAs (codes "queue" ∷ words) (seen_bare (codes "queue") marks)
 
 -- the name alone
 pub read_unsaid : ReadsBehind [] None
 unfolding clap_on_literals
-read_unsaid = record { run = record { taken = refl; found = refl }; dump = record { taken = refl; found = refl }; load = record { taken = refl; found = refl }; trace = record { taken = refl; found = refl } }
+read_unsaid = record { run = record { taken = refl; found = refl }; dump = record { taken = refl; found = refl }; load = record { taken = refl; found = refl }; trace = record { taken = refl; found = refl }; queue = record { taken = refl; found = refl } }
 
 -- the limit in one word
 pub read_joined : (number : Text) → ReadsBehind ((codes "--marks=" ++ number) ∷ []) (Some number)
 unfolding clap_on_literals
-read_joined number = record { run = record { taken = refl; found = refl }; dump = record { taken = refl; found = refl }; load = record { taken = refl; found = refl }; trace = record { taken = refl; found = refl } }
+read_joined number = record { run = record { taken = refl; found = refl }; dump = record { taken = refl; found = refl }; load = record { taken = refl; found = refl }; trace = record { taken = refl; found = refl }; queue = record { taken = refl; found = refl } }
 
 -- the limit in a word of its own
 ReadsApart : Text → Type 0
@@ -35,43 +36,43 @@ ReadsApart number = ReadsBehind (codes "--marks" ∷ number ∷ []) (Some number
 -- `clap` looks whether such a word begins with a hyphen, and so at its first byte
 apart_0 : (ds : Text) → ReadsApart (48 ∷ ds)
 unfolding ReadsApart clap_on_literals
-apart_0 ds = record { run = record { taken = refl; found = refl }; dump = record { taken = refl; found = refl }; load = record { taken = refl; found = refl }; trace = record { taken = refl; found = refl } }
+apart_0 ds = record { run = record { taken = refl; found = refl }; dump = record { taken = refl; found = refl }; load = record { taken = refl; found = refl }; trace = record { taken = refl; found = refl }; queue = record { taken = refl; found = refl } }
 
 apart_1 : (ds : Text) → ReadsApart (49 ∷ ds)
 unfolding ReadsApart clap_on_literals
-apart_1 ds = record { run = record { taken = refl; found = refl }; dump = record { taken = refl; found = refl }; load = record { taken = refl; found = refl }; trace = record { taken = refl; found = refl } }
+apart_1 ds = record { run = record { taken = refl; found = refl }; dump = record { taken = refl; found = refl }; load = record { taken = refl; found = refl }; trace = record { taken = refl; found = refl }; queue = record { taken = refl; found = refl } }
 
 apart_2 : (ds : Text) → ReadsApart (50 ∷ ds)
 unfolding ReadsApart clap_on_literals
-apart_2 ds = record { run = record { taken = refl; found = refl }; dump = record { taken = refl; found = refl }; load = record { taken = refl; found = refl }; trace = record { taken = refl; found = refl } }
+apart_2 ds = record { run = record { taken = refl; found = refl }; dump = record { taken = refl; found = refl }; load = record { taken = refl; found = refl }; trace = record { taken = refl; found = refl }; queue = record { taken = refl; found = refl } }
 
 apart_3 : (ds : Text) → ReadsApart (51 ∷ ds)
 unfolding ReadsApart clap_on_literals
-apart_3 ds = record { run = record { taken = refl; found = refl }; dump = record { taken = refl; found = refl }; load = record { taken = refl; found = refl }; trace = record { taken = refl; found = refl } }
+apart_3 ds = record { run = record { taken = refl; found = refl }; dump = record { taken = refl; found = refl }; load = record { taken = refl; found = refl }; trace = record { taken = refl; found = refl }; queue = record { taken = refl; found = refl } }
 
 apart_4 : (ds : Text) → ReadsApart (52 ∷ ds)
 unfolding ReadsApart clap_on_literals
-apart_4 ds = record { run = record { taken = refl; found = refl }; dump = record { taken = refl; found = refl }; load = record { taken = refl; found = refl }; trace = record { taken = refl; found = refl } }
+apart_4 ds = record { run = record { taken = refl; found = refl }; dump = record { taken = refl; found = refl }; load = record { taken = refl; found = refl }; trace = record { taken = refl; found = refl }; queue = record { taken = refl; found = refl } }
 
 apart_5 : (ds : Text) → ReadsApart (53 ∷ ds)
 unfolding ReadsApart clap_on_literals
-apart_5 ds = record { run = record { taken = refl; found = refl }; dump = record { taken = refl; found = refl }; load = record { taken = refl; found = refl }; trace = record { taken = refl; found = refl } }
+apart_5 ds = record { run = record { taken = refl; found = refl }; dump = record { taken = refl; found = refl }; load = record { taken = refl; found = refl }; trace = record { taken = refl; found = refl }; queue = record { taken = refl; found = refl } }
 
 apart_6 : (ds : Text) → ReadsApart (54 ∷ ds)
 unfolding ReadsApart clap_on_literals
-apart_6 ds = record { run = record { taken = refl; found = refl }; dump = record { taken = refl; found = refl }; load = record { taken = refl; found = refl }; trace = record { taken = refl; found = refl } }
+apart_6 ds = record { run = record { taken = refl; found = refl }; dump = record { taken = refl; found = refl }; load = record { taken = refl; found = refl }; trace = record { taken = refl; found = refl }; queue = record { taken = refl; found = refl } }
 
 apart_7 : (ds : Text) → ReadsApart (55 ∷ ds)
 unfolding ReadsApart clap_on_literals
-apart_7 ds = record { run = record { taken = refl; found = refl }; dump = record { taken = refl; found = refl }; load = record { taken = refl; found = refl }; trace = record { taken = refl; found = refl } }
+apart_7 ds = record { run = record { taken = refl; found = refl }; dump = record { taken = refl; found = refl }; load = record { taken = refl; found = refl }; trace = record { taken = refl; found = refl }; queue = record { taken = refl; found = refl } }
 
 apart_8 : (ds : Text) → ReadsApart (56 ∷ ds)
 unfolding ReadsApart clap_on_literals
-apart_8 ds = record { run = record { taken = refl; found = refl }; dump = record { taken = refl; found = refl }; load = record { taken = refl; found = refl }; trace = record { taken = refl; found = refl } }
+apart_8 ds = record { run = record { taken = refl; found = refl }; dump = record { taken = refl; found = refl }; load = record { taken = refl; found = refl }; trace = record { taken = refl; found = refl }; queue = record { taken = refl; found = refl } }
 
 apart_9 : (ds : Text) → ReadsApart (57 ∷ ds)
 unfolding ReadsApart clap_on_literals
-apart_9 ds = record { run = record { taken = refl; found = refl }; dump = record { taken = refl; found = refl }; load = record { taken = refl; found = refl }; trace = record { taken = refl; found = refl } }
+apart_9 ds = record { run = record { taken = refl; found = refl }; dump = record { taken = refl; found = refl }; load = record { taken = refl; found = refl }; trace = record { taken = refl; found = refl }; queue = record { taken = refl; found = refl } }
 
 -- a number is the least one, or greater
 this_or_more : (low d : ℕ) → low ≤ d → (d ≡ low) ⊎ (low + 1 ≤ d)

@@ -6,7 +6,7 @@ use Rattle.std.proofs.lemmas.Slice.Eq.{bytes_eq-Decides}
 use Rattle.clap.specs.Simple.{subcommand_of}
 use Rattle.bz_script.specs.Number.{number_of, within}
 use Rattle.bz_cli.specs.declared.command.Command.{Command}
-use Rattle.bz_cli.specs.declared.command.Command.TheVariants.{Run, Dump, Load, Trace}
+use Rattle.bz_cli.specs.declared.command.Command.TheVariants.{Run, Dump, Load, Trace, Queue}
 use Rattle.bz_cli.specs.declared.command.CommandLine.{CommandLine}
 use Rattle.bz_cli.specs.CommandLine.{Text, WriteAll, SaysMarks, LeavesMarks, IsCommandLine, name_of, values_of}
 use Rattle.bz_cli.specs.Inside.Arrangement.{number_in, workload_by, command_by, limit_of, values_found, SayOnly, IsArranged}
@@ -72,16 +72,18 @@ named_work name marks (Some a) (Some b) (Some c) command e is = by (within 0 184
         (record { name = e; values = (f, (g, (h, tt))) })
 
 named_by : (seen : Seen) (command : Command) → command_by seen ≡ Some command → IsNamed seen command
-named_by seen command is = by (bytes_eq seen.name (codes "run")) (bytes_eq seen.name (codes "dump")) (bytes_eq seen.name (codes "load")) (bytes_eq seen.name (codes "trace")) (bytes_eq seen.name (codes "work")) refl refl refl refl refl is
+named_by seen command is =
+    by (bytes_eq seen.name (codes "run")) (bytes_eq seen.name (codes "dump")) (bytes_eq seen.name (codes "load")) (bytes_eq seen.name (codes "trace")) (bytes_eq seen.name (codes "queue")) (bytes_eq seen.name (codes "work")) refl refl refl refl refl refl is
   where
-    by : (r d l t w : Bool) → bytes_eq seen.name (codes "run") ≡ r → bytes_eq seen.name (codes "dump") ≡ d → bytes_eq seen.name (codes "load") ≡ l → bytes_eq seen.name (codes "trace") ≡ t → bytes_eq seen.name (codes "work") ≡ w
-        → (if r then Some Run else if d then Some Dump else if l then Some Load else if t then Some Trace else if w then workload_by (number_in 0 18446744073709551615 seen.seed) (number_in 1 20000 seen.calls) (number_in 1 64 seen.workers) else None) ≡ Some command → IsNamed seen command
-    by true d l t w is_run is_dump is_load is_trace is_work is = subst (λ (c : Command). IsNamed seen c) (some_injective _ _ is) (record { name = (bytes_eq-Decides seen.name (codes "run")).0 is_run; values = tt })
-    by false true l t w is_run is_dump is_load is_trace is_work is = subst (λ (c : Command). IsNamed seen c) (some_injective _ _ is) (record { name = (bytes_eq-Decides seen.name (codes "dump")).0 is_dump; values = tt })
-    by false false true t w is_run is_dump is_load is_trace is_work is = subst (λ (c : Command). IsNamed seen c) (some_injective _ _ is) (record { name = (bytes_eq-Decides seen.name (codes "load")).0 is_load; values = tt })
-    by false false false true w is_run is_dump is_load is_trace is_work is = subst (λ (c : Command). IsNamed seen c) (some_injective _ _ is) (record { name = (bytes_eq-Decides seen.name (codes "trace")).0 is_trace; values = tt })
-    by false false false false true is_run is_dump is_load is_trace is_work is = named_work seen.name seen.marks seen.seed seen.calls seen.workers command ((bytes_eq-Decides seen.name (codes "work")).0 is_work) is
-    by false false false false false is_run is_dump is_load is_trace is_work is = absurd cc
+    by : (r d l t q w : Bool) → bytes_eq seen.name (codes "run") ≡ r → bytes_eq seen.name (codes "dump") ≡ d → bytes_eq seen.name (codes "load") ≡ l → bytes_eq seen.name (codes "trace") ≡ t → bytes_eq seen.name (codes "queue") ≡ q → bytes_eq seen.name (codes "work") ≡ w
+        → (if r then Some Run else if d then Some Dump else if l then Some Load else if t then Some Trace else if q then Some Queue else if w then workload_by (number_in 0 18446744073709551615 seen.seed) (number_in 1 20000 seen.calls) (number_in 1 64 seen.workers) else None) ≡ Some command → IsNamed seen command
+    by true d l t q w is_run is_dump is_load is_trace is_queue is_work is = subst (λ (c : Command). IsNamed seen c) (some_injective _ _ is) (record { name = (bytes_eq-Decides seen.name (codes "run")).0 is_run; values = tt })
+    by false true l t q w is_run is_dump is_load is_trace is_queue is_work is = subst (λ (c : Command). IsNamed seen c) (some_injective _ _ is) (record { name = (bytes_eq-Decides seen.name (codes "dump")).0 is_dump; values = tt })
+    by false false true t q w is_run is_dump is_load is_trace is_queue is_work is = subst (λ (c : Command). IsNamed seen c) (some_injective _ _ is) (record { name = (bytes_eq-Decides seen.name (codes "load")).0 is_load; values = tt })
+    by false false false true q w is_run is_dump is_load is_trace is_queue is_work is = subst (λ (c : Command). IsNamed seen c) (some_injective _ _ is) (record { name = (bytes_eq-Decides seen.name (codes "trace")).0 is_trace; values = tt })
+    by false false false false true w is_run is_dump is_load is_trace is_queue is_work is = subst (λ (c : Command). IsNamed seen c) (some_injective _ _ is) (record { name = (bytes_eq-Decides seen.name (codes "queue")).0 is_queue; values = tt })
+    by false false false false false true is_run is_dump is_load is_trace is_queue is_work is = named_work seen.name seen.marks seen.seed seen.calls seen.workers command ((bytes_eq-Decides seen.name (codes "work")).0 is_work) is
+    by false false false false false false is_run is_dump is_load is_trace is_queue is_work is = absurd cc
 
 -- the words are the command that was found in them
 pub line_found : (words : List Text) (seen : Seen) (command : Command) (number : ℕ) → IsArranged words command seen → command_by seen ≡ Some command → limit_of command seen.marks ≡ Some number

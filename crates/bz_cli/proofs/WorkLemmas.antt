@@ -13,7 +13,7 @@ use Rattle.bz_cli.proofs.WalkLemmas.{idle_at, waits_at, value_walked, value_pass
 
 -- the subcommand `work`, as `clap` completes it
 abbrev work : Shape
-work = unwrap_or (slice_get (built bz_app).subs 4) (new_shape [])
+work = unwrap_or (slice_get (built bz_app).subs 5) (new_shape [])
 
 abbrev marks : Rule
 marks = unwrap_or (slice_get work.rules 3) (record { id = []; long = None; aliases = []; short = None; short_aliases = []; index = None; action = None; range = None; value_names = 0; defaults = []; missing = []; trailing_var_arg = false; parser = None; ignore_case = false; required = false; is_simple = true; is_free = true })

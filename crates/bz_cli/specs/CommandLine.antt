@@ -4,7 +4,7 @@ use Rattle.bz_gen.specs.declared.workload.TheConstants.{MOST_CALLS}
 use Rattle.bz_layout.specs.declared.limits.TheConstants.{MIN_MARKS, MAX_MARKS, MIN_WORKERS, MAX_WORKERS}
 use Rattle.bz_script.specs.Number.{number_of, within}
 use Rattle.bz_cli.specs.declared.command.Command.{Command}
-use Rattle.bz_cli.specs.declared.command.Command.TheVariants.{Run, Dump, Load, Trace, Work}
+use Rattle.bz_cli.specs.declared.command.Command.TheVariants.{Run, Dump, Load, Trace, Queue, Work}
 use Rattle.bz_cli.specs.declared.command.CommandLine.{CommandLine}
 use Rattle.bz_cli.specs.declared.command.TheConstants.{RUN_MARKS, WORK_MARKS}
 
@@ -24,6 +24,7 @@ name_of Run = codes "run"
 name_of Dump = codes "dump"
 name_of Load = codes "load"
 name_of Trace = codes "trace"
+name_of Queue = codes "queue"
 name_of (Work seed calls workers) = codes "work"
 
 abbrev pub values_of : Command → List Value
@@ -31,6 +32,7 @@ values_of Run = []
 values_of Dump = []
 values_of Load = []
 values_of Trace = []
+values_of Queue = []
 values_of (Work seed calls workers) =
     record { number = seed; low = 0; high = 2 ^ 64 - 1 }
     ∷ record { number = calls; low = 1; high = MOST_CALLS }
@@ -42,6 +44,7 @@ usual_marks Run = RUN_MARKS
 usual_marks Dump = RUN_MARKS
 usual_marks Load = RUN_MARKS
 usual_marks Trace = RUN_MARKS
+usual_marks Queue = RUN_MARKS
 usual_marks (Work seed calls workers) = WORK_MARKS
 
 -- the word is this number as scripts write numbers, and the number lies in its range
@@ -86,4 +89,5 @@ InRange Run = ⊤
 InRange Dump = ⊤
 InRange Load = ⊤
 InRange Trace = ⊤
+InRange Queue = ⊤
 InRange (Work seed calls workers) = ((1 ≤ calls) × (calls ≤ MOST_CALLS)) × ((MIN_WORKERS ≤ workers) × (workers ≤ MAX_WORKERS))

@@ -127,9 +127,11 @@ pub(crate) fn is_arranged(words: &[&str], command: Command, found: &Found) -> bo
         Some((first, words)) => {
             is_text(first, found.name)
                 && match command {
-                    Command::Run | Command::Dump | Command::Load | Command::Trace => {
-                        say(words, &[], found.marks)
-                    }
+                    Command::Run
+                    | Command::Dump
+                    | Command::Load
+                    | Command::Trace
+                    | Command::Queue => { say(words, &[], found.marks) }
                     Command::Work {
                         seed: _,
                         calls: _,

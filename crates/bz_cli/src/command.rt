@@ -1,7 +1,7 @@
 //! What a command line asks for.
 use bz_layout::MAX_MARKS;
 
-/// The limit on marks of `run`, `dump`, `load` and `trace` where the words do not say one.
+/// The limit on marks of `run`, `dump`, `load`, `trace` and `queue` where the words do not say one.
 pub const RUN_MARKS: u32 = 4_194_304;
 
 /// The limit on marks of `work` where the words do not say one: the greatest.
@@ -18,11 +18,13 @@ pub enum Command {
     Load,
     /// Runs the script that the source gives, and writes its journal as JSON Lines.
     Trace,
+    /// Runs the script of a queue that the source gives, and reports.
+    Queue,
     /// Runs the workload of a seed, of so many calls of so many workers.
     Work { seed: u64, calls: u32, workers: u32 },
 }
 
-/// A command, and the limit on marks of the world that it opens.
+/// A command, and the limit on marks of the world or the queue that it opens.
 #[derive(Clone, Copy, PartialEq, Eq)]
 pub struct CommandLine {
     pub command: Command,

@@ -87,7 +87,8 @@ fn parser<'a>(alloc: Global) -> Result<Command<'a>, AllocError>
     let with_dump = with_bare(alloc, with_run, "dump")?;
     let with_load = with_bare(alloc, with_dump, "load")?;
     let with_trace = with_bare(alloc, with_load, "trace")?;
-    with_trace.subcommand(work(alloc)?)
+    let with_queue = with_bare(alloc, with_trace, "queue")?;
+    with_queue.subcommand(work(alloc)?)
 }
 
 /// Reads the words by `clap`.

@@ -86,6 +86,9 @@ fn command_found(found: &Found) -> Option<Command>
     if found.name == "trace" {
         return Some(Command::Trace);
     }
+    if found.name == "queue" {
+        return Some(Command::Queue);
+    }
     if found.name == "work" {
         return workload_found(found);
     }
@@ -98,7 +101,7 @@ fn marks_unsaid(command: Command) -> u32
     ensures in_range { (least_marks ≤ result) × (result ≤ most_marks) }
 {
     match command {
-        Command::Run | Command::Dump | Command::Load | Command::Trace => RUN_MARKS,
+        Command::Run | Command::Dump | Command::Load | Command::Trace | Command::Queue => RUN_MARKS,
         Command::Work {
             seed: _,
             calls: _,

@@ -10,28 +10,28 @@ use Rattle.bz_script.specs.Script.{Job, job_of, script_of}
 use Rattle.bz_script.specs.declared.read.TheConstants.{SCRIPT_BYTES}
 use Rattle.bz_cli.specs.CommandLine.{IsCommandLine}
 use Rattle.bz_cli.specs.declared.command.Command.{Command}
-use Rattle.bz_cli.specs.declared.command.Command.TheVariants.{Run, Dump, Load, Trace, Work}
+use Rattle.bz_cli.specs.declared.command.Command.TheVariants.{Run, Dump, Load, Trace, Queue, Work}
 use Rattle.bz_cli.specs.declared.command.CommandLine.{CommandLine}
 use Rattle.bz_sched.specs.FromWorld.WorldView.{WorldView}
-use Rattle.bz_top.specs.Answers.{NeedsRun, IsAnswered, AnswersScript, AnswersBytes, AnswersSource}
+use Rattle.bz_top.specs.Answers.{NeedsRun, IsAnsweredInWorld, AnswersScript, AnswersBytes, AnswersSource}
 use Rattle.bz_top.specs.Bases.{Base, front_over, numbers_over, IsBase, IsBaseOf, Reads, ReadsOver}
 use Rattle.bz_top.specs.Commands.{config_of}
 use Rattle.bz_top.specs.Endings.{Outside, IsReading, ReadsScript, HasScript, Asks, IsEnded}
 use Rattle.bz_top.specs.Parts.{Given, Sunk, given, sunk, RanScript}
 use Rattle.bz_top.specs.Threads.{has_threads}
-use Rattle.bz_top.specs.declared.answer.Answer.{Answer}
-use Rattle.bz_top.specs.declared.answer.Answer.TheVariants.{Ended, NeedsThreads}
+use Rattle.bz_top.specs.declared.answer.WorldAnswer.{WorldAnswer}
+use Rattle.bz_top.specs.declared.answer.WorldAnswer.TheVariants.{Ended, NeedsThreads}
 use Rattle.bz_top.specs.declared.answer.Waiting.{Waiting}
 use Rattle.bz_top.proofs.BaseLemmas.{base_of_script}
 use Rattle.bz_top.proofs.EndLemmas.{has_script, ended-script, ended-source}
 use Rattle.bz_top.proofs.ThreadLemmas.{threads_drawn}
 
 -- what came of a script came of its bytes, and of the source that gave them
-pub bytes_answered : (line : CommandLine) (base : Base) (bytes : List ℕ) (k : Sunk) (script : Job) (answer : Answer) → script_of (numbers_over base) bytes ≡ Ok script → AnswersScript line base script k answer → AnswersBytes line base bytes k answer
+pub bytes_answered : (line : CommandLine) (base : Base) (bytes : List ℕ) (k : Sunk) (script : Job) (answer : WorldAnswer) → script_of (numbers_over base) bytes ≡ Ok script → AnswersScript line base script k answer → AnswersBytes line base bytes k answer
 bytes_answered line base bytes k script (Ended outcome) is ran = inl (record { script = script; is_script = is; ran = ran })
 bytes_answered line base bytes k script (NeedsThreads waiting) is back = record { script = script; is_script = is; back = back }
 
-pub source_answered : (line : CommandLine) (base : Base) (g : Given) (k : Sunk) (bytes : List ℕ) (answer : Answer) → IsReadWhole g.left g.left_after bytes → length bytes ≤ SCRIPT_BYTES → AnswersBytes line base bytes k answer → AnswersSource line base g k answer
+pub source_answered : (line : CommandLine) (base : Base) (g : Given) (k : Sunk) (bytes : List ℕ) (answer : WorldAnswer) → IsReadWhole g.left g.left_after bytes → length bytes ≤ SCRIPT_BYTES → AnswersBytes line base bytes k answer → AnswersSource line base g k answer
 source_answered line base g k bytes (Ended outcome) whole fits ran = inr (inr (inl (record { bytes = bytes; whole = whole; fits = fits; ran = ran })))
 source_answered line base g k bytes (NeedsThreads waiting) whole fits back = record { bytes = bytes; whole = whole; fits = fits; back = back }
 
@@ -41,7 +41,7 @@ module _ (o : Outside) (line : CommandLine) (command : IsCommandLine o.words lin
   asks_for : (script : Job) → ReadsScript o base script → Asks o line base script
   asks_for script has = record { command = command; is_base = is_base; has_script = has_script o line.command base script reads has }
 
-  pub answered_source : (answer : Answer) → AnswersSource line base (given mid o.left_after faults o.read_faults_after) (sunk o.held o.held_after o.write_faults o.write_faults_after) answer → IsAnswered o answer
+  pub answered_source : (answer : WorldAnswer) → AnswersSource line base (given mid o.left_after faults o.read_faults_after) (sunk o.held o.held_after o.write_faults o.write_faults_after) answer → IsAnsweredInWorld o answer
   answered_source (Ended outcome) ran = ended-source o outcome.status outcome.lab line command base reads is_base mid faults front later ran
   answered_source (NeedsThreads waiting) read =
       let back = read.back.back in
@@ -70,6 +70,7 @@ asked_by o line Run base script is_base (none, reads) threads = script_is line b
 asked_by o line Dump base script is_base (none, reads) threads = script_is line base script o is_base (subst (λ (b : Base). ReadsScript o b script) (sym none) reads)
 asked_by o line Load base script is_base (image, is, reads) threads = script_is line base script o is_base (subst (λ (b : Base). ReadsScript o b script) (sym is) reads)
 asked_by o line Trace base script is_base (none, reads) threads = script_is line base script o is_base (subst (λ (b : Base). ReadsScript o b script) (sym none) reads)
+asked_by o line Queue base script is_base has threads = absurd has
 asked_by o line (Work seed calls workers) base script is_base (none, left, is) threads = absurd (threads_drawn seed calls workers (ap (λ (job : Job). has_threads job.items) (sym is) ∙ threads))
 
 pub asked_job : (o : Outside) (waiting : Waiting) → NeedsRun o waiting → IsJob (job_of waiting.script)
@@ -91,6 +92,7 @@ module _ (o : Outside) (mid : Option (List ℕ)) (faults : ℕ) where
   has_still Dump base script (none, reads) = (none, reads_still None script reads)
   has_still Load base script (image, is, reads) = (image, is, reads_still (Some image) script reads)
   has_still Trace base script (none, reads) = (none, reads_still None script reads)
+  has_still Queue base script has = has
   has_still (Work seed calls workers) base script has = has
 
   asked_source : (line : CommandLine) (command : Command) (base : Base) (script : Job) → IsCommandLine o.words line → line.command ≡ command → HasScript o command base script → IsReading o.words ⊎ (o.left_after ≡ o.left)
@@ -98,6 +100,7 @@ module _ (o : Outside) (mid : Option (List ℕ)) (faults : ℕ) where
   asked_source line Dump base script is e has = inl (line, is, subst Reads (sym e) tt)
   asked_source line Load base script is e has = inl (line, is, subst Reads (sym e) tt)
   asked_source line Trace base script is e has = inl (line, is, subst Reads (sym e) tt)
+  asked_source line Queue base script is e has = absurd has
   asked_source line (Work seed calls workers) base script is e (none, left, same) = inr left
 
   -- a script that was handed back, and then run

@@ -7,7 +7,7 @@ use Rattle.bz_io.proofs.Consumed.{consumes_twice}
 use Rattle.bz_script.specs.Script.{Job}
 use Rattle.bz_cli.specs.CommandLine.{IsCommandLine}
 use Rattle.bz_cli.specs.declared.command.Command.{Command}
-use Rattle.bz_cli.specs.declared.command.Command.TheVariants.{Run, Dump, Load, Trace, Work}
+use Rattle.bz_cli.specs.declared.command.Command.TheVariants.{Run, Dump, Load, Trace, Queue, Work}
 use Rattle.bz_cli.specs.declared.command.CommandLine.{CommandLine}
 use Rattle.bz_sched.specs.FromWorld.WorldView.{WorldView}
 use Rattle.bz_gen.specs.Workload.{workload_of}
@@ -54,6 +54,7 @@ has_script o Run base script is reads = (is, subst (λ (b : Base). ReadsScript o
 has_script o Dump base script is reads = (is, subst (λ (b : Base). ReadsScript o b script) is reads)
 has_script o Load base script (image, is) reads = (image, is, subst (λ (b : Base). ReadsScript o b script) is reads)
 has_script o Trace base script is reads = (is, subst (λ (b : Base). ReadsScript o b script) is reads)
+has_script o Queue base script is reads = absurd is
 has_script o (Work seed calls workers) base script is reads = absurd is
 
 reads_source : (command : Command) (base : Base) → ReadsOver command base → Reads command
@@ -61,6 +62,7 @@ reads_source Run base is = tt
 reads_source Dump base is = tt
 reads_source Load base is = tt
 reads_source Trace base is = tt
+reads_source Queue base is = absurd is
 reads_source (Work seed calls workers) base is = absurd is
 
 -- the source has given what stands before the script, and this becomes of the rest

@@ -12,4 +12,7 @@ pub mod FreshLemmas
 pub mod ReportLemmas
 pub mod ThreadLemmas
 mod TraceLemmas
+mod QueueStatus
+mod QueueTold
+mod QueueEnds
 pub mod AnswerLemmas

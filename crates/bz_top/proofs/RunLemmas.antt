@@ -11,7 +11,7 @@ use Rattle.bz_sched.specs.Sums.{calls_in, sum_of, SufficesFor, HasStockFor}
 use Rattle.bz_sound.specs.Power.Sound.{IsSound}
 use Rattle.bz_mark.specs.declared.power.Power.{Power as State}
 use Rattle.bz_cli.specs.declared.command.Command.{Command}
-use Rattle.bz_cli.specs.declared.command.Command.TheVariants.{Run, Dump, Load, Trace, Work}
+use Rattle.bz_cli.specs.declared.command.Command.TheVariants.{Run, Dump, Load, Trace, Queue, Work}
 use Rattle.bz_sched.specs.FromWorld.Numbers.{AreNumbersKept}
 use Rattle.bz_sched.specs.FromWorld.WorldView.{WorldView}
 use Rattle.bz_sched.specs.FromWorld.LimitKind.{LimitKind}
@@ -30,6 +30,7 @@ nothing-left Run world = refl
 nothing-left Dump world = refl
 nothing-left Load world = refl
 nothing-left Trace world = (0, refl)
+nothing-left Queue world = refl
 nothing-left (Work seed calls workers) world = refl
 
 -- so a text or want of memory is a command's

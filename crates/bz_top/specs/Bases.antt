@@ -8,7 +8,7 @@ use Rattle.bz_layout.specs.declared.config.Config.{Config}
 use Rattle.bz_mark.specs.declared.power.Power.{Power as State}
 use Rattle.bz_mark.specs.declared.power.Power.TheVariants as power
 use Rattle.bz_cli.specs.declared.command.Command.{Command}
-use Rattle.bz_cli.specs.declared.command.Command.TheVariants.{Run, Dump, Load, Trace, Work}
+use Rattle.bz_cli.specs.declared.command.Command.TheVariants.{Run, Dump, Load, Trace, Queue, Work}
 use Rattle.bz_top.specs.Commands.{config_of}
 
 -- the image that a script runs over; where there is none, its memory is fresh
@@ -45,12 +45,13 @@ abbrev pub IsBase : ℕ → Base → Type 0
 IsBase marks None = Unit {0}
 IsBase marks (Some image) = IsImageOf (config_of marks image.nodes image.swaps) image.words
 
--- a command reads the source
+-- a command that has a world reads the source; `queue` has none
 abbrev pub Reads : Command → Type 0
 Reads Run = Unit {0}
 Reads Dump = Unit {0}
 Reads Load = Unit {0}
 Reads Trace = Unit {0}
+Reads Queue = ⊥
 Reads (Work seed calls workers) = ⊥
 
 -- it reads a script, and before it what this base has there
@@ -59,4 +60,5 @@ ReadsOver Run base = base ≡ None
 ReadsOver Dump base = base ≡ None
 ReadsOver Load base = (image : Image) × (base ≡ Some image)
 ReadsOver Trace base = base ≡ None
+ReadsOver Queue base = ⊥
 ReadsOver (Work seed calls workers) base = ⊥

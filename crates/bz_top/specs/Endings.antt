@@ -1,4 +1,4 @@
--- How a run of the program ends: the cause of each status, and what is then written.
+-- How a run of the program ends that is no `queue`: the cause of each status, and what is then written.
 use Rattle.std.specs.Prelude.{◌≡◌, ◌≤◌, ◌+◌, ◌⊎◌, ℕ, List, [], ◌∷◌, ◌++◌, length, take, slice_index, Option, Some, None, Ok, Err, codes}
 use Rattle.std.specs.Io.KnownBytes.{Consumes, Appends}
 use Rattle.bz_content.specs.Content.{image_fault}
@@ -32,7 +32,7 @@ use Rattle.bz_text.specs.Report.{report_of}
 use Rattle.bz_text.specs.Summary.{summary_of}
 use Rattle.bz_cli.specs.CommandLine.{IsCommandLine}
 use Rattle.bz_cli.specs.declared.command.Command.{Command}
-use Rattle.bz_cli.specs.declared.command.Command.TheVariants.{Run, Dump, Load, Trace, Work}
+use Rattle.bz_cli.specs.declared.command.Command.TheVariants.{Run, Dump, Load, Trace, Queue, Work}
 use Rattle.bz_cli.specs.declared.command.CommandLine.{CommandLine}
 use Rattle.bz_top.specs.Commands.{config_of}
 use Rattle.bz_top.specs.Bases.{Base, power_over, words_over, front_over, numbers_over, IsBase, Reads, ReadsOver}
@@ -88,12 +88,13 @@ pub record ReadsScript (o : Outside) (base : Base) (script : Job) : Type 0 where
   pub is_script : script_of (numbers_over base) bytes ≡ Ok script
 
 -- the script that a command runs, and over what: `run`, `dump` and `trace` read it; `load` reads an image and then the script; and `work`
--- makes that of its seed, and reads nothing
+-- makes that of its seed, and reads nothing. `queue` has a script of its own, and no world
 abbrev pub HasScript : Outside → Command → Base → Job → Type 0
 HasScript o Run base script = (base ≡ None) × ReadsScript o None script
 HasScript o Dump base script = (base ≡ None) × ReadsScript o None script
 HasScript o Load base script = (image : Image) × (base ≡ Some image) × ReadsScript o (Some image) script
 HasScript o Trace base script = (base ≡ None) × ReadsScript o None script
+HasScript o Queue base script = ⊥
 HasScript o (Work seed calls workers) base script = (base ≡ None) × (o.left_after ≡ o.left) × (script ≡ workload_of seed calls workers)
 
 -- the words are this command, and this is its script
@@ -152,12 +153,13 @@ abbrev pub IsLedTo : ℕ → Base → Job → WorldView → Type 0
 IsLedTo marks base script world = IsFinished marks base script world ⊎ (((which : LimitKind) × IsCutShort marks base script world which) ⊎ IsHeldUp marks base script world)
 
 -- what a command writes of a world in which its script was run to its end: its report, the file of the durable words that it has
--- left, the lines of its journal, or its summary
+-- left, the lines of its journal, or its summary. `queue` has no world, and the row of `run`
 abbrev pub printed : Command → WorldView → List ℕ
 printed Run world = report_of world.config world.log
 printed Dump world = file_of_world world
 printed Load world = report_of world.config world.log
 printed Trace world = text_of (lines_of world.config world.log)
+printed Queue world = report_of world.config world.log
 printed (Work seed calls workers) world = summary_of world.config calls workers world.log
 
 -- what it writes of one that met a limit, before the fault line
@@ -166,6 +168,7 @@ printed_before Run world = report_of world.config world.log
 printed_before Dump world = []
 printed_before Load world = report_of world.config world.log
 printed_before Trace world = []
+printed_before Queue world = report_of world.config world.log
 printed_before (Work seed calls workers) world = []
 
 -- what stands before the fault line where memory was wanting for what a command writes: of a journal's lines the first ones, whole;

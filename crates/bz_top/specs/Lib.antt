@@ -4,5 +4,7 @@ pub mod Faults
 pub mod Items
 pub mod Threads
 pub mod Endings
+pub mod QueueEndings
 pub mod Parts
+pub mod QueueParts
 pub mod Answers

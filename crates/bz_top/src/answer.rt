@@ -5,15 +5,18 @@ ghost use Rattle.bz_gen.specs.declared.workload.TheConstants.{MOST_CALLS};
 ghost use Rattle.bz_layout.specs.declared.limits.TheConstants.{MIN_MARKS, MAX_MARKS, MIN_WORKERS, MAX_WORKERS as MOST_WORKERS};
 ghost use Rattle.bz_script.specs.Script.{job_of};
 ghost use Rattle.bz_script.specs.ItemLaws.{IsJob};
-ghost use Rattle.bz_top.specs.Answers.{AnswersScript, AnswersBytes, AnswersSource, IsAnswered};
+ghost use Rattle.bz_top.specs.Answers.{AnswersScript, AnswersBytes, AnswersSource, IsAnswered, IsAnsweredInWorld};
 ghost use Rattle.bz_top.specs.Bases.{IsBase, IsBaseOf};
 ghost use Rattle.bz_top.specs.Commands.{config_of};
+ghost use Rattle.bz_top.specs.Endings.{Outside};
 ghost use Rattle.bz_top.specs.Parts.{given, sunk, RanScript};
 ghost use Rattle.bz_top.specs.Threads.{needs_threads as is_threads, has_threads as some_threads};
 
 use crate::load::load;
 use crate::open::numbers_of;
-use crate::program::{Outcome, no_memory, refuse, report_broken, run_script};
+use crate::outcome::{Outcome, without_queue};
+use crate::program::{WorldEnd, no_memory, refuse, report_broken, run_script};
+use crate::queue::run_queue_source;
 use crate::turns::is_on_threads;
 use bz_cli::{Command, CommandLine, WordsError, read_words};
 use bz_gen::generate;
@@ -29,6 +32,16 @@ use std::alloc::Global;
 pub enum Answer {
     /// The program has ended.
     Ended(Outcome),
+
+    /// A script has a run on threads: nothing of it was run, and nothing was written.
+    NeedsThreads(Waiting),
+}
+
+/// The same of a command that has no queue.
+#[derive(Drop)]
+pub(crate) enum WorldAnswer {
+    /// The program has ended.
+    Ended(WorldEnd),
 
     /// A script has a run on threads: nothing of it was run, and nothing was written.
     NeedsThreads(Waiting),
@@ -73,7 +86,7 @@ fn answer_script<K: Sink>(
     base: Option<Image>,
     script: Script,
     sink: &mut K,
-) -> Answer
+) -> WorldAnswer
     requires script { IsJob (job_of script) }
     requires marks { (MIN_MARKS ≤ line.marks) × (line.marks ≤ MAX_MARKS) }
     requires base { IsBaseOf (config_of line.marks script.nodes script.swaps) base }
@@ -82,9 +95,9 @@ fn answer_script<K: Sink>(
         result }
 {
     if has_threads(script.items.items()) {
-        return Answer::NeedsThreads(Waiting { line, base, script });
+        return WorldAnswer::NeedsThreads(Waiting { line, base, script });
     }
-    Answer::Ended(run_script(alloc, line, base, &script, sink))
+    WorldAnswer::Ended(run_script(alloc, line, base, &script, sink))
 }
 
 /// Reads the bytes as a script and runs it, with this limit on marks.
@@ -94,7 +107,7 @@ fn run_bytes<K: Sink>(
     base: Option<Image>,
     bytes: &[u8],
     sink: &mut K,
-) -> Answer
+) -> WorldAnswer
     requires fits { length bytes.now ≤ SCRIPT_BYTES }
     requires marks { (MIN_MARKS ≤ line.marks) × (line.marks ≤ MAX_MARKS) }
     requires base { IsBase line.marks base }
@@ -105,9 +118,9 @@ fn run_bytes<K: Sink>(
     match read_script(alloc, bytes, numbers_of(&base)) {
         Ok(script) => answer_script(alloc, line, base, script, sink),
         Err(ScriptFault::Rule { line, rule }) => {
-            Answer::Ended(report_broken(alloc, line, rule, sink))
+            WorldAnswer::Ended(report_broken(alloc, line, rule, sink))
         }
-        Err(ScriptFault::Memory) => Answer::Ended(no_memory(sink)),
+        Err(ScriptFault::Memory) => WorldAnswer::Ended(no_memory(sink)),
     }
 }
 
@@ -118,7 +131,7 @@ pub(crate) fn run_source<S: Source, K: Sink>(
     base: Option<Image>,
     source: &mut S,
     sink: &mut K,
-) -> Answer
+) -> WorldAnswer
     requires marks { (MIN_MARKS ≤ line.marks) × (line.marks ≤ MAX_MARKS) }
     requires base { IsBase line.marks base }
     ensures { AnswersSource line base
@@ -128,9 +141,9 @@ pub(crate) fn run_source<S: Source, K: Sink>(
 {
     match read_all(alloc, source, SCRIPT_BYTES) {
         Ok(bytes) => run_bytes(alloc, line, base, &bytes, sink),
-        Err(ReadFault::Failed) => Answer::Ended(refuse(sink, b"fault: read\n", 1)),
-        Err(ReadFault::TooLong) => Answer::Ended(refuse(sink, b"fault: script too long\n", 3)),
-        Err(ReadFault::Memory) => Answer::Ended(no_memory(sink)),
+        Err(ReadFault::Failed) => WorldAnswer::Ended(refuse(sink, b"fault: read\n", 1)),
+        Err(ReadFault::TooLong) => WorldAnswer::Ended(refuse(sink, b"fault: script too long\n", 3)),
+        Err(ReadFault::Memory) => WorldAnswer::Ended(no_memory(sink)),
     }
 }
 
@@ -142,7 +155,7 @@ fn run_workload<K: Sink>(
     calls: u32,
     workers: u32,
     sink: &mut K,
-) -> Outcome
+) -> WorldEnd
     requires calls { (1 ≤ calls) × (calls ≤ MOST_CALLS) }
     requires workers { (MIN_WORKERS ≤ workers) × (workers ≤ MOST_WORKERS) }
     requires marks { (MIN_MARKS ≤ line.marks) × (line.marks ≤ MAX_MARKS) }
@@ -154,6 +167,16 @@ fn run_workload<K: Sink>(
     match generate(alloc, seed, calls, workers) {
         Ok(script) => run_script(alloc, line, None, &script, sink),
         Err(Memory) => no_memory(sink),
+    }
+}
+
+// The answer of a command that has no queue, as that of any command.
+fn answer_of(answer: WorldAnswer) -> Answer
+    ensures { (o : Outside) → IsAnsweredInWorld o answer → IsAnswered o result }
+{
+    match answer {
+        WorldAnswer::Ended(end) => Answer::Ended(without_queue(end)),
+        WorldAnswer::NeedsThreads(waiting) => Answer::NeedsThreads(waiting),
     }
 }
 
@@ -181,18 +204,21 @@ pub fn top_without_threads<S: Source, K: Sink>(
 {
     let line = match read_words(alloc, words) {
         Ok(line) => line,
-        Err(WordsError::Usage) => return Answer::Ended(refuse(sink, b"fault: usage\n", 2)),
-        Err(WordsError::Memory) => return Answer::Ended(no_memory(sink)),
+        Err(WordsError::Usage) => {
+            return answer_of(WorldAnswer::Ended(refuse(sink, b"fault: usage\n", 2)));
+        }
+        Err(WordsError::Memory) => return answer_of(WorldAnswer::Ended(no_memory(sink))),
     };
     match line.command {
-        Command::Run => run_source(alloc, line, None, source, sink),
-        Command::Dump => run_source(alloc, line, None, source, sink),
-        Command::Trace => run_source(alloc, line, None, source, sink),
-        Command::Load => load(alloc, line, source, sink),
+        Command::Run => answer_of(run_source(alloc, line, None, source, sink)),
+        Command::Dump => answer_of(run_source(alloc, line, None, source, sink)),
+        Command::Trace => answer_of(run_source(alloc, line, None, source, sink)),
+        Command::Load => answer_of(load(alloc, line, source, sink)),
+        Command::Queue => Answer::Ended(run_queue_source(alloc, line.marks, source, sink)),
         Command::Work {
             seed,
             calls,
             workers,
-        } => Answer::Ended(run_workload(alloc, line, seed, calls, workers, sink)),
+        } => answer_of(WorldAnswer::Ended(run_workload(alloc, line, seed, calls, workers, sink))),
     }
 }

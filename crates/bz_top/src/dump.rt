@@ -4,13 +4,13 @@ ghost use Rattle.bz_image.specs.Worlds.{file_of_world};
 ghost use Rattle.bz_sound.specs.Power.Sound.{IsSound};
 ghost use Rattle.bz_top.specs.Parts.{sunk, SaysOrWants};
 
-use crate::program::Outcome;
+use crate::program::WorldEnd;
 use bz_image::write_image;
 use bz_io::{Failed, Sink};
 use bz_sched::World;
 
 /// Writes the image file of the words that are durable once a run is done.
-pub(crate) fn dump<K: Sink>(world: World, sink: &mut K) -> Outcome
+pub(crate) fn dump<K: Sink>(world: World, sink: &mut K) -> WorldEnd
     ensures lab { result.lab ≡ Some world }
     ensures sound { IsSound world.config world.at_start world.log }
     ensures wrote { SaysOrWants
@@ -19,11 +19,11 @@ pub(crate) fn dump<K: Sink>(world: World, sink: &mut K) -> Outcome
 {
     let _journal = world.journal();
     match write_image(&world, sink) {
-        Ok(()) => Outcome {
+        Ok(()) => WorldEnd {
             status: 0,
             lab: Some(world),
         },
-        Err(Failed) => Outcome {
+        Err(Failed) => WorldEnd {
             status: 4,
             lab: Some(world),
         },

@@ -4,13 +4,13 @@ ghost use Rattle.bz_image.specs.declared.fault.ImageFault.TheVariants.{Memory as
 ghost use Rattle.bz_layout.specs.declared.limits.TheConstants.{MIN_MARKS, MAX_MARKS};
 ghost use Rattle.bz_cli.specs.CommandLine.{IsCommandLine};
 ghost use Rattle.bz_cli.specs.declared.command.Command.TheVariants.{Load};
-ghost use Rattle.bz_top.specs.Answers.{IsAnswered};
+ghost use Rattle.bz_top.specs.Answers.{IsAnsweredInWorld};
 ghost use Rattle.bz_top.specs.Faults.{fault_line, image_text, shape_text};
 ghost use Rattle.bz_top.specs.Parts.{sunk, Says, SaysOrWants};
 
-use crate::answer::{Answer, run_source};
+use crate::answer::{WorldAnswer, run_source};
 use crate::faults::{image_line, shape_line};
-use crate::program::{Outcome, config_for, no_memory, refuse, written};
+use crate::program::{WorldEnd, config_for, no_memory, refuse, written};
 use bz_cli::CommandLine;
 use bz_content::CheckError;
 use bz_image::{FetchFault, ImageFault, fetch_image};
@@ -21,7 +21,7 @@ use bz_tree::ShapeFault;
 use std::alloc::Global;
 
 // Answers bytes that are no image, or want of memory for them.
-fn refuse_image<K: Sink>(fault: ImageFault, sink: &mut K) -> Outcome
+fn refuse_image<K: Sink>(fault: ImageFault, sink: &mut K) -> WorldEnd
     ensures lab { result.lab ≡ None }
     ensures memory { fault ≡ WantOfMemory → Says
         (sunk (K.held sink.old) (K.held sink.new) (K.faults sink.old) (K.faults sink.new))
@@ -37,7 +37,7 @@ fn refuse_image<K: Sink>(fault: ImageFault, sink: &mut K) -> Outcome
 }
 
 // Answers an image that breaks a rule of shape.
-fn refuse_shape<K: Sink>(alloc: Global, fault: ShapeFault, sink: &mut K) -> Outcome
+fn refuse_shape<K: Sink>(alloc: Global, fault: ShapeFault, sink: &mut K) -> WorldEnd
     ensures lab { result.lab ≡ None }
     ensures wrote { SaysOrWants
         (sunk (K.held sink.old) (K.held sink.new) (K.faults sink.old) (K.faults sink.new))
@@ -46,7 +46,7 @@ fn refuse_shape<K: Sink>(alloc: Global, fault: ShapeFault, sink: &mut K) -> Outc
     match shape_line(alloc, fault) {
         Ok(text) => {
             let status = written(sink, text.as_bytes(), 6);
-            Outcome { status, lab: None }
+            WorldEnd { status, lab: None }
         }
         Err(Memory) => no_memory(sink),
     }
@@ -58,10 +58,10 @@ pub(crate) fn load<S: Source, K: Sink>(
     line: CommandLine,
     source: &mut S,
     sink: &mut K,
-) -> Answer
+) -> WorldAnswer
     requires command { line.command ≡ Load }
     requires marks { (MIN_MARKS ≤ line.marks) × (line.marks ≤ MAX_MARKS) }
-    ensures { (words : List (List ℕ)) → IsCommandLine words line → IsAnswered
+    ensures { (words : List (List ℕ)) → IsCommandLine words line → IsAnsweredInWorld
         (record {
           words = words;
           left = S.left source.old;
@@ -77,13 +77,13 @@ pub(crate) fn load<S: Source, K: Sink>(
 {
     let image = match fetch_image(alloc, source) {
         Ok(image) => image,
-        Err(FetchFault::Read) => return Answer::Ended(refuse(sink, b"fault: read\n", 1)),
-        Err(FetchFault::Image(fault)) => return Answer::Ended(refuse_image(fault, sink)),
+        Err(FetchFault::Read) => return WorldAnswer::Ended(refuse(sink, b"fault: read\n", 1)),
+        Err(FetchFault::Image(fault)) => return WorldAnswer::Ended(refuse_image(fault, sink)),
     };
     let config = config_for(line.marks, image.nodes, image.swaps);
     match check(alloc, image.words.words(), &config) {
         Ok(_) => run_source(alloc, line, Some(image), source, sink),
-        Err(CheckError::Shape(fault)) => Answer::Ended(refuse_shape(alloc, fault, sink)),
-        Err(CheckError::Memory) => Answer::Ended(no_memory(sink)),
+        Err(CheckError::Shape(fault)) => WorldAnswer::Ended(refuse_shape(alloc, fault, sink)),
+        Err(CheckError::Memory) => WorldAnswer::Ended(no_memory(sink)),
     }
 }

@@ -13,7 +13,8 @@ ghost use Rattle.bz_text.specs.Report.{report_of};
 ghost use Rattle.bz_text.specs.Summary.{summary_of};
 ghost use Rattle.bz_top.specs.Faults.{fault_line, limit_text, broken_text};
 ghost use Rattle.bz_top.specs.Bases.{Base, IsBaseOf};
-ghost use Rattle.bz_top.specs.Endings.{IsEnded, IsMadeFor, printed, printed_before};
+ghost use Rattle.bz_top.specs.Endings.{IsMadeFor, printed, printed_before};
+ghost use Rattle.bz_top.specs.QueueEndings.{EndsBy};
 ghost use Rattle.bz_top.specs.Parts.{sunk, Says, SaysOrWants, Prints, RanWorld, RanScript};
 ghost use Rattle.bz_top.specs.Threads.{AreRunBy};
 
@@ -22,6 +23,7 @@ use crate::dump::dump;
 use crate::faults::{broken_line, limit_line};
 use crate::items::{ItemsEnd, run_items};
 use crate::open::open_world;
+use crate::outcome::{Outcome, without_queue};
 use crate::threads::run_on_threads;
 use crate::trace::trace;
 use bz_cli::{Command, CommandLine};
@@ -37,15 +39,11 @@ use std::alloc::Global;
 use std::sync::Wait;
 use std::thread::Threads;
 
-/// How the program ended.
+/// How a command ended that has no queue: the exit status, and the world as the run left it, if there was one.
 #[derive(Drop)]
-pub struct Outcome {
-    /// The exit status: 0 done, 1 reading failed, 2 usage, 3 the script was refused, 4 writing failed,
-    /// 5 a limit was met, 6 the image was refused, 7 want of memory.
-    pub status: u8,
-
-    /// The world as the run left it; none where the answer came before there was one.
-    pub lab: Option<World>,
+pub(crate) struct WorldEnd {
+    pub(crate) status: u8,
+    pub(crate) lab: Option<World>,
 }
 
 /// Writes a text to its end, and answers the status that goes with it, or 4 where the sink fails.
@@ -68,7 +66,7 @@ fn run_world<K: Sink>(
     world: World,
     mut queue: Queue,
     sink: &mut K,
-) -> Outcome
+) -> WorldEnd
     requires script { IsJob (job_of script.now) }
     requires runs { AreRunBy (λ plan. not (takes_no_cut plan)) (job_of script.now).items }
     requires first { world.at_start ≢ Recovering }
@@ -112,7 +110,7 @@ pub(crate) fn run_script<K: Sink>(
     base: Option<Image>,
     script: &Script,
     sink: &mut K,
-) -> Outcome
+) -> WorldEnd
     requires script { IsJob (job_of script.now) }
     requires runs { AreRunBy (λ plan. not (takes_no_cut plan)) (job_of script.now).items }
     requires marks { (MIN_MARKS ≤ line.marks) × (line.marks ≤ MAX_MARKS) }
@@ -133,7 +131,7 @@ pub(crate) fn run_script<K: Sink>(
 }
 
 /// Answers want of memory before there is a world.
-pub(crate) fn no_memory<K: Sink>(sink: &mut K) -> Outcome
+pub(crate) fn no_memory<K: Sink>(sink: &mut K) -> WorldEnd
     ensures lab { result.lab ≡ None }
     ensures wrote { Says
         (sunk (K.held sink.old) (K.held sink.new) (K.faults sink.old) (K.faults sink.new))
@@ -143,7 +141,7 @@ pub(crate) fn no_memory<K: Sink>(sink: &mut K) -> Outcome
 }
 
 /// Answers want of memory for a report.
-pub(crate) fn give_up<K: Sink>(world: World, sink: &mut K) -> Outcome
+pub(crate) fn give_up<K: Sink>(world: World, sink: &mut K) -> WorldEnd
     ensures lab { result.lab ≡ Some world }
     ensures wrote { Says
         (sunk (K.held sink.old) (K.held sink.new) (K.faults sink.old) (K.faults sink.new))
@@ -151,11 +149,11 @@ pub(crate) fn give_up<K: Sink>(world: World, sink: &mut K) -> Outcome
 {
     let status = written(sink, b"fault: memory\n", 7);
     let lab = Some(world);
-    Outcome { status, lab }
+    WorldEnd { status, lab }
 }
 
 /// Answers want of memory for threads.
-pub(crate) fn hold_up<K: Sink>(world: World, sink: &mut K) -> Outcome
+pub(crate) fn hold_up<K: Sink>(world: World, sink: &mut K) -> WorldEnd
     ensures lab { result.lab ≡ Some world }
     ensures sound { IsSound world.config world.at_start world.log }
     ensures wrote { Says
@@ -167,7 +165,7 @@ pub(crate) fn hold_up<K: Sink>(world: World, sink: &mut K) -> Outcome
 }
 
 /// Writes the report of a run that is done.
-fn report<K: Sink>(alloc: Global, world: World, sink: &mut K) -> Outcome
+fn report<K: Sink>(alloc: Global, world: World, sink: &mut K) -> WorldEnd
     requires image { IsImageOf world.config world.log.start }
     ensures lab { result.lab ≡ Some world }
     ensures sound { IsSound world.config world.at_start world.log }
@@ -176,11 +174,11 @@ fn report<K: Sink>(alloc: Global, world: World, sink: &mut K) -> Outcome
         0 (report_of world.config world.log) result.status }
 {
     match write_report(alloc, world.journal(), sink) {
-        Ok(()) => Outcome {
+        Ok(()) => WorldEnd {
             status: 0,
             lab: Some(world),
         },
-        Err(TextError::Write) => Outcome {
+        Err(TextError::Write) => WorldEnd {
             status: 4,
             lab: Some(world),
         },
@@ -189,7 +187,7 @@ fn report<K: Sink>(alloc: Global, world: World, sink: &mut K) -> Outcome
 }
 
 /// Writes the report of a run that met a limit, and then its fault line.
-fn report_limit<K: Sink>(alloc: Global, world: World, which: LimitKind, sink: &mut K) -> Outcome
+fn report_limit<K: Sink>(alloc: Global, world: World, which: LimitKind, sink: &mut K) -> WorldEnd
     requires image { IsImageOf world.config world.log.start }
     ensures lab { result.lab ≡ Some world }
     ensures sound { IsSound world.config world.at_start world.log }
@@ -200,12 +198,12 @@ fn report_limit<K: Sink>(alloc: Global, world: World, which: LimitKind, sink: &m
     match write_report(alloc, world.journal(), sink) {
         Ok(()) => {
             let status = written(sink, limit_line(which), 5);
-            Outcome {
+            WorldEnd {
                 status,
                 lab: Some(world),
             }
         }
-        Err(TextError::Write) => Outcome {
+        Err(TextError::Write) => WorldEnd {
             status: 4,
             lab: Some(world),
         },
@@ -220,7 +218,7 @@ fn summarize<K: Sink>(
     workers: u32,
     world: World,
     sink: &mut K,
-) -> Outcome
+) -> WorldEnd
     requires image { IsImageOf world.config world.log.start }
     ensures lab { result.lab ≡ Some world }
     ensures sound { IsSound world.config world.at_start world.log }
@@ -229,11 +227,11 @@ fn summarize<K: Sink>(
         0 (summary_of world.config calls workers world.log) result.status }
 {
     match write_summary(alloc, world.journal(), calls, workers, sink) {
-        Ok(()) => Outcome {
+        Ok(()) => WorldEnd {
             status: 0,
             lab: Some(world),
         },
-        Err(TextError::Write) => Outcome {
+        Err(TextError::Write) => WorldEnd {
             status: 4,
             lab: Some(world),
         },
@@ -242,7 +240,12 @@ fn summarize<K: Sink>(
 }
 
 /// Writes what a command writes of a run that is done.
-pub(crate) fn print<K: Sink>(alloc: Global, command: Command, world: World, sink: &mut K) -> Outcome
+pub(crate) fn print<K: Sink>(
+    alloc: Global,
+    command: Command,
+    world: World,
+    sink: &mut K,
+) -> WorldEnd
     requires image { IsImageOf world.config world.log.start }
     ensures lab { result.lab ≡ Some world }
     ensures sound { IsSound world.config world.at_start world.log }
@@ -253,6 +256,7 @@ pub(crate) fn print<K: Sink>(alloc: Global, command: Command, world: World, sink
     match command {
         Command::Run => report(alloc, world, sink),
         Command::Load => report(alloc, world, sink),
+        Command::Queue => report(alloc, world, sink),
         Command::Dump => dump(world, sink),
         Command::Trace => trace(alloc, world, sink),
         Command::Work {
@@ -264,7 +268,7 @@ pub(crate) fn print<K: Sink>(alloc: Global, command: Command, world: World, sink
 }
 
 /// Writes the fault line of a limit alone.
-fn tell_limit<K: Sink>(world: World, which: LimitKind, sink: &mut K) -> Outcome
+fn tell_limit<K: Sink>(world: World, which: LimitKind, sink: &mut K) -> WorldEnd
     ensures lab { result.lab ≡ Some world }
     ensures sound { IsSound world.config world.at_start world.log }
     ensures wrote { SaysOrWants
@@ -273,7 +277,7 @@ fn tell_limit<K: Sink>(world: World, which: LimitKind, sink: &mut K) -> Outcome
 {
     let _journal = world.journal();
     let status = written(sink, limit_line(which), 5);
-    Outcome {
+    WorldEnd {
         status,
         lab: Some(world),
     }
@@ -286,7 +290,7 @@ pub(crate) fn print_limit<K: Sink>(
     world: World,
     which: LimitKind,
     sink: &mut K,
-) -> Outcome
+) -> WorldEnd
     requires image { IsImageOf world.config world.log.start }
     ensures lab { result.lab ≡ Some world }
     ensures sound { IsSound world.config world.at_start world.log }
@@ -297,6 +301,7 @@ pub(crate) fn print_limit<K: Sink>(
     match command {
         Command::Run => report_limit(alloc, world, which, sink),
         Command::Load => report_limit(alloc, world, which, sink),
+        Command::Queue => report_limit(alloc, world, which, sink),
         Command::Dump => tell_limit(world, which, sink),
         Command::Trace => tell_limit(world, which, sink),
         Command::Work {
@@ -313,7 +318,7 @@ pub(crate) fn report_broken<K: Sink>(
     line: u32,
     rule: ScriptRule,
     sink: &mut K,
-) -> Outcome
+) -> WorldEnd
     ensures lab { result.lab ≡ None }
     ensures wrote { SaysOrWants
         (sunk (K.held sink.old) (K.held sink.new) (K.faults sink.old) (K.faults sink.new))
@@ -322,21 +327,21 @@ pub(crate) fn report_broken<K: Sink>(
     match broken_line(alloc, line, rule) {
         Ok(text) => {
             let status = written(sink, text.as_bytes(), 3);
-            Outcome { status, lab: None }
+            WorldEnd { status, lab: None }
         }
         Err(Memory) => no_memory(sink),
     }
 }
 
 /// Ends a run that has read nothing that it can run.
-pub(crate) fn refuse<K: Sink>(sink: &mut K, text: &[u8], status: u8) -> Outcome
+pub(crate) fn refuse<K: Sink>(sink: &mut K, text: &[u8], status: u8) -> WorldEnd
     ensures lab { result.lab ≡ None }
     ensures wrote { Says
         (sunk (K.held sink.old) (K.held sink.new) (K.faults sink.old) (K.faults sink.new))
         status text.now result.status }
 {
     let status = written(sink, text, status);
-    Outcome { status, lab: None }
+    WorldEnd { status, lab: None }
 }
 
 /// All that the program does: `words` are the command line's words without the program's name. Of the runtime it asks only for a
@@ -349,7 +354,7 @@ pub fn top<R: Threads + Wait + Sync, S: Source, K: Sink, G: Gate + Sync>(
     sink: &mut K,
     gate: &G,
 ) -> Outcome
-    ensures ended { IsEnded
+    ensures ended { EndsBy
         (record {
           words = map (λ word. word.now) words.now;
           left = S.left source.old;
@@ -361,13 +366,13 @@ pub fn top<R: Threads + Wait + Sync, S: Source, K: Sink, G: Gate + Sync>(
           write_faults = K.faults sink.old;
           write_faults_after = K.faults sink.new;
         })
-        result.status result.lab }
+        result.status result.lab result.queue }
 {
     match top_without_threads(alloc, words, source, sink) {
         Answer::Ended(outcome) => outcome,
         Answer::NeedsThreads(waiting) => {
             let Waiting { line, base, script } = waiting;
-            run_on_threads(rt, alloc, line, base, &script, sink, gate)
+            without_queue(run_on_threads(rt, alloc, line, base, &script, sink, gate))
         }
     }
 }

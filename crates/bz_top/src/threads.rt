@@ -22,7 +22,7 @@ ghost use Rattle.bz_top.specs.declared.items.ItemsEnd.TheVariants.{Finished};
 
 use crate::items::{ItemsEnd, drop_after, end_of, turn_on};
 use crate::open::open_world;
-use crate::program::{Outcome, config_for, hold_up, no_memory, print, print_limit};
+use crate::program::{WorldEnd, config_for, hold_up, no_memory, print, print_limit};
 use crate::turns::is_on_threads;
 use bz_cli::CommandLine;
 use bz_image::Image;
@@ -187,7 +187,7 @@ fn run_world<R: Threads + Wait + Sync, K: Sink, G: Gate + Sync>(
     mut queue: Queue,
     sink: &mut K,
     gate: &G,
-) -> Outcome
+) -> WorldEnd
     requires script { IsJob (job_of script.now) }
     requires first { world.at_start ≢ Recovering }
     requires new { world.log.past ≡ [] }
@@ -218,7 +218,7 @@ pub(crate) fn run_on_threads<R: Threads + Wait + Sync, K: Sink, G: Gate + Sync>(
     script: &Script,
     sink: &mut K,
     gate: &G,
-) -> Outcome
+) -> WorldEnd
     requires script { IsJob (job_of script.now) }
     requires marks { (MIN_MARKS ≤ line.marks) × (line.marks ≤ MAX_MARKS) }
     requires base { IsBaseOf (config_of line.marks script.now.nodes script.now.swaps) base }

@@ -5,14 +5,14 @@ ghost use Rattle.bz_sound.specs.Power.Sound.{IsSound};
 ghost use Rattle.bz_top.specs.Parts.{sunk, Prints};
 ghost use Rattle.bz_cli.specs.declared.command.Command.TheVariants as command;
 
-use crate::program::{Outcome, give_up};
+use crate::program::{WorldEnd, give_up};
 use bz_io::Sink;
 use bz_sched::World;
 use bz_traces::{JsonError, write_journal};
 use std::alloc::Global;
 
 /// Writes the journal of a run that is done, as JSON Lines.
-pub(crate) fn trace<K: Sink>(alloc: Global, world: World, sink: &mut K) -> Outcome
+pub(crate) fn trace<K: Sink>(alloc: Global, world: World, sink: &mut K) -> WorldEnd
     ensures lab { result.lab ≡ Some world }
     ensures sound { IsSound world.config world.at_start world.log }
     ensures wrote { Prints command.Trace world
@@ -21,11 +21,11 @@ pub(crate) fn trace<K: Sink>(alloc: Global, world: World, sink: &mut K) -> Outco
 {
     let config = world.config();
     match write_journal(alloc, &config, world.journal(), sink) {
-        Ok(()) => Outcome {
+        Ok(()) => WorldEnd {
             status: 0,
             lab: Some(world),
         },
-        Err(JsonError::Write) => Outcome {
+        Err(JsonError::Write) => WorldEnd {
             status: 4,
             lab: Some(world),
         },

@@ -7,7 +7,7 @@ use Rattle.bz_script.specs.Number.{number_of, within}
 use Rattle.bz_cli.specs.CommandLine.{Text, IsMarksOption, usual_marks}
 use Rattle.bz_cli.specs.Inside.Parser.{Seen}
 use Rattle.bz_cli.specs.declared.command.Command.{Command}
-use Rattle.bz_cli.specs.declared.command.Command.TheVariants.{Run, Dump, Load, Trace, Work}
+use Rattle.bz_cli.specs.declared.command.Command.TheVariants.{Run, Dump, Load, Trace, Queue, Work}
 
 -- the number that a text writes, if it lies in a range
 abbrev pub number_in : ℕ → ℕ → Option Text → Option ℕ
@@ -26,6 +26,7 @@ command_by seen =
     if bytes_eq seen.name (codes "dump") then Some Dump else
     if bytes_eq seen.name (codes "load") then Some Load else
     if bytes_eq seen.name (codes "trace") then Some Trace else
+    if bytes_eq seen.name (codes "queue") then Some Queue else
     if bytes_eq seen.name (codes "work") then
     workload_by (number_in 0 (2 ^ 64 - 1) seen.seed) (number_in 1 MOST_CALLS seen.calls) (number_in MIN_WORKERS MAX_WORKERS seen.workers)
     else None
@@ -66,6 +67,7 @@ values_found Run seen = []
 values_found Dump seen = []
 values_found Load seen = []
 values_found Trace seen = []
+values_found Queue seen = []
 values_found (Work seed calls workers) seen = values_by seen.seed seen.calls seen.workers
 
 -- the words are the name that was found, and behind it the values of this command and what was found of the limit on marks

@@ -32,7 +32,8 @@ bz_app =
     (with_subcommand
     (with_subcommand
     (with_subcommand
-    (with_subcommand program_app (bare_app (codes "run")).top) (bare_app (codes "dump")).top) (bare_app (codes "load")).top) (bare_app (codes "trace")).top) work_app.top
+    (with_subcommand
+    (with_subcommand program_app (bare_app (codes "run")).top) (bare_app (codes "dump")).top) (bare_app (codes "load")).top) (bare_app (codes "trace")).top) (bare_app (codes "queue")).top) work_app.top
 
 -- what is found: the subcommand's name, and the texts of its limit on marks and of its values
 pub record Seen : Type 0 where

@@ -16,4 +16,5 @@ returns c =
     let second = c.in_ok-with_dump.ensures ∙ ap (and_bare (codes "dump")) first in
     let third = c.in_ok-with_load.ensures ∙ ap (and_bare (codes "load")) second in
     let fourth = c.in_ok-with_trace.ensures ∙ ap (and_bare (codes "trace")) third in
-    IfOk-weaker c.subcommand.result _ _ (λ parser h. h.shape c.in_ok-work.ensures.local ∙ ap₂ with_subcommand fourth (ap (λ (a : App). a.top) c.in_ok-work.ensures.app)) c.subcommand.ensures
+    let fifth = c.in_ok-with_queue.ensures ∙ ap (and_bare (codes "queue")) fourth in
+    IfOk-weaker c.subcommand.result _ _ (λ parser h. h.shape c.in_ok-work.ensures.local ∙ ap₂ with_subcommand fifth (ap (λ (a : App). a.top) c.in_ok-work.ensures.app)) c.subcommand.ensures

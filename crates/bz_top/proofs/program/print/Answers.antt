@@ -1,4 +1,4 @@
-use Rattle.bz_cli.specs.declared.command.Command.TheVariants.{Run, Dump, Load, Work}
+use Rattle.bz_cli.specs.declared.command.Command.TheVariants.{Run, Dump, Load, Queue, Work}
 use Rattle.bz_top.specs.Endings.{printed}
 use Rattle.bz_top.specs.Parts.{sunk}
 use Rattle.bz_top.proofs.RunLemmas.{prints}
@@ -13,6 +13,11 @@ pub returns-in-Load-clause-wrote : goal.returns-in-Load-clause-wrote
 returns-in-Load-clause-wrote g c =
     rw c.in-Load.is
     (prints Load c.args.world (sunk (g.K.Sink.held c.args.sink.now) (g.K.Sink.held c.report-in-Load.new.sink) (g.K.Sink.faults c.args.sink.now) (g.K.Sink.faults c.report-in-Load.new.sink)) 0 c.report-in-Load.result.status (printed Load c.args.world) c.report-in-Load.ensures.wrote)
+
+pub returns-in-Queue-clause-wrote : goal.returns-in-Queue-clause-wrote
+returns-in-Queue-clause-wrote g c =
+    rw c.in-Queue.is
+    (prints Queue c.args.world (sunk (g.K.Sink.held c.args.sink.now) (g.K.Sink.held c.report-in-Queue.new.sink) (g.K.Sink.faults c.args.sink.now) (g.K.Sink.faults c.report-in-Queue.new.sink)) 0 c.report-in-Queue.result.status (printed Queue c.args.world) c.report-in-Queue.ensures.wrote)
 
 pub returns-in-Dump-clause-wrote : goal.returns-in-Dump-clause-wrote
 returns-in-Dump-clause-wrote g c =

@@ -1,5 +1,5 @@
 use Rattle.std.proofs.Common.{◌++◌}
-use Rattle.bz_cli.specs.declared.command.Command.TheVariants.{Run, Dump, Load, Trace, Work}
+use Rattle.bz_cli.specs.declared.command.Command.TheVariants.{Run, Dump, Load, Trace, Queue, Work}
 use Rattle.bz_top.specs.Endings.{printed_before}
 use Rattle.bz_top.specs.Faults.{fault_line, limit_text}
 use Rattle.bz_top.specs.Parts.{sunk}
@@ -15,6 +15,11 @@ pub returns-in-Load-clause-wrote : goal.returns-in-Load-clause-wrote
 returns-in-Load-clause-wrote g c =
     rw c.in-Load.is
     (prints Load c.args.world (sunk (g.K.Sink.held c.args.sink.now) (g.K.Sink.held c.report_limit-in-Load.new.sink) (g.K.Sink.faults c.args.sink.now) (g.K.Sink.faults c.report_limit-in-Load.new.sink)) 5 c.report_limit-in-Load.result.status (printed_before Load c.args.world ++ fault_line (limit_text c.args.which)) c.report_limit-in-Load.ensures.wrote)
+
+pub returns-in-Queue-clause-wrote : goal.returns-in-Queue-clause-wrote
+returns-in-Queue-clause-wrote g c =
+    rw c.in-Queue.is
+    (prints Queue c.args.world (sunk (g.K.Sink.held c.args.sink.now) (g.K.Sink.held c.report_limit-in-Queue.new.sink) (g.K.Sink.faults c.args.sink.now) (g.K.Sink.faults c.report_limit-in-Queue.new.sink)) 5 c.report_limit-in-Queue.result.status (printed_before Queue c.args.world ++ fault_line (limit_text c.args.which)) c.report_limit-in-Queue.ensures.wrote)
 
 pub returns-in-Dump-clause-wrote : goal.returns-in-Dump-clause-wrote
 returns-in-Dump-clause-wrote g c =

@@ -1,4 +1,5 @@
 use Rattle.bz_top.proofs.AnswerLemmas.{asked_job, asked_base, ended_threads}
+use Rattle.bz_top.proofs.QueueEnds.{world_ends}
 use Rattle.bz_top.proofs.program.top.Goals as goal
 
 pub run_on_threads-requires-clause-script : goal.run_on_threads-requires-clause-script
@@ -14,4 +15,6 @@ pub returns-in-Ended : goal.returns-in-Ended
 returns-in-Ended g c = record { ended = c.in-Ended.ensures.answered }
 
 pub returns-in-NeedsThreads : goal.returns-in-NeedsThreads
-returns-in-NeedsThreads g c = record { ended = ended_threads _ _ _ c.in-NeedsThreads.waiting _ _ c.in-NeedsThreads.ensures.answered c.run_on_threads.ensures }
+returns-in-NeedsThreads g c = record {
+  ended = world_ends _ _ _ _ _ _ c.without_queue.ensures.status c.without_queue.ensures.lab c.without_queue.ensures.queue (ended_threads _ _ _ c.in-NeedsThreads.waiting _ _ c.in-NeedsThreads.ensures.answered c.run_on_threads.ensures);
+}
